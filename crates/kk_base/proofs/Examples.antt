@@ -1,0 +1,48 @@
+-- The definitions on small values.
+use Rattle.std.proofs.Common.{◌≡◌, [], ◌∷◌, true, false, Some, refl}
+use Rattle.std.specs.Prelude.{codes}
+use Rattle.kk_base.specs.Trace.{output, input, input_end, output_of, input_of}
+use Rattle.kk_base.specs.Memory.{Part, covers, byte_loaded}
+use Rattle.kk_base.specs.Machines.{trace, ending_after}
+use Rattle.kk_base.proofs.Counters.{each, every_second}
+
+-- two pieces and two reads
+put_and_read : output_of (output (codes "ab") ∷ input 7 ∷ output (codes "c") ∷ input_end ∷ []) ≡ codes "abc"
+put_and_read = refl
+
+only_bytes_read : input_of (output (codes "ab") ∷ input 7 ∷ input_end ∷ []) ≡ 7 ∷ []
+only_bytes_read = refl
+
+-- four addresses from 4096 on, of which two have bytes
+text : Part
+text = record { start = 4096; size = 4; readable = true; writable = false; executable = true; bytes = 19 ∷ 5 ∷ [] }
+
+first_byte : byte_loaded (text ∷ []) 4096 ≡ 19
+unfolding text
+first_byte = refl
+
+zero_behind : byte_loaded (text ∷ []) 4098 ≡ 0
+unfolding text
+zero_behind = refl
+
+last_word : covers text 4096 4 ≡ true
+unfolding text
+last_word = refl
+
+past_the_end : covers text 4097 4 ≡ false
+unfolding text
+past_the_end = refl
+
+empty_anywhere : covers text 9 0 ≡ true
+unfolding text
+empty_anywhere = refl
+
+-- a count from three, with a rest before each number
+counted : trace each 5 3 ≡ 3 ∷ 2 ∷ 1 ∷ []
+counted = refl
+
+counted_with_rests : trace every_second 5 (3, false) ≡ 3 ∷ 2 ∷ []
+counted_with_rests = refl
+
+ended_with_rests : ending_after every_second 6 (3, false) ≡ Some tt
+ended_with_rests = refl

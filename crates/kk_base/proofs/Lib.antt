@@ -1,0 +1,3 @@
+pub mod Counters
+mod Examples
+pub mod Machines

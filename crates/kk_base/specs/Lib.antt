@@ -1,0 +1,9 @@
+pub mod Faults
+pub mod Limits
+pub mod Machines
+pub mod Memory
+pub mod Numbers
+pub mod Sink
+pub mod Source
+pub mod Store
+pub mod Trace

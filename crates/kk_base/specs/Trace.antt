@@ -1,0 +1,30 @@
+-- What a run has done on the outside: events in their order, of the source's machine and of an image alike.
+use Rattle.std.specs.Prelude.{◌≡◌, ℕ, List, [], ◌∷◌, ◌++◌}
+
+-- an event: a piece put on the output, which is not empty; or a byte taken from the input; or the input's end met
+pub data Event : Type 0 where
+  output : (piece : List ℕ) → Event
+  input : (byte : ℕ) → Event
+  input_end : Event
+
+-- the events of a run, the first one first
+abbrev pub Trace : Type 0
+Trace = List Event
+
+-- all that was put on the output, joined
+abbrev pub output_of : List Event → List ℕ
+output_of [] = []
+output_of (output piece ∷ later) = piece ++ output_of later
+output_of (input byte ∷ later) = output_of later
+output_of (input_end ∷ later) = output_of later
+
+-- the bytes that were taken from the input
+abbrev pub input_of : List Event → List ℕ
+input_of [] = []
+input_of (output piece ∷ later) = input_of later
+input_of (input byte ∷ later) = byte ∷ input_of later
+input_of (input_end ∷ later) = input_of later
+
+-- a trace, of these events or of any others, is the beginning of another
+abbrev pub IsPrefix : {E : Type 0} → List E → List E → Type 0
+IsPrefix {E} before whole = (later : List E) × (before ++ later ≡ whole)

@@ -1,0 +1,16 @@
+use crate::error::{LexError, NameError, ParseError};
+use crate::limit::Limit;
+use crate::name::Name;
+use crate::text::Text;
+
+/// Why a text is not accepted: its first failure.
+#[derive(Debug, Drop)]
+pub enum Refusal {
+    Lex(LexError),
+    Parse(ParseError),
+    Name(NameError),
+    NotTyped { function: Name },
+    NotCovered { function: Name, example: Text },
+    Over(Limit),
+    NoMemory,
+}
