@@ -1,0 +1,3 @@
+pub mod ArithmeticExamples
+pub mod ArithmeticWords
+pub mod SourceExamples

@@ -1,0 +1,48 @@
+ghost use Rattle.std.specs.Prelude.{◌≡◌, ℕ, ◌≤◌, List, length, IfOk};
+
+use kk_base::{NoMemory, Text};
+use std::alloc::Global;
+use std::marker::Model;
+
+/// A string literal: its bytes after escapes, of which there are at most 255.
+#[derive(Debug, Drop)]
+pub struct StringLiteral {
+    text: Text,
+}
+
+impl Model for StringLiteral {
+    ghost Value = { List ℕ };
+
+    ghost view = { λ l. l.text };
+
+    ghost invariant = { λ l. length l.text ≤ 255 };
+}
+
+impl StringLiteral {
+    /// The greatest number of bytes.
+    pub const MOST_BYTES: usize = 255;
+
+    /// The literal of these bytes. Takes no memory.
+    pub fn new(text: Text) -> Self
+        requires { length text ≤ 255 }
+        ensures { result ≡ text }
+    {
+        StringLiteral { text }
+    }
+
+    /// A copy of the literal.
+    pub fn copied(&self, alloc: Global) -> Result<Self, NoMemory>
+        ensures { IfOk result (λ copy. copy ≡ self.now) }
+    {
+        Ok(StringLiteral {
+            text: Text::from_slice(alloc, self.text.as_slice())?,
+        })
+    }
+
+    pub fn as_slice(&self) -> &[u8]
+        ensures bytes { result.now ≡ self.now }
+        ensures short { length result.now ≤ 255 }
+    {
+        self.text.as_slice()
+    }
+}
