@@ -1,0 +1,4 @@
+pub mod Frames
+pub mod Results
+pub mod Turns
+pub mod Values
