@@ -1,0 +1,11 @@
+pub mod Begins
+pub mod Classes
+pub mod CommentLemmas
+pub mod Examples
+pub mod FrontLemmas
+pub mod Insides
+pub mod NameLemmas
+pub mod NumberLemmas
+pub mod OneMeaning
+pub mod ReadingLemmas
+pub mod StringLemmas

@@ -1,0 +1,12 @@
+pub mod Comments
+pub mod FirstLexemes
+pub mod Fronts
+pub mod Lexemes
+pub mod Marks
+pub mod Names
+pub mod Numbers
+pub mod Parts
+pub mod Readings
+pub mod Scanners
+pub mod Strings
+pub mod Symbols
