@@ -1,0 +1,12 @@
+//! From the tokens of a text to the tree that they spell, or the first token with which no program goes on.
+#![tactic(auto)]
+
+mod block;
+mod expr;
+mod fault;
+mod parser;
+mod program;
+#[cfg(test)]
+mod tests;
+
+pub use program::parse;
