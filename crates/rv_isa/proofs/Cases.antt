@@ -1,0 +1,125 @@
+-- What holds of every step, by a few cases: what an instruction can come to.
+use Rattle.std.proofs.Common.{◌≡◌, ℕ, ◌+◌, ◌%◌, List, [], ◌∷◌, ◌++◌, Bool, true, false, not, ◌&&◌, Option, Some, None, nat_eq, if◌then◌else◌, refl, sym, ap, ◌∙◌, add-zero, append-nil}
+use Rattle.kk_base.specs.Trace.{Event, output, input, input_end, IsPrefix}
+use Rattle.rv_isa.specs.declared.act.Act.{Act}
+use Rattle.rv_isa.specs.declared.act.Act.TheVariants.{Nothing, Set, Load, Store, Call, Break}
+use Rattle.rv_isa.specs.declared.instr.Instr.{Instr}
+use Rattle.rv_isa.specs.Read.{read}
+use Rattle.rv_isa.specs.Operands.{rd_of}
+use Rattle.rv_isa.specs.Bytes.{number_at, with_bytes, with_number}
+use Rattle.rv_isa.specs.Machine.{Machine, After, goes, traps, exited, counted, value, put, can_fetch, can_load, can_store}
+use Rattle.rv_isa.specs.Environment.{stepped, is_read, is_write, is_exit, asks, reads, writes, written, calls}
+use Rattle.rv_isa.specs.Execution.{widened, acts, effect_at, executes, decodes, step}
+
+-- what holds of both branches, each where its test holds, holds of the choice
+pub either : {X : Type 0} (P : X → Type 0) (b : Bool) (x y : X) → (b ≡ true → P x) → (b ≡ false → P y) → P (if b then x else y)
+either P true x y holds fails = holds refl
+either P false x y holds fails = fails refl
+
+not-false : (b : Bool) → not b ≡ false → b ≡ true
+not-false true e = refl
+not-false false e = cc
+
+and-right : (a b : Bool) → (a && b) ≡ true → b ≡ true
+and-right true b e = e
+and-right false b e = cc
+
+-- what holds of everything that an instruction can come to from this machine
+pub record Cases (P : After → Type 0) (s : Machine) : Type 0 where
+  pub trap : (cause word : ℕ) → P (traps cause word s)
+  pub nothing : (next : ℕ) → P (goes (stepped next s))
+  pub set : (rd v next : ℕ) → P (goes (record (stepped next s) { registers = put rd v s.registers }))
+  pub store : (at width v next : ℕ) → can_store s.parts at width ≡ true → P (goes (record (stepped next s) { memory = with_number at width v s.memory }))
+  pub ask_end : (next : ℕ) → s.left ≡ [] → P (goes (asks [] next s))
+  pub ask_byte : (byte : ℕ) (rest : List ℕ) (next : ℕ) → s.left ≡ byte ∷ rest → can_store s.parts (value s.registers 11) (value s.registers 12) ≡ true → P (goes (asks (byte ∷ rest) next s))
+  pub write : (next : ℕ) → can_load s.parts (value s.registers 11) (value s.registers 12) ≡ true → P (goes (record (stepped next s) { registers = put 10 (value s.registers 12) s.registers; trace = s.trace ++ output (written s) ∷ [] }))
+  pub exit : (next : ℕ) → P (record { machine = stepped next s; ending = exited (value s.registers 10 % 256) })
+
+module _ (P : After → Type 0) (s : Machine) (cases : Cases P s) where
+  by_left : (left : List ℕ) (next : ℕ) → s.left ≡ left → can_store s.parts (value s.registers 11) (value s.registers 12) ≡ true → P (goes (asks left next s))
+  by_left [] next is allowed = cases.ask_end next is
+  by_left (byte ∷ rest) next is allowed = cases.ask_byte byte rest next is allowed
+
+  by_count_read : (next : ℕ) → can_store s.parts (value s.registers 11) (value s.registers 12) ≡ true → P (goes (reads next s))
+  by_count_read next allowed =
+      either (λ m. P (goes m)) (nat_eq (value s.registers 12) 0) _ _ (λ _. cases.set 10 0 next) (λ _. by_left s.left next refl allowed)
+
+  by_count_write : (next : ℕ) → can_load s.parts (value s.registers 11) (value s.registers 12) ≡ true → P (goes (writes next s))
+  by_count_write next allowed =
+      either (λ m. P (goes m)) (nat_eq (value s.registers 12) 0) _ _ (λ _. cases.set 10 (value s.registers 12) next) (λ _. cases.write next allowed)
+
+  pub calls-by : (next word : ℕ) → P (calls next word s)
+  unfolding calls
+  calls-by next word =
+      either P (is_read s) _ _
+      (λ e. by_count_read next (and-right (nat_eq (value s.registers 17) 63 && nat_eq (value s.registers 10) 0) _ e))
+      (λ _. either P (is_write s) _ _
+      (λ e. by_count_write next (and-right (nat_eq (value s.registers 17) 64 && nat_eq (value s.registers 10) 1) _ e))
+      (λ _. either P (is_exit s) _ _ (λ _. cases.exit next) (λ _. cases.trap 6 word)))
+
+  pub acts-by : (act : Act) (rd next word : ℕ) → P (acts act rd next word s)
+  unfolding acts
+  acts-by Nothing rd next word = cases.nothing next
+  acts-by (Set v) rd next word = cases.set rd v next
+  acts-by (Load at width signed) rd next word =
+      either P (not (nat_eq (at % width) 0)) _ _ (λ _. cases.trap 5 word) (λ _.
+      either P (not (can_load s.parts at width)) _ _ (λ _. cases.trap 4 word) (λ _.
+      cases.set rd (widened width signed (number_at s.memory at width)) next))
+  acts-by (Store at width v) rd next word =
+      either P (not (nat_eq (at % width) 0)) _ _ (λ _. cases.trap 5 word) (λ _.
+      either P (not (can_store s.parts at width)) _ _ (λ _. cases.trap 4 word) (λ e.
+      cases.store at width v next (not-false _ e)))
+  acts-by Call rd next word = calls-by next word
+  acts-by Break rd next word = cases.trap 1 word
+
+  executes-by : (word : ℕ) (i : Instr) → P (executes s word i)
+  unfolding executes
+  executes-by word i =
+      either P (nat_eq ((effect_at s i).next % 4) 0) _ _ (λ _. acts-by (effect_at s i).act (rd_of i) (effect_at s i).next word) (λ _. cases.trap 3 word)
+
+  decodes-by : (word : ℕ) (i : Option Instr) → P (decodes s word i)
+  unfolding decodes
+  decodes-by word None = cases.trap 1 word
+  decodes-by word (Some i) = executes-by word i
+
+  pub step-by : P (step s)
+  unfolding step
+  step-by =
+      either P (can_fetch s.parts s.pc 4) _ _ (λ _. decodes-by (number_at s.memory s.pc 4) (read (number_at s.memory s.pc 4))) (λ _. cases.trap 2 0)
+
+-- what stays in every step, and what grows
+pub step-parts : (s : Machine) → (step s).machine.parts ≡ s.parts
+step-parts s = step-by (λ after. after.machine.parts ≡ s.parts) s record {
+  trap = λ cause word. refl;
+  nothing = λ next. refl;
+  set = λ rd v next. refl;
+  store = λ at width v next allowed. refl;
+  ask_end = λ next is. refl;
+  ask_byte = λ byte rest next is allowed. refl;
+  write = λ next allowed. refl;
+  exit = λ next. refl;
+}
+
+pub step-executed : (s : Machine) → (step s).machine.executed ≡ s.executed + counted (step s).ending
+step-executed s = step-by (λ after. after.machine.executed ≡ s.executed + counted after.ending) s record {
+  trap = λ cause word. sym (add-zero s.executed);
+  nothing = λ next. refl;
+  set = λ rd v next. refl;
+  store = λ at width v next allowed. refl;
+  ask_end = λ next is. refl;
+  ask_byte = λ byte rest next is allowed. refl;
+  write = λ next allowed. refl;
+  exit = λ next. refl;
+}
+
+pub step-trace : (s : Machine) → IsPrefix s.trace (step s).machine.trace
+step-trace s = step-by (λ after. IsPrefix s.trace after.machine.trace) s record {
+  trap = λ cause word. ([], append-nil s.trace);
+  nothing = λ next. ([], append-nil s.trace);
+  set = λ rd v next. ([], append-nil s.trace);
+  store = λ at width v next allowed. ([], append-nil s.trace);
+  ask_end = λ next is. (input_end ∷ [], refl);
+  ask_byte = λ byte rest next is allowed. (input byte ∷ [], refl);
+  write = λ next allowed. (output (written s) ∷ [], refl);
+  exit = λ next. ([], append-nil s.trace);
+}

@@ -1,0 +1,12 @@
+mod Examples
+pub mod Acts
+pub mod Bits
+pub mod Bytes
+pub mod Cases
+pub mod Fits
+pub mod Parts
+pub mod Products
+pub mod Reading
+pub mod Runs
+pub mod Same
+pub mod Steps

@@ -1,0 +1,52 @@
+-- Runs of a machine, one after the other.
+use Rattle.std.proofs.Common.{◌≡◌, ℕ, zero, suc, ◌+◌, refl, sym, ap, ◌∙◌, rules, arith, add_assoc, add-zero, zero-add}
+use Rattle.rv_isa.specs.Machine.{Machine, Ending, going, exited, trapped, After, goes}
+use Rattle.rv_isa.specs.Execution.{step, resumes, go_on, run, Leads}
+
+pub run-zero : (s : Machine) → run 0 s ≡ goes s
+unfolding run
+run-zero s = refl
+
+pub run-suc : (n : ℕ) (s : Machine) → run (suc n) s ≡ go_on (step s) (run n)
+unfolding run
+run-suc n s = refl
+
+resumes-resumes : (e : Ending) (s : Machine) (f g : Machine → After) → resumes e s (λ t. go_on (f t) g) ≡ go_on (resumes e s f) g
+resumes-resumes going s f g = refl
+resumes-resumes (exited n) s f g = refl
+resumes-resumes (trapped c p w) s f g = refl
+
+go_on-go_on : (a : After) (f g : Machine → After) → go_on a (λ t. go_on (f t) g) ≡ go_on (go_on a f) g
+go_on-go_on a f g = resumes-resumes a.ending a.machine f g
+
+resumes-same : (e : Ending) (s : Machine) (f g : Machine → After) → ((t : Machine) → f t ≡ g t) → resumes e s f ≡ resumes e s g
+resumes-same going s f g same = same s
+resumes-same (exited n) s f g same = refl
+resumes-same (trapped c p w) s f g same = refl
+
+-- a run in two parts
+pub run-add : (n k : ℕ) (s : Machine) → run (n + k) s ≡ go_on (run n s) (run k)
+run-add zero k s = rw (zero-add, run-zero) refl
+run-add (suc n) k s =
+    let sum : suc n + k ≡ suc (n + k) = omega arith in
+    rw (sum, run-suc, run-suc)
+    (resumes-same (step s).ending (step s).machine (run (n + k)) (λ t. go_on (run n t) (run k)) (run-add n k)
+    ∙ go_on-go_on (step s) (run n) (run k))
+
+-- leading from one machine to another
+pub Leads-none : (s : Machine) → Leads 0 s s
+Leads-none s = record { by = λ more. ap (λ n. run n s) (zero-add more) }
+
+pub Leads-then : {n k : ℕ} {s t u : Machine} → Leads n s t → Leads k t u → Leads (n + k) s u
+Leads-then {n} {k} {s} {t} {u} first second = record {
+  by = λ more. ap (λ m. run m s) (add_assoc n k more) ∙ first.by (k + more) ∙ second.by more;
+}
+
+pub Leads-step : {s t : Machine} → step s ≡ goes t → Leads 1 s t
+Leads-step {s} {t} is = record {
+  by = λ more. let sum : 1 + more ≡ suc more = omega arith in rw (sum, run-suc, is) refl;
+}
+
+-- the machine that it leads to is what the run has come to
+pub Leads-run : {n : ℕ} {s t : Machine} → Leads n s t → run n s ≡ goes t
+Leads-run {n} {s} {t} leads = ap (λ m. run m s) (sym (add-zero n)) ∙ leads.by 0 ∙ run-zero t

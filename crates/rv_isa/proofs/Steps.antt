@@ -1,0 +1,39 @@
+-- The next instruction of a machine, one case after the other.
+use Rattle.std.proofs.Common.{◌≡◌, ◌≢◌, ℕ, ◌%◌, Bool, true, false, nat_eq, Option, Some, None, refl, sym, ap, ◌∙◌, arith}
+use Rattle.std.proofs.lemmas.Bool.Decides.{nat_tests}
+use Rattle.rv_isa.specs.declared.act.Act.{Act}
+use Rattle.rv_isa.specs.declared.act.Effect.{Effect}
+use Rattle.rv_isa.specs.declared.instr.Instr.{Instr}
+use Rattle.rv_isa.specs.Read.{read}
+use Rattle.rv_isa.specs.Operands.{rd_of, rs1_of, rs2_of}
+use Rattle.rv_isa.specs.Meaning.{effect_of}
+use Rattle.rv_isa.specs.Bytes.{number_at}
+use Rattle.rv_isa.specs.Machine.{Machine, After, goes, traps, value, can_fetch}
+use Rattle.rv_isa.specs.Execution.{acts, effect_at, executes, decodes, step}
+
+module _ (s : Machine) where
+  pub step-unfetched : can_fetch s.parts s.pc 4 ≡ false → step s ≡ traps 2 0 s
+  unfolding step
+  step-unfetched denied = rw denied refl
+
+  pub step-fetched : (word : ℕ) → can_fetch s.parts s.pc 4 ≡ true → number_at s.memory s.pc 4 ≡ word → step s ≡ decodes s word (read word)
+  unfolding step
+  step-fetched word allowed holds = rw (allowed, holds) refl
+
+  pub decodes-none : (word : ℕ) → decodes s word None ≡ traps 1 word s
+  unfolding decodes
+  decodes-none word = refl
+
+  pub decodes-some : (word : ℕ) (i : Instr) → decodes s word (Some i) ≡ executes s word i
+  unfolding decodes
+  decodes-some word i = refl
+
+  pub executes-misaligned : (word : ℕ) (i : Instr) (e : Effect) → effect_at s i ≡ e → e.next % 4 ≢ 0 → executes s word i ≡ traps 3 word s
+  unfolding executes
+  executes-misaligned word i e is misaligned =
+      let test : nat_eq (e.next % 4) 0 ≡ false = grind (arith, nat_tests) in rw (is, test) refl
+
+  pub executes-aligned : (word : ℕ) (i : Instr) (e : Effect) → effect_at s i ≡ e → e.next % 4 ≡ 0 → executes s word i ≡ acts e.act (rd_of i) e.next word s
+  unfolding executes
+  executes-aligned word i e is aligned =
+      let test : nat_eq (e.next % 4) 0 ≡ true = grind (arith, nat_tests) in rw (is, test) refl

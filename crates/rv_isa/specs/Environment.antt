@@ -1,0 +1,61 @@
+-- The calls of the execution environment, which ECALL asks for. This project's own, with the numbers of Linux.
+use Rattle.std.specs.Prelude.{ℕ, ◌+◌, ◌%◌, List, [], ◌∷◌, ◌++◌, Bool, ◌&&◌, if◌then◌else◌, nat_eq}
+use Rattle.kk_base.specs.Trace.{output, input, input_end}
+use Rattle.rv_isa.specs.Bytes.{bytes_at, with_bytes}
+use Rattle.rv_isa.specs.Machine.{Machine, After, goes, traps, exited, value, put, can_load, can_store}
+
+-- one more instruction is executed, and the next one is at this address
+abbrev pub stepped : ℕ → Machine → Machine
+stepped next s = record s { pc = next; executed = s.executed + 1 }
+
+-- read, 63: x10 is 0, and the x12 bytes from x11 on may be stored
+abbrev pub is_read : Machine → Bool
+is_read s =
+    nat_eq (value s.registers 17) 63 && nat_eq (value s.registers 10) 0
+    && can_store s.parts (value s.registers 11) (value s.registers 12)
+
+-- write, 64: x10 is 1, and the x12 bytes from x11 on may be loaded
+abbrev pub is_write : Machine → Bool
+is_write s =
+    nat_eq (value s.registers 17) 64 && nat_eq (value s.registers 10) 1
+    && can_load s.parts (value s.registers 11) (value s.registers 12)
+
+-- exit, 93
+abbrev pub is_exit : Machine → Bool
+is_exit s = nat_eq (value s.registers 17) 93
+
+-- a byte is asked for: the next one of the input comes to x11, and x10 is 1; at the end of the input x10 is 0
+abbrev pub asks : List ℕ → ℕ → Machine → Machine
+asks [] next s =
+    record (stepped next s) { registers = put 10 0 s.registers; trace = s.trace ++ input_end ∷ [] }
+asks (byte ∷ rest) next s =
+    record (stepped next s) {
+      registers = put 10 1 s.registers;
+      memory = with_bytes (value s.registers 11) (byte ∷ []) s.memory;
+      left = rest;
+      trace = s.trace ++ input byte ∷ [];
+    }
+
+-- a read of no bytes asks for nothing
+abbrev pub reads : ℕ → Machine → Machine
+reads next s =
+    if nat_eq (value s.registers 12) 0 then record (stepped next s) { registers = put 10 0 s.registers }
+    else asks s.left next s
+
+-- the bytes that a write names
+abbrev pub written : Machine → List ℕ
+written s = bytes_at s.memory (value s.registers 11) (value s.registers 12)
+
+-- x10 becomes their number; they are put in one piece, and no bytes are not put
+abbrev pub writes : ℕ → Machine → Machine
+writes next s =
+    let told = record (stepped next s) { registers = put 10 (value s.registers 12) s.registers }
+    in if nat_eq (value s.registers 12) 0 then told else record told { trace = s.trace ++ output (written s) ∷ [] }
+
+-- an exit is executed, and tells the lowest 8 bits of x10; any other ECALL is trap 6
+unfoldable pub calls : ℕ → ℕ → Machine → After
+calls next word s =
+    if is_read s then goes (reads next s)
+    else if is_write s then goes (writes next s)
+    else if is_exit s then record { machine = stepped next s; ending = exited (value s.registers 10 % 256) }
+    else traps 6 word s

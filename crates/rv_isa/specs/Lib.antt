@@ -1,0 +1,14 @@
+pub mod Range
+pub mod Field
+pub mod Format
+pub mod Table
+pub mod Extension
+pub mod Read
+pub mod Operands
+pub mod Arithmetic
+pub mod Meaning
+pub mod Bytes
+pub mod Machine
+pub mod Environment
+pub mod Execution
+pub mod FreeCells

@@ -1,0 +1,22 @@
+//! The instructions of RV32IM: their words and what each does.
+#![tactic(auto)]
+
+mod act;
+mod arithmetic;
+mod code;
+mod decoding;
+mod encoding;
+mod immediate;
+mod instr;
+mod meaning;
+mod register;
+#[cfg(test)]
+mod tests;
+
+pub use act::{Act, Effect};
+pub use decoding::decode;
+pub use encoding::encode;
+pub use immediate::{BranchOffset, Immediate, JumpOffset, ShiftAmount, UpperImmediate};
+pub use instr::{Instr, Operands};
+pub use meaning::effect;
+pub use register::Register;
