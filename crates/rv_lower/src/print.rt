@@ -1,0 +1,158 @@
+//! The routine that prints a number, and the calls of the environment.
+
+ghost use Rattle.std.specs.Prelude.{◌<◌};
+
+use crate::frame::BUFFER_BYTES;
+use crate::immediate::{back, forward, minus_one, small};
+use rv_isa::{Immediate, Instr, Register};
+
+/// The environment's call that writes, by its number in x17.
+const WRITE: u32 = 64;
+/// The environment's call that exits.
+const EXIT: u32 = 93;
+/// The file that is written to.
+const STANDARD_OUTPUT: u32 = 1;
+
+/// `rd = number`, for a number from 0 to 2047.
+fn set_small(rd: Register, number: u32) -> Instr
+    requires { number < 2048 }
+{
+    Instr::Addi {
+        rd,
+        rs1: Register::ZERO,
+        imm: small(number),
+    }
+}
+
+/// `rd = rs1`
+fn copy(rd: Register, rs1: Register) -> Instr {
+    Instr::Addi {
+        rd,
+        rs1,
+        imm: Immediate::ZERO,
+    }
+}
+
+/// The byte that is put before the others: `t0` goes back by one and the low byte of `t1` is stored there.
+fn put_before() -> [Instr; 2] {
+    [
+        Instr::Addi {
+            rd: Register::T0,
+            rs1: Register::T0,
+            imm: minus_one(),
+        },
+        Instr::Sb {
+            rs1: Register::T0,
+            rs2: Register::T1,
+            imm: Immediate::ZERO,
+        },
+    ]
+}
+
+/// How many instructions the routine has.
+pub const PRINT_NUMBER_WORDS: u32 = 26;
+
+/// Prints the number in `a0`, with a line feed where `a1` is not 0, as one piece. Its bytes are written from the
+/// buffer's end backwards; `t0` is the first of them. Leaves `sp`; returns by `ra`.
+pub fn print_number() -> [Instr; 26] {
+    let [step_back, store] = put_before();
+    [
+        Instr::Addi {
+            rd: Register::T0,
+            rs1: Register::SP,
+            imm: small(BUFFER_BYTES),
+        },
+        // The line feed, where it is wanted.
+        Instr::Beq {
+            rs1: Register::A1,
+            rs2: Register::ZERO,
+            offset: forward(4),
+        },
+        set_small(Register::T1, b'\n' as u32),
+        step_back,
+        store,
+        // The size of the number, as an unsigned word.
+        copy(Register::T2, Register::A0),
+        Instr::Bge {
+            rs1: Register::A0,
+            rs2: Register::ZERO,
+            offset: forward(2),
+        },
+        Instr::Sub {
+            rd: Register::T2,
+            rs1: Register::ZERO,
+            rs2: Register::A0,
+        },
+        // Its digits, the last one first.
+        set_small(Register::T3, 10),
+        Instr::Remu {
+            rd: Register::T1,
+            rs1: Register::T2,
+            rs2: Register::T3,
+        },
+        Instr::Divu {
+            rd: Register::T2,
+            rs1: Register::T2,
+            rs2: Register::T3,
+        },
+        Instr::Addi {
+            rd: Register::T1,
+            rs1: Register::T1,
+            imm: small(b'0' as u32),
+        },
+        step_back,
+        store,
+        Instr::Bne {
+            rs1: Register::T2,
+            rs2: Register::ZERO,
+            offset: back(5),
+        },
+        // The sign.
+        Instr::Bge {
+            rs1: Register::A0,
+            rs2: Register::ZERO,
+            offset: forward(4),
+        },
+        set_small(Register::T1, b'-' as u32),
+        step_back,
+        store,
+        // The piece: from t0 to the buffer's end.
+        Instr::Addi {
+            rd: Register::A2,
+            rs1: Register::SP,
+            imm: small(BUFFER_BYTES),
+        },
+        Instr::Sub {
+            rd: Register::A2,
+            rs1: Register::A2,
+            rs2: Register::T0,
+        },
+        copy(Register::A1, Register::T0),
+        set_small(Register::A0, STANDARD_OUTPUT),
+        set_small(Register::A7, WRITE),
+        Instr::Ecall,
+        Instr::Jalr {
+            rd: Register::ZERO,
+            rs1: Register::RA,
+            imm: Immediate::ZERO,
+        },
+    ]
+}
+
+/// Writes the piece whose address is in `a1` and whose length is in `a2`.
+pub fn write_piece() -> [Instr; 3] {
+    [
+        set_small(Register::A0, STANDARD_OUTPUT),
+        set_small(Register::A7, WRITE),
+        Instr::Ecall,
+    ]
+}
+
+/// Exits with 0.
+pub fn exit_done() -> [Instr; 3] {
+    [
+        set_small(Register::A0, 0),
+        set_small(Register::A7, EXIT),
+        Instr::Ecall,
+    ]
+}
