@@ -1,0 +1,4 @@
+pub mod Conditions
+mod Examples
+pub mod Gathered
+pub mod Written
