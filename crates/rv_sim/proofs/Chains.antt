@@ -1,0 +1,33 @@
+-- The chain of free cells, one member after the other.
+use Rattle.std.proofs.Common.{◌≡◌, ◌≢◌, ◌≤◌, ◌<◌, ℕ, zero, suc, ◌+◌, ◌-◌, List, [], ◌∷◌, map, length, Bool, true, false, Option, Some, None, if◌then◌else◌, nat_eq, refl, sym, ap, ◌∙◌, arith}
+use Rattle.std.proofs.lemmas.Bool.Decides.{nat_tests}
+use Rattle.kk_base.specs.Memory.{Part, byte_loaded}
+use Rattle.rv_isa.specs.Bytes.{number_at}
+use Rattle.rv_isa.specs.Machine.{bare, lies_in_part}
+use Rattle.rv_isa.specs.FreeCells.{chain}
+use Rattle.rv_sim.proofs.Stepping.{lies_in_part-bare, some_if, some_if_is, none_if}
+
+module _ (parts : List Part) (memory : ℕ → ℕ) where
+  chain-suc : (n at : ℕ) → at ≢ 0 → lies_in_part parts at 4 ≡ true → length (chain (map bare parts) memory (suc n) at) ≡ suc (length (chain (map bare parts) memory n (number_at memory at 4)))
+  chain-suc n at some lies =
+      let test : nat_eq at 0 ≡ false = grind (arith, nat_tests) in
+      let here = lies_in_part-bare parts at 4 ∙ lies in
+      rw (test, here) refl
+
+  -- one more member
+  pub chain-more : (cells count at next : ℕ) → count < cells → at ≢ 0 → Some next ≡ (if lies_in_part parts at 4 then Some (number_at memory at 4) else None)
+      → length (chain (map bare parts) memory (cells - count) at) ≡ suc (length (chain (map bare parts) memory (cells - (count + 1)) next))
+  chain-more cells count at next room some found =
+      let one : cells - count ≡ suc (cells - (count + 1)) = omega arith in
+      let lies = some_if (lies_in_part parts at 4) _ _ found in
+      let same = some_if_is (lies_in_part parts at 4) _ _ found in
+      ap (λ n. length (chain (map bare parts) memory n at)) one ∙ chain-suc (cells - (count + 1)) at some lies
+      ∙ ap (λ a. suc (length (chain (map bare parts) memory (cells - (count + 1)) a))) (sym same)
+
+  -- no more members, at a word that does not lie in one part
+  pub chain-end : (n at : ℕ) → at ≢ 0 → None ≡ (if lies_in_part parts at 4 then Some (number_at memory at 4) else None) → length (chain (map bare parts) memory n at) ≡ 0
+  chain-end zero at some found = refl
+  chain-end (suc n) at some found =
+      let test : nat_eq at 0 ≡ false = grind (arith, nat_tests) in
+      let here = lies_in_part-bare parts at 4 ∙ none_if (lies_in_part parts at 4) _ found in
+      rw (test, here) refl

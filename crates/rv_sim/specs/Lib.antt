@@ -1,0 +1,4 @@
+pub mod Registers
+pub mod Areas
+pub mod Simulation
+pub mod Devices

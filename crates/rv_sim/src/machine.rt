@@ -1,0 +1,402 @@
+ghost use Rattle.std.specs.Prelude.{◌≡◌, ℕ, ◌+◌, ◌*◌, ◌%◌, ◌<◌, ◌^◌, List, [], true, false, Some, None, if◌then◌else◌, IfOk};
+ghost use Rattle.rv_isa.specs.Machine.{start, going, exited, goes, traps, value, put, can_load, can_store};
+ghost use Rattle.rv_isa.specs.Environment.{stepped};
+ghost use Rattle.rv_isa.specs.Execution.{acts, executes, step, widened};
+ghost use Rattle.rv_isa.specs.FreeCells.{free_cells};
+ghost use Rattle.elf_image.specs.Parts.{memory_of};
+ghost use Rattle.rv_sim.specs.Areas.{IsWidth, MovesWidth};
+ghost use Rattle.rv_sim.specs.Devices.{CountsFault, is_input, is_output, is_input_fault, is_output_fault, halt_of, Advances, Stops};
+ghost use Rattle.rv_sim.specs.Registers.{registers_of};
+ghost use Rattle.rv_sim.specs.Simulation.{machine_of, after_of, Does};
+
+use crate::area::Access;
+use crate::halt::{Device, Halt, Phase, Turn};
+use crate::memory::Memory;
+use crate::registers::Registers;
+use elf_image::Image;
+use kk_base::{Next, NoMemory, Put, Sink, Source};
+use rv_isa::{Act, Effect, Instr, Register, decode, effect};
+use std::alloc::Global;
+use std::marker::Model;
+
+/// A word that is no instruction's, or EBREAK.
+const NO_INSTRUCTION: u8 = 1;
+/// A fetch where none is allowed.
+const FETCH_FAULT: u8 = 2;
+/// A transfer to an address that is no multiple of 4.
+const MISALIGNED_TARGET: u8 = 3;
+/// A load or a store where none is allowed.
+const ACCESS_FAULT: u8 = 4;
+/// A load or a store at an address that is no multiple of its width.
+const MISALIGNED_ACCESS: u8 = 5;
+/// An ECALL that is no call of the environment.
+const NO_CALL: u8 = 6;
+
+/// The calls of the environment, as Linux numbers them.
+const READ: u32 = 63;
+
+const WRITE: u32 = 64;
+
+const EXIT: u32 = 93;
+
+/// The files that are read and written, as POSIX numbers them.
+const STANDARD_INPUT: u32 = 0;
+
+const STANDARD_OUTPUT: u32 = 1;
+
+/// A machine that executes an image.
+#[derive(Debug, Drop)]
+pub struct Machine {
+    registers: Registers,
+    pc: u32,
+    memory: Memory,
+    executed: u64,
+    phase: Phase,
+    faulted: bool,
+}
+
+impl Model for Machine {
+    ghost use Rattle.rv_sim.specs.Simulation.{Simulation};
+
+    ghost Value = { Simulation };
+
+    ghost use Rattle.rv_sim.specs.Simulation.{ending_of};
+
+    ghost view = { λ m. record { registers = m.registers; pc = m.pc; parts = m.memory; executed = m.executed; ending = ending_of m.phase; faulted = m.faulted } };
+}
+
+impl Machine {
+    /// The machine at the start of an image.
+    pub fn load(alloc: Global, image: &Image) -> Result<Machine, NoMemory>
+        ensures start { IfOk result
+            (λ machine.
+            (input : List ℕ)
+            → after_of machine input []
+            ≡ goes (start (memory_of image.now.parts) image.now.entry input)) }
+        ensures whole { IfOk result (λ machine. machine.faulted ≡ false) }
+        ensures fresh { IfOk result (λ machine. machine.executed ≡ 0) }
+    {
+        Ok(Machine {
+            registers: Registers::new(),
+            pc: image.entry,
+            memory: Memory::from_parts(alloc, &image.parts)?,
+            executed: 0,
+            phase: Phase::Going,
+            faulted: false,
+        })
+    }
+
+    /// Executes at most so many more instructions, with the bytes of the source and the pieces of the sink.
+    ///
+    /// A machine that has ended answers its end again, and nothing is executed.
+    pub fn run<I: Source, O: Sink>(&mut self, steps: u64, input: &mut I, out: &mut O) -> Halt
+        requires whole { self.old.faulted ≡ false }
+        requires room { self.old.executed + steps < 2 ^ 64 }
+        ensures input_faults { CountsFault (is_input_fault result) (I.faults input.old) (I.faults input.new) }
+        ensures output_faults { CountsFault (is_output_fault result) (O.faults out.old) (O.faults out.new) }
+        ensures state { Stops result steps self.old self.new }
+    {
+        let mut left = steps;
+        while left > 0 && self.phase == Phase::Going {
+            match self.step(input, out) {
+                None => left -= 1,
+                Some(Device::Input) => return Halt::InputFault,
+                Some(Device::Output) => return Halt::OutputFault,
+            }
+        }
+        self.halt()
+    }
+
+    /// Why a run stops here.
+    fn halt(&self) -> Halt
+        ensures { result ≡ halt_of self.now.ending }
+    {
+        match self.phase {
+            Phase::Going => Halt::StepsSpent,
+            Phase::Exited(number) => Halt::Exit(number),
+            Phase::Trapped { cause, pc, word } => Halt::Trap { cause, pc, word },
+        }
+    }
+
+    /// How many instructions were executed.
+    pub fn executed(&self) -> u64
+        ensures { result ≡ self.now.executed }
+    {
+        self.executed
+    }
+
+    /// Whether a device has failed.
+    pub fn faulted(&self) -> bool
+        ensures { result ≡ self.now.faulted }
+    {
+        self.faulted
+    }
+
+    /// One more instruction is executed, and the next one stands at this address.
+    fn finish(&mut self, next: u32)
+        requires { self.old.executed + 1 < 2 ^ 64 }
+        ensures { self.new ≡ record self.old { pc = next; executed = self.old.executed + 1 } }
+    {
+        self.pc = next;
+        self.executed += 1;
+    }
+
+    /// How many free cells the image has: the length of the chain from x8 through the first word of each cell, at most
+    /// `cells`.
+    pub fn free_cells(&self, cells: u32) -> u32
+        ensures { result ≡ free_cells cells (machine_of self.now [] []) }
+    {
+        let mut at = self.registers.get(Register::S0);
+        let mut count = 0;
+        while count < cells && at != 0 {
+            let Some(next) = self.memory.word(at) else {
+                break;
+            };
+            at = next;
+            count += 1;
+        }
+        count
+    }
+
+    /// Executes the next instruction. Answers the device that failed, if one did; then nothing was executed.
+    fn step<I: Source, O: Sink>(&mut self, input: &mut I, out: &mut O) -> Option<Device>
+        requires going { self.old.ending ≡ going }
+        requires room { self.old.executed + 1 < 2 ^ 64 }
+        ensures input_faults { CountsFault (is_input result) (I.faults input.old) (I.faults input.new) }
+        ensures output_faults { CountsFault (is_output result) (O.faults out.old) (O.faults out.new) }
+        ensures state { Advances result self.old self.new }
+    {
+        match self.advance() {
+            Turn::Over => None,
+            Turn::Call { next, word } => self.call(next, word, input, out),
+        }
+    }
+
+    /// Does what an ECALL asks for. Answers the device that failed, if one did; then nothing was executed.
+    fn call<I: Source, O: Sink>(
+        &mut self,
+        next: u32,
+        word: u32,
+        input: &mut I,
+        out: &mut O,
+    ) -> Option<Device>
+        requires going { self.old.ending ≡ going }
+        requires room { self.old.executed + 1 < 2 ^ 64 }
+        ensures input_faults { CountsFault (is_input result) (I.faults input.old) (I.faults input.new) }
+        ensures output_faults { CountsFault (is_output result) (O.faults out.old) (O.faults out.new) }
+        ensures state { Advances result self.old self.new }
+    {
+        let file = self.registers.get(Register::A0);
+        let at = self.registers.get(Register::A1);
+        let count = self.registers.get(Register::A2);
+        match self.registers.get(Register::A7) {
+            READ if file == STANDARD_INPUT && self.memory.can(Access::Store, at, count) => {
+                self.read(next, input).then_some(Device::Input)
+            }
+            WRITE if file == STANDARD_OUTPUT && self.memory.can(Access::Load, at, count) => {
+                self.write(next, out).then_some(Device::Output)
+            }
+            EXIT => {
+                self.exit(next);
+                None
+            }
+            _ => {
+                self.trap(NO_CALL, word);
+                None
+            }
+        }
+    }
+
+    /// Reads a byte, where some are asked for and there is one. Answers whether the source failed.
+    fn read<I: Source>(&mut self, next: u32, input: &mut I) -> bool
+        requires going { self.old.ending ≡ going }
+        requires room { self.old.executed + 1 < 2 ^ 64 }
+        requires allowed { can_store self.old.parts (value (registers_of self.old.registers) 11)
+            (value (registers_of self.old.registers) 12)
+            ≡ true }
+        ensures faults { CountsFault result (I.faults input.old) (I.faults input.new) }
+        ensures state { Advances (if result then Some Device.Input else None) self.old self.new }
+    {
+        if self.registers.get(Register::A2) == 0 {
+            self.set(Register::A0, 0, next);
+            return false;
+        }
+        match input.next() {
+            Next::Byte(byte) => {
+                let at = self.registers.get(Register::A1);
+                self.memory.store_byte(at, byte);
+                self.set(Register::A0, 1, next);
+                false
+            }
+            Next::End => {
+                self.set(Register::A0, 0, next);
+                false
+            }
+            Next::Failed => {
+                self.faulted = true;
+                true
+            }
+        }
+    }
+
+    /// Puts bytes of the memory in one piece, where there are some. Answers whether the sink failed.
+    fn write<O: Sink>(&mut self, next: u32, out: &mut O) -> bool
+        requires going { self.old.ending ≡ going }
+        requires room { self.old.executed + 1 < 2 ^ 64 }
+        requires allowed { can_load self.old.parts (value (registers_of self.old.registers) 11)
+            (value (registers_of self.old.registers) 12)
+            ≡ true }
+        ensures faults { CountsFault result (O.faults out.old) (O.faults out.new) }
+        ensures state { Advances (if result then Some Device.Output else None) self.old self.new }
+    {
+        let at = self.registers.get(Register::A1);
+        let count = self.registers.get(Register::A2);
+        if count > 0 {
+            if let Put::Failed(_) = out.put(self.memory.bytes(at, count)) {
+                self.faulted = true;
+                return true;
+            }
+        }
+        self.set(Register::A0, count, next);
+        false
+    }
+
+    /// The run has ended by an exit with the lowest 8 bits of x10.
+    fn exit(&mut self, next: u32)
+        requires room { self.old.executed + 1 < 2 ^ 64 }
+        ensures { Does
+            (λ s. record { machine = stepped next s; ending = exited (value s.registers 10 % 256) })
+            Turn.Over self.old self.new }
+    {
+        self.phase = Phase::Exited((self.registers.get(Register::A0) % 256) as u8);
+        self.finish(next);
+    }
+
+    /// Executes the next instruction, up to a call of the environment.
+    fn advance(&mut self) -> Turn
+        requires going { self.old.ending ≡ going }
+        requires room { self.old.executed + 1 < 2 ^ 64 }
+        ensures { Does step result self.old self.new }
+    {
+        let Some(word) = self.memory.fetch(self.pc) else {
+            self.trap(FETCH_FAULT, 0);
+            return Turn::Over;
+        };
+        match decode(word) {
+            Some(instr) => self.execute(instr, word),
+            None => {
+                self.trap(NO_INSTRUCTION, word);
+                Turn::Over
+            }
+        }
+    }
+
+    /// Executes an instruction, whose word this is, up to a call of the environment.
+    fn execute(&mut self, instr: Instr, word: u32) -> Turn
+        requires going { self.old.ending ≡ going }
+        requires room { self.old.executed + 1 < 2 ^ 64 }
+        ensures { Does (λ s. executes s word instr) result self.old self.new }
+    {
+        let operands = instr.operands();
+        let a = self.registers.get(operands.rs1);
+        let b = self.registers.get(operands.rs2);
+        let effect = effect(instr, self.pc, a, b);
+        if effect.next % 4 != 0 {
+            self.trap(MISALIGNED_TARGET, word);
+            return Turn::Over;
+        }
+        self.act(effect, operands.rd, word)
+    }
+
+    /// Does what an instruction asks for, up to a call of the environment.
+    fn act(&mut self, effect: Effect, rd: Register, word: u32) -> Turn
+        requires going { self.old.ending ≡ going }
+        requires room { self.old.executed + 1 < 2 ^ 64 }
+        requires width { MovesWidth effect.act }
+        ensures { Does (acts effect.act rd.number effect.next word) result self.old self.new }
+    {
+        let next = effect.next;
+        match effect.act {
+            Act::Nothing => self.finish(next),
+            Act::Set(value) => self.set(rd, value, next),
+            Act::Load { at, width, signed } => self.load_number(rd, at, width, signed, next, word),
+            Act::Store { at, width, value } => self.store_number(at, width, value, next, word),
+            Act::Call => return Turn::Call { next, word },
+            Act::Break => self.trap(NO_INSTRUCTION, word),
+        }
+        Turn::Over
+    }
+
+    /// The run has ended by a trap at this instruction.
+    fn trap(&mut self, cause: u8, word: u32)
+        ensures { Does (traps cause word) Turn.Over self.old self.new }
+    {
+        self.phase = Phase::Trapped {
+            cause,
+            pc: self.pc,
+            word,
+        };
+    }
+
+    /// A register becomes a word, and the next instruction stands at `next`.
+    fn set(&mut self, register: Register, word: u32, next: u32)
+        requires going { self.old.ending ≡ going }
+        requires room { self.old.executed + 1 < 2 ^ 64 }
+        ensures { Does (λ s. goes (record (stepped next s) { registers = put register.number word s.registers }))
+            Turn.Over self.old self.new }
+    {
+        self.registers.set(register, word);
+        self.finish(next);
+    }
+
+    /// Loads a number into a register.
+    fn load_number(&mut self, rd: Register, at: u32, width: u8, signed: bool, next: u32, word: u32)
+        requires going { self.old.ending ≡ going }
+        requires room { self.old.executed + 1 < 2 ^ 64 }
+        requires width { IsWidth width }
+        ensures { Does (acts (Act.Load at width signed) rd.number next word) Turn.Over self.old self.new }
+    {
+        if at % u32::from(width) != 0 {
+            self.trap(MISALIGNED_ACCESS, word);
+            return;
+        }
+        match self.memory.load(at, width) {
+            Some(number) => self.set(rd, widened(width, signed, number), next),
+            None => self.trap(ACCESS_FAULT, word),
+        }
+    }
+
+    /// Stores the lowest bytes of a word.
+    fn store_number(&mut self, at: u32, width: u8, value: u32, next: u32, word: u32)
+        requires going { self.old.ending ≡ going }
+        requires room { self.old.executed + 1 < 2 ^ 64 }
+        requires width { IsWidth width }
+        ensures { (rd : ℕ) → Does (acts (Act.Store at width value) rd next word) Turn.Over self.old self.new }
+    {
+        if at % u32::from(width) != 0 {
+            self.trap(MISALIGNED_ACCESS, word);
+            return;
+        }
+        if self.memory.store(at, width, value) {
+            self.finish(next);
+        } else {
+            self.trap(ACCESS_FAULT, word);
+        }
+    }
+}
+
+/// A number of `width` bytes as a word. Where it is signed, its highest bit is copied into the bits above.
+fn widened(width: u8, signed: bool, number: u32) -> u32
+    requires width { IsWidth width }
+    requires fits { number < 256 ^ width }
+    ensures { result ≡ widened width signed number }
+{
+    if !signed {
+        return number;
+    }
+    match width {
+        1 if number >= 0x80 => number + 0xffff_ff00,
+        2 if number >= 0x8000 => number + 0xffff_0000,
+        _ => number,
+    }
+}

@@ -1,0 +1,423 @@
+ghost use Rattle.std.specs.Prelude.{None};
+
+use super::*;
+use elf_image::Image;
+use kk_base::{Next, Put, Sink, Source};
+use std::alloc::{AllocError, Global};
+use std::test::Fail;
+
+// The words are those of LLVM's assembler.
+const NOP: u32 = 0x0000_0013;
+
+const ECALL: u32 = 0x0000_0073;
+
+const EBREAK: u32 = 0x0010_0073;
+/// `lui a1, 0x10`, where the text begins, and `lui a1, 0x11`, where the memory does.
+const A1_TEXT: u32 = 0x0001_05b7;
+
+const A1_MEMORY: u32 = 0x0001_15b7;
+/// `li a0, 1`
+const A0_IS_1: u32 = 0x0010_0513;
+/// `li a7, 63`, `li a7, 64` and `li a7, 93`
+const READ: u32 = 0x03f0_0893;
+
+const WRITE: u32 = 0x0400_0893;
+
+const EXIT: u32 = 0x05d0_0893;
+
+/// The program that exits with 5 after three instructions.
+const EXIT_5: [u32; 3] = [0x0050_0513, EXIT, ECALL];
+
+/// A source that fails at one of its calls.
+#[derive(Drop)]
+struct Tape {
+    bytes: &'static [u8],
+    at: usize,
+    calls: u64,
+    fails_at: u64,
+    faults: u64,
+}
+
+impl Tape {
+    fn new(bytes: &'static [u8], fails_at: u64) -> Tape {
+        Tape {
+            bytes,
+            at: 0,
+            calls: 0,
+            fails_at,
+            faults: 0,
+        }
+    }
+}
+
+impl Source for Tape {
+    ghost left = { λ _. None };
+
+    ghost faults = { λ tape. tape.faults };
+
+    fn next(&mut self) -> Next {
+        self.calls = self.calls.saturating_add(1);
+        if self.calls == self.fails_at {
+            self.faults = self.faults.saturating_add(1);
+            return Next::Failed;
+        }
+        match self.bytes.get(self.at) {
+            Some(byte) => {
+                self.at = self.at.saturating_add(1);
+                Next::Byte(*byte)
+            }
+            None => Next::End,
+        }
+    }
+}
+
+/// A sink that fails at one of its calls.
+#[derive(Drop)]
+struct Paper {
+    bytes: Vec<u8>,
+    calls: u64,
+    fails_at: u64,
+    faults: u64,
+}
+
+impl Paper {
+    fn new(alloc: Global, fails_at: u64) -> Paper {
+        Paper {
+            bytes: Vec::new(alloc),
+            calls: 0,
+            fails_at,
+            faults: 0,
+        }
+    }
+}
+
+impl Sink for Paper {
+    ghost held = { λ _. None };
+
+    ghost faults = { λ paper. paper.faults };
+
+    fn put(&mut self, piece: &[u8]) -> Put {
+        self.calls = self.calls.saturating_add(1);
+        let faults = self.faults;
+        if self.calls == self.fails_at || self.bytes.extend_from_slice(piece).is_err() {
+            self.faults = faults.saturating_add(1);
+            return Put::Failed(0);
+        }
+        Put::All
+    }
+}
+
+/// A file of a text at 0x10000, with these flags, and of `size` addresses of memory at 0x11000.
+fn file(alloc: Global, flags: u32, words: &[u32], size: u32) -> Result<Vec<u8>, AllocError> {
+    let mut out = Vec::from_slice(alloc, b"\x7fELF\x01\x01\x01")?;
+    out.resize(16, 0)?;
+    for field in [0x00f3_0002, 1, 0x1_0000, 52, 0, 0, 0x0020_0034, 2, 0] {
+        out.extend_from_slice(&u32::to_le_bytes(field))?;
+    }
+    let bytes = u32::try_from(words.len().saturating_mul(4)).unwrap_or(0);
+    for field in [1, 116, 0x1_0000, 0, bytes, bytes, flags, 4096] {
+        out.extend_from_slice(&u32::to_le_bytes(field))?;
+    }
+    for field in [1, 116, 0x1_1000, 0, 0, size, 6, 4096] {
+        out.extend_from_slice(&u32::to_le_bytes(field))?;
+    }
+    for word in words {
+        out.extend_from_slice(&word.to_le_bytes())?;
+    }
+    Ok(out)
+}
+
+/// The machine of such a file; 5 is to read and execute, 7 to write too.
+fn machine(alloc: Global, flags: u32, words: &[u32], size: u32) -> Result<Machine, Fail> {
+    let image: Image = elf_image::read(alloc, &file(alloc, flags, words, size)?)?;
+    Ok(Machine::load(alloc, &image)?)
+}
+
+/// A run, or `None` where a device has failed before or the steps cannot be counted.
+fn run(machine: &mut Machine, steps: u64, input: &mut Tape, out: &mut Paper) -> Option<Halt> {
+    if machine.faulted() || machine.executed().checked_add(steps).is_none() {
+        return None;
+    }
+    Some(machine.run(steps, input, out))
+}
+
+#[test]
+fn budgets(rt: HostRuntime) -> Result<(), Fail> {
+    let cases = [
+        (0, Halt::StepsSpent, 0),
+        (1, Halt::StepsSpent, 1),
+        (2, Halt::StepsSpent, 2),
+        (3, Halt::Exit(5), 3),
+        (1000, Halt::Exit(5), 3),
+    ];
+    for (steps, expected, executed) in cases {
+        let mut machine = machine(rt.alloc(), 5, &EXIT_5, 8)?;
+        let halt = run(
+            &mut machine,
+            steps,
+            &mut Tape::new(b"", 0),
+            &mut Paper::new(rt.alloc(), 0),
+        );
+        assert_eq!(rt; halt, Some(expected));
+        assert_eq!(rt; machine.executed(), executed);
+        assert!(rt; !machine.faulted());
+    }
+    Ok(())
+}
+
+#[test]
+fn several_runs_are_one(rt: HostRuntime) -> Result<(), Fail> {
+    let mut machine = machine(rt.alloc(), 5, &EXIT_5, 8)?;
+    let mut input = Tape::new(b"", 0);
+    let mut out = Paper::new(rt.alloc(), 0);
+    assert_eq!(rt;
+        run(&mut machine, 1, &mut input, &mut out),
+        Some(Halt::StepsSpent)
+    );
+    assert_eq!(rt;
+        run(&mut machine, 0, &mut input, &mut out),
+        Some(Halt::StepsSpent)
+    );
+    assert_eq!(rt;
+        run(&mut machine, 1, &mut input, &mut out),
+        Some(Halt::StepsSpent)
+    );
+    assert_eq!(rt; machine.executed(), 2);
+    assert_eq!(rt;
+        run(&mut machine, 7, &mut input, &mut out),
+        Some(Halt::Exit(5))
+    );
+    assert_eq!(rt;
+        run(&mut machine, 0, &mut input, &mut out),
+        Some(Halt::Exit(5))
+    );
+    assert_eq!(rt;
+        run(&mut machine, 7, &mut input, &mut out),
+        Some(Halt::Exit(5))
+    );
+    assert_eq!(rt; machine.executed(), 3);
+    Ok(())
+}
+
+/// A trap at the instruction so many words into the text.
+fn trap(cause: u8, index: u32, word: u32) -> Halt {
+    let pc = index.wrapping_mul(4).wrapping_add(0x1_0000);
+    Halt::Trap { cause, pc, word }
+}
+
+#[test]
+fn traps(rt: HostRuntime) -> Result<(), Fail> {
+    let lw_1 = 0x0010_2283; // lw t0, 1(zero)
+    let lw_memory = 0x0045_a283; // lw t0, 4(a1)
+    let lh_memory = 0x0045_9283; // lh t0, 4(a1)
+    // The words, the addresses of the memory, and the instructions before the trap.
+    let cases: [(&[u32], u32, Halt, u64); 21] = [
+        (&[EBREAK], 8, trap(1, 0, EBREAK), 0),
+        (&[NOP, 0], 8, trap(1, 1, 0), 1),
+        // Behind the text; and at 0, after `jr zero`.
+        (&[NOP], 8, trap(2, 1, 0), 1),
+        (
+            &[0x0000_0067],
+            8,
+            Halt::Trap {
+                cause: 2,
+                pc: 0,
+                word: 0,
+            },
+            1,
+        ),
+        // The memory is not to be executed.
+        (
+            &[A1_MEMORY, 0x0005_8067],
+            8,
+            Halt::Trap {
+                cause: 2,
+                pc: 0x1_1000,
+                word: 0,
+            },
+            2,
+        ),
+        // j 2; beqz zero, 2; bnez zero, 2, which is not taken; and `jr 2(a1)`
+        (&[0x0020_006f], 8, trap(3, 0, 0x0020_006f), 0),
+        (&[NOP, 0x0000_0163], 8, trap(3, 1, 0x0000_0163), 1),
+        (&[0x0000_1163], 8, trap(2, 1, 0), 1),
+        (&[A1_TEXT, 0x0025_8067], 8, trap(3, 1, 0x0025_8067), 1),
+        // lw t0, 0(zero); sw zero, 0(a1) to the text
+        (&[0x0000_2283], 8, trap(4, 0, 0x0000_2283), 0),
+        (&[A1_TEXT, 0x0005_a023], 8, trap(4, 1, 0x0005_a023), 1),
+        // The end of the memory.
+        (&[A1_MEMORY, lw_memory], 8, trap(2, 2, 0), 2),
+        (&[A1_MEMORY, lw_memory], 7, trap(4, 1, lw_memory), 1),
+        (&[A1_MEMORY, lh_memory], 6, trap(2, 2, 0), 2),
+        (&[A1_MEMORY, lh_memory], 5, trap(4, 1, lh_memory), 1),
+        // A misaligned access traps as such, wherever it is: lw, lh and sh.
+        (&[lw_1], 8, trap(5, 0, lw_1), 0),
+        (&[0x0010_1283], 8, trap(5, 0, 0x0010_1283), 0),
+        (&[A1_TEXT, 0x0005_90a3], 8, trap(5, 1, 0x0005_90a3), 1),
+        // ECALL of number 0; of a write to file 0; and of a write past the end of the memory.
+        (&[ECALL], 8, trap(6, 0, ECALL), 0),
+        (&[WRITE, ECALL], 8, trap(6, 1, ECALL), 1),
+        (
+            &[WRITE, A0_IS_1, A1_MEMORY, 0x0030_0613, ECALL],
+            2,
+            trap(6, 4, ECALL),
+            4,
+        ),
+    ];
+    for (words, size, expected, executed) in cases {
+        let mut machine = machine(rt.alloc(), 5, words, size)?;
+        let mut input = Tape::new(b"", 0);
+        let mut out = Paper::new(rt.alloc(), 0);
+        assert_eq!(rt;
+            run(&mut machine, 100, &mut input, &mut out),
+            Some(expected)
+        );
+        assert_eq!(rt; machine.executed(), executed);
+        assert_eq!(rt;
+            run(&mut machine, 100, &mut input, &mut out),
+            Some(expected)
+        );
+        assert_eq!(rt; machine.executed(), executed);
+    }
+    Ok(())
+}
+
+#[test]
+fn own_text_written(rt: HostRuntime) -> Result<(), Fail> {
+    // lui t0, 0x500; addi t0, t0, 0x513; auipc t1, 0; sw t0, 8(t1) puts `li a0, 5` in place of the zero.
+    let words = [
+        0x0050_02b7,
+        0x5132_8293,
+        0x0000_0317,
+        0x0053_2423,
+        0,
+        EXIT,
+        ECALL,
+    ];
+    let cases = [(7, Halt::Exit(5), 7), (5, trap(4, 3, 0x0053_2423), 3)];
+    for (flags, expected, executed) in cases {
+        let mut machine = machine(rt.alloc(), flags, &words, 8)?;
+        let halt = run(
+            &mut machine,
+            100,
+            &mut Tape::new(b"", 0),
+            &mut Paper::new(rt.alloc(), 0),
+        );
+        assert_eq!(rt; halt, Some(expected));
+        assert_eq!(rt; machine.executed(), executed);
+    }
+    Ok(())
+}
+
+#[test]
+fn reads(rt: HostRuntime) -> Result<(), Fail> {
+    // Reads at most `a2` bytes into the memory, and exits with what x10 became, or with the byte.
+    let status = [READ, A1_MEMORY, 0x0070_0613, ECALL, EXIT, ECALL];
+    let byte = [
+        READ,
+        A1_MEMORY,
+        0x0010_0613,
+        ECALL,
+        0x0005_c503,
+        EXIT,
+        ECALL,
+    ];
+    let none = [READ, A1_TEXT, 0x0000_0613, ECALL, EXIT, ECALL];
+    let cases: [(&[u32], &'static [u8], u64, Halt, u64); 7] = [
+        (&status, b"AB", 0, Halt::Exit(1), 6),
+        (&status, b"", 0, Halt::Exit(0), 6),
+        (&byte, b"AB", 0, Halt::Exit(65), 7),
+        (&byte, b"\xff", 0, Halt::Exit(255), 7),
+        (&byte, b"", 0, Halt::Exit(0), 7),
+        (&none, b"AB", 1, Halt::Exit(0), 6),
+        (&byte, b"AB", 1, Halt::InputFault, 3),
+    ];
+    for (words, bytes, fails_at, expected, executed) in cases {
+        let mut machine = machine(rt.alloc(), 5, words, 8)?;
+        let mut input = Tape::new(bytes, fails_at);
+        assert_eq!(rt;
+            run(
+                &mut machine,
+                100,
+                &mut input,
+                &mut Paper::new(rt.alloc(), 0)
+            ),
+            Some(expected)
+        );
+        assert_eq!(rt; machine.executed(), executed);
+        assert_eq!(rt; machine.faulted(), input.faults == 1);
+    }
+    Ok(())
+}
+
+#[test]
+fn writes(rt: HostRuntime) -> Result<(), Fail> {
+    // Puts the first three bytes of the text, and exits with what x10 became; puts none; puts them twice.
+    let three = [WRITE, A0_IS_1, A1_TEXT, 0x0030_0613, ECALL, EXIT, ECALL];
+    let none = [WRITE, A0_IS_1, 0x0000_0613, ECALL, EXIT, ECALL];
+    let twice = [
+        WRITE,
+        A0_IS_1,
+        A1_TEXT,
+        0x0030_0613,
+        ECALL,
+        A0_IS_1,
+        ECALL,
+        EXIT,
+        ECALL,
+    ];
+    let cases: [(&[u32], u64, Halt, u64, &'static [u8]); 5] = [
+        (&three, 0, Halt::Exit(3), 7, b"\x93\x08\x00"),
+        (&none, 1, Halt::Exit(0), 6, b""),
+        (&twice, 0, Halt::Exit(3), 9, b"\x93\x08\x00\x93\x08\x00"),
+        (&twice, 2, Halt::OutputFault, 6, b"\x93\x08\x00"),
+        (&three, 1, Halt::OutputFault, 4, b""),
+    ];
+    for (words, fails_at, expected, executed, bytes) in cases {
+        let mut machine = machine(rt.alloc(), 5, words, 8)?;
+        let mut out = Paper::new(rt.alloc(), fails_at);
+        assert_eq!(rt;
+            run(&mut machine, 100, &mut Tape::new(b"", 0), &mut out),
+            Some(expected)
+        );
+        assert_eq!(rt; machine.executed(), executed);
+        assert_eq!(rt; machine.faulted(), out.faults == 1);
+        assert_eq!(rt; out.bytes.as_slice(), bytes);
+    }
+    Ok(())
+}
+
+#[test]
+fn free_cells(rt: HostRuntime) -> Result<(), Fail> {
+    let s0_memory = 0x0001_1437; // lui s0, 0x11
+    let s0_plus_1 = 0x0014_0413; // addi s0, s0, 1
+    let own = 0x0084_2023; // sw s0, 0(s0)
+    // The words, at most so many cells, and how many are on the chain after them.
+    let cases: [(&[u32], u32, u32); 7] = [
+        (&[NOP], 10, 0),
+        (&[s0_memory], 10, 1),
+        (&[s0_memory], 0, 0),
+        (&[s0_memory, own], 10, 10),
+        // Not aligned; in no part; and with only three bytes in one.
+        (&[s0_memory, s0_plus_1], 10, 1),
+        (&[s0_plus_1], 10, 0),
+        (
+            &[
+                s0_memory, s0_plus_1, s0_plus_1, s0_plus_1, s0_plus_1, s0_plus_1,
+            ],
+            10,
+            0,
+        ),
+    ];
+    for (words, cells, expected) in cases {
+        let mut machine = machine(rt.alloc(), 5, words, 8)?;
+        let _halt = run(
+            &mut machine,
+            100,
+            &mut Tape::new(b"", 0),
+            &mut Paper::new(rt.alloc(), 0),
+        );
+        assert_eq!(rt; machine.free_cells(cells), expected);
+    }
+    Ok(())
+}
