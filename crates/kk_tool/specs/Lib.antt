@@ -1,0 +1,9 @@
+pub mod Agreement
+pub mod Answer
+pub mod Causes
+pub mod Front
+pub mod Line
+pub mod Outcome
+pub mod Refusals
+pub mod Store
+pub mod Words
