@@ -1,0 +1,5 @@
+fun main() {
+  print("the answer is ");
+  println(~(6 * ~7));
+  "good bye".println()
+}
