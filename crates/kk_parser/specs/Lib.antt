@@ -1,0 +1,8 @@
+pub mod Functions
+pub mod Grammar
+pub mod Kinds
+pub mod Methods
+pub mod Parses
+pub mod Phrases
+pub mod Reading
+pub mod Spells

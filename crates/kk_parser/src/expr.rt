@@ -1,20 +1,39 @@
-ghost use Rattle.std.specs.Prelude.{◌<◌, ◌≤◌, length, IsSome, OnOk};
+ghost use Rattle.std.specs.Prelude.{◌≡◌, ◌+◌, ◌≤◌, length, IsSome, IfOk, OnOk};
+ghost use Rattle.kk_syntax.specs.Trees.{expr_tree, unary as OfUnary, binary as OfBinary};
+ghost use Rattle.kk_parser.specs.Grammar.{sum_operator, sum_of, product_operator, product_of};
+ghost use Rattle.kk_parser.specs.Kinds.{number};
+ghost use Rattle.kk_parser.specs.Methods.{Reads, ReadsIfNext, TakesIfNext};
+ghost use Rattle.kk_parser.specs.Phrases.{token, rule, expr as OfExpr, add as OfAdd, mul as OfMul, un as OfUn, atom as OfAtom};
 
 use crate::fault::Fault;
 use crate::parser::Parser;
-use kk_syntax::{BinaryOperator, Expr, Symbol, UnaryOperator};
+use kk_base::NoMemory;
+use kk_syntax::{BinaryOperator, Expr, Symbol, Token, UnaryOperator};
 use std::alloc::Global;
 
 impl<'a> Parser<'a> {
+    /// `expr = add`: the levels end that it opens.
+    #[cycle(expr)]
+    pub fn expr(&mut self) -> Result<Expr, Fault>
+        ensures reads { Reads (rule OfExpr) expr_tree result self.old self.new }
+        ensures depth { OnOk result (self.new.depth ≡ self.old.depth) }
+        ensures left { length self.new.rest.now ≤ length self.old.rest.now }
+    {
+        let depth = self.depth;
+        let value = self.add()?;
+        self.depth = depth;
+        Ok(value)
+    }
+
     /// `add = mul { ( "+" | "-" ) mul }`, to the left.
     #[cycle(expr)]
-    pub fn add(&mut self) -> Result<Expr, Fault>
-        ensures left { length self.new.rest.now ≤ length self.old.rest.now }
+    fn add(&mut self) -> Result<Expr, Fault>
+        ensures reads { Reads (rule OfAdd) expr_tree result self.old self.new }
         ensures depth { OnOk result (self.old.depth ≤ self.new.depth) }
+        ensures left { length self.new.rest.now ≤ length self.old.rest.now }
     {
         let mut left = self.mul()?;
-        while let Some(operator) = self.add_operator() {
-            self.deepen()?;
+        while let Some(operator) = self.sum_operator()? {
             let right = self.mul()?;
             left = binary(self.alloc, operator, left, right)?;
         }
@@ -24,12 +43,12 @@ impl<'a> Parser<'a> {
     /// `mul = un { ( "*" | "/" | "%" ) un }`, to the left.
     #[cycle(expr)]
     fn mul(&mut self) -> Result<Expr, Fault>
-        ensures left { length self.new.rest.now ≤ length self.old.rest.now }
+        ensures reads { Reads (rule OfMul) expr_tree result self.old self.new }
         ensures depth { OnOk result (self.old.depth ≤ self.new.depth) }
+        ensures left { length self.new.rest.now ≤ length self.old.rest.now }
     {
         let mut left = self.un()?;
-        while let Some(operator) = self.mul_operator() {
-            self.deepen()?;
+        while let Some(operator) = self.product_operator()? {
             let right = self.un()?;
             left = binary(self.alloc, operator, left, right)?;
         }
@@ -39,74 +58,115 @@ impl<'a> Parser<'a> {
     /// `un = "~" un | atom`
     #[cycle(expr)]
     fn un(&mut self) -> Result<Expr, Fault>
-        ensures left { length self.new.rest.now ≤ length self.old.rest.now }
+        ensures reads { Reads (rule OfUn) expr_tree result self.old self.new }
         ensures depth { OnOk result (self.old.depth ≤ self.new.depth) }
+        ensures left { length self.new.rest.now ≤ length self.old.rest.now }
     {
-        if self.is_at(Symbol::Tilde) {
-            self.deepen()?;
-            let operand = self.un()?;
-            return unary(self.alloc, UnaryOperator::Negate, operand);
+        if !self.is_at(Symbol::Tilde) {
+            return self.atom();
         }
-        self.atom()
+        self.open(Symbol::Tilde)?;
+        let operand = self.un()?;
+        Ok(unary(self.alloc, UnaryOperator::Negate, operand)?)
     }
 
-    /// `atom = number | "(" add ")"`
+    /// `atom = number | "(" expr ")"`
     #[cycle(expr)]
     fn atom(&mut self) -> Result<Expr, Fault>
-        ensures left { length self.new.rest.now ≤ length self.old.rest.now }
+        ensures reads { Reads (rule OfAtom) expr_tree result self.old self.new }
         ensures depth { OnOk result (self.old.depth ≤ self.new.depth) }
+        ensures left { length self.new.rest.now ≤ length self.old.rest.now }
     {
         if let Some(value) = self.number() {
-            self.advance();
             return Ok(Expr::Number(value));
         }
         self.open(Symbol::OpenParenthesis)?;
-        let depth = self.depth;
-        let inner = self.add()?;
-        self.depth = depth;
+        let inner = self.expr()?;
         self.expect(Symbol::CloseParenthesis)?;
         Ok(inner)
     }
 
-    /// The operator of a sum that the next token is.
-    fn add_operator(&self) -> Option<BinaryOperator>
-        ensures { IsSome result → 0 < length self.now.rest.now }
+    /// A number, where one is next.
+    fn number(&mut self) -> Option<i32>
+        ensures takes { TakesIfNext (token number) result self.old self.new }
+        ensures depth { self.new.depth ≡ self.old.depth }
+        ensures left { length self.new.rest.now ≤ length self.old.rest.now }
+    {
+        match self.rest.first() {
+            Some(next) => match &next.token {
+                Token::Number(value) => {
+                    let value = *value;
+                    self.advance();
+                    Some(value)
+                }
+                _ => None,
+            },
+            None => None,
+        }
+    }
+
+    /// An operator of a sum, where one is next. It opens a level.
+    fn sum_operator(&mut self) -> Result<Option<BinaryOperator>, Fault>
+        ensures reads { ReadsIfNext sum_operator sum_of result self.old self.new }
+        ensures depth { OnOk result (self.old.depth ≤ self.new.depth) }
+        ensures left { length self.new.rest.now ≤ length self.old.rest.now }
+        ensures passed { IfOk result (λ found. IsSome found → length self.new.rest.now + 1 ≡ length self.old.rest.now) }
     {
         if self.is_at(Symbol::Plus) {
-            Some(BinaryOperator::Add)
-        } else if self.is_at(Symbol::Minus) {
-            Some(BinaryOperator::Subtract)
-        } else {
-            None
+            self.deepen()?;
+            return Ok(Some(BinaryOperator::Add));
         }
+        if self.is_at(Symbol::Minus) {
+            self.deepen()?;
+            return Ok(Some(BinaryOperator::Subtract));
+        }
+        Ok(None)
     }
 
-    /// The operator of a product that the next token is.
-    fn mul_operator(&self) -> Option<BinaryOperator>
-        ensures { IsSome result → 0 < length self.now.rest.now }
+    /// An operator of a product, where one is next. It opens a level.
+    fn product_operator(&mut self) -> Result<Option<BinaryOperator>, Fault>
+        ensures reads { ReadsIfNext product_operator product_of result self.old self.new }
+        ensures depth { OnOk result (self.old.depth ≤ self.new.depth) }
+        ensures left { length self.new.rest.now ≤ length self.old.rest.now }
+        ensures passed { IfOk result (λ found. IsSome found → length self.new.rest.now + 1 ≡ length self.old.rest.now) }
     {
         if self.is_at(Symbol::Star) {
-            Some(BinaryOperator::Multiply)
-        } else if self.is_at(Symbol::Slash) {
-            Some(BinaryOperator::Divide)
-        } else if self.is_at(Symbol::Percent) {
-            Some(BinaryOperator::Remainder)
-        } else {
-            None
+            self.deepen()?;
+            return Ok(Some(BinaryOperator::Multiply));
         }
+        if self.is_at(Symbol::Slash) {
+            self.deepen()?;
+            return Ok(Some(BinaryOperator::Divide));
+        }
+        if self.is_at(Symbol::Percent) {
+            self.deepen()?;
+            return Ok(Some(BinaryOperator::Remainder));
+        }
+        Ok(None)
     }
 }
 
-fn unary(alloc: Global, operator: UnaryOperator, operand: Expr) -> Result<Expr, Fault> {
+// An operator on an operand.
+fn unary(alloc: Global, operator: UnaryOperator, operand: Expr) -> Result<Expr, NoMemory>
+    ensures { IfOk result (λ e. expr_tree e ≡ OfUnary operator (expr_tree operand)) }
+{
     match Box::new(alloc, operand) {
         Ok(operand) => Ok(Expr::Unary(operator, operand)),
-        Err(_) => Err(Fault::NoMemory),
+        Err(_) => Err(NoMemory),
     }
 }
 
-fn binary(alloc: Global, operator: BinaryOperator, left: Expr, right: Expr) -> Result<Expr, Fault> {
+// An operator on its operands.
+fn binary(
+    alloc: Global,
+    operator: BinaryOperator,
+    left: Expr,
+    right: Expr,
+) -> Result<Expr, NoMemory>
+    ensures { IfOk result (λ e. expr_tree e ≡ OfBinary operator (expr_tree left) (expr_tree right)) }
+{
     match (Box::new(alloc, left), Box::new(alloc, right)) {
         (Ok(left), Ok(right)) => Ok(Expr::Binary(operator, left, right)),
-        _ => Err(Fault::NoMemory),
+        _ => Err(NoMemory),
     }
 }

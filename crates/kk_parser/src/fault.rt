@@ -1,3 +1,6 @@
+ghost use Rattle.std.specs.Prelude.{◌≡◌};
+ghost use Rattle.kk_parser.specs.declared.fault.Fault.TheVariants as OfFault;
+
 use kk_base::NoMemory;
 
 /// Why a reading stops. The parser then stands at the token that is the cause.
@@ -11,6 +14,8 @@ pub enum Fault {
 }
 
 impl From<NoMemory> for Fault {
+    ghost from_gives = { λ _ fault. fault ≡ OfFault.NoMemory };
+
     fn from(_error: NoMemory) -> Fault {
         Fault::NoMemory
     }

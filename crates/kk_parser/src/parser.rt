@@ -1,11 +1,15 @@
-ghost use Rattle.std.specs.Prelude.{◌≡◌, ◌+◌, ◌<◌, ◌≤◌, length, IsTrue, IsSome, OnOk};
+ghost use Rattle.std.specs.Prelude.{◌≡◌, ℕ, ◌+◌, ◌<◌, ◌≤◌, ◌∷◌, [], length, IsTrue, OnOk};
+ghost use Rattle.kk_parser.specs.Grammar.{semicolons};
+ghost use Rattle.kk_parser.specs.Kinds.{keyword, symbol as OfSymbol, word, string, is_at};
+ghost use Rattle.kk_parser.specs.Methods.{behind, Read, Reads, Deepens};
+ghost use Rattle.kk_parser.specs.Phrases.{token, opener, Value};
 
 use crate::fault::Fault;
-use kk_syntax::{LocatedToken, PrintForm, Symbol, Token};
+use kk_syntax::{Keyword, LocatedToken, Symbol, Token};
 use std::alloc::Global;
 
 /// The most levels of nesting that may be open at once.
-pub const LEVELS: usize = 200;
+const LEVELS: usize = 200;
 
 /// A reader of tokens.
 #[derive(Drop)]
@@ -18,34 +22,10 @@ pub struct Parser<'a> {
 }
 
 impl<'a> Parser<'a> {
-    /// Passes the next token.
-    pub fn advance(&mut self)
-        requires { 0 < length self.old.rest.now }
-        ensures left { length self.new.rest.now + 1 ≡ length self.old.rest.now }
-        ensures depth { self.new.depth ≡ self.old.depth }
-    {
-        self.rest = &self.rest[1..];
-    }
-
-    /// Opens a level at the next token, and passes it.
-    pub fn deepen(&mut self) -> Result<(), Fault>
-        requires { 0 < length self.old.rest.now }
-        ensures left { length self.new.rest.now ≤ length self.old.rest.now }
-        ensures passed { OnOk result (length self.new.rest.now + 1 ≡ length self.old.rest.now) }
-        ensures depth { OnOk result (self.new.depth ≡ self.old.depth + 1) }
-        ensures within { OnOk result (self.new.depth ≤ 200) }
-    {
-        if self.depth >= LEVELS {
-            return Err(Fault::TooDeep);
-        }
-        self.depth += 1;
-        self.advance();
-        Ok(())
-    }
-
     /// Whether the next token is this symbol.
     pub fn is_at(&self, symbol: Symbol) -> bool
-        ensures { IsTrue result → 0 < length self.now.rest.now }
+        ensures value { result ≡ is_at (OfSymbol symbol ∷ []) self.now.rest.now }
+        ensures there { IsTrue result → 0 < length self.now.rest.now }
     {
         match self.rest.first() {
             Some(next) => match &next.token {
@@ -56,11 +36,80 @@ impl<'a> Parser<'a> {
         }
     }
 
-    /// Passes this symbol.
-    pub fn expect(&mut self, symbol: Symbol) -> Result<(), Fault>
+    /// Whether the next token is this keyword.
+    pub fn is_at_keyword(&self, word: Keyword) -> bool
+        ensures value { result ≡ is_at (keyword word ∷ []) self.now.rest.now }
+        ensures there { IsTrue result → 0 < length self.now.rest.now }
+    {
+        match self.rest.first() {
+            Some(next) => match &next.token {
+                Token::Keyword(found) => *found == word,
+                _ => false,
+            },
+            None => false,
+        }
+    }
+
+    /// Whether the next token is the name of this spelling.
+    pub fn is_at_word(&self, spelling: &str) -> bool
+        ensures value { result ≡ is_at (word spelling.now ∷ []) self.now.rest.now }
+        ensures there { IsTrue result → 0 < length self.now.rest.now }
+    {
+        match self.rest.first() {
+            Some(next) => match &next.token {
+                Token::Name(name) => name.as_str() == spelling,
+                _ => false,
+            },
+            None => false,
+        }
+    }
+
+    /// Whether the next token is a string.
+    pub fn is_at_string(&self) -> bool
+        ensures { result ≡ is_at (string ∷ []) self.now.rest.now }
+    {
+        match self.rest.first() {
+            Some(next) => match &next.token {
+                Token::String(_) => true,
+                _ => false,
+            },
+            None => false,
+        }
+    }
+
+    /// Passes the next token.
+    pub fn advance(&mut self)
+        requires { 0 < length self.old.rest.now }
+        ensures rest { self.new.rest.now ≡ behind self.old.rest.now }
+        ensures depth { self.new.depth ≡ self.old.depth }
+        ensures left { length self.new.rest.now + 1 ≡ length self.old.rest.now }
+    {
+        self.rest = &self.rest[1..];
+    }
+
+    /// Opens a level at the next token, and passes it.
+    pub fn deepen(&mut self) -> Result<(), Fault>
+        requires { 0 < length self.old.rest.now }
+        ensures deepens { Deepens result self.old self.new }
+        ensures depth { OnOk result (self.new.depth ≡ self.old.depth + 1) }
+        ensures within { OnOk result (self.new.depth ≤ 200) }
         ensures left { length self.new.rest.now ≤ length self.old.rest.now }
         ensures passed { OnOk result (length self.new.rest.now + 1 ≡ length self.old.rest.now) }
+    {
+        if self.depth >= LEVELS {
+            return Err(Fault::TooDeep);
+        }
+        self.depth += 1;
+        self.advance();
+        Ok(())
+    }
+
+    /// Passes this symbol.
+    pub fn expect(&mut self, symbol: Symbol) -> Result<(), Fault>
+        ensures reads { Reads (token (OfSymbol symbol)) (λ _. tt) result self.old self.new }
         ensures depth { OnOk result (self.new.depth ≡ self.old.depth) }
+        ensures left { length self.new.rest.now ≤ length self.old.rest.now }
+        ensures passed { OnOk result (length self.new.rest.now + 1 ≡ length self.old.rest.now) }
     {
         if !self.is_at(symbol) {
             return Err(Fault::Unexpected);
@@ -69,12 +118,25 @@ impl<'a> Parser<'a> {
         Ok(())
     }
 
+    /// Passes this keyword.
+    pub fn expect_keyword(&mut self, word: Keyword) -> Result<(), Fault>
+        ensures reads { Reads (token (keyword word)) (λ _. tt) result self.old self.new }
+        ensures left { length self.new.rest.now ≤ length self.old.rest.now }
+    {
+        if !self.is_at_keyword(word) {
+            return Err(Fault::Unexpected);
+        }
+        self.advance();
+        Ok(())
+    }
+
     /// Passes this symbol, which opens a level.
     pub fn open(&mut self, symbol: Symbol) -> Result<(), Fault>
-        ensures left { length self.new.rest.now ≤ length self.old.rest.now }
-        ensures passed { OnOk result (length self.new.rest.now + 1 ≡ length self.old.rest.now) }
+        ensures reads { Reads (opener (OfSymbol symbol)) (λ _. tt) result self.old self.new }
         ensures depth { OnOk result (self.new.depth ≡ self.old.depth + 1) }
         ensures within { OnOk result (self.new.depth ≤ 200) }
+        ensures left { length self.new.rest.now ≤ length self.old.rest.now }
+        ensures passed { OnOk result (length self.new.rest.now + 1 ≡ length self.old.rest.now) }
     {
         if !self.is_at(symbol) {
             return Err(Fault::Unexpected);
@@ -82,40 +144,10 @@ impl<'a> Parser<'a> {
         self.deepen()
     }
 
-    /// The next token's number.
-    pub fn number(&self) -> Option<i32>
-        ensures { IsSome result → 0 < length self.now.rest.now }
-    {
-        match self.rest.first() {
-            Some(next) => match &next.token {
-                Token::Number(value) => Some(*value),
-                _ => None,
-            },
-            None => None,
-        }
-    }
-
-    /// The form that the next token names: `print` or `println`.
-    pub fn print_form(&self) -> Option<PrintForm>
-        ensures { IsSome result → 0 < length self.now.rest.now }
-    {
-        match self.rest.first() {
-            Some(next) => match &next.token {
-                Token::Name(name) => match name.as_str() {
-                    "print" => Some(PrintForm::Print),
-                    "println" => Some(PrintForm::PrintLine),
-                    _ => None,
-                },
-                _ => None,
-            },
-            None => None,
-        }
-    }
-
     /// Passes semicolons.
     pub fn skip_semicolons(&mut self)
+        ensures reads { (v : Value semicolons) × Read semicolons v self.old self.new }
         ensures left { length self.new.rest.now ≤ length self.old.rest.now }
-        ensures depth { self.new.depth ≡ self.old.depth }
     {
         while self.is_at(Symbol::Semicolon) {
             self.advance();

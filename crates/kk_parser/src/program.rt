@@ -1,4 +1,9 @@
-ghost use Rattle.std.specs.Prelude.{◌<◌, ◌≤◌, length, vec_len, IsTrue};
+ghost use Rattle.std.specs.Prelude.{◌≡◌, ◌-◌, ◌≤◌, length, map, IfOk, IfErr, List, codes};
+ghost use Rattle.kk_parser.specs.Functions.{FunctionTree, function_tree};
+ghost use Rattle.kk_parser.specs.Kinds.{word};
+ghost use Rattle.kk_parser.specs.Methods.{Reads, ReadsFor, error_for};
+ghost use Rattle.kk_parser.specs.Parses.{HasTree, Refuses, Gives, OneProgram, OneAnswer, place_of};
+ghost use Rattle.kk_parser.specs.Phrases.{token, rule, program as OfProgram, main_function as OfMain};
 
 use crate::fault::Fault;
 use crate::parser::Parser;
@@ -7,17 +12,37 @@ use kk_syntax::{Function, Keyword, LocatedToken, Symbol, Token, Tokens, Tree};
 use std::alloc::Global;
 
 /// The tree that the tokens spell.
-pub fn parse(alloc: Global, tokens: &Tokens) -> Result<Tree, ParseError> {
+///
+/// An error tells the number of the tokens before the cause, from 0 (a `u32`'s last value where there are more), and
+/// the line and the column of the cause.
+pub fn parse(alloc: Global, tokens: &Tokens) -> Result<Tree, ParseError>
+    ensures found { IfOk result (λ tree. HasTree tokens.now.items (map function_tree tree.functions.items)) }
+    ensures length { IfOk result (λ tree. tree.length ≡ tokens.now.end.at) }
+    ensures refused { IfErr result (Refuses tokens.now.items tokens.now.end) }
+
+    // What has a tree is found, unless memory runs out.
+    ensures only { (functions : List FunctionTree) → HasTree tokens.now.items functions → Gives functions result }
+
+    // Of any tokens, whatever they are.
+    ensures one_program { OneProgram }
+    ensures one_answer { OneAnswer }
+{
     let mut parser = Parser {
         alloc,
         rest: tokens.as_slice(),
         depth: 0,
     };
     match parser.program() {
-        Ok(functions) => Ok(Tree {
-            functions,
-            length: tokens.end().at,
-        }),
+        Ok(functions) => {
+            if parser.rest.is_empty() {
+                Ok(Tree {
+                    functions,
+                    length: tokens.end().at,
+                })
+            } else {
+                Err(error_at(Fault::Unexpected, tokens, parser.rest))
+            }
+        }
         Err(fault) => Err(error_at(fault, tokens, parser.rest)),
     }
 }
@@ -25,13 +50,14 @@ pub fn parse(alloc: Global, tokens: &Tokens) -> Result<Tree, ParseError> {
 // The error for a fault at the first of the tokens that are left, or at the end.
 fn error_at(fault: Fault, tokens: &Tokens, left: &[LocatedToken]) -> ParseError
     requires { length left.now ≤ length tokens.now.items }
+    ensures { result ≡ error_for fault (length tokens.now.items - length left.now) (place_of left.now tokens.now.end) }
 {
-    let index = u32::try_from(tokens.as_slice().len() - left.len()).unwrap_or(u32::MAX);
-    let span = match left.first() {
+    let passed = tokens.as_slice().len() - left.len();
+    let index = passed.min(u32::MAX as usize) as u32;
+    let Span { line, column, .. } = match left.first() {
         Some(next) => next.span,
         None => tokens.end(),
     };
-    let Span { line, column, .. } = span;
     match fault {
         Fault::Unexpected => ParseError::Unexpected {
             index,
@@ -48,41 +74,43 @@ fn error_at(fault: Fault, tokens: &Tokens, left: &[LocatedToken]) -> ParseError
 }
 
 impl<'a> Parser<'a> {
-    /// `program = ;* [ "fun" "main" "(" ")" block ;* ]`
+    /// `program = ;* [ main_function ;* ]`
     fn program(&mut self) -> Result<Vec<Function>, Fault>
+        ensures reads { Reads (rule OfProgram) (λ functions. map function_tree functions.items) result self.old self.new }
         ensures left { length self.new.rest.now ≤ length self.old.rest.now }
     {
         self.skip_semicolons();
         let mut functions = Vec::new(self.alloc);
-        if self.is_at_keyword(Keyword::Fun) {
-            self.advance();
-            let function = self.main()?;
-            match functions.push(function) {
-                Ok(()) => {}
-                Err(_) => return Err(Fault::NoMemory),
-            }
-            self.skip_semicolons();
+        if !self.is_at_keyword(Keyword::Fun) {
+            return Ok(functions);
         }
-        if self.rest.is_empty() {
-            Ok(functions)
-        } else {
-            Err(Fault::Unexpected)
+        let function = self.main_function()?;
+        match functions.push(function) {
+            Ok(()) => {}
+            Err(_) => return Err(Fault::NoMemory),
         }
+        self.skip_semicolons();
+        Ok(functions)
     }
 
-    /// What follows the keyword in `"fun" "main" "(" ")" block`.
-    fn main(&mut self) -> Result<Function, Fault>
+    /// `main_function = "fun" "main" "(" ")" block`: the levels end that it opens.
+    fn main_function(&mut self) -> Result<Function, Fault>
+        ensures reads { Reads (rule OfMain) function_tree result self.old self.new }
         ensures left { length self.new.rest.now ≤ length self.old.rest.now }
     {
-        let (name, at) = self.expect_main()?;
+        let depth = self.depth;
+        self.expect_keyword(Keyword::Fun)?;
+        let (name, at) = self.main_name()?;
         self.open(Symbol::OpenParenthesis)?;
         self.expect(Symbol::CloseParenthesis)?;
         let body = self.block()?;
+        self.depth = depth;
         Ok(Function { name, at, body })
     }
 
-    /// Passes the name `main`, and gives it with the byte where it stands.
-    fn expect_main(&mut self) -> Result<(Name, u32), Fault>
+    /// The name `main`, with the byte where it stands.
+    fn main_name(&mut self) -> Result<(Name, u32), Fault>
+        ensures reads { ReadsFor (token (word (codes "main"))) (λ at. (codes "main", at)) result self.old self.new }
         ensures left { length self.new.rest.now ≤ length self.old.rest.now }
     {
         match self.rest.first() {
@@ -99,19 +127,6 @@ impl<'a> Parser<'a> {
                 _ => Err(Fault::Unexpected),
             },
             None => Err(Fault::Unexpected),
-        }
-    }
-
-    /// Whether the next token is this keyword.
-    fn is_at_keyword(&self, keyword: Keyword) -> bool
-        ensures { IsTrue result → 0 < length self.now.rest.now }
-    {
-        match self.rest.first() {
-            Some(next) => match &next.token {
-                Token::Keyword(found) => *found == keyword,
-                _ => false,
-            },
-            None => false,
         }
     }
 }

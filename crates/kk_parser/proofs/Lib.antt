@@ -1,0 +1,15 @@
+pub mod Apart
+pub mod Begins
+pub mod Blocks
+pub mod Complete
+pub mod Functional
+pub mod Laws
+pub mod Local
+pub mod Lookahead
+pub mod Made
+pub mod Samples
+pub mod Sound
+pub mod Steps
+pub mod Tables
+pub mod Told
+pub mod Whole

@@ -1,0 +1,39 @@
+-- The phrases of which the right sides of productions are made, as in extended Backus-Naur form.
+use Rattle.std.specs.Prelude.{ℕ, List, Option, ◌⊎◌}
+use Rattle.kk_syntax.specs.Trees.{Tree}
+use Rattle.kk_parser.specs.Functions.{FunctionTree}
+use Rattle.kk_parser.specs.Kinds.{Kind, Said}
+
+-- the names on the left sides of productions
+pub data Nonterminal : Type 0 where
+  program main_function block statement print said expr add mul un atom : Nonterminal
+
+-- what the text of a nonterminal means
+abbrev pub Meant : Nonterminal → Type 0
+Meant program = List FunctionTree
+Meant main_function = FunctionTree
+Meant _ = Tree
+
+infixr 20 ◌▸◌
+-- a token; a token that opens a level of nesting; a phrase and behind it another; one of two; none or more; none or
+-- one; a phrase with which the levels end that it opens; a text of a nonterminal
+pub data Phrase : Type 0 where
+  token : Kind → Phrase
+  opener : Kind → Phrase
+  ◌▸◌ : Phrase → Phrase → Phrase
+  either : Phrase → Phrase → Phrase
+  many : Phrase → Phrase
+  optional : Phrase → Phrase
+  level : Phrase → Phrase
+  rule : Nonterminal → Phrase
+
+-- what a phrase says: its parts' words in their order
+abbrev pub Value : Phrase → Type 0
+Value (token k) = Said k
+Value (opener k) = Said k
+Value (a ▸ b) = Value a × Value b
+Value (either a b) = Value a ⊎ Value b
+Value (many a) = List (Value a)
+Value (optional a) = Option (Value a)
+Value (level a) = Value a
+Value (rule x) = Meant x
