@@ -1,7 +1,7 @@
 -- The definitions on small values.
 use Rattle.std.proofs.Common.{◌≡◌, [], ◌∷◌, true, false, Some, refl}
 use Rattle.std.specs.Prelude.{codes}
-use Rattle.kk_base.specs.Trace.{output, input, input_end, output_of, input_of}
+use Rattle.kk_base.specs.Trace.{output, input, input_end, output_of, input_of, TakesFrom}
 use Rattle.kk_base.specs.Memory.{Part, covers, byte_loaded}
 use Rattle.kk_base.specs.Machines.{trace, ending_after}
 use Rattle.kk_base.proofs.Counters.{each, every_second}
@@ -12,6 +12,19 @@ put_and_read = refl
 
 only_bytes_read : input_of (output (codes "ab") ∷ input 7 ∷ input_end ∷ []) ≡ 7 ∷ []
 only_bytes_read = refl
+
+-- two bytes are taken of three, and the end is met where none is left
+two_of_three : TakesFrom (input 7 ∷ output (codes "c") ∷ input 8 ∷ []) (7 ∷ 8 ∷ 9 ∷ []) (9 ∷ [])
+two_of_three = (refl, (refl, refl))
+
+end_where_none_is_left : TakesFrom (input 7 ∷ input_end ∷ []) (7 ∷ []) []
+end_where_none_is_left = (refl, refl)
+
+no_end_before_a_byte : TakesFrom (input_end ∷ []) (7 ∷ []) [] → ⊥
+no_end_before_a_byte taken = taken
+
+no_other_byte : TakesFrom (input 8 ∷ []) (7 ∷ []) [] → ⊥
+no_other_byte taken = cc
 
 -- four addresses from 4096 on, of which two have bytes
 text : Part

@@ -25,6 +25,16 @@ input_of (output piece ∷ later) = input_of later
 input_of (input byte ∷ later) = byte ∷ input_of later
 input_of (input_end ∷ later) = input_of later
 
+-- the events take a list of bytes from what was left of it before to what is left after: each byte is its next one, and
+-- the end is met only where nothing is left
+abbrev pub TakesFrom : List Event → List ℕ → List ℕ → Type 0
+TakesFrom [] before after = before ≡ after
+TakesFrom (output piece ∷ later) before after = TakesFrom later before after
+TakesFrom (input byte ∷ later) [] after = ⊥
+TakesFrom (input byte ∷ later) (next ∷ rest) after = (byte ≡ next) × TakesFrom later rest after
+TakesFrom (input_end ∷ later) [] after = TakesFrom later [] after
+TakesFrom (input_end ∷ later) (next ∷ rest) after = ⊥
+
 -- a trace, of these events or of any others, is the beginning of another
 abbrev pub IsPrefix : {E : Type 0} → List E → List E → Type 0
 IsPrefix {E} before whole = (later : List E) × (before ++ later ≡ whole)
