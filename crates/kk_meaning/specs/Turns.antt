@@ -1,10 +1,11 @@
 -- The turns that the machine answers, by the steps of its definition.
-use Rattle.std.specs.Prelude.{ℕ, List, [], ◌∷◌, Option, Some, None}
-use Rattle.kk_base.specs.Trace.{Event, output}
-use Rattle.kk_syntax.specs.State.{End, ended, heap_full, stack_full, Control, stopped, Configuration}
-use Rattle.kk_syntax.specs.Step.{Action, goes, puts}
+use Rattle.std.specs.Prelude.{◌≡◌, ℕ, List, [], ◌∷◌, Option, Some, None}
+use Rattle.kk_base.specs.Trace.{Event, output, input as taken, input_end}
+use Rattle.kk_syntax.specs.State.{Setting, End, ended, heap_full, stack_full, Control, stopped, Configuration}
+use Rattle.kk_syntax.specs.Step.{Action, goes, puts, takes}
+use Rattle.kk_syntax.specs.SourceAfter.{step}
 use Rattle.kk_meaning.specs.declared.turn.Turn.{Turn}
-use Rattle.kk_meaning.specs.declared.turn.Turn.TheVariants.{Went, Printed, Ended, HeapFull, StackFull}
+use Rattle.kk_meaning.specs.declared.turn.Turn.TheVariants.{Went, Printed, WantsInput, Ended, HeapFull, StackFull}
 
 -- the turn of a step without an event, by what the machine is at after it
 abbrev pub quiet_turn : Control → Turn
@@ -13,17 +14,31 @@ quiet_turn (stopped heap_full) = HeapFull
 quiet_turn (stopped stack_full) = StackFull
 quiet_turn _ = Went
 
--- a step's turn, and the machine after it
-abbrev pub turn_of : Action → Turn × Configuration
-turn_of (goes to) = (quiet_turn to.control, to)
-turn_of (puts piece to) = (Printed piece, to)
+-- A step's turn, and the machine after it, by the machine before it. A step that takes a byte is not done: the machine
+-- stays, and the turn asks for the byte.
+abbrev pub turn_of : Configuration → Action → Turn × Configuration
+turn_of before (goes to) = (quiet_turn to.control, to)
+turn_of before (puts piece to) = (Printed piece, to)
+turn_of before (takes to) = (WantsInput, before)
+
+-- the step takes a byte of the input
+abbrev pub TakesByte : Action → Type 0
+TakesByte (goes to) = ⊥
+TakesByte (puts piece to) = ⊥
+TakesByte (takes to) = Unit {0}
+
+-- From a machine a step leads to another, where it is given the next byte of the input or, by no byte, its end: whatever
+-- comes behind that byte, the step takes it alone.
+abbrev pub Reads : Setting → Option ℕ → Configuration → Configuration → Type 0
+Reads setting (Some byte) from to = (rest : List ℕ) → step setting (record { machine = from; input = byte ∷ rest }) ≡ (taken byte ∷ [], record { machine = to; input = rest })
+Reads setting None from to = step setting (record { machine = from; input = [] }) ≡ (input_end ∷ [], record { machine = to; input = [] })
 
 -- the turn of a print
 abbrev pub print_turn : List ℕ → Turn
 print_turn [] = Went
 print_turn (byte ∷ bytes) = Printed (byte ∷ bytes)
 
--- what a turn tells of the trace, and of the end
+-- what a turn tells of the trace, and of the end; one that asks for a byte is no step, and tells nothing
 abbrev pub events_of : Turn → List Event
 events_of (Printed piece) = output piece ∷ []
 events_of _ = []

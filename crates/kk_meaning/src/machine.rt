@@ -1,10 +1,11 @@
-ghost use Rattle.std.specs.Prelude.{◌≡◌, [], ◌∷◌, ◌++◌, map, IfOk, OnErr};
+ghost use Rattle.std.specs.Prelude.{◌≡◌, List, [], ◌∷◌, ◌++◌, map, IfOk, OnErr};
 ghost use Rattle.kk_syntax.specs.Trees.{expr_tree};
 ghost use Rattle.kk_syntax.specs.Programs.{program_tree};
-ghost use Rattle.kk_syntax.specs.State.{Configuration, Setting, arguments, start, value as at, stopped, ended};
+ghost use Rattle.kk_syntax.specs.State.{Configuration, Setting, Value as OfValue, arguments, call, start, value as at, stopped, ended};
 ghost use Rattle.kk_syntax.specs.Step.{goes, at_value, part_step, expression_step, form_step, value_step, step_of};
 ghost use Rattle.kk_meaning.specs.View.{value_view, form_view, block_tree, setting_of, configuration_of};
-ghost use Rattle.kk_meaning.specs.Turns.{turn_of};
+ghost use Rattle.kk_meaning.specs.Turns.{turn_of, TakesByte, Reads};
+ghost use Rattle.kk_meaning.specs.declared.turn.Turn.TheVariants.{WantsInput};
 
 use crate::arithmetic::{binary, unary};
 use crate::frame::{Block, Form, Frame};
@@ -63,14 +64,18 @@ impl<'a> Meaning<'a> {
         })
     }
 
-    /// One step. At the end there are no more: the same turn comes again. Where memory is refused the machine is as it
-    /// was.
+    /// One step. At the end there are no more: the same turn comes again. A step that takes a byte of the input is not
+    /// done: it is asked for by `WantsInput`, again and again until `give` does it. Where memory is refused the machine
+    /// is as it was.
     pub fn step(&mut self) -> Result<Turn, NoMemory>
         ensures setting { setting_of self.new ≡ setting_of self.old }
         ensures ok { IfOk result (λ turn.
             (turn, configuration_of self.new)
-            ≡ turn_of (step_of (setting_of self.old) (configuration_of self.old))) }
+            ≡ turn_of (configuration_of self.old) (step_of (setting_of self.old) (configuration_of self.old))) }
         ensures err { OnErr result (configuration_of self.new ≡ configuration_of self.old) }
+        ensures wanted { IfOk result (λ turn.
+            turn ≡ WantsInput
+            → TakesByte (step_of (setting_of self.new) (configuration_of self.new))) }
     {
         match self.control {
             Control::Expression(expr) => self.evaluate(expr),
@@ -80,13 +85,23 @@ impl<'a> Meaning<'a> {
         }
     }
 
+    /// The next byte of the input, or by `None` its end: the step that `WantsInput` asked for. Its value is the byte, or
+    /// -1. Takes no memory.
+    pub fn give(&mut self, byte: Option<u8>)
+        requires wanted { TakesByte (step_of (setting_of self.old) (configuration_of self.old)) }
+        ensures setting { setting_of self.new ≡ setting_of self.old }
+        ensures step { Reads (setting_of self.old) byte (configuration_of self.old) (configuration_of self.new) }
+    {
+        self.control = Control::Value(Value::of_byte(byte));
+    }
+
     // The step at an expression.
     #[cycle(evaluate)]
     fn evaluate(&mut self, expr: &'a Expr) -> Result<Turn, NoMemory>
         ensures setting { setting_of self.new ≡ setting_of self.old }
         ensures ok { IfOk result (λ turn.
             (turn, configuration_of self.new)
-            ≡ turn_of (expression_step (setting_of self.old) (expr_tree expr.now) []
+            ≡ turn_of (configuration_of self.old) (expression_step (setting_of self.old) (expr_tree expr.now) []
             (configuration_of self.old))) }
         ensures err { OnErr result (configuration_of self.new ≡ configuration_of self.old) }
     {
@@ -95,6 +110,7 @@ impl<'a> Meaning<'a> {
                 self.control = Control::Value(Value::Integer(*number));
                 Ok(Turn::Went)
             }
+            Expr::ReadByte => Ok(Turn::WantsInput),
             Expr::PrintText(form, text) => {
                 let piece = piece(self.alloc, *form, text.as_slice())?;
                 self.control = Control::Value(Value::Unit);
@@ -115,7 +131,7 @@ impl<'a> Meaning<'a> {
         ensures setting { setting_of self.new ≡ setting_of self.old }
         ensures ok { IfOk result (λ turn.
             (turn, configuration_of self.new)
-            ≡ turn_of (expression_step (setting_of self.old) (block_tree block.entry) []
+            ≡ turn_of (configuration_of self.old) (expression_step (setting_of self.old) (block_tree block.entry) []
             (configuration_of self.old))) }
         ensures err { OnErr result (configuration_of self.new ≡ configuration_of self.old) }
     {
@@ -136,7 +152,7 @@ impl<'a> Meaning<'a> {
         ensures setting { setting_of self.new ≡ setting_of self.old }
         ensures ok { IfOk result (λ turn.
             (turn, configuration_of self.new)
-            ≡ turn_of (part_step (expr_tree first.now) []
+            ≡ turn_of (configuration_of self.old) (part_step (expr_tree first.now) []
             (arguments (form_view form) [] (map expr_tree left.now) [])
             (configuration_of self.old))) }
         ensures err { OnErr result (configuration_of self.new ≡ configuration_of self.old) }
@@ -151,10 +167,9 @@ impl<'a> Meaning<'a> {
     fn resume(&mut self, value: Value) -> Result<Turn, NoMemory>
         requires { (configuration_of self.old).control ≡ at (value_view value) }
         ensures setting { setting_of self.new ≡ setting_of self.old }
-        ensures ok { IfOk result (λ turn.
+        ensures ok { let before = configuration_of self.old in IfOk result (λ turn.
             (turn, configuration_of self.new)
-            ≡ turn_of (value_step (setting_of self.old) (value_view value)
-            (configuration_of self.old).frames (configuration_of self.old))) }
+            ≡ turn_of before (value_step (setting_of self.old) (value_view value) before.frames before)) }
         ensures err { OnErr result (configuration_of self.new ≡ configuration_of self.old) }
     {
         let Some(frame) = self.frames.last_mut() else {
@@ -162,8 +177,7 @@ impl<'a> Meaning<'a> {
         };
         match frame {
             Frame::Arguments { form, values, left } => {
-                let expressions = *left;
-                match expressions.split_first() {
+                match (*left).split_first() {
                     Some((next, rest)) => {
                         values.push(value)?;
                         *left = rest;
@@ -185,12 +199,23 @@ impl<'a> Meaning<'a> {
             }
             Frame::Call => {
                 self.frames.pop();
-                if self.frames.is_empty() {
-                    Ok(self.end())
-                } else {
-                    Ok(Turn::Went)
-                }
+                Ok(self.after_call())
             }
+        }
+    }
+
+    // A call has its value, and its frame is taken away: with the last one the run ends.
+    fn after_call(&mut self) -> Turn
+        ensures setting { setting_of self.new ≡ setting_of self.old }
+        ensures turn { let c = configuration_of self.old in
+            (before : Configuration) (v : OfValue) (lent : List OfValue) → c.control ≡ at v
+            → (result, configuration_of self.new)
+            ≡ turn_of before (value_step (setting_of self.old) v (call lent ∷ c.frames) c) }
+    {
+        if self.frames.is_empty() {
+            self.end()
+        } else {
+            Turn::Went
         }
     }
 
@@ -198,7 +223,7 @@ impl<'a> Meaning<'a> {
     fn end(&mut self) -> Turn
         ensures setting { setting_of self.new ≡ setting_of self.old }
         ensures ended { (result, configuration_of self.new)
-            ≡ turn_of (goes (record (configuration_of self.old) { control = stopped ended })) }
+            ≡ turn_of (configuration_of self.old) (goes (record (configuration_of self.old) { control = stopped ended })) }
     {
         self.control = Control::Ended;
         Turn::Ended
@@ -212,9 +237,9 @@ fn apply(
     values: &[Value],
     last: Value,
 ) -> Result<(Value, Turn), NoMemory>
-    ensures { IfOk result (λ applied. (setting : Setting) (c : Configuration) →
+    ensures { IfOk result (λ applied. (setting : Setting) (before c : Configuration) →
         (applied.1, at_value (value_view applied.0) c)
-        ≡ turn_of (form_step setting (form_view form)
+        ≡ turn_of before (form_step setting (form_view form)
         (map value_view values.now ++ value_view last ∷ []) c)) }
 {
     match form {

@@ -44,12 +44,19 @@ fn body(alloc: Global, mut statements: Vec<Expr>) -> Result<Expr, AllocError> {
     }
 }
 
-/// What a `main` of this body prints, each piece between `[` and `]`, and how many steps it takes to its end.
-fn run(alloc: Global, body: Expr) -> Result<(Vec<u8>, u32), NoMemory> {
+/// A program of a `main` with this body.
+fn only(alloc: Global, body: Expr) -> Result<Program, NoMemory> {
     let name = Name::new(String::from_str(alloc, "main")?);
     let mut functions = Vec::new(alloc);
     functions.push(Function { name, at: 4, body })?;
-    let program = Program { functions, main: 0 };
+    Ok(Program { functions, main: 0 })
+}
+
+/// What a `main` of this body prints on an input, each piece between `[` and `]`, and how many steps it takes to its
+/// end.
+fn run(alloc: Global, body: Expr, input: &[u8]) -> Result<(Vec<u8>, u32), NoMemory> {
+    let program = only(alloc, body)?;
+    let mut bytes = input.iter();
     let mut pieces = Vec::new(alloc);
     let mut meaning = Meaning::start(alloc, &program, 65_536, 4_096)?;
     for steps in 1..1_000 {
@@ -61,7 +68,8 @@ fn run(alloc: Global, body: Expr) -> Result<(Vec<u8>, u32), NoMemory> {
                 pieces.push(b']')?;
             }
             Turn::Ended => return Ok((pieces, steps)),
-            Turn::WantsInput | Turn::HeapFull | Turn::StackFull => break,
+            Turn::WantsInput => meaning.give(bytes.next().copied()),
+            Turn::HeapFull | Turn::StackFull => break,
         }
     }
     Ok((pieces, 0))
@@ -87,7 +95,7 @@ fn operators_have_their_results(rt: HostRuntime) -> Result<(), Fail> {
         (BinaryOperator::Remainder, -2_147_483_648, -1, "[0\n]"),
     ] {
         let number = binary(alloc, operator, Expr::Number(left), Expr::Number(right))?;
-        let (pieces, steps) = run(alloc, line(alloc, number)?)?;
+        let (pieces, steps) = run(alloc, line(alloc, number)?, b"")?;
         assert_eq!(rt; pieces.as_slice(), piece.as_bytes(), "{left} and {right}");
         assert_eq!(rt; steps, 8);
     }
@@ -104,7 +112,7 @@ fn a_sum_with_a_product_takes_twelve_steps(rt: HostRuntime) -> Result<(), Fail> 
         Expr::Number(3),
     )?;
     let sum = binary(alloc, BinaryOperator::Add, Expr::Number(1), product)?;
-    let (pieces, steps) = run(alloc, line(alloc, sum)?)?;
+    let (pieces, steps) = run(alloc, line(alloc, sum)?, b"")?;
     assert_eq!(rt; pieces.as_slice(), b"[7\n]".as_slice());
     assert_eq!(rt; steps, 12);
     Ok(())
@@ -117,7 +125,7 @@ fn operands_come_from_left_to_right(rt: HostRuntime) -> Result<(), Fail> {
     let left = shown(alloc, "a", Expr::Number(1))?;
     let right = shown(alloc, "b", two)?;
     let difference = binary(alloc, BinaryOperator::Subtract, left, right)?;
-    let (pieces, steps) = run(alloc, line(alloc, difference)?)?;
+    let (pieces, steps) = run(alloc, line(alloc, difference)?, b"")?;
     assert_eq!(rt; pieces.as_slice(), b"[a][b][3\n]".as_slice());
     assert_eq!(rt; steps, 16);
     Ok(())
@@ -131,8 +139,52 @@ fn statements_come_in_their_order(rt: HostRuntime) -> Result<(), Fail> {
     statements.push(text(alloc, PrintForm::Print, "")?)?;
     statements.push(line(alloc, Expr::Number(3))?)?;
     statements.push(text(alloc, PrintForm::PrintLine, "")?)?;
-    let (pieces, steps) = run(alloc, body(alloc, statements)?)?;
+    let (pieces, steps) = run(alloc, body(alloc, statements)?, b"")?;
     assert_eq!(rt; pieces.as_slice(), b"[a][3\n][\n]".as_slice());
     assert_eq!(rt; steps, 13);
+    Ok(())
+}
+
+#[test]
+fn bytes_are_read_in_their_order(rt: HostRuntime) -> Result<(), Fail> {
+    let alloc = rt.alloc();
+    let difference = binary(
+        alloc,
+        BinaryOperator::Subtract,
+        Expr::ReadByte,
+        Expr::ReadByte,
+    )?;
+    let (pieces, steps) = run(alloc, line(alloc, difference)?, &[7, 255, 1])?;
+    assert_eq!(rt; pieces.as_slice(), b"[-248\n]".as_slice());
+    assert_eq!(rt; steps, 8);
+    Ok(())
+}
+
+#[test]
+fn the_end_of_the_input_is_minus_one(rt: HostRuntime) -> Result<(), Fail> {
+    let alloc = rt.alloc();
+    let (pieces, steps) = run(alloc, line(alloc, Expr::ReadByte)?, b"")?;
+    assert_eq!(rt; pieces.as_slice(), b"[-1\n]".as_slice());
+    assert_eq!(rt; steps, 4);
+    Ok(())
+}
+
+#[test]
+fn a_byte_is_asked_for_until_it_is_given(rt: HostRuntime) -> Result<(), Fail> {
+    let alloc = rt.alloc();
+    let program = only(alloc, line(alloc, Expr::ReadByte)?)?;
+    let mut meaning = Meaning::start(alloc, &program, 65_536, 4_096)?;
+    assert!(rt; matches!(meaning.step()?, Turn::Went));
+    assert!(rt; matches!(meaning.step()?, Turn::WantsInput));
+    let turn = meaning.step()?;
+    assert!(rt; matches!(turn, Turn::WantsInput));
+    meaning.give(Some(10));
+    let turn = meaning.step()?;
+    let piece = match &turn {
+        Turn::Printed(piece) => piece.as_slice(),
+        _ => b"",
+    };
+    assert_eq!(rt; piece, b"10\n".as_slice());
+    assert!(rt; matches!(meaning.step()?, Turn::Ended));
     Ok(())
 }

@@ -10,7 +10,7 @@ pub enum Turn {
     Went,
     /// It put a piece on the output, which is not empty.
     Printed(Text),
-    /// There was no step, since the next one takes a byte of the input.
+    /// There was no step, since the next one takes a byte of the input: `Meaning::give` is that step.
     WantsInput,
     /// The program has ended.
     Ended,

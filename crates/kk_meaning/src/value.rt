@@ -1,5 +1,5 @@
 ghost use Rattle.std.specs.Prelude.{◌≡◌, [], ◌∷◌, ◌++◌, map};
-ghost use Rattle.kk_syntax.specs.Step.{integer_of, argument as argument_of};
+ghost use Rattle.kk_syntax.specs.Step.{byte_value, integer_of, argument as argument_of};
 ghost use Rattle.kk_meaning.specs.View.{value_view};
 
 /// What an expression comes to.
@@ -11,6 +11,16 @@ pub enum Value {
 }
 
 impl Value {
+    /// What a read has got: the byte as a number, and -1 at the end of the input.
+    pub fn of_byte(byte: Option<u8>) -> Self
+        ensures { value_view result ≡ byte_value byte }
+    {
+        match byte {
+            Some(byte) => Value::Integer(byte as i32),
+            None => Value::Integer(-1),
+        }
+    }
+
     /// The integer; 0 for `()`, of which no well typed program asks it.
     pub fn integer(self) -> i32
         ensures { result ≡ integer_of (value_view self) }

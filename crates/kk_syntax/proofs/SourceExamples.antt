@@ -3,18 +3,18 @@ use Rattle.std.proofs.Common.{◌≡◌, pos, negsuc, [], ◌∷◌, Some, None,
 use Rattle.std.specs.Int.{int_wrap}
 use Rattle.std.specs.Fmt.{digits}
 use Rattle.std.specs.Prelude.{codes}
-use Rattle.kk_base.specs.Trace.{output}
+use Rattle.kk_base.specs.Trace.{output, input, input_end}
 use Rattle.kk_syntax.specs.declared.tree.UnaryOperator.TheVariants.{Negate}
 use Rattle.kk_syntax.specs.declared.tree.BinaryOperator.TheVariants.{Add, Subtract, Multiply, Divide, Remainder}
 use Rattle.kk_syntax.specs.declared.tree.PrintForm.TheVariants.{Print, PrintLine}
-use Rattle.kk_syntax.specs.Trees.{Tree, number, unary, binary, print, print_text, block, no_tree, tree}
+use Rattle.kk_syntax.specs.Trees.{Tree, number, read_byte, unary, binary, print, print_text, block, no_tree, tree}
 use Rattle.kk_syntax.specs.State.{Setting, ended}
 use Rattle.kk_syntax.specs.SourceAfter.{source_after}
 
 -- a program of `main` alone
 abbrev only : Tree → Setting
 only body = record {
-  program = record { functions = record { body = body } ∷ []; main = 0 };
+  program = record { functions = record { name = codes "main"; at = 4; body = body } ∷ []; main = 0 };
   cells = 65536;
   depth = 4096;
 }
@@ -97,3 +97,35 @@ operands_at_their_end = refl
 -- a block without statements takes no step
 bare_blocks : source_after (only (block no_tree (block no_tree (number (pos 1))))) [] 2 ≡ record { trace = []; ending = Some ended }
 bare_blocks = refl
+
+-- fun main() { print(read-byte()) }
+-- 1 the print waits, 2 the byte or the end of the input, 3 the print, 4 the end
+abbrev read : Setting
+read = only (print Print read_byte)
+
+read_before_its_byte : source_after read (10 ∷ []) 1 ≡ record { trace = []; ending = None }
+read_before_its_byte = refl
+
+read_after_its_byte : source_after read (10 ∷ []) 2 ≡ record { trace = input 10 ∷ []; ending = None }
+read_after_its_byte = refl
+
+read_at_its_end : source_after read (10 ∷ []) 4 ≡ record { trace = input 10 ∷ output (codes "10") ∷ []; ending = Some ended }
+unfolding digits
+read_at_its_end = refl
+
+read_of_no_input : source_after read [] 4 ≡ record { trace = input_end ∷ output (codes "-1") ∷ []; ending = Some ended }
+unfolding digits
+read_of_no_input = refl
+
+-- fun main() { println(read-byte() - read-byte()); read-byte() + read-byte() }: the left byte is taken first, each byte
+-- is taken once, and the end is met again
+-- 1 the rest of the block waits, 8 the print, 9 the rest comes, 14 its sum, 15 the end
+abbrev reads : Setting
+reads =
+    only (block
+    (tree (print PrintLine (binary Subtract read_byte read_byte)) no_tree)
+    (binary Add read_byte read_byte))
+
+reads_at_their_end : source_after reads (7 ∷ 255 ∷ []) 15 ≡ record { trace = input 7 ∷ input 255 ∷ output (codes "-248\n") ∷ input_end ∷ input_end ∷ []; ending = Some ended }
+unfolding int_wrap digits
+reads_at_their_end = refl

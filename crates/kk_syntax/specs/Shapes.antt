@@ -1,12 +1,13 @@
 -- Counts on the trees of bodies.
 use Rattle.std.specs.Prelude.{ℕ, ◌+◌}
-use Rattle.kk_syntax.specs.Trees.{Tree, number, unary, binary, print, print_text, block, Trees, no_tree, tree}
+use Rattle.kk_syntax.specs.Trees.{Tree, number, read_byte, unary, binary, print, print_text, block, Trees, no_tree, tree}
 
--- The nodes of an expression: 1 for a number and for a print of a string; 1 plus its parts for an operator and for a
--- print of a number. A block counts its parts alone.
+-- The nodes of an expression: 1 for a number, for a read of the input and for a print of a string; 1 plus its parts for
+-- an operator and for a print of a number. A block counts its parts alone.
 abbrev mutual
   pub nodes_of : Tree → ℕ
   nodes_of (number value) = 1
+  nodes_of read_byte = 1
   nodes_of (unary operator operand) = 1 + nodes_of operand
   nodes_of (binary operator left right) = 1 + nodes_of left + nodes_of right
   nodes_of (print form value) = 1 + nodes_of value

@@ -1,14 +1,16 @@
 -- What a run of a program has come to after a number of steps.
-use Rattle.std.specs.Prelude.{ℕ, List, [], ◌∷◌, Option}
-use Rattle.kk_base.specs.Trace.{Event, output}
+use Rattle.std.specs.Prelude.{ℕ, List, [], ◌∷◌, Option, Some, None}
+use Rattle.kk_base.specs.Trace.{Event, output, input as taken, input_end}
 use Rattle.kk_base.specs.Machines.{Machine, until, trace, ending_after}
 use Rattle.kk_syntax.specs.State.{Setting, End, end_at, State, start}
-use Rattle.kk_syntax.specs.Step.{Action, goes, puts, step_of}
+use Rattle.kk_syntax.specs.Step.{Action, goes, puts, takes, step_of}
 
--- the events of a step, and the state after it
+-- the events of a step, and the state after it; where no input is left, a read meets its end, and it stays so
 abbrev pub performed : Action → List ℕ → List Event × State
 performed (goes to) input = ([], record { machine = to; input = input })
 performed (puts piece to) input = (output piece ∷ [], record { machine = to; input = input })
+performed (takes to) (byte ∷ rest) = (taken byte ∷ [], record { machine = to (Some byte); input = rest })
+performed (takes to) [] = (input_end ∷ [], record { machine = to None; input = [] })
 
 abbrev pub step : Setting → State → List Event × State
 step setting s = performed (step_of setting s.machine) s.input

@@ -1,5 +1,5 @@
 -- The steps of the store machine. Evaluation is strict, and goes from left to right.
-use Rattle.std.specs.Prelude.{ℕ, ℤ, pos, List, [], ◌∷◌, ◌++◌, slice_index_or}
+use Rattle.std.specs.Prelude.{ℕ, ℤ, pos, negsuc, List, [], ◌∷◌, ◌++◌, Option, Some, None, slice_index_or}
 use Rattle.std.specs.Fmt.{signed_decimal}
 use Rattle.kk_syntax.specs.declared.tree.UnaryOperator.{UnaryOperator}
 use Rattle.kk_syntax.specs.declared.tree.UnaryOperator.TheVariants.{Negate}
@@ -7,14 +7,18 @@ use Rattle.kk_syntax.specs.declared.tree.BinaryOperator.{BinaryOperator}
 use Rattle.kk_syntax.specs.declared.tree.BinaryOperator.TheVariants.{Add, Subtract, Multiply, Divide, Remainder}
 use Rattle.kk_syntax.specs.declared.tree.PrintForm.{PrintForm}
 use Rattle.kk_syntax.specs.declared.tree.PrintForm.TheVariants.{Print, PrintLine}
-use Rattle.kk_syntax.specs.Trees.{Tree, number, unary, binary, print, print_text, block, Trees, no_tree, tree}
+use Rattle.kk_syntax.specs.Trees.{Tree, number, read_byte, unary, binary, print, print_text, block, Trees, no_tree, tree}
 use Rattle.kk_syntax.specs.Arithmetic.{sum_of, difference_of, product_of, negation_of, quotient_of, remainder_of}
 use Rattle.kk_syntax.specs.State.{Setting, Value, integer, unit, Environment, Form, unary_form, binary_form, print_form, Frame, arguments, statement, call, ended, Control, expression, value, stopped, Configuration}
 
--- what a step does: it leads to a machine, and it may put a piece on the output, which is not empty
+-- What a step does.
+-- goes: it leads to a machine.
+-- puts: it also puts a piece on the output, which is not empty.
+-- takes: it takes the next byte of the input, or meets its end; what it has got decides the machine that it leads to.
 pub data Action : Type 0 where
   goes : (to : Configuration) → Action
   puts : (piece : List ℕ) → (to : Configuration) → Action
+  takes : (to : Option ℕ → Configuration) → Action
 
 abbrev pub at_expression : Tree → Environment → Configuration → Configuration
 at_expression e environment c = record c { control = expression e environment }
@@ -52,6 +56,15 @@ abbrev pub print_step : List ℕ → Configuration → Action
 print_step [] c = goes (at_value unit c)
 print_step (byte ∷ bytes) c = puts (byte ∷ bytes) (at_value unit c)
 
+-- what a read has got: a byte as a number, and -1 at the end of the input
+abbrev pub byte_value : Option ℕ → Value
+byte_value (Some byte) = integer (pos byte)
+byte_value None = integer (negsuc 0)
+
+-- the machine at what a read has got
+abbrev pub at_byte : Configuration → Option ℕ → Configuration
+at_byte c byte = at_value (byte_value byte) c
+
 -- a compound form goes to its first part, and leaves a frame that waits for it
 abbrev pub part_step : Tree → Environment → Frame → Configuration → Action
 part_step first environment frame c =
@@ -67,6 +80,7 @@ module _ (setting : Setting) where
   -- the step at an expression
   abbrev pub expression_step : Tree → Environment → Configuration → Action
   expression_step (number n) environment c = goes (at_value (integer n) c)
+  expression_step read_byte environment c = takes (at_byte c)
   expression_step (print_text form text) environment c = print_step (piece_of form text) c
   expression_step (unary operator operand) environment c =
       part_step operand environment (arguments (unary_form operator) [] [] environment) c

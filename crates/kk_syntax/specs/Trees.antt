@@ -5,14 +5,15 @@ use Rattle.kk_syntax.specs.declared.tree.UnaryOperator.{UnaryOperator}
 use Rattle.kk_syntax.specs.declared.tree.BinaryOperator.{BinaryOperator}
 use Rattle.kk_syntax.specs.declared.tree.PrintForm.{PrintForm}
 use Rattle.kk_syntax.specs.declared.tree.Expr.{Expr}
-use Rattle.kk_syntax.specs.declared.tree.Expr.TheOpen.{Expr-F, Number, Unary, Binary, Print, PrintText, Block}
+use Rattle.kk_syntax.specs.declared.tree.Expr.TheOpen.{Expr-F, Number, ReadByte, Unary, Binary, Print, PrintText, Block}
 use Rattle.kk_syntax.specs.declared.tree.Expr.TheFolds.{fold-Expr}
 
--- an expression: a number; an operator on its operands; a print of a number or of a string's bytes; a block of
--- statements and its value
+-- an expression: a number; a read of a byte of the input; an operator on its operands; a print of a number or of a
+-- string's bytes; a block of statements and its value
 mutual
   pub data Tree : Type 0 where
     number : (value : ℤ) → Tree
+    read_byte : Tree
     unary : (operator : UnaryOperator) → (operand : Tree) → Tree
     binary : (operator : BinaryOperator) → (left : Tree) → (right : Tree) → Tree
     print : (form : PrintForm) → (value : Tree) → Tree
@@ -31,6 +32,7 @@ trees_of (t ∷ ts) = tree t (trees_of ts)
 -- an expression of the program as such a tree, its parts' trees given
 abbrev pub expr_step : Expr-F Tree → Tree
 expr_step (Number value) = number value
+expr_step ReadByte = read_byte
 expr_step (Unary operator operand) = unary operator operand.value
 expr_step (Binary operator left right) = binary operator left.value right.value
 expr_step (Print form value) = print form value.value

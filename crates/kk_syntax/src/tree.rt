@@ -33,6 +33,8 @@ pub enum PrintForm {
 #[derive(Debug, Drop)]
 pub enum Expr {
     Number(i32),
+    /// The next byte of the input, or -1 at its end.
+    ReadByte,
     Unary(UnaryOperator, Box<Expr>),
     Binary(BinaryOperator, Box<Expr>, Box<Expr>),
     /// A print of a number.

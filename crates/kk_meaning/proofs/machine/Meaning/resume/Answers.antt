@@ -1,11 +1,10 @@
 -- The newest frame is the last that is kept: what it is decides the turn.
-use Rattle.std.proofs.Common.{◌-◌, ◌<◌, [], ◌∷◌, length, map, reverse, take, vec_len, refl, sym, ap, ◌∙◌, arith}
-use Rattle.std.proofs.lemmas.List.{map-append, take-set, length-map, length-reverse}
-use Rattle.std.proofs.lemmas.Bool.Decides.{nat_tests}
+use Rattle.std.proofs.Common.{◌-◌, [], ◌∷◌, map, reverse, take, vec_len, refl, sym, ap, ◌∙◌}
+use Rattle.std.proofs.lemmas.List.{map-append, take-set}
 use Rattle.std.proofs.Math.Seq.{map-set_same}
 use Rattle.kk_syntax.specs.Trees.{expr_tree}
 use Rattle.kk_syntax.specs.State.{arguments}
-use Rattle.kk_meaning.specs.View.{frame_view, value_view, form_view, control_view, setting_of}
+use Rattle.kk_meaning.specs.View.{frame_view, value_view, form_view, control_view, setting_of, configuration_of}
 use Rattle.kk_meaning.proofs.Frames.{newest_first, newest_changed, map_nothing}
 use Rattle.kk_meaning.proofs.Values.{machine, on_err, turn_of_argument, turn_of_form, turn_of_call}
 use Rattle.kk_meaning.proofs.machine.Meaning.resume.Goals as goal
@@ -25,7 +24,7 @@ returns-in_ok-push-in-Some-split_first-clause-ok c =
     let some = c.in-Some.ensures.variant.0 refl in
     let newest = newest_first frame_view kept.items (vec_len kept) _ kept.ok.0 some c.in-Some.ensures.value in
     let now = newest_changed frame_view kept.items (vec_len kept) _ kept.ok.0 some in
-    turn_of_argument (setting_of c.args.self.now) _ _ _ _ _ _ _ _ _ _ _ _
+    turn_of_argument (setting_of c.args.self.now) _ _ _ _ _ _ _ _ _ _ _ _ _
     (newest ∙ ap (λ f. frame_view f ∷ reverse (map frame_view (take (vec_len kept - 1) kept.items))) c.in-Arguments.is)
     (ap (map expr_tree) c.in-Some-split_first.ensures.cases.0)
     (ap (map value_view) c.in_ok-push-in-Some-split_first.ensures.items ∙ map-append value_view c.in-Arguments.values.items (c.args.value ∷ []))
@@ -37,23 +36,19 @@ returns-in_ok-outcome-in-None-clause-ok c =
     let some = c.in-Some.ensures.variant.0 refl in
     let newest = newest_first frame_view kept.items (vec_len kept) _ kept.ok.0 some c.in-Some.ensures.value in
     let older = c.pop.ensures.rest ∙ take-set kept.items (vec_len kept - 1) _ in
-    turn_of_form (setting_of c.args.self.now) _ _ _ _ _ _ _ _ _ _ _
+    turn_of_form (setting_of c.args.self.now) _ _ _ _ _ _ _ _ _ _ _ _
     (newest ∙ ap (λ f. frame_view f ∷ reverse (map frame_view (take (vec_len kept - 1) kept.items))) c.in-Arguments.is)
     (map_nothing expr_tree _ c.in-None.ensures.cases)
     (ap (λ items. reverse (map frame_view items)) older)
-    (λ m. simp c.as_slice.ensures.value at (c.in_ok-outcome-in-None.ensures (setting_of c.args.self.now) m))
+    (λ m. simp c.as_slice.ensures.value at (c.in_ok-outcome-in-None.ensures (setting_of c.args.self.now) (configuration_of c.args.self.now) m))
 
-pub returns-else-is_empty-clause-ok : goal.returns-else-is_empty-clause-ok
-returns-else-is_empty-clause-ok c =
+pub returns-in-Call-clause-ok : goal.returns-in-Call-clause-ok
+returns-in-Call-clause-ok c =
     let kept = c.args.self.now.frames in
     let some = c.in-Some.ensures.variant.0 refl in
     let newest = newest_first frame_view kept.items (vec_len kept) _ kept.ok.0 some c.in-Some.ensures.value in
     let older = c.pop-in-Call.ensures.rest ∙ take-set kept.items (vec_len kept - 1) _ in
-    let left = c.pop-in-Call.new.self in
-    let some_left : 0 < length left.items = grind (arith, nat_tests, left.ok.0, c.if-is_empty.ensures) in
-    let some_older : 0 < length (reverse (map frame_view (take (vec_len kept - 1) kept.items))) = rw (length-reverse, length-map, ← older) some_left in
-    turn_of_call (setting_of c.args.self.now) _ _ _ _ _ _ _
+    c.after_call.ensures.turn (configuration_of c.args.self.now) (value_view c.args.value) [] c.requires
+    ∙ turn_of_call (setting_of c.args.self.now) _ _ _ _ _ _ _ []
     (newest ∙ ap (λ f. frame_view f ∷ reverse (map frame_view (take (vec_len kept - 1) kept.items))) c.in-Call.is)
-    some_older
     (ap (λ items. reverse (map frame_view items)) older)
-    c.requires
