@@ -1,6 +1,7 @@
 use crate::list::tokens;
 use kk_syntax::{LocatedToken, Token};
 use std::alloc::{AllocError, Global};
+use std::process::Abort;
 use std::test::Fail;
 
 /// Adds a token to a line, as the tables below write it.
@@ -34,6 +35,15 @@ fn shown(alloc: Global, text: &[u8]) -> Result<String, AllocError> {
         Err(error) => write!(line, "{error}")?,
     }
     Ok(line)
+}
+
+/// Reads texts, and compares the tokens of each, or its refusal.
+fn check_tokens(rt: &impl Abort, alloc: Global, table: &[(&str, &str)]) -> Result<(), AllocError> {
+    for &(text, expected) in table {
+        let line = shown(alloc, text.as_bytes())?;
+        assert_eq!(rt; line.as_str(), expected, "{text:?}");
+    }
+    Ok(())
 }
 
 /// The places of a text's tokens and of its end, each as byte, line and column.
@@ -84,288 +94,298 @@ fn counted(
     Ok(line)
 }
 
+static LONG_TEXTS: [(&str, (&str, u32), &str, &str); 33] = [
+    ("\"", ("a", 255), "\"", "1"),
+    (
+        "x \"",
+        ("a", 256),
+        "\"",
+        "the string at byte 2 has more than 255 bytes",
+    ),
+    ("\"", ("\\n", 255), "\"", "1"),
+    (
+        "\"",
+        ("\\n", 256),
+        "\"",
+        "the string at byte 0 has more than 255 bytes",
+    ),
+    (
+        "\"",
+        ("a", 256),
+        "\n\"",
+        "the string at byte 0 is not closed",
+    ),
+    ("\"", ("a", 256), "\\q\"", "byte 257 begins no token"),
+    (
+        "",
+        ("/*", 32_768),
+        "",
+        "the comment at byte 0 is not closed",
+    ),
+    ("", ("/**/", 16_384), "", "0"),
+    ("/*", ("/**/", 16_383), "*/", "0"),
+    ("", ("/", 65_536), "", "0"),
+    ("", (" ", 65_536), "", "0"),
+    ("", ("\n", 65_536), "", "0"),
+    ("", ("\t", 65_536), "", "0"),
+    ("", ("\r", 65_536), "", "0"),
+    ("", ("A", 65_536), "", "1"),
+    ("", (";", 65_536), "", "65536"),
+    ("", (">", 65_536), "", "65536"),
+    ("", ("-1", 32_768), "", "65535"),
+    ("", ("*", 65_536), "", "65536"),
+    // From byte 1 on each two bytes open a comment within the last.
+    (
+        "",
+        ("*/", 32_768),
+        "",
+        "the comment at byte 1 is not closed",
+    ),
+    ("", ("a", 65_536), "", "1"),
+    ("a", ("-b", 32_767), "'", "1"),
+    ("A", ("'", 65_535), "", "1"),
+    ("", ("_", 65_536), "", "1"),
+    ("", ("0", 65_536), "", "1"),
+    (
+        "",
+        ("9", 65_536),
+        "",
+        "the number at byte 0 does not fit in 32 bits",
+    ),
+    ("0x", ("0", 65_534), "", "1"),
+    ("-", ("0_", 32_767), "0", "1"),
+    (
+        "\"",
+        ("a", 65_535),
+        "",
+        "the string at byte 0 is not closed",
+    ),
+    ("", ("\"\"", 32_768), "", "32768"),
+    ("", ("-", 65_536), "", "65536"),
+    ("", ("=", 65_536), "", "32768"),
+    ("", ("é", 32_768), "", "byte 0 begins no token"),
+];
+
 #[test]
 fn reads_long_texts(rt: HostRuntime) -> Result<(), Fail> {
-    let table = [
-        ("\"", ("a", 255), "\"", "1"),
-        (
-            "x \"",
-            ("a", 256),
-            "\"",
-            "the string at byte 2 has more than 255 bytes",
-        ),
-        ("\"", ("\\n", 255), "\"", "1"),
-        (
-            "\"",
-            ("\\n", 256),
-            "\"",
-            "the string at byte 0 has more than 255 bytes",
-        ),
-        (
-            "\"",
-            ("a", 256),
-            "\n\"",
-            "the string at byte 0 is not closed",
-        ),
-        ("\"", ("a", 256), "\\q\"", "byte 257 begins no token"),
-        (
-            "",
-            ("/*", 32_768),
-            "",
-            "the comment at byte 0 is not closed",
-        ),
-        ("", ("/**/", 16_384), "", "0"),
-        ("/*", ("/**/", 16_383), "*/", "0"),
-        ("", ("/", 65_536), "", "0"),
-        ("", (" ", 65_536), "", "0"),
-        ("", ("\n", 65_536), "", "0"),
-        ("", ("a", 65_536), "", "1"),
-        ("a", ("-b", 32_767), "'", "1"),
-        ("A", ("'", 65_535), "", "1"),
-        ("", ("_", 65_536), "", "1"),
-        ("", ("0", 65_536), "", "1"),
-        (
-            "",
-            ("9", 65_536),
-            "",
-            "the number at byte 0 does not fit in 32 bits",
-        ),
-        ("0x", ("0", 65_534), "", "1"),
-        ("-", ("0_", 32_767), "0", "1"),
-        (
-            "\"",
-            ("a", 65_535),
-            "",
-            "the string at byte 0 is not closed",
-        ),
-        ("", ("\"\"", 32_768), "", "32768"),
-        ("", ("-", 65_536), "", "65536"),
-        ("", ("=", 65_536), "", "32768"),
-        ("", ("é", 32_768), "", "byte 0 begins no token"),
-    ];
-    for (before, middle, after, expected) in table {
+    for &(before, middle, after, expected) in &LONG_TEXTS {
         let line = counted(rt.alloc(), before, middle, after)?;
         assert_eq!(rt; line.as_str(), expected, "{before:?} {middle:?} {after:?}");
     }
     Ok(())
 }
 
-#[test]
-fn reads_names(rt: HostRuntime) -> Result<(), Fail> {
-    let table = [
-        ("", ""),
-        (" \t\r\n", ""),
-        ("x'", "Name(x') "),
-        ("x''y", "Name(x'') Name(y) "),
-        ("a-b", "Name(a-b) "),
-        ("a-1", "Name(a) Symbol(Minus) Number(1) "),
-        ("a1-b2-c'", "Name(a1-b2-c') "),
-        ("a--b", "Name(a) Symbol(Minus) Symbol(Minus) Name(b) "),
-        ("a_-b", "Name(a_) Symbol(Minus) Name(b) "),
-        ("a-_b", "Name(a) Symbol(Minus) Wildcard "),
-        ("x'-y", "Name(x') Symbol(Minus) Name(y) "),
-        ("a-", "Name(a) Symbol(Minus) "),
-        ("aB_1 Bc-d'", "Name(aB_1) Constructor(Bc-d') "),
-        ("Nil- X", "Constructor(Nil) Symbol(Minus) Constructor(X) "),
-        (
-            "if iff if' If",
-            "Keyword(If) Name(iff) Name(if') Constructor(If) ",
-        ),
-        ("type fun val", "Keyword(Type) Keyword(Fun) Keyword(Val) "),
-        ("match then", "Keyword(Match) Keyword(Then) "),
-        ("elif else", "Keyword(Elif) Keyword(Else) "),
-        ("if-then", "Name(if-then) "),
-        ("_ _x1 _A_ __", "Wildcard Wildcard Wildcard Wildcard "),
-        ("_x1-y", "Wildcard Symbol(Minus) Name(y) "),
-        ("_'", "byte 1 begins no token"),
-        ("'", "byte 0 begins no token"),
-    ];
-    for (text, expected) in table {
-        let line = shown(rt.alloc(), text.as_bytes())?;
-        assert_eq!(rt; line.as_str(), expected, "{text:?}");
-    }
-    Ok(())
-}
+static NAMES: [(&str, &str); 23] = [
+    ("", ""),
+    (" \t\r\n", ""),
+    ("x'", "Name(x') "),
+    ("x''y", "Name(x'') Name(y) "),
+    ("a-b", "Name(a-b) "),
+    ("a-1", "Name(a) Symbol(Minus) Number(1) "),
+    ("a1-b2-c'", "Name(a1-b2-c') "),
+    ("a--b", "Name(a) Symbol(Minus) Symbol(Minus) Name(b) "),
+    ("a_-b", "Name(a_) Symbol(Minus) Name(b) "),
+    ("a-_b", "Name(a) Symbol(Minus) Wildcard "),
+    ("x'-y", "Name(x') Symbol(Minus) Name(y) "),
+    ("a-", "Name(a) Symbol(Minus) "),
+    ("aB_1 Bc-d'", "Name(aB_1) Constructor(Bc-d') "),
+    ("Nil- X", "Constructor(Nil) Symbol(Minus) Constructor(X) "),
+    (
+        "if iff if' If",
+        "Keyword(If) Name(iff) Name(if') Constructor(If) ",
+    ),
+    ("type fun val", "Keyword(Type) Keyword(Fun) Keyword(Val) "),
+    ("match then", "Keyword(Match) Keyword(Then) "),
+    ("elif else", "Keyword(Elif) Keyword(Else) "),
+    ("if-then", "Name(if-then) "),
+    ("_ _x1 _A_ __", "Wildcard Wildcard Wildcard Wildcard "),
+    ("_x1-y", "Wildcard Symbol(Minus) Name(y) "),
+    ("_'", "byte 1 begins no token"),
+    ("'", "byte 0 begins no token"),
+];
 
 #[test]
-fn reads_numbers(rt: HostRuntime) -> Result<(), Fail> {
-    let table = [
-        ("007", "Number(7) "),
-        ("1_000", "Number(1000) "),
-        ("1_2_3", "Number(123) "),
-        ("1__0", "Number(1) Wildcard "),
-        ("1_", "Number(1) Wildcard "),
-        ("1_a", "Number(1) Wildcard "),
-        ("12ab", "Number(12) Name(ab) "),
-        ("0x", "Number(0) Name(x) "),
-        ("0xg", "Number(0) Name(xg) "),
-        ("0xFf", "Number(255) "),
-        ("0x1_0", "Number(1) Wildcard "),
-        ("0x_1", "Number(0) Name(x_1) "),
-        ("0X1", "Number(0) Constructor(X1) "),
-        ("00x1", "Number(0) Name(x1) "),
-        ("2147483647", "Number(2147483647) "),
-        ("0x7fffffff", "Number(2147483647) "),
-        ("2147483648", "the number at byte 0 does not fit in 32 bits"),
-        ("0x80000000", "the number at byte 0 does not fit in 32 bits"),
-        (
-            "99999999999999999999999999",
-            "the number at byte 0 does not fit in 32 bits",
-        ),
-        ("-2147483648", "Number(-2147483648) "),
-        ("-0x80000000", "Number(-2147483648) "),
-        (
-            " -2147483649",
-            "the number at byte 1 does not fit in 32 bits",
-        ),
-        (
-            "x -2147483648",
-            "the number at byte 3 does not fit in 32 bits",
-        ),
-        ("-0", "Number(0) "),
-        ("-1_0", "Number(-10) "),
-        ("--1", "Symbol(Minus) Number(-1) "),
-        ("- 1", "Symbol(Minus) Number(1) "),
-        ("-x", "Symbol(Minus) Name(x) "),
-    ];
-    for (text, expected) in table {
-        let line = shown(rt.alloc(), text.as_bytes())?;
-        assert_eq!(rt; line.as_str(), expected, "{text:?}");
-    }
-    Ok(())
+fn reads_names(rt: HostRuntime) -> Result<(), AllocError> {
+    check_tokens(&rt, rt.alloc(), &NAMES)
 }
 
-#[test]
-fn reads_signs(rt: HostRuntime) -> Result<(), Fail> {
-    let table = [
-        ("x -1", "Name(x) Symbol(Minus) Number(1) "),
-        ("x - 1", "Name(x) Symbol(Minus) Number(1) "),
-        ("X -1", "Constructor(X) Symbol(Minus) Number(1) "),
-        ("_ -1", "Wildcard Symbol(Minus) Number(1) "),
-        ("2 -1", "Number(2) Symbol(Minus) Number(1) "),
-        ("-2 -1", "Number(-2) Symbol(Minus) Number(1) "),
-        ("\"\" -1", "String([]) Symbol(Minus) Number(1) "),
-        (")-1", "Symbol(CloseParenthesis) Symbol(Minus) Number(1) "),
-        ("}-1", "Symbol(CloseBrace) Symbol(Minus) Number(1) "),
-        ("(-1", "Symbol(OpenParenthesis) Number(-1) "),
-        ("{-1", "Symbol(OpenBrace) Number(-1) "),
-        ("then -1", "Keyword(Then) Number(-1) "),
-        (">-1", "Symbol(Greater) Number(-1) "),
-        ("1--1", "Number(1) Symbol(Minus) Number(-1) "),
-        ("x\n-1", "Name(x) Number(-1) "),
-        ("x\n -1", "Name(x) Number(-1) "),
-        ("x\n/* y */ -1", "Name(x) Number(-1) "),
-        ("x /* \n */ -1", "Name(x) Number(-1) "),
-        ("x /* y */ -1", "Name(x) Symbol(Minus) Number(1) "),
-        ("x // y\n-1", "Name(x) Number(-1) "),
-        ("x\n(-1", "Name(x) Symbol(OpenParenthesis) Number(-1) "),
-        ("\nx -1", "Name(x) Symbol(Minus) Number(1) "),
-    ];
-    for (text, expected) in table {
-        let line = shown(rt.alloc(), text.as_bytes())?;
-        assert_eq!(rt; line.as_str(), expected, "{text:?}");
-    }
-    Ok(())
-}
+static NUMBERS: [(&str, &str); 29] = [
+    ("007", "Number(7) "),
+    ("1_000", "Number(1000) "),
+    ("1_2_3", "Number(123) "),
+    ("1__0", "Number(1) Wildcard "),
+    ("1__a", "Number(1) Wildcard "),
+    ("1_", "Number(1) Wildcard "),
+    ("1_a", "Number(1) Wildcard "),
+    ("12ab", "Number(12) Name(ab) "),
+    ("0x", "Number(0) Name(x) "),
+    ("0xg", "Number(0) Name(xg) "),
+    ("0xFf", "Number(255) "),
+    ("0x1_0", "Number(1) Wildcard "),
+    ("0x_1", "Number(0) Name(x_1) "),
+    ("0X1", "Number(0) Constructor(X1) "),
+    ("00x1", "Number(0) Name(x1) "),
+    ("2147483647", "Number(2147483647) "),
+    ("0x7fffffff", "Number(2147483647) "),
+    ("2147483648", "the number at byte 0 does not fit in 32 bits"),
+    ("0x80000000", "the number at byte 0 does not fit in 32 bits"),
+    (
+        "99999999999999999999999999",
+        "the number at byte 0 does not fit in 32 bits",
+    ),
+    ("-2147483648", "Number(-2147483648) "),
+    ("-0x80000000", "Number(-2147483648) "),
+    (
+        " -2147483649",
+        "the number at byte 1 does not fit in 32 bits",
+    ),
+    (
+        "x -2147483648",
+        "the number at byte 3 does not fit in 32 bits",
+    ),
+    ("-0", "Number(0) "),
+    ("-1_0", "Number(-10) "),
+    ("--1", "Symbol(Minus) Number(-1) "),
+    ("- 1", "Symbol(Minus) Number(1) "),
+    ("-x", "Symbol(Minus) Name(x) "),
+];
 
 #[test]
-fn reads_strings(rt: HostRuntime) -> Result<(), Fail> {
-    let table = [
-        ("\"ab\"", "String([97, 98]) "),
-        (
-            "\"\\n\\r\\t\\\\\\\"\\'\"",
-            "String([10, 13, 9, 92, 34, 39]) ",
-        ),
-        ("\"//\"\"/*\"", "String([47, 47]) String([47, 42]) "),
-        ("\"\t\r'\"", "String([9, 13, 39]) "),
-        ("\"é\"", "String([195, 169]) "),
-        ("\"\\q\"", "byte 1 begins no token"),
-        ("x \"ab\\q", "byte 5 begins no token"),
-        ("\"a\\", "byte 2 begins no token"),
-        ("\"a\\\n\"", "byte 2 begins no token"),
-        ("\"\\x41\"", "byte 1 begins no token"),
-        ("x \"ab", "the string at byte 2 is not closed"),
-        ("\"ab\n\"", "the string at byte 0 is not closed"),
-        ("\"\\\"", "the string at byte 0 is not closed"),
-        ("\"\\n", "the string at byte 0 is not closed"),
-        ("\\", "byte 0 begins no token"),
-    ];
-    for (text, expected) in table {
-        let line = shown(rt.alloc(), text.as_bytes())?;
-        assert_eq!(rt; line.as_str(), expected, "{text:?}");
-    }
-    Ok(())
+fn reads_numbers(rt: HostRuntime) -> Result<(), AllocError> {
+    check_tokens(&rt, rt.alloc(), &NUMBERS)
 }
 
+static SIGNS: [(&str, &str); 23] = [
+    ("x -1", "Name(x) Symbol(Minus) Number(1) "),
+    ("x - 1", "Name(x) Symbol(Minus) Number(1) "),
+    ("X -1", "Constructor(X) Symbol(Minus) Number(1) "),
+    ("_ -1", "Wildcard Symbol(Minus) Number(1) "),
+    ("2 -1", "Number(2) Symbol(Minus) Number(1) "),
+    ("-2 -1", "Number(-2) Symbol(Minus) Number(1) "),
+    ("\"\" -1", "String([]) Symbol(Minus) Number(1) "),
+    (")-1", "Symbol(CloseParenthesis) Symbol(Minus) Number(1) "),
+    ("}-1", "Symbol(CloseBrace) Symbol(Minus) Number(1) "),
+    ("(-1", "Symbol(OpenParenthesis) Number(-1) "),
+    ("{-1", "Symbol(OpenBrace) Number(-1) "),
+    ("then -1", "Keyword(Then) Number(-1) "),
+    (">-1", "Symbol(Greater) Number(-1) "),
+    ("1--1", "Number(1) Symbol(Minus) Number(-1) "),
+    ("x\n-1", "Name(x) Number(-1) "),
+    ("x\n\t-1", "Name(x) Number(-1) "),
+    ("x\n -1", "Name(x) Number(-1) "),
+    ("x\n/* y */ -1", "Name(x) Number(-1) "),
+    ("x /* \n */ -1", "Name(x) Number(-1) "),
+    ("x /* y */ -1", "Name(x) Symbol(Minus) Number(1) "),
+    ("x // y\n-1", "Name(x) Number(-1) "),
+    ("x\n(-1", "Name(x) Symbol(OpenParenthesis) Number(-1) "),
+    ("\nx -1", "Name(x) Symbol(Minus) Number(1) "),
+];
+
 #[test]
-fn reads_symbols_and_comments(rt: HostRuntime) -> Result<(), Fail> {
-    let table = [
-        (
-            "(){},;:.",
-            "Symbol(OpenParenthesis) Symbol(CloseParenthesis) Symbol(OpenBrace) Symbol(CloseBrace) \
+fn reads_signs(rt: HostRuntime) -> Result<(), AllocError> {
+    check_tokens(&rt, rt.alloc(), &SIGNS)
+}
+
+static STRINGS: [(&str, &str); 17] = [
+    ("\"ab\"", "String([97, 98]) "),
+    (
+        "\"\\n\\r\\t\\\\\\\"\\'\"",
+        "String([10, 13, 9, 92, 34, 39]) ",
+    ),
+    ("\"//\"\"/*\"", "String([47, 47]) String([47, 42]) "),
+    ("\"\t\r'\"", "String([9, 13, 39]) "),
+    ("\"é\"", "String([195, 169]) "),
+    ("\"\\q\"", "byte 1 begins no token"),
+    ("\"\\", "byte 1 begins no token"),
+    ("\"\\\n\"", "byte 1 begins no token"),
+    ("x \"ab\\q", "byte 5 begins no token"),
+    ("\"a\\", "byte 2 begins no token"),
+    ("\"a\\\n\"", "byte 2 begins no token"),
+    ("\"\\x41\"", "byte 1 begins no token"),
+    ("x \"ab", "the string at byte 2 is not closed"),
+    ("\"ab\n\"", "the string at byte 0 is not closed"),
+    ("\"\\\"", "the string at byte 0 is not closed"),
+    ("\"\\n", "the string at byte 0 is not closed"),
+    ("\\", "byte 0 begins no token"),
+];
+
+#[test]
+fn reads_strings(rt: HostRuntime) -> Result<(), AllocError> {
+    check_tokens(&rt, rt.alloc(), &STRINGS)
+}
+
+static SYMBOLS_AND_COMMENTS: [(&str, &str); 30] = [
+    (
+        "(){},;:.",
+        "Symbol(OpenParenthesis) Symbol(CloseParenthesis) Symbol(OpenBrace) Symbol(CloseBrace) \
              Symbol(Comma) Symbol(Semicolon) Symbol(Colon) Symbol(Dot) ",
-        ),
-        (
-            "+-*/%~",
-            "Symbol(Plus) Symbol(Minus) Symbol(Star) Symbol(Slash) Symbol(Percent) Symbol(Tilde) ",
-        ),
-        (
-            "= == === ->",
-            "Symbol(Equals) Symbol(EqualEqual) Symbol(EqualEqual) Symbol(Equals) Symbol(Arrow) ",
-        ),
-        (
-            "!= ! <= < >= >",
-            "Symbol(NotEqual) Symbol(Exclamation) Symbol(LessEqual) Symbol(Less) \
+    ),
+    (
+        "+-*/%~",
+        "Symbol(Plus) Symbol(Minus) Symbol(Star) Symbol(Slash) Symbol(Percent) Symbol(Tilde) ",
+    ),
+    (
+        "= == === ->",
+        "Symbol(Equals) Symbol(EqualEqual) Symbol(EqualEqual) Symbol(Equals) Symbol(Arrow) ",
+    ),
+    (
+        "!= ! <= < >= >",
+        "Symbol(NotEqual) Symbol(Exclamation) Symbol(LessEqual) Symbol(Less) \
              Symbol(GreaterEqual) Symbol(Greater) ",
-        ),
-        (
-            ">> -->",
-            "Symbol(Greater) Symbol(Greater) Symbol(Minus) Symbol(Arrow) ",
-        ),
-        ("&& ||", "Symbol(AndAnd) Symbol(OrOr) "),
-        ("&", "byte 0 begins no token"),
-        ("a & b", "byte 2 begins no token"),
-        ("|||", "byte 2 begins no token"),
-        ("@", "byte 0 begins no token"),
-        ("aé", "byte 1 begins no token"),
-        ("a // b /* c", "Name(a) "),
-        ("//", ""),
-        ("a // b\nc", "Name(a) Name(c) "),
-        ("/* a */ b", "Name(b) "),
-        ("/**/ a", "Name(a) "),
-        ("/* /* a */ b */ c", "Name(c) "),
-        ("/* \" // */ a", "Name(a) "),
-        ("/*/ */ a", "Name(a) "),
-        ("a /* /* */", "the comment at byte 2 is not closed"),
-        ("/*/", "the comment at byte 0 is not closed"),
-        ("/* *", "the comment at byte 0 is not closed"),
-        ("/*/*/ */", "the comment at byte 0 is not closed"),
-        ("*/", "Symbol(Star) Symbol(Slash) "),
-        ("/ /", "Symbol(Slash) Symbol(Slash) "),
-    ];
-    for (text, expected) in table {
-        let line = shown(rt.alloc(), text.as_bytes())?;
-        assert_eq!(rt; line.as_str(), expected, "{text:?}");
-    }
-    Ok(())
+    ),
+    (
+        ">> -->",
+        "Symbol(Greater) Symbol(Greater) Symbol(Minus) Symbol(Arrow) ",
+    ),
+    ("&& ||", "Symbol(AndAnd) Symbol(OrOr) "),
+    ("&", "byte 0 begins no token"),
+    ("a & b", "byte 2 begins no token"),
+    ("|||", "byte 2 begins no token"),
+    ("|", "byte 0 begins no token"),
+    ("a | b", "byte 2 begins no token"),
+    ("@", "byte 0 begins no token"),
+    ("é", "byte 0 begins no token"),
+    ("aé", "byte 1 begins no token"),
+    ("a // b /* c", "Name(a) "),
+    ("//", ""),
+    ("a //", "Name(a) "),
+    ("/* /* */", "the comment at byte 0 is not closed"),
+    ("a // b\nc", "Name(a) Name(c) "),
+    ("/* a */ b", "Name(b) "),
+    ("/**/ a", "Name(a) "),
+    ("/* /* a */ b */ c", "Name(c) "),
+    ("/* \" // */ a", "Name(a) "),
+    ("/*/ */ a", "Name(a) "),
+    ("a /* /* */", "the comment at byte 2 is not closed"),
+    ("/*/", "the comment at byte 0 is not closed"),
+    ("/* *", "the comment at byte 0 is not closed"),
+    ("/*/*/ */", "the comment at byte 0 is not closed"),
+    ("*/", "Symbol(Star) Symbol(Slash) "),
+    ("/ /", "Symbol(Slash) Symbol(Slash) "),
+];
+
+#[test]
+fn reads_symbols_and_comments(rt: HostRuntime) -> Result<(), AllocError> {
+    check_tokens(&rt, rt.alloc(), &SYMBOLS_AND_COMMENTS)
 }
+
+static PLACES: [(&str, &str); 11] = [
+    ("", "0 1:1"),
+    ("\n", "1 2:1"),
+    ("ab cd", "0 1:1, 3 1:4, 5 1:6"),
+    ("\ta\t\tb", "1 1:9, 4 1:25, 5 1:26"),
+    ("1234567\tb", "0 1:1, 8 1:9, 9 1:10"),
+    ("12345678\tb", "0 1:1, 9 1:17, 10 1:18"),
+    ("a\r\n\tb\n", "0 1:1, 4 2:9, 6 3:1"),
+    ("\"a\tb\"c", "0 1:1, 5 1:11, 6 1:12"),
+    ("/*\t*/c", "5 1:11, 6 1:12"),
+    ("/*\n\n*/c\n// d\n", "6 3:3, 13 5:1"),
+    ("a-1 -1", "0 1:1, 1 1:2, 2 1:3, 4 1:5, 5 1:6, 6 1:7"),
+];
 
 #[test]
 fn keeps_places(rt: HostRuntime) -> Result<(), Fail> {
-    let table = [
-        ("", "0 1:1"),
-        ("\n", "1 2:1"),
-        ("ab cd", "0 1:1, 3 1:4, 5 1:6"),
-        ("\ta\t\tb", "1 1:9, 4 1:25, 5 1:26"),
-        ("1234567\tb", "0 1:1, 8 1:9, 9 1:10"),
-        ("12345678\tb", "0 1:1, 9 1:17, 10 1:18"),
-        ("a\r\n\tb\n", "0 1:1, 4 2:9, 6 3:1"),
-        ("\"a\tb\"c", "0 1:1, 5 1:11, 6 1:12"),
-        ("/*\t*/c", "5 1:11, 6 1:12"),
-        ("/*\n\n*/c\n// d\n", "6 3:3, 13 5:1"),
-        ("a-1 -1", "0 1:1, 1 1:2, 2 1:3, 4 1:5, 5 1:6, 6 1:7"),
-    ];
-    for (text, expected) in table {
+    for &(text, expected) in &PLACES {
         let line = places(rt.alloc(), text.as_bytes())?;
         assert_eq!(rt; line.as_str(), expected, "{text:?}");
     }
