@@ -1,11 +1,11 @@
 -- The first token of what a phrase spells.
-use Rattle.std.proofs.Common.{◌≡◌, ℕ, Bool, true, false, cond, ◌||◌, ◌⊎◌, List, [], ◌∷◌, ◌++◌, is_some, Some, refl, ap, sym, ◌∙◌, subst, inl, inr}
+use Rattle.std.proofs.Common.{◌≡◌, ℕ, Bool, true, false, cond, ◌||◌, ◌⊎◌, List, [], ◌∷◌, ◌++◌, is_some, Some, refl, sym, ◌∙◌, subst, inl, inr}
 use Rattle.kk_syntax.specs.declared.token.LocatedToken.{LocatedToken}
 use Rattle.kk_parser.specs.Kinds.{Kind, Said, says, next_says, is_at}
-use Rattle.kk_parser.specs.Phrases.{Phrase, Nonterminal, token, ◌▸◌, either, many, Value, rule}
+use Rattle.kk_parser.specs.Phrases.{Phrase, Nonterminal, Value, rule}
 use Rattle.kk_parser.specs.Grammar.{production}
 use Rattle.kk_parser.specs.Spells.{Marked, tokens_of, Spells, by_token, by_opener, by_both, by_first, by_second, by_none, by_more, by_absence, by_presence, by_level, by_rule}
-use Rattle.kk_parser.specs.Reading.{first, nullable, first_of, nullable_of}
+use Rattle.kk_parser.specs.Reading.{first, nullable}
 use Rattle.kk_parser.proofs.Tables.{first-production, nullable-production}
 
 pub is_at-front : (ks ls : List Kind) (ts : List LocatedToken) → is_at ks ts ≡ true → is_at (ks ++ ls) ts ≡ true

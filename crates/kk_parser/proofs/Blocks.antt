@@ -1,6 +1,6 @@
 -- The statements of a block, as they are read one by one.
-use Rattle.std.proofs.Common.{◌≡◌, List, [], ◌∷◌, ◌++◌, Option, Some, None, map, refl, ap, sym, ◌∙◌, append_assoc}
-use Rattle.std.proofs.lemmas.List.{append-nil, map-append}
+use Rattle.std.proofs.Common.{◌≡◌, List, [], ◌∷◌, ◌++◌, Some, ap, sym, append_assoc}
+use Rattle.std.proofs.lemmas.List.{append-nil}
 use Rattle.kk_syntax.specs.Trees.{Tree}
 use Rattle.kk_syntax.specs.declared.token.Symbol.TheVariants.{Semicolon, CloseBrace}
 use Rattle.kk_parser.specs.Grammar.{those_given, all_but_last, last_of, block_of}

@@ -1,16 +1,16 @@
 -- What is spelled is read, up to the first token at which too many levels are open.
-use Rattle.std.proofs.Common.{◌≡◌, ℕ, ◌+◌, ◌<◌, ◌≤◌, Bool, true, false, cond, not, ◌⊎◌, List, [], ◌∷◌, ◌++◌, is_some, Some, refl, sym, ◌∙◌, subst, inl, inr, arith}
+use Rattle.std.proofs.Common.{◌≡◌, ℕ, ◌+◌, ◌≤◌, Bool, true, false, ◌⊎◌, List, [], ◌∷◌, ◌++◌, Some, inl, inr, arith}
 use Rattle.std.proofs.lemmas.Bool.{cases_lt}
 use Rattle.kk_syntax.specs.declared.token.LocatedToken.{LocatedToken}
 use Rattle.kk_parser.specs.Kinds.{Kind, Said, says, is_at}
 use Rattle.kk_parser.specs.Phrases.{Nonterminal, Phrase, token, opener, ◌▸◌, either, many, optional, level, rule, Value}
 use Rattle.kk_parser.specs.Grammar.{production, meaning}
 use Rattle.kk_parser.specs.Spells.{Marked, tokens_of, Spells, by_token, by_opener, by_both, by_first, by_second, by_none, by_more, by_absence, by_presence, by_level, by_rule}
-use Rattle.kk_parser.specs.Reading.{first, nullable, nullable_of, Finds, finds_token, finds_opener, finds_both, finds_first, finds_second, finds_none, finds_more, finds_absence, finds_presence, finds_level, finds_rule, Failure, unexpected, too_deep, Fails, fails_deep, fails_front, fails_behind, fails_first, fails_second, fails_one, fails_more, fails_presence, fails_level, fails_rule}
+use Rattle.kk_parser.specs.Reading.{first, nullable, Finds, finds_token, finds_opener, finds_both, finds_first, finds_second, finds_none, finds_more, finds_absence, finds_presence, finds_level, finds_rule, too_deep, Fails, fails_deep, fails_front, fails_behind, fails_first, fails_second, fails_one, fails_more, fails_presence, fails_level, fails_rule}
 use Rattle.kk_parser.proofs.Apart.{apart, within, cond_parts}
-use Rattle.kk_parser.proofs.Begins.{Begins, begins, is_at-one}
+use Rattle.kk_parser.proofs.Begins.{begins, is_at-one}
 use Rattle.kk_parser.proofs.Tables.{follow_of, end_of}
-use Rattle.kk_parser.proofs.Lookahead.{Follows, both, decided, decided-production, follows_both, follows_more, follows_rule, stops, begins_by}
+use Rattle.kk_parser.proofs.Lookahead.{Follows, decided, decided-production, follows_both, follows_more, follows_rule, stops, begins_by}
 
 -- no more than `limit` levels are open at the tokens of ts up to us
 pub data Within (limit : ℕ) : List Marked → List Marked → Type 0 where

@@ -1,11 +1,11 @@
 -- A reading comes to one end.
-use Rattle.std.proofs.Common.{◌≡◌, ℕ, ◌+◌, ◌<◌, ◌≤◌, Bool, true, false, List, [], ◌∷◌, Option, Some, is_some, refl, sym, ap, ◌∙◌, subst, inl, inr, arith}
+use Rattle.std.proofs.Common.{◌≡◌, ℕ, List, ◌∷◌, Option, Some, refl, sym, ap, ◌∙◌, subst, inl, inr, arith}
 use Rattle.std.proofs.lemmas.Bool.{both_ways}
 use Rattle.kk_syntax.specs.declared.token.LocatedToken.{LocatedToken}
-use Rattle.kk_parser.specs.Kinds.{Kind, Said, says, is_at}
-use Rattle.kk_parser.specs.Phrases.{Nonterminal, Phrase, token, opener, ◌▸◌, either, many, optional, level, rule, Value}
-use Rattle.kk_parser.specs.Grammar.{production, meaning}
-use Rattle.kk_parser.specs.Reading.{first, Finds, finds_token, finds_opener, finds_both, finds_first, finds_second, finds_none, finds_more, finds_absence, finds_presence, finds_level, finds_rule, Failure, unexpected, too_deep, Fails, fails_token, fails_opener, fails_deep, fails_front, fails_behind, fails_first, fails_second, fails_one, fails_more, fails_presence, fails_level, fails_rule}
+use Rattle.kk_parser.specs.Kinds.{says}
+use Rattle.kk_parser.specs.Phrases.{Phrase, Value}
+use Rattle.kk_parser.specs.Grammar.{meaning}
+use Rattle.kk_parser.specs.Reading.{Finds, finds_token, finds_opener, finds_both, finds_first, finds_second, finds_none, finds_more, finds_absence, finds_presence, finds_level, finds_rule, Failure, Fails, fails_token, fails_opener, fails_deep, fails_front, fails_behind, fails_first, fails_second, fails_one, fails_more, fails_presence, fails_level, fails_rule}
 use Rattle.kk_parser.proofs.Begins.{is_at-one}
 
 -- two ends of a reading are one

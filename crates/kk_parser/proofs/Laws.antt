@@ -1,15 +1,15 @@
 -- Tokens have one answer.
-use Rattle.std.proofs.Common.{◌≡◌, ℕ, ◌+◌, ◌<◌, ◌≤◌, ◌⊎◌, List, [], ◌∷◌, ◌++◌, length, refl, sym, ap, ◌∙◌, subst, inl, inr, append_assoc, length-append, arith}
+use Rattle.std.proofs.Common.{◌≡◌, ℕ, ◌≤◌, List, [], ◌∷◌, ◌++◌, length, refl, sym, ap, ◌∙◌, subst, inl, inr, append_assoc, length-append, arith}
 use Rattle.std.proofs.lemmas.List.{append_cancel_right, append-nil}
 use Rattle.kk_syntax.specs.declared.token.LocatedToken.{LocatedToken}
-use Rattle.kk_parser.specs.Functions.{FunctionTree}
+use Rattle.kk_syntax.specs.Programs.{FunctionTree}
 use Rattle.kk_parser.specs.Phrases.{program, rule}
 use Rattle.kk_parser.specs.Spells.{Marked, tokens_of}
 use Rattle.kk_parser.specs.Reading.{Fails, too_deep}
 use Rattle.kk_parser.specs.Parses.{IsProgram, BeginsProgram, AtMost, HasTree, GoesOn, IsUnexpected, IsTooDeep, OneProgram, OneAnswer}
 use Rattle.kk_parser.proofs.Complete.{Within, all_within, one_within, Opens}
 use Rattle.kk_parser.proofs.Functional.{never_both, same_fails}
-use Rattle.kk_parser.proofs.Local.{SameNext, one_next, fails_alike}
+use Rattle.kk_parser.proofs.Local.{one_next, fails_alike}
 use Rattle.kk_parser.proofs.Whole.{tokens_of-append, turned_tokens, program_read, tree_found, one_program}
 
 -- marked tokens, cut behind some of the tokens alone

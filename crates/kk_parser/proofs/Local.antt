@@ -1,10 +1,9 @@
 -- A reading looks at no token behind the first that it does not pass.
-use Rattle.std.proofs.Common.{◌≡◌, ℕ, ◌+◌, ◌<◌, ◌≤◌, Bool, true, false, ◌||◌, List, [], ◌∷◌, ◌++◌, Option, Some, is_some, refl, sym, ap, ◌∙◌, subst, inl, inr, arith}
+use Rattle.std.proofs.Common.{◌≡◌, ℕ, Bool, ◌||◌, List, [], ◌∷◌, is_some, refl, sym, ap, ◌∙◌}
 use Rattle.kk_syntax.specs.declared.token.LocatedToken.{LocatedToken}
-use Rattle.kk_parser.specs.Kinds.{Kind, Said, says, next_says, is_at}
-use Rattle.kk_parser.specs.Phrases.{Nonterminal, Phrase, token, opener, ◌▸◌, either, many, optional, level, rule, Value}
-use Rattle.kk_parser.specs.Grammar.{production, meaning}
-use Rattle.kk_parser.specs.Reading.{first, Finds, finds_token, finds_opener, finds_both, finds_first, finds_second, finds_none, finds_more, finds_absence, finds_presence, finds_level, finds_rule, Failure, unexpected, too_deep, Fails, fails_token, fails_opener, fails_deep, fails_front, fails_behind, fails_first, fails_second, fails_one, fails_more, fails_presence, fails_level, fails_rule}
+use Rattle.kk_parser.specs.Kinds.{Kind, next_says, is_at}
+use Rattle.kk_parser.specs.Phrases.{Phrase, Value}
+use Rattle.kk_parser.specs.Reading.{Finds, finds_token, finds_opener, finds_both, finds_first, finds_second, finds_none, finds_more, finds_absence, finds_presence, finds_level, finds_rule, Failure, unexpected, too_deep, Fails, fails_token, fails_opener, fails_deep, fails_front, fails_behind, fails_first, fails_second, fails_one, fails_more, fails_presence, fails_level, fails_rule}
 use Rattle.kk_parser.proofs.Sound.{rest_of}
 
 -- the same token is next, or neither has one

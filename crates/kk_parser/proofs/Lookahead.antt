@@ -1,9 +1,9 @@
 -- One token of lookahead is enough: what a phrase may be followed by is apart from what would continue it.
-use Rattle.std.proofs.Common.{◌≡◌, ℕ, Bool, true, false, cond, not, ◌⊎◌, List, [], ◌∷◌, ◌++◌, refl, sym, ◌∙◌, subst, inl, inr}
+use Rattle.std.proofs.Common.{◌≡◌, Bool, true, false, cond, not, ◌⊎◌, List, [], ◌++◌, refl, sym, ◌∙◌, subst, inl, inr}
 use Rattle.kk_parser.specs.Kinds.{Kind, is_at}
 use Rattle.kk_parser.specs.Phrases.{Nonterminal, program, main_function, block, statement, print, said, expr, add, mul, un, atom, Phrase, token, opener, ◌▸◌, either, many, optional, level, rule}
 use Rattle.kk_parser.specs.Spells.{Marked, tokens_of}
-use Rattle.kk_parser.specs.Reading.{first, nullable, nullable_of}
+use Rattle.kk_parser.specs.Reading.{first, nullable}
 use Rattle.kk_parser.proofs.Apart.{apart, apart-is_at, within, within-is_at, is_at-end}
 use Rattle.kk_parser.specs.Grammar.{production}
 use Rattle.kk_parser.proofs.Tables.{follow_of, end_of}

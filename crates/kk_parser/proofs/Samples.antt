@@ -1,8 +1,7 @@
 -- Each phrase has a text, so whatever has been read of a phrase can be completed.
-use Rattle.std.proofs.Common.{◌≡◌, ℕ, ◌+◌, pos, List, [], ◌∷◌, Some, None, codes, bytes_eq, refl, inl, inr}
+use Rattle.std.proofs.Common.{◌≡◌, ℕ, ◌+◌, pos, List, [], ◌∷◌, Some, None, refl, inl, inr}
 use Rattle.std.proofs.lemmas.Slice.Eq.{bytes_eq-Decides}
 use denote.Enum.Bare.{true_same}
-use Rattle.kk_base.specs.declared.span.Span.{Span}
 use Rattle.kk_syntax.specs.declared.token.LocatedToken.{LocatedToken}
 use Rattle.kk_syntax.specs.declared.token.Token.{Token}
 use Rattle.kk_syntax.specs.declared.token.Token.TheVariants as OfToken
@@ -11,7 +10,7 @@ use Rattle.kk_syntax.specs.contracts.token.Symbol.{the_type as the_symbols}
 use Rattle.kk_parser.specs.Kinds.{Kind, keyword, symbol, word, number, string, Said, says}
 use Rattle.kk_parser.specs.Phrases.{Nonterminal, program, main_function, block, statement, print, said, expr, add, mul, un, atom, Phrase, token, opener, ◌▸◌, either, many, optional, level, rule, Value}
 use Rattle.kk_parser.specs.Grammar.{production, meaning}
-use Rattle.kk_parser.specs.Spells.{Marked, Spells, by_token, by_opener, by_both, by_first, by_second, by_none, by_more, by_absence, by_presence, by_level, by_rule}
+use Rattle.kk_parser.specs.Spells.{Marked, Spells, by_token, by_opener, by_both, by_first, by_second, by_none, by_absence, by_level, by_rule}
 
 -- a text of a phrase
 pub record Text (p : Phrase) (n : ℕ) : Type 0 where

@@ -2,11 +2,11 @@
 use Rattle.std.proofs.Common.{◌≡◌, ℕ, ◌+◌, ◌<◌, ◌≤◌, Bool, true, false, List, [], ◌∷◌, Option, Some, is_some, refl, sym, ◌∙◌, subst, inl, inr, arith}
 use Rattle.kk_syntax.specs.declared.token.LocatedToken.{LocatedToken}
 use Rattle.kk_parser.specs.Kinds.{Kind, Said, says, is_at}
-use Rattle.kk_parser.specs.Phrases.{Nonterminal, Phrase, token, opener, ◌▸◌, either, many, optional, level, rule, Value}
-use Rattle.kk_parser.specs.Grammar.{production, meaning}
+use Rattle.kk_parser.specs.Phrases.{Phrase, token, opener, Value}
+use Rattle.kk_parser.specs.Grammar.{meaning}
 use Rattle.kk_parser.specs.Spells.{Marked, Spells, by_token, by_opener, by_both, by_first, by_second, by_none, by_more, by_absence, by_presence, by_level, by_rule}
-use Rattle.kk_parser.specs.Reading.{first, Finds, finds_token, finds_opener, finds_both, finds_first, finds_second, finds_none, finds_more, finds_absence, finds_presence, finds_level, finds_rule, Failure, unexpected, too_deep, Fails, fails_token, fails_opener, fails_deep, fails_front, fails_behind, fails_first, fails_second, fails_one, fails_more, fails_presence, fails_level, fails_rule}
-use Rattle.kk_parser.proofs.Samples.{Text, a_text}
+use Rattle.kk_parser.specs.Reading.{Finds, finds_token, finds_opener, finds_both, finds_first, finds_second, finds_none, finds_more, finds_absence, finds_presence, finds_level, finds_rule, Failure, unexpected, too_deep, Fails, fails_token, fails_opener, fails_deep, fails_front, fails_behind, fails_first, fails_second, fails_one, fails_more, fails_presence, fails_level, fails_rule}
+use Rattle.kk_parser.proofs.Samples.{a_text}
 
 -- Fronts limit xs zs ts us: the tokens of xs up to zs are those of ts up to us, and no more than `limit` levels are open
 -- at them

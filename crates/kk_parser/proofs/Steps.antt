@@ -1,5 +1,5 @@
 -- The steps of the parser's methods: what a reading of a phrase comes to, from what its parts come to.
-use Rattle.std.proofs.Common.{◌≡◌, ℕ, ◌+◌, ◌<◌, ◌≤◌, Bool, true, false, not, bytes_eq, ◌||◌, List, [], ◌∷◌, Option, Some, None, option_copied, slice_get, Result, Ok, Err, IsErrAnd, is_some, refl, sym, ap, ◌∙◌, subst, inl, inr, arith}
+use Rattle.std.proofs.Common.{◌≡◌, ℕ, ◌+◌, ◌<◌, true, false, not, bytes_eq, ◌||◌, List, [], ◌∷◌, Option, Some, None, option_copied, slice_get, Result, Ok, Err, IsErrAnd, is_some, refl, sym, ap, ◌∙◌, subst, inl, inr}
 use Rattle.std.proofs.lemmas.Bool.{not-false}
 use Rattle.std.proofs.lemmas.Slice.Eq.{bytes_eq-Decides}
 use Rattle.std.specs.Borrow.{Bor}
@@ -12,9 +12,9 @@ use Rattle.kk_parser.specs.declared.fault.Fault.{Fault}
 use Rattle.kk_parser.specs.declared.fault.Fault.TheVariants.{Unexpected, TooDeep, NoMemory}
 use Rattle.kk_parser.specs.declared.parser.Parser.{Parser}
 use Rattle.kk_parser.specs.Kinds.{Kind, keyword, symbol, word, Said, said_at, says, next_says, is_at}
-use Rattle.kk_parser.specs.Phrases.{Nonterminal, Phrase, token, opener, ◌▸◌, either, many, optional, level, rule, Value}
+use Rattle.kk_parser.specs.Phrases.{Nonterminal, Phrase, token, opener, ◌▸◌, either, many, rule, Value}
 use Rattle.kk_parser.specs.Grammar.{production, meaning}
-use Rattle.kk_parser.specs.Reading.{first, Finds, finds_token, finds_opener, Failure, unexpected, too_deep, Fails, fails_token, fails_opener, fails_deep, finds_first, finds_second, finds_none, finds_more, finds_both, finds_rule, fails_rule, fails_front, fails_behind, fails_first, fails_second, fails_more}
+use Rattle.kk_parser.specs.Reading.{first, Finds, finds_token, finds_opener, Failure, unexpected, too_deep, Fails, fails_deep, finds_first, finds_second, finds_none, finds_more, finds_both, finds_rule, fails_rule, fails_front, fails_behind, fails_first, fails_second, fails_more}
 use Rattle.kk_parser.proofs.Begins.{is_at-front, is_at-back}
 use Rattle.kk_parser.specs.Methods.{behind, Read, FailedBy, Reads, ReadsFor, ReadsIfNext, Deepens}
 

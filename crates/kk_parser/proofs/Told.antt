@@ -1,14 +1,14 @@
 -- What the reading of a program tells of its tokens.
-use Rattle.std.proofs.Common.{◌≡◌, ℕ, ◌+◌, ◌-◌, ◌^◌, min, List, [], ◌∷◌, ◌++◌, length, refl, sym, ap, ◌∙◌, subst, length-append, arith}
+use Rattle.std.proofs.Common.{◌≡◌, ℕ, ◌-◌, ◌^◌, min, List, [], ◌∷◌, ◌++◌, length, refl, ap, subst, length-append, arith}
 use Rattle.kk_base.specs.declared.span.Span.{Span}
 use Rattle.kk_base.specs.declared.error.ParseError.TheVariants as OfError
 use Rattle.kk_syntax.specs.declared.token.LocatedToken.{LocatedToken}
-use Rattle.kk_parser.specs.Functions.{FunctionTree}
+use Rattle.kk_syntax.specs.Programs.{FunctionTree}
 use Rattle.kk_parser.specs.declared.fault.Fault.{Fault}
 use Rattle.kk_parser.specs.declared.fault.Fault.TheVariants.{Unexpected, TooDeep, NoMemory}
 use Rattle.kk_parser.specs.declared.parser.Parser.{Parser}
 use Rattle.kk_parser.specs.Methods.{FailedBy, error_for}
-use Rattle.kk_parser.specs.Parses.{HasTree, IsUnexpected, IsTooDeep, Tells, Refuses, place_of}
+use Rattle.kk_parser.specs.Parses.{HasTree, Tells, Refuses, place_of}
 use Rattle.kk_parser.specs.Phrases.{program, rule}
 use Rattle.kk_parser.specs.Reading.{Finds, Fails, unexpected, too_deep}
 use Rattle.kk_parser.proofs.Functional.{same_finds, never_both}

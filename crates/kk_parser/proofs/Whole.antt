@@ -1,16 +1,16 @@
 -- From the reading of a program to what its tokens come to.
-use Rattle.std.proofs.Common.{◌≡◌, ℕ, ◌+◌, ◌<◌, ◌≤◌, Bool, true, false, List, [], ◌∷◌, ◌++◌, refl, sym, ap, ◌∙◌, subst, inl, inr, append_assoc, arith}
+use Rattle.std.proofs.Common.{◌≡◌, ℕ, ◌+◌, true, List, [], ◌∷◌, ◌++◌, refl, sym, ap, ◌∙◌, subst, inl, inr, append_assoc, arith}
 use Rattle.std.proofs.lemmas.List.{append_cancel_right}
 use Rattle.kk_syntax.specs.declared.token.LocatedToken.{LocatedToken}
-use Rattle.kk_parser.specs.Functions.{FunctionTree}
-use Rattle.kk_parser.specs.Phrases.{program, Phrase, rule, Value}
+use Rattle.kk_syntax.specs.Programs.{FunctionTree}
+use Rattle.kk_parser.specs.Phrases.{program, Phrase, rule}
 use Rattle.kk_parser.specs.Spells.{Marked, tokens_of, Spells}
 use Rattle.kk_parser.specs.Reading.{Finds, Failure, unexpected, too_deep, Fails}
-use Rattle.kk_parser.specs.Parses.{IsProgram, BeginsProgram, AtMost, HasTree, GoesOn, IsUnexpected, IsTooDeep}
-use Rattle.kk_parser.proofs.Complete.{Within, all_within, one_within, Opens, Whole, Part, Read, read}
-use Rattle.kk_parser.proofs.Sound.{Fronts, no_front, one_front, spelled, rest_of, Opened, Reaches, there, behind, Begun, begun}
-use Rattle.kk_parser.proofs.Functional.{Same, same_finds, never_both, same_fails}
-use Rattle.kk_parser.proofs.Local.{SameNext, no_next, one_next, Turns, turns_here, turns_behind, with_rest, FindsAlike, finds_alike, FailsAlike, fails_alike}
+use Rattle.kk_parser.specs.Parses.{IsProgram, AtMost, HasTree, GoesOn, IsUnexpected, IsTooDeep}
+use Rattle.kk_parser.proofs.Complete.{Within, all_within, one_within, Opens, Read, read}
+use Rattle.kk_parser.proofs.Sound.{Fronts, no_front, one_front, spelled, rest_of, Opened, Reaches, there, behind, begun}
+use Rattle.kk_parser.proofs.Functional.{same_finds, never_both, same_fails}
+use Rattle.kk_parser.proofs.Local.{SameNext, no_next, one_next, Turns, turns_here, turns_behind, finds_alike, fails_alike}
 
 append_nil : {A : Type 0} (xs : List A) → xs ++ [] ≡ xs
 append_nil [] = refl

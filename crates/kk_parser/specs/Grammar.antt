@@ -1,8 +1,7 @@
 -- The grammar: the right side of each production, and what a text of it means.
-use Rattle.std.specs.Prelude.{ℕ, List, [], ◌∷◌, Option, Some, None, codes}
+use Rattle.std.specs.Prelude.{List, [], ◌∷◌, Option, Some, None, codes}
 use Rattle.std.proofs.Common.{inl, inr}
 use Rattle.kk_syntax.specs.Trees.{Tree, number as Number, unary, binary, print as Print, print_text, block as Block, trees_of}
-use Rattle.kk_parser.specs.Functions.{FunctionTree}
 use Rattle.kk_syntax.specs.declared.token.Keyword.TheVariants.{Fun}
 use Rattle.kk_syntax.specs.declared.token.Symbol.TheVariants.{OpenParenthesis, CloseParenthesis, OpenBrace, CloseBrace, Semicolon, Dot, Plus, Minus, Star, Slash, Percent, Tilde}
 use Rattle.kk_syntax.specs.declared.tree.BinaryOperator.{BinaryOperator}
@@ -10,7 +9,7 @@ use Rattle.kk_syntax.specs.declared.tree.BinaryOperator.TheVariants.{Add, Subtra
 use Rattle.kk_syntax.specs.declared.tree.PrintForm.{PrintForm}
 use Rattle.kk_syntax.specs.declared.tree.PrintForm.TheVariants as Form
 use Rattle.kk_syntax.specs.declared.tree.UnaryOperator.TheVariants.{Negate}
-use Rattle.kk_parser.specs.Kinds.{Kind, keyword, symbol, word, number, string}
+use Rattle.kk_parser.specs.Kinds.{keyword, symbol, word, number, string}
 use Rattle.kk_parser.specs.Phrases.{Nonterminal, program, main_function, block, statement, print, said, expr, add, mul, un, atom, Meant, Phrase, token, opener, ◌▸◌, either, many, optional, level, rule, Value}
 
 -- none or more semicolons

@@ -1,4 +1,3 @@
-pub mod Functions
 pub mod Grammar
 pub mod Kinds
 pub mod Methods

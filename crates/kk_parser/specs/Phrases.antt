@@ -1,7 +1,7 @@
 -- The phrases of which the right sides of productions are made, as in extended Backus-Naur form.
-use Rattle.std.specs.Prelude.{ℕ, List, Option, ◌⊎◌}
+use Rattle.std.specs.Prelude.{List, Option, ◌⊎◌}
 use Rattle.kk_syntax.specs.Trees.{Tree}
-use Rattle.kk_parser.specs.Functions.{FunctionTree}
+use Rattle.kk_syntax.specs.Programs.{FunctionTree}
 use Rattle.kk_parser.specs.Kinds.{Kind, Said}
 
 -- the names on the left sides of productions

@@ -1,12 +1,12 @@
 -- How a phrase is read from the left with one token of lookahead, whatever the grammar: what is found, or where the
 -- reading fails. The parser's own functions are stated by it; what it has to do with spelling is proved.
-use Rattle.std.specs.Prelude.{◌≡◌, ℕ, ◌+◌, ◌<◌, ◌≤◌, List, [], ◌∷◌, ◌++◌, Option, Some, None, Bool, true, false, if◌then◌else◌, codes}
+use Rattle.std.specs.Prelude.{◌≡◌, ℕ, ◌+◌, ◌<◌, ◌≤◌, List, [], ◌∷◌, ◌++◌, Some, None, Bool, true, false, if◌then◌else◌, codes}
 use Rattle.std.proofs.Common.{inl, inr}
 use Rattle.kk_syntax.specs.declared.token.LocatedToken.{LocatedToken}
 use Rattle.kk_syntax.specs.declared.token.Keyword.TheVariants.{Fun}
 use Rattle.kk_syntax.specs.declared.token.Symbol.TheVariants.{OpenParenthesis, OpenBrace, Semicolon, Tilde}
 use Rattle.kk_parser.specs.Kinds.{Kind, keyword, symbol, word, number, string, Said, says, is_at}
-use Rattle.kk_parser.specs.Phrases.{Nonterminal, program, main_function, block, statement, print, said, expr, add, mul, un, atom, Phrase, token, opener, ◌▸◌, either, many, optional, level, rule, Value}
+use Rattle.kk_parser.specs.Phrases.{Nonterminal, program, main_function, block, statement, print, said, atom, Phrase, token, opener, ◌▸◌, either, many, optional, level, rule, Value}
 use Rattle.kk_parser.specs.Grammar.{production, meaning}
 
 -- whether a text of a nonterminal may have no token

@@ -1,5 +1,5 @@
 ghost use Rattle.std.specs.Prelude.{◌≡◌, ◌-◌, ◌≤◌, length, map, IfOk, IfErr, List, codes};
-ghost use Rattle.kk_parser.specs.Functions.{FunctionTree, function_tree};
+ghost use Rattle.kk_syntax.specs.Programs.{FunctionTree, function_tree};
 ghost use Rattle.kk_parser.specs.Kinds.{word};
 ghost use Rattle.kk_parser.specs.Methods.{Reads, ReadsFor, error_for};
 ghost use Rattle.kk_parser.specs.Parses.{HasTree, Refuses, Gives, OneProgram, OneAnswer, place_of};

@@ -7,24 +7,30 @@ use kk_syntax::{
 use std::alloc::{AllocError, Global};
 use std::test::Fail;
 
+static SYMBOLS: [(&str, Symbol); 13] = [
+    ("(", Symbol::OpenParenthesis),
+    (")", Symbol::CloseParenthesis),
+    ("{", Symbol::OpenBrace),
+    ("}", Symbol::CloseBrace),
+    (";", Symbol::Semicolon),
+    (".", Symbol::Dot),
+    (",", Symbol::Comma),
+    ("+", Symbol::Plus),
+    ("-", Symbol::Minus),
+    ("*", Symbol::Star),
+    ("/", Symbol::Slash),
+    ("%", Symbol::Percent),
+    ("~", Symbol::Tilde),
+];
+
 /// The symbol of this spelling.
 fn symbol(word: &str) -> Option<Symbol> {
-    match word {
-        "(" => Some(Symbol::OpenParenthesis),
-        ")" => Some(Symbol::CloseParenthesis),
-        "{" => Some(Symbol::OpenBrace),
-        "}" => Some(Symbol::CloseBrace),
-        ";" => Some(Symbol::Semicolon),
-        "." => Some(Symbol::Dot),
-        "," => Some(Symbol::Comma),
-        "+" => Some(Symbol::Plus),
-        "-" => Some(Symbol::Minus),
-        "*" => Some(Symbol::Star),
-        "/" => Some(Symbol::Slash),
-        "%" => Some(Symbol::Percent),
-        "~" => Some(Symbol::Tilde),
-        _ => None,
+    for &(spelling, symbol) in &SYMBOLS {
+        if spelling == word {
+            return Some(symbol);
+        }
     }
+    None
 }
 
 /// The token of a word of a table below.
@@ -81,6 +87,7 @@ fn show_form(line: &mut String, form: PrintForm) -> Result<(), AllocError> {
 fn show(line: &mut String, expr: &Expr) -> Result<(), AllocError> {
     match expr {
         Expr::Number(value) => write!(line, "{value} "),
+        Expr::ReadByte => line.push_str("read-byte "),
         Expr::Unary(UnaryOperator::Negate, operand) => {
             line.push_str("~ ")?;
             show(line, operand)
@@ -151,99 +158,123 @@ fn repeated(
     Ok(text)
 }
 
+static TREES: [(&str, &str); 10] = [
+    ("", "end 0"),
+    ("; ; ;", "end 30"),
+    (
+        "fun main ( ) { println ( 1 ) }",
+        "main 10 println 1 end 100",
+    ),
+    (
+        "; fun main ( ) { ; ; println ( 1 ) ; ; } ; ;",
+        "main 20 println 1 end 170",
+    ),
+    (
+        "fun main ( ) { println ( 1 + 2 * 3 - 4 ) }",
+        "main 10 println - + 1 * 2 3 4 end 160",
+    ),
+    (
+        "fun main ( ) { print ( 8 / 4 % 3 * 2 ) }",
+        "main 10 print * % / 8 4 3 2 end 160",
+    ),
+    (
+        "fun main ( ) { print ( ~ ~ 1 * ( 2 + -3 ) ) }",
+        "main 10 print * ~ ~ 1 + 2 -3 end 180",
+    ),
+    (
+        "fun main ( ) { print ( 1 - ( 2 - 3 ) - 4 ) }",
+        "main 10 print - - 1 - 2 3 4 end 180",
+    ),
+    (
+        "fun main ( ) { print ( 1 ) ; println ( 2 ) ; ; print ( 3 ) }",
+        "main 10 { print 1 ; println 2 ; print 3 } end 210",
+    ),
+    (
+        "fun main ( ) { print ( \"a ) ; \"b . println ; \"c . print ( ) }",
+        "main 10 { print [34, 97] ; println [34, 98] ; print [34, 99] } end 200",
+    ),
+];
+
 #[test]
 fn trees(rt: HostRuntime) -> Result<(), Fail> {
-    let table = [
-        ("", "end 0"),
-        ("; ; ;", "end 30"),
-        (
-            "fun main ( ) { println ( 1 ) }",
-            "main 10 println 1 end 100",
-        ),
-        (
-            "; fun main ( ) { ; ; println ( 1 ) ; ; } ; ;",
-            "main 20 println 1 end 170",
-        ),
-        (
-            "fun main ( ) { println ( 1 + 2 * 3 - 4 ) }",
-            "main 10 println - + 1 * 2 3 4 end 160",
-        ),
-        (
-            "fun main ( ) { print ( 8 / 4 % 3 * 2 ) }",
-            "main 10 print * % / 8 4 3 2 end 160",
-        ),
-        (
-            "fun main ( ) { print ( ~ ~ 1 * ( 2 + -3 ) ) }",
-            "main 10 print * ~ ~ 1 + 2 -3 end 180",
-        ),
-        (
-            "fun main ( ) { print ( 1 - ( 2 - 3 ) - 4 ) }",
-            "main 10 print - - 1 - 2 3 4 end 180",
-        ),
-        (
-            "fun main ( ) { print ( 1 ) ; println ( 2 ) ; ; print ( 3 ) }",
-            "main 10 { print 1 ; println 2 ; print 3 } end 210",
-        ),
-        (
-            "fun main ( ) { print ( \"a ) ; \"b . println ; \"c . print ( ) }",
-            "main 10 { print [34, 97] ; println [34, 98] ; print [34, 99] } end 200",
-        ),
-    ];
-    for (text, tree) in table {
+    for &(text, tree) in &TREES {
         assert_eq!(rt; shown(rt.alloc(), text)?.as_str(), tree);
     }
     Ok(())
 }
 
+static REFUSALS: [(&str, &str); 21] = [
+    (
+        "fun main ( ) { println ( 1 + ) }",
+        "line 10 column 19: unexpected token 9",
+    ),
+    ("fun main ( ) { }", "line 6 column 11: unexpected token 5"),
+    (
+        "fun main ( ) { println ( \"a + 1 ) }",
+        "line 9 column 17: unexpected token 8",
+    ),
+    (
+        "fun main ( ) { println ( ) }",
+        "line 8 column 15: unexpected token 7",
+    ),
+    (
+        "fun main ( ) { println ( 1 ) print ( 2 ) }",
+        "line 10 column 19: unexpected token 9",
+    ),
+    ("fun main ( ) { 1 }", "line 6 column 11: unexpected token 5"),
+    (
+        "fun main ( ) { \"a }",
+        "line 7 column 13: unexpected token 6",
+    ),
+    (
+        "fun main ( ) { \"a . read }",
+        "line 8 column 15: unexpected token 7",
+    ),
+    (
+        "fun main ( ) { \"a . print ( 1 ) }",
+        "line 10 column 19: unexpected token 9",
+    ),
+    (
+        "fun main ( ) { val }",
+        "line 6 column 11: unexpected token 5",
+    ),
+    (
+        "fun other ( ) { print ( 1 ) }",
+        "line 2 column 3: unexpected token 1",
+    ),
+    (
+        "fun main ( ) { print ( 1 ) } ; fun main ( ) { print ( 1 ) }",
+        "line 12 column 23: unexpected token 11",
+    ),
+    (
+        "fun main ( ) { print ( 1 ) } fun main ( ) { print ( 1 ) }",
+        "line 11 column 21: unexpected token 10",
+    ),
+    ("fun main ( ) {", "line 6 column 11: unexpected token 5"),
+    (
+        "fun main ( ) { ; ; }",
+        "line 8 column 15: unexpected token 7",
+    ),
+    (
+        "fun main ( ) { { print ( 1 ) } }",
+        "line 6 column 11: unexpected token 5",
+    ),
+    (
+        "fun main ( ) { print ( 1 , 2 ) }",
+        "line 9 column 17: unexpected token 8",
+    ),
+    (
+        "fun main ( ) { print ( - 1 ) }",
+        "line 8 column 15: unexpected token 7",
+    ),
+    ("( ( (", "line 1 column 1: unexpected token 0"),
+    ("print ( 1 )", "line 1 column 1: unexpected token 0"),
+    ("; ; }", "line 3 column 5: unexpected token 2"),
+];
+
 #[test]
 fn refusals(rt: HostRuntime) -> Result<(), Fail> {
-    let table = [
-        (
-            "fun main ( ) { println ( 1 + ) }",
-            "line 10 column 19: unexpected token 9",
-        ),
-        ("fun main ( ) { }", "line 6 column 11: unexpected token 5"),
-        (
-            "fun main ( ) { println ( \"a + 1 ) }",
-            "line 9 column 17: unexpected token 8",
-        ),
-        (
-            "fun main ( ) { println ( ) }",
-            "line 8 column 15: unexpected token 7",
-        ),
-        (
-            "fun main ( ) { println ( 1 ) print ( 2 ) }",
-            "line 10 column 19: unexpected token 9",
-        ),
-        ("fun main ( ) { 1 }", "line 6 column 11: unexpected token 5"),
-        (
-            "fun main ( ) { \"a }",
-            "line 7 column 13: unexpected token 6",
-        ),
-        (
-            "fun main ( ) { \"a . read }",
-            "line 8 column 15: unexpected token 7",
-        ),
-        (
-            "fun main ( ) { \"a . print ( 1 ) }",
-            "line 10 column 19: unexpected token 9",
-        ),
-        (
-            "fun main ( ) { val }",
-            "line 6 column 11: unexpected token 5",
-        ),
-        (
-            "fun other ( ) { print ( 1 ) }",
-            "line 2 column 3: unexpected token 1",
-        ),
-        (
-            "fun main ( ) { print ( 1 ) } ; fun main ( ) { print ( 1 ) }",
-            "line 12 column 23: unexpected token 11",
-        ),
-        ("print ( 1 )", "line 1 column 1: unexpected token 0"),
-        ("; ; }", "line 3 column 5: unexpected token 2"),
-    ];
-    for (text, refusal) in table {
+    for &(text, refusal) in &REFUSALS {
         assert_eq!(rt; shown(rt.alloc(), text)?.as_str(), refusal);
     }
     Ok(())
@@ -258,10 +289,17 @@ fn beginnings_are_refused_at_their_end(rt: HostRuntime) -> Result<(), Fail> {
     let mut text = String::new(rt.alloc());
     for (index, word) in words.iter().enumerate() {
         let answer = shown(rt.alloc(), text.as_str())?;
-        let mut ending = String::new(rt.alloc());
-        write!(ending, "unexpected token {index}")?;
+        let (line, column) = (
+            index.saturating_add(1),
+            index.saturating_mul(2).saturating_add(1),
+        );
+        let mut refusal = String::new(rt.alloc());
+        write!(
+            refusal,
+            "line {line} column {column}: unexpected token {index}"
+        )?;
         if index > 0 {
-            assert!(rt; answer.as_str().ends_with(ending.as_str()), "{answer}");
+            assert_eq!(rt; answer.as_str(), refusal.as_str());
         }
         text.push_str(word)?;
         text.push_str(" ")?;
@@ -273,30 +311,38 @@ fn beginnings_are_refused_at_their_end(rt: HostRuntime) -> Result<(), Fail> {
     Ok(())
 }
 
-/// Whether `parse` finds the print of a number too deep, with a part so often before it and another behind it.
-fn is_too_deep(alloc: Global, front: &str, times: usize, back: &str) -> Result<bool, AllocError> {
+/// What `parse` answers for the print of a number with a part so often before it and another behind it.
+fn nested(alloc: Global, front: &str, times: usize, back: &str) -> Result<String, AllocError> {
     let mut text = repeated(alloc, "fun main ( ) { println ( ", front, times, "1 ")?;
     text.push_str(repeated(alloc, "", back, times, ") }")?.as_str())?;
-    Ok(
-        shown(alloc, text.as_str())?
-            .as_str()
-            .ends_with("is nested too deep"),
-    )
+    shown(alloc, text.as_str())
 }
+
+/// The refusal where each token is an opener.
+const DEEP: &str = "line 205 column 409: token 204 is nested too deep";
+
+/// The refusal where each second token is one.
+const WIDE: &str = "line 403 column 805: token 402 is nested too deep";
+
+// The parenthesis of `main`, the brace and the parenthesis of the print are three levels, and seven tokens stand before
+// the number and its parts. A brace opens no other level than the second, and a `.` none but the third.
+static OPENERS: [(&str, &str, &str); 7] = [
+    ("( ", ") ", DEEP),
+    ("~ ", "", DEEP),
+    ("1 + ", "", WIDE),
+    ("", "- 1 ", WIDE),
+    ("1 * ", "", WIDE),
+    ("2 / ", "", WIDE),
+    ("", "% 1 ", WIDE),
+];
 
 #[test]
 fn levels_of_each_opener(rt: HostRuntime) -> Result<(), Fail> {
-    // The parenthesis of `main`, the brace and the parenthesis of the print are three levels.
-    for (front, back) in [
-        ("( ", ") "),
-        ("~ ", ""),
-        ("1 + ", ""),
-        ("", "- 1 "),
-        ("1 * ", ""),
-        ("", "% 1 "),
-    ] {
-        assert!(rt; !is_too_deep(rt.alloc(), front, 197, back)?);
-        assert!(rt; is_too_deep(rt.alloc(), front, 198, back)?);
+    for &(front, back, refusal) in &OPENERS {
+        let tree = nested(rt.alloc(), front, 197, back)?;
+        assert!(rt; tree.as_str().starts_with("main 10 println "), "{tree}");
+        let answer = nested(rt.alloc(), front, 198, back)?;
+        assert_eq!(rt; answer.as_str(), refusal);
     }
     Ok(())
 }
@@ -305,11 +351,27 @@ fn levels_of_each_opener(rt: HostRuntime) -> Result<(), Fail> {
 fn levels_end(rt: HostRuntime) -> Result<(), Fail> {
     let alloc = rt.alloc();
     let front = "fun main ( ) { println ( ";
-    let deep = repeated(alloc, front, "( ", 65_536, "")?;
-    assert_eq!(rt;
-        shown(alloc, deep.as_str())?.as_str(),
-        "line 205 column 409: token 204 is nested too deep"
-    );
+    for (before, piece, times, after, refusal) in [
+        ("", "( ", 65_536, "", "line 1 column 1: unexpected token 0"),
+        (
+            front,
+            "( ",
+            65_536,
+            "",
+            "line 205 column 409: token 204 is nested too deep",
+        ),
+        // What is unexpected is not too deep.
+        (
+            front,
+            "( ",
+            197,
+            "+ ",
+            "line 205 column 409: unexpected token 204",
+        ),
+    ] {
+        let text = repeated(alloc, before, piece, times, after)?;
+        assert_eq!(rt; shown(alloc, text.as_str())?.as_str(), refusal);
+    }
     // The levels of a bracket and of a statement end with it.
     let mut flat = repeated(
         alloc,

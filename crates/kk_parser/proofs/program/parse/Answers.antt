@@ -1,9 +1,9 @@
-use Rattle.std.proofs.Common.{◌≡◌, ℕ, suc, ◌-◌, [], ◌∷◌, List, Bool, true, false, length, refl, sym, ap, ◌∙◌, subst, map, eqb, arith}
+use Rattle.std.proofs.Common.{◌≡◌, suc, ◌-◌, [], ◌∷◌, List, Bool, true, false, length, refl, sym, ap, ◌∙◌, subst, map, eqb, arith}
 use Rattle.std.proofs.lemmas.Bool.{eqb-true, eqb-false}
 use Rattle.kk_syntax.specs.declared.token.LocatedToken.{LocatedToken}
-use Rattle.kk_parser.specs.Functions.{FunctionTree, function_tree}
+use Rattle.kk_syntax.specs.Programs.{function_tree}
 use Rattle.kk_parser.specs.declared.parser.Parser.{Parser}
-use Rattle.kk_parser.specs.Parses.{Refuses, place_of}
+use Rattle.kk_parser.specs.Parses.{place_of}
 use Rattle.kk_parser.specs.Phrases.{program, rule}
 use Rattle.kk_parser.specs.Reading.{Finds}
 use Rattle.kk_parser.proofs.Laws.{program_law, answer_law}

@@ -1,11 +1,10 @@
-use Rattle.std.proofs.Common.{◌∷◌, [], map, Some, None, sym, ◌∙◌, refl, ap, subst, arith}
+use Rattle.std.proofs.Common.{◌∷◌, [], map, Some, None, sym, ◌∙◌, ap, subst, arith}
 use Rattle.std.proofs.lemmas.List.{map-append}
 use Rattle.kk_syntax.specs.declared.token.Symbol.TheVariants.{OpenBrace, CloseBrace, Semicolon}
 use Rattle.kk_syntax.specs.Trees.{expr_tree}
-use Rattle.kk_parser.specs.Grammar.{semicolons}
 use Rattle.kk_parser.specs.Kinds.{symbol}
 use Rattle.kk_parser.specs.Methods.{Read}
-use Rattle.kk_parser.specs.Phrases.{rule, block, statement, token, opener, optional, many, ◌▸◌}
+use Rattle.kk_parser.specs.Phrases.{rule, block, statement, token, opener}
 use Rattle.kk_parser.specs.Reading.{fails_rule, fails_front, fails_behind, fails_one, fails_presence, finds_rule, finds_both, finds_none, finds_absence, finds_presence}
 use Rattle.kk_parser.proofs.Blocks.{one_more, and_more, block_from, block_from-some, block_from-none}
 use Rattle.kk_parser.proofs.Steps.{gives_up_in, symbol_read, continues_many_before, continues_as, Continues}

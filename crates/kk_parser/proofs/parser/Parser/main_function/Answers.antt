@@ -1,8 +1,8 @@
-use Rattle.std.proofs.Common.{ℕ, List, codes, sym, ◌∙◌, ap, subst}
+use Rattle.std.proofs.Common.{ℕ, List, codes, ap, subst}
 use Rattle.kk_syntax.specs.declared.token.Keyword.TheVariants.{Fun}
 use Rattle.kk_syntax.specs.declared.token.Symbol.TheVariants.{OpenParenthesis, CloseParenthesis}
 use Rattle.kk_syntax.specs.Trees.{Tree, expr_tree}
-use Rattle.kk_parser.specs.Functions.{function_tree, FunctionTree}
+use Rattle.kk_syntax.specs.Programs.{function_tree, FunctionTree}
 use Rattle.kk_parser.specs.Kinds.{keyword, symbol, word}
 use Rattle.kk_parser.specs.declared.parser.Parser.{Parser}
 use Rattle.kk_parser.specs.Methods.{Read}

@@ -1,7 +1,7 @@
 use Rattle.std.proofs.Common.{ap, sym, ◌∙◌, codes, rules}
 use Rattle.kk_parser.specs.Kinds.{word, said_at}
 use Rattle.kk_parser.specs.Reading.{fails_token}
-use Rattle.kk_parser.proofs.Steps.{next_says-first, is_at-unsaid, is_at-none, token_read, word_said}
+use Rattle.kk_parser.proofs.Steps.{next_says-first, is_at-none, token_read, word_said}
 use Rattle.kk_parser.proofs.parser.Parser.main_name.Goals as goal
 
 pub returns-then-ne-clause-reads : goal.returns-then-ne-clause-reads

@@ -1,6 +1,5 @@
-use Rattle.std.proofs.Common.{sym, ◌∙◌, refl, ap, subst}
+use Rattle.std.proofs.Common.{sym, ◌∙◌, ap, subst}
 use Rattle.kk_syntax.specs.declared.token.Symbol.TheVariants.{OpenParenthesis, CloseParenthesis}
-use Rattle.kk_syntax.specs.declared.tree.Expr.TheVariants.{PrintText}
 use Rattle.kk_syntax.specs.Trees.{expr_tree, print_text, print as OfPrint}
 use Rattle.kk_parser.specs.Grammar.{print_word, print_form}
 use Rattle.kk_parser.specs.Kinds.{symbol, string}

@@ -1,4 +1,4 @@
-use Rattle.std.proofs.Common.{sym, ◌∙◌, refl, inl, inr, codes, ◌∷◌, []}
+use Rattle.std.proofs.Common.{sym, ◌∙◌, inl, inr, codes}
 use Rattle.kk_parser.specs.Kinds.{word}
 use Rattle.kk_parser.specs.Reading.{fails_token, fails_second, finds_first, finds_second}
 use Rattle.kk_parser.proofs.Steps.{said_next, token_read}

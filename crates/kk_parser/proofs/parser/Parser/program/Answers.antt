@@ -1,6 +1,5 @@
-use Rattle.std.proofs.Common.{◌∷◌, [], ◌++◌, map, Some, None, sym, ◌∙◌, ap, subst}
-use Rattle.kk_parser.specs.Functions.{function_tree}
-use Rattle.kk_parser.specs.Grammar.{semicolons}
+use Rattle.std.proofs.Common.{◌∷◌, [], ◌++◌, map, sym, ◌∙◌, ap, subst}
+use Rattle.kk_syntax.specs.Programs.{function_tree}
 use Rattle.kk_parser.specs.Methods.{Read}
 use Rattle.kk_parser.specs.Phrases.{rule, program, main_function}
 use Rattle.kk_parser.specs.Reading.{fails_rule, fails_front, fails_behind, fails_presence, finds_rule, finds_both, finds_absence, finds_presence}

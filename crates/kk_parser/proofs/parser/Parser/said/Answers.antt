@@ -1,6 +1,5 @@
-use Rattle.std.proofs.Common.{Some, None, sym, ◌∙◌, refl, ap, subst}
+use Rattle.std.proofs.Common.{sym, ◌∙◌, ap, subst}
 use Rattle.kk_syntax.specs.declared.token.Symbol.TheVariants.{Dot}
-use Rattle.kk_syntax.specs.declared.tree.Expr.TheVariants.{PrintText}
 use Rattle.kk_syntax.specs.Trees.{expr_tree, print_text}
 use Rattle.kk_parser.specs.Grammar.{print_word, print_form, no_arguments}
 use Rattle.kk_parser.specs.Kinds.{symbol, string}
