@@ -10,3 +10,4 @@ pub mod Reading
 pub mod Runs
 pub mod Same
 pub mod Steps
+pub mod Calls

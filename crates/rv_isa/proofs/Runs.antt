@@ -1,5 +1,5 @@
 -- Runs of a machine, one after the other.
-use Rattle.std.proofs.Common.{◌≡◌, ℕ, zero, suc, ◌+◌, refl, sym, ap, ◌∙◌, rules, arith, add_assoc, add-zero, zero-add}
+use Rattle.std.proofs.Common.{◌≡◌, ◌≢◌, ℕ, zero, suc, ◌+◌, refl, sym, ap, ◌∙◌, rules, arith, add_assoc, add-zero, zero-add}
 use Rattle.rv_isa.specs.Machine.{Machine, Ending, going, exited, trapped, After, goes}
 use Rattle.rv_isa.specs.Execution.{step, resumes, go_on, run, Leads}
 
@@ -23,6 +23,16 @@ resumes-same : (e : Ending) (s : Machine) (f g : Machine → After) → ((t : Ma
 resumes-same going s f g same = same s
 resumes-same (exited n) s f g same = refl
 resumes-same (trapped c p w) s f g same = refl
+
+resumes-ended : (e : Ending) (s : Machine) (f : Machine → After) → e ≢ going → resumes e s f ≡ record { machine = s; ending = e }
+resumes-ended going s f ended = absurd (ended refl)
+resumes-ended (exited n) s f ended = refl
+resumes-ended (trapped c p w) s f ended = refl
+
+resumes-none : (e : Ending) (s : Machine) → resumes e s (run 0) ≡ record { machine = s; ending = e }
+resumes-none going s = run-zero s
+resumes-none (exited n) s = refl
+resumes-none (trapped c p w) s = refl
 
 -- a run in two parts
 pub run-add : (n k : ℕ) (s : Machine) → run (n + k) s ≡ go_on (run n s) (run k)
@@ -50,3 +60,19 @@ Leads-step {s} {t} is = record {
 -- the machine that it leads to is what the run has come to
 pub Leads-run : {n : ℕ} {s t : Machine} → Leads n s t → run n s ≡ goes t
 Leads-run {n} {s} {t} leads = ap (λ m. run m s) (sym (add-zero n)) ∙ leads.by 0 ∙ run-zero t
+
+-- what has come to an end stays
+pub go_on-ended : (a : After) (f : Machine → After) → a.ending ≢ going → go_on a f ≡ a
+go_on-ended a f ended = resumes-ended a.ending a.machine f ended
+
+-- what a run has come to goes on, in two parts
+pub go_on-add : (a : After) (n k : ℕ) → go_on a (run (n + k)) ≡ go_on (go_on a (run n)) (run k)
+go_on-add a n k =
+    resumes-same a.ending a.machine (run (n + k)) (λ t. go_on (run n t) (run k)) (run-add n k) ∙ go_on-go_on a (run n) (run k)
+
+pub go_on-none : (a : After) → go_on a (run 0) ≡ a
+go_on-none a = resumes-none a.ending a.machine
+
+-- a run of one instruction
+pub run-one : (s : Machine) → run 1 s ≡ step s
+run-one s = run-suc 0 s ∙ go_on-none (step s)

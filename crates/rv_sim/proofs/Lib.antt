@@ -6,3 +6,9 @@ pub mod Reading
 pub mod Stepping
 pub mod Loading
 pub mod Chains
+pub mod Events
+pub mod Running
+pub mod Turns
+pub mod Calling
+pub mod Consequences
+pub mod Examples

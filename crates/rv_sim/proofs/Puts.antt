@@ -1,6 +1,5 @@
 -- Lists in which a part was replaced by another of its length.
-use Rattle.std.proofs.Common.{◌≡◌, ◌≤◌, ◌<◌, ℕ, ◌+◌, ◌-◌, List, [], ◌∷◌, ◌++◌, length, take, drop, get_or, slice_index, ap, ◌∙◌, arith, rules, length-take, get_or-take, get_or-drop}
-use Rattle.std.proofs.lemmas.List.{get_or_append_left, get_or-append_right}
+use Rattle.std.proofs.Common.{◌≡◌, ◌≤◌, ◌<◌, ℕ, ◌+◌, ◌-◌, List, ◌++◌, length, take, drop, slice_index, arith}
 use Rattle.std.proofs.lemmas.Grind.{common_steps}
 
 pub index-put_below : (xs ys : List ℕ) (a k : ℕ) → k < a → a ≤ length xs → slice_index (take a xs ++ (ys ++ drop (a + length ys) xs)) k ≡ slice_index xs k

@@ -1,15 +1,15 @@
 -- What is read from the areas of a memory.
-use Rattle.std.proofs.Common.{◌≡◌, ◌≤◌, ◌<◌, ℕ, ◌+◌, ◌-◌, List, map, length, get_or, set, take, drop, ◌++◌, slice_range, Bool, true, false, ◌&&◌, if◌then◌else◌, Option, Some, None, is_some, IfSome, HoldsAt, inl, inr, refl, sym, ap, ◌∙◌}
+use Rattle.std.proofs.Common.{◌≡◌, ◌<◌, ℕ, ◌+◌, ◌-◌, List, map, length, get_or, set, take, drop, ◌++◌, slice_range, Bool, true, false, ◌&&◌, if◌then◌else◌, Some, inl, inr, refl, sym, ap, ◌∙◌}
 use Rattle.std.proofs.lemmas.List.{get_or-map, map-set}
 use Rattle.std.proofs.Math.ListN.{length-map}
 use Rattle.std.proofs.Math.Seq.{map-set_same}
-use Rattle.kk_base.specs.Memory.{Part, covers, byte_loaded}
+use Rattle.kk_base.specs.Memory.{covers, byte_loaded}
 use Rattle.rv_isa.specs.Bytes.{little_endian, lowest_bytes, bytes_at, with_bytes, number_at, with_number}
 use Rattle.std.specs.Int.{to_le_bytes, w32}
 use Rattle.rv_isa.specs.Machine.{bare}
 use Rattle.rv_sim.specs.declared.area.Access.{Access}
 use Rattle.rv_sim.specs.declared.area.Area.{Area}
-use Rattle.rv_sim.specs.Areas.{part_of, parts_of, permits, allows, can, AreApart, IsWidth}
+use Rattle.rv_sim.specs.Areas.{part_of, parts_of, permits, allows, AreApart, IsWidth}
 use Rattle.rv_sim.proofs.Parts.{bytes_at-this, byte_loaded-put_this, are_apart-same}
 
 pub and-right : (a b : Bool) → (a && b) ≡ true → b ≡ true

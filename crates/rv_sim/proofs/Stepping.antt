@@ -1,21 +1,19 @@
 -- The acts of instructions on what a simulated machine holds.
-use Rattle.std.proofs.Common.{◌≡◌, ◌≢◌, ◌<◌, ℕ, ◌+◌, ◌&&◌, ◌%◌, List, [], map, Bool, true, false, Option, Some, None, cond, if◌then◌else◌, refl, sym, ap, ◌∙◌, add-zero, arith}
+use Rattle.std.proofs.Common.{◌≡◌, ◌<◌, ℕ, ◌+◌, ◌&&◌, ◌%◌, List, map, Bool, true, false, Some, None, if◌then◌else◌, refl, sym, ap, ◌∙◌, arith}
 use Rattle.std.proofs.lemmas.Bool.Decides.{nat_tests}
 use Rattle.kk_base.specs.Memory.{Part, covers, byte_loaded}
 use Rattle.kk_base.specs.Trace.{Event}
 use Rattle.rv_isa.specs.declared.act.Act.TheVariants.{Load, Store}
 use Rattle.rv_isa.specs.Bytes.{number_at, with_number}
-use Rattle.rv_isa.specs.Machine.{Machine, Ending, going, exited, counted, After, value, goes, traps, bare, put, can_fetch, can_load, can_store, lies_in_part}
+use Rattle.rv_isa.specs.Machine.{Machine, going, After, goes, traps, bare, put, can_fetch, can_load, can_store, lies_in_part}
 use Rattle.rv_isa.specs.Environment.{stepped}
 use Rattle.rv_isa.specs.Execution.{widened, acts, decodes, step}
 use Rattle.rv_isa.specs.Read.{read}
 use Rattle.rv_isa.proofs.Steps.{step-unfetched, step-fetched}
-use Rattle.rv_isa.proofs.Acts.{acts-load, acts-load_misaligned, acts-load_denied, acts-store, acts-store_misaligned, acts-store_denied}
+use Rattle.rv_isa.proofs.Acts.{acts-load, acts-load_denied, acts-store, acts-store_denied}
 use Rattle.rv_sim.specs.Registers.{registers_of}
 use Rattle.rv_sim.specs.declared.halt.Turn.{Turn}
 use Rattle.rv_sim.specs.declared.halt.Turn.TheVariants.{Over, Call}
-use Rattle.rv_isa.proofs.Cases.{step-executed}
-use Rattle.rv_sim.specs.Devices.{Advances}
 use Rattle.rv_sim.specs.Simulation.{Simulation, machine_of, after_of, Does}
 use Rattle.rv_sim.proofs.Finding.{list_any-map, list_any-weaker}
 
@@ -98,23 +96,3 @@ one_of false part at count some covered = cc
 pub can_store-one : (parts : List Part) (at count : ℕ) → 0 < count → can_store parts at count ≡ true → can_store parts at 1 ≡ true
 can_store-one parts at count some allowed =
     list_any-weaker (λ part. part.writable && covers part at count) (λ part. part.writable && covers part at 1) (λ part e. one_of part.writable part at count some e) parts allowed
-
--- what a step does says how many instructions it executed
-pub does-advances : (what : Machine → After) (old new : Simulation) → ((s : Machine) → (what s).machine.executed ≡ s.executed + counted (what s).ending) → Does what Over old new → Advances None old new
-does-advances what old new counts does =
-    let after = does.0 [] [] in (
-      ap (λ a. a.machine.executed) after ∙ counts (machine_of old [] []) ∙ ap (λ a. old.executed + counted a.ending) (sym after),
-      does.1,
-    )
-
-pub set-advances : (rd word next : ℕ) (old new : Simulation) → Does (λ s. goes (record (stepped next s) { registers = put rd word s.registers })) Over old new → Advances None old new
-set-advances rd word next old new does = does-advances (λ s. goes (record (stepped next s) { registers = put rd word s.registers })) old new (λ s. refl) does
-
-pub trap-advances : (cause word : ℕ) (old new : Simulation) → Does (traps cause word) Over old new → Advances None old new
-trap-advances cause word old new does = does-advances (traps cause word) old new (λ s. sym (add-zero s.executed)) does
-
-pub exit-advances : (next : ℕ) (old new : Simulation) → Does (λ s. record { machine = stepped next s; ending = exited (value s.registers 10 % 256) }) Over old new → Advances None old new
-exit-advances next old new does = does-advances (λ s. record { machine = stepped next s; ending = exited (value s.registers 10 % 256) }) old new (λ s. refl) does
-
-pub step-advances : (old new : Simulation) → Does step Over old new → Advances None old new
-step-advances old new does = does-advances step old new step-executed does

@@ -1,11 +1,9 @@
--- What calls and runs do on the devices: their counts of faults, and their contents where they tell them.
-use Rattle.std.specs.Prelude.{◌≡◌, ◌≢◌, ◌≤◌, ◌<◌, ℕ, ◌+◌, ◌-◌, List, [], ◌∷◌, ◌++◌, take, length, Bool, true, false, Option, Some, None}
+-- What a run does: to the machine, as its definition says, and on the devices, whose contents are lists where they tell them.
+use Rattle.std.specs.Prelude.{◌≡◌, ◌≢◌, ◌≤◌, ◌<◌, ℕ, ◌+◌, ◌-◌, List, [], ◌∷◌, ◌++◌, take, length, Bool, true, false, Option, Some, None, option_map}
 use Rattle.kk_base.specs.Faults.{Rose}
-use Rattle.kk_base.specs.Trace.{Event, output, input, input_end, output_of}
-use Rattle.rv_isa.specs.Machine.{Machine, Ending, going, exited, trapped, counted, After, goes, value}
-use Rattle.rv_isa.specs.Environment.{reads, writes, written}
+use Rattle.kk_base.specs.Trace.{Event, output, input, input_end, output_of, TakesFrom}
+use Rattle.rv_isa.specs.Machine.{Ending, going, exited, trapped}
 use Rattle.rv_isa.specs.Execution.{step, go_on, run}
-use Rattle.rv_sim.specs.Registers.{registers_of}
 use Rattle.rv_sim.specs.Simulation.{Simulation, machine_of, after_of}
 use Rattle.rv_sim.specs.declared.halt.Device.{Device}
 use Rattle.rv_sim.specs.declared.halt.Device.TheVariants.{Input, Output}
@@ -33,21 +31,93 @@ abbrev pub is_output_fault : Halt → Bool
 is_output_fault OutputFault = true
 is_output_fault _ = false
 
+abbrev pub is_fault : Halt → Bool
+is_fault InputFault = true
+is_fault OutputFault = true
+is_fault _ = false
+
 -- the answer of a run that stops here, no device having failed
 abbrev pub halt_of : Ending → Halt
 halt_of going = StepsSpent
 halt_of (exited number) = Exit number
 halt_of (trapped cause pc word) = Trap cause pc word
 
--- a step executes an instruction, or none where a device failed
-abbrev pub Advances : Option Device → Simulation → Simulation → Type 0
-Advances None old new = (new.executed ≡ old.executed + counted new.ending) × (new.faulted ≡ old.faulted)
-Advances (Some device) old new = new ≡ record old { faulted = true }
+-- the answer of a run of one instruction, at which a device has failed or none
+abbrev pub answer_of : Option Device → Ending → Halt
+answer_of None ending = halt_of ending
+answer_of (Some Input) ending = InputFault
+answer_of (Some Output) ending = OutputFault
 
--- what a machine holds after a run of at most `steps` instructions, by its answer
-abbrev pub Stops : Halt → ℕ → Simulation → Simulation → Type 0
-Stops StepsSpent steps old new = (new.faulted ≡ false) × (new.ending ≡ going) × (new.executed ≡ old.executed + steps)
-Stops (Exit number) steps old new = (new.faulted ≡ false) × (new.ending ≡ exited number) × (new.executed ≤ old.executed + steps)
-Stops (Trap cause pc word) steps old new = (new.faulted ≡ false) × (new.ending ≡ trapped cause pc word) × (new.executed ≤ old.executed + steps)
-Stops InputFault steps old new = (new.faulted ≡ true) × (new.ending ≡ going) × (new.executed < old.executed + steps)
-Stops OutputFault steps old new = (new.faulted ≡ true) × (new.ending ≡ going) × (new.executed < old.executed + steps)
+-- how the machine has ended where a run answers so
+abbrev pub ending_at : Halt → Ending
+ending_at (Exit number) = exited number
+ending_at (Trap cause pc word) = trapped cause pc word
+ending_at _ = going
+
+-- how many instructions were executed, out of a budget of `steps`: all of it where it is spent, and fewer where a device has failed
+abbrev pub Executes : Halt → ℕ → ℕ → ℕ → Type 0
+Executes StepsSpent steps before now = now ≡ before + steps
+Executes InputFault steps before now = now < before + steps
+Executes OutputFault steps before now = now < before + steps
+Executes _ steps before now = now ≤ before + steps
+
+-- how long the definition's run is that comes to the same: as the budget, since an ended machine stays; or, where a device has failed, as many
+-- instructions as were executed
+abbrev pub length_of : Halt → ℕ → ℕ → ℕ
+length_of InputFault steps executed = executed
+length_of OutputFault steps executed = executed
+length_of _ steps executed = steps
+
+-- the definition's run of `count` instructions leads from one to the other, and has done `events`, on each input that they can have taken
+abbrev pub ComesTo : ℕ → List Event → Simulation → Simulation → Type 0
+ComesTo count events old new =
+    (left rest : List ℕ) (trace : List Event) → TakesFrom events left rest → go_on (after_of old left trace) (run count) ≡ after_of new rest (trace ++ events)
+
+-- a source has given what the events took, where it tells what is left of it
+abbrev pub Gives : List Event → Option (List ℕ) → Option (List ℕ) → Type 0
+Gives events None None = Unit {0}
+Gives events (Some before) (Some after) = TakesFrom events before after
+Gives events _ _ = ⊥
+
+-- what is asked for is the next byte of what is left, or the end
+abbrev pub asked : List ℕ → Event
+asked [] = input_end
+asked (byte ∷ rest) = input byte
+
+-- the next instruction asks for a byte
+abbrev pub AsksNext : Simulation → Type 0
+AsksNext s = (left : List ℕ) (trace : List Event) → (step (machine_of s left trace)).machine.trace ≡ trace ++ asked left ∷ []
+
+-- the next instruction puts a piece, and `cut` are first bytes of it
+pub record PutsNext (cut : List ℕ) (s : Simulation) : Type 0 where
+  pub piece : List ℕ
+  pub some : 0 < length piece
+  pub count : ℕ
+  pub within : count ≤ length piece
+  pub first : cut ≡ take count piece
+  pub next : (left : List ℕ) (trace : List Event) → (step (machine_of s left trace)).machine.trace ≡ trace ++ output piece ∷ []
+
+-- a device that has failed was called by the next instruction; only where a put failed is a piece cut
+abbrev pub Fails : Halt → List ℕ → Simulation → Type 0
+Fails InputFault cut s = (cut ≡ []) × AsksNext s
+Fails OutputFault cut s = PutsNext cut s
+Fails _ cut s = cut ≡ []
+
+-- what a run of at most `steps` instructions has done, by its answer
+pub record Runs (answer : Halt) (steps : ℕ) (old new : Simulation) (left_before left_after held_before held_after : Option (List ℕ)) : Type 0 where
+  -- on the outside: these events, and first bytes of one more piece
+  pub events : List Event
+  pub cut : List ℕ
+  -- the devices have given and taken just that
+  pub given : Gives events left_before left_after
+  pub held : held_after ≡ option_map (λ before. before ++ (output_of events ++ cut)) held_before
+  -- the machine has come to what its definition comes to; one that had ended has done nothing
+  pub comes : ComesTo (length_of answer steps (new.executed - old.executed)) events old new
+  pub stays : old.ending ≢ going → events ≡ []
+  -- the answer tells how the machine has ended, whether a device has failed, and how many instructions were executed
+  pub ending : new.ending ≡ ending_at answer
+  pub faulted : new.faulted ≡ is_fault answer
+  pub later : old.executed ≤ new.executed
+  pub executed : Executes answer steps old.executed new.executed
+  -- a device has failed at the next instruction
+  pub fails : Fails answer cut new

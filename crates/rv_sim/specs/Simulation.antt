@@ -4,6 +4,7 @@ use Rattle.kk_base.specs.Memory.{Part, byte_loaded}
 use Rattle.kk_base.specs.Trace.{Event}
 use Rattle.rv_isa.specs.Machine.{Machine, bare, Ending, going, exited, trapped, After}
 use Rattle.rv_isa.specs.Environment.{calls}
+use Rattle.rv_isa.specs.Execution.{step}
 use Rattle.rv_sim.specs.Registers.{registers_of}
 use Rattle.rv_sim.specs.declared.halt.Phase.{Phase}
 use Rattle.rv_sim.specs.declared.halt.Phase.TheVariants.{Going, Exited, Trapped}
@@ -48,3 +49,7 @@ Does what Over old new =
     ((left : List ℕ) (trace : List Event) → after_of new left trace ≡ what (machine_of old left trace)) × (new.faulted ≡ old.faulted)
 Does what (Call next word) old new =
     (new ≡ old) × ((left : List ℕ) (trace : List Event) → what (machine_of old left trace) ≡ calls next word (machine_of old left trace))
+
+-- this is what the next instruction does
+abbrev pub NextDoes : (Machine → After) → Simulation → Type 0
+NextDoes what s = (left : List ℕ) (trace : List Event) → step (machine_of s left trace) ≡ what (machine_of s left trace)

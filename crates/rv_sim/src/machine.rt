@@ -1,13 +1,14 @@
-ghost use Rattle.std.specs.Prelude.{◌≡◌, ℕ, ◌+◌, ◌*◌, ◌%◌, ◌<◌, ◌^◌, List, [], true, false, Some, None, if◌then◌else◌, IfOk};
+ghost use Rattle.std.specs.Prelude.{◌≡◌, ℕ, ◌+◌, ◌*◌, ◌%◌, ◌<◌, ◌^◌, List, [], true, false, Option, IfOk};
+ghost use Rattle.std.specs.Bool.{then_some};
 ghost use Rattle.rv_isa.specs.Machine.{start, going, exited, goes, traps, value, put, can_load, can_store};
-ghost use Rattle.rv_isa.specs.Environment.{stepped};
+ghost use Rattle.rv_isa.specs.Environment.{stepped, calls, reads, writes};
 ghost use Rattle.rv_isa.specs.Execution.{acts, executes, step, widened};
 ghost use Rattle.rv_isa.specs.FreeCells.{free_cells};
 ghost use Rattle.elf_image.specs.Parts.{memory_of};
 ghost use Rattle.rv_sim.specs.Areas.{IsWidth, MovesWidth};
-ghost use Rattle.rv_sim.specs.Devices.{CountsFault, is_input, is_output, is_input_fault, is_output_fault, halt_of, Advances, Stops};
+ghost use Rattle.rv_sim.specs.Devices.{CountsFault, is_input, is_output, is_input_fault, is_output_fault, halt_of, answer_of, Runs};
 ghost use Rattle.rv_sim.specs.Registers.{registers_of};
-ghost use Rattle.rv_sim.specs.Simulation.{machine_of, after_of, Does};
+ghost use Rattle.rv_sim.specs.Simulation.{machine_of, after_of, Does, NextDoes};
 
 use crate::area::Access;
 use crate::halt::{Device, Halt, Phase, Turn};
@@ -94,7 +95,8 @@ impl Machine {
         requires room { self.old.executed + steps < 2 ^ 64 }
         ensures input_faults { CountsFault (is_input_fault result) (I.faults input.old) (I.faults input.new) }
         ensures output_faults { CountsFault (is_output_fault result) (O.faults out.old) (O.faults out.new) }
-        ensures state { Stops result steps self.old self.new }
+        ensures ran { Runs result steps self.old self.new
+            (I.left input.old) (I.left input.new) (O.held out.old) (O.held out.new) }
     {
         let mut left = steps;
         while left > 0 && self.phase == Phase::Going {
@@ -160,11 +162,13 @@ impl Machine {
 
     /// Executes the next instruction. Answers the device that failed, if one did; then nothing was executed.
     fn step<I: Source, O: Sink>(&mut self, input: &mut I, out: &mut O) -> Option<Device>
+        requires whole { self.old.faulted ≡ false }
         requires going { self.old.ending ≡ going }
         requires room { self.old.executed + 1 < 2 ^ 64 }
         ensures input_faults { CountsFault (is_input result) (I.faults input.old) (I.faults input.new) }
         ensures output_faults { CountsFault (is_output result) (O.faults out.old) (O.faults out.new) }
-        ensures state { Advances result self.old self.new }
+        ensures ran { Runs (answer_of result self.new.ending) 1 self.old self.new
+            (I.left input.old) (I.left input.new) (O.held out.old) (O.held out.new) }
     {
         match self.advance() {
             Turn::Over => None,
@@ -180,11 +184,14 @@ impl Machine {
         input: &mut I,
         out: &mut O,
     ) -> Option<Device>
+        requires whole { self.old.faulted ≡ false }
         requires going { self.old.ending ≡ going }
         requires room { self.old.executed + 1 < 2 ^ 64 }
+        requires calls { NextDoes (calls next word) self.old }
         ensures input_faults { CountsFault (is_input result) (I.faults input.old) (I.faults input.new) }
         ensures output_faults { CountsFault (is_output result) (O.faults out.old) (O.faults out.new) }
-        ensures state { Advances result self.old self.new }
+        ensures ran { Runs (answer_of result self.new.ending) 1 self.old self.new
+            (I.left input.old) (I.left input.new) (O.held out.old) (O.held out.new) }
     {
         let file = self.registers.get(Register::A0);
         let at = self.registers.get(Register::A1);
@@ -209,13 +216,17 @@ impl Machine {
 
     /// Reads a byte, where some are asked for and there is one. Answers whether the source failed.
     fn read<I: Source>(&mut self, next: u32, input: &mut I) -> bool
+        requires whole { self.old.faulted ≡ false }
         requires going { self.old.ending ≡ going }
         requires room { self.old.executed + 1 < 2 ^ 64 }
+        requires reads { NextDoes (λ s. goes (reads next s)) self.old }
         requires allowed { can_store self.old.parts (value (registers_of self.old.registers) 11)
             (value (registers_of self.old.registers) 12)
             ≡ true }
         ensures faults { CountsFault result (I.faults input.old) (I.faults input.new) }
-        ensures state { Advances (if result then Some Device.Input else None) self.old self.new }
+        ensures ran { (held : Option (List ℕ))
+            → Runs (answer_of (then_some result Device.Input) self.new.ending) 1 self.old self.new
+            (I.left input.old) (I.left input.new) held held }
     {
         if self.registers.get(Register::A2) == 0 {
             self.set(Register::A0, 0, next);
@@ -241,13 +252,17 @@ impl Machine {
 
     /// Puts bytes of the memory in one piece, where there are some. Answers whether the sink failed.
     fn write<O: Sink>(&mut self, next: u32, out: &mut O) -> bool
+        requires whole { self.old.faulted ≡ false }
         requires going { self.old.ending ≡ going }
         requires room { self.old.executed + 1 < 2 ^ 64 }
+        requires writes { NextDoes (λ s. goes (writes next s)) self.old }
         requires allowed { can_load self.old.parts (value (registers_of self.old.registers) 11)
             (value (registers_of self.old.registers) 12)
             ≡ true }
         ensures faults { CountsFault result (O.faults out.old) (O.faults out.new) }
-        ensures state { Advances (if result then Some Device.Output else None) self.old self.new }
+        ensures ran { (left : Option (List ℕ))
+            → Runs (answer_of (then_some result Device.Output) self.new.ending) 1 self.old self.new
+            left left (O.held out.old) (O.held out.new) }
     {
         let at = self.registers.get(Register::A1);
         let count = self.registers.get(Register::A2);

@@ -71,7 +71,7 @@ impl Source for Tape {
     }
 }
 
-/// A sink that fails at one of its calls.
+/// A sink that fails at one of its calls, where it takes one byte.
 #[derive(Drop)]
 struct Paper {
     bytes: Vec<u8>,
@@ -98,39 +98,93 @@ impl Sink for Paper {
 
     fn put(&mut self, piece: &[u8]) -> Put {
         self.calls = self.calls.saturating_add(1);
+        let fails = self.calls == self.fails_at;
+        let taken = if fails {
+            &piece[..piece.len().min(1)]
+        } else {
+            piece
+        };
         let faults = self.faults;
-        if self.calls == self.fails_at || self.bytes.extend_from_slice(piece).is_err() {
+        if self.bytes.extend_from_slice(taken).is_err() {
             self.faults = faults.saturating_add(1);
             return Put::Failed(0);
+        }
+        if fails {
+            self.faults = faults.saturating_add(1);
+            return Put::Failed(taken.len());
         }
         Put::All
     }
 }
 
-/// A file of a text at 0x10000, with these flags, and of `size` addresses of memory at 0x11000.
-fn file(alloc: Global, flags: u32, words: &[u32], size: u32) -> Result<Vec<u8>, AllocError> {
+/// A part of a file: where it begins, what may be done in it, its words, and how many addresses it has.
+#[derive(Clone, Copy)]
+struct Segment<'a> {
+    start: u32,
+    flags: u32,
+    words: &'a [u32],
+    size: u32,
+}
+
+/// All of a text at 0x10000; 5 is to read and execute, 7 to write too.
+fn text(flags: u32, words: &[u32]) -> Segment {
+    let size = u32::try_from(words.len().saturating_mul(4)).unwrap_or(0);
+    Segment {
+        start: 0x1_0000,
+        flags,
+        words,
+        size,
+    }
+}
+
+/// A file of these parts, which is entered at 0x10000.
+fn file(alloc: Global, segments: &[Segment]) -> Result<Vec<u8>, AllocError> {
     let mut out = Vec::from_slice(alloc, b"\x7fELF\x01\x01\x01")?;
     out.resize(16, 0)?;
-    for field in [0x00f3_0002, 1, 0x1_0000, 52, 0, 0, 0x0020_0034, 2, 0] {
+    let count = u32::try_from(segments.len()).unwrap_or(0);
+    for field in [0x00f3_0002, 1, 0x1_0000, 52, 0, 0, 0x0020_0034, count, 0] {
         out.extend_from_slice(&u32::to_le_bytes(field))?;
     }
-    let bytes = u32::try_from(words.len().saturating_mul(4)).unwrap_or(0);
-    for field in [1, 116, 0x1_0000, 0, bytes, bytes, flags, 4096] {
-        out.extend_from_slice(&u32::to_le_bytes(field))?;
+    let mut offset = count.saturating_mul(32).saturating_add(52);
+    for segment in segments {
+        let bytes = text(0, segment.words).size;
+        for field in [
+            1,
+            offset,
+            segment.start,
+            0,
+            bytes,
+            segment.size,
+            segment.flags,
+            4096,
+        ] {
+            out.extend_from_slice(&u32::to_le_bytes(field))?;
+        }
+        offset = offset.saturating_add(bytes);
     }
-    for field in [1, 116, 0x1_1000, 0, 0, size, 6, 4096] {
-        out.extend_from_slice(&u32::to_le_bytes(field))?;
-    }
-    for word in words {
-        out.extend_from_slice(&word.to_le_bytes())?;
+    for segment in segments {
+        for word in segment.words {
+            out.extend_from_slice(&word.to_le_bytes())?;
+        }
     }
     Ok(out)
 }
 
-/// The machine of such a file; 5 is to read and execute, 7 to write too.
-fn machine(alloc: Global, flags: u32, words: &[u32], size: u32) -> Result<Machine, Fail> {
-    let image: Image = elf_image::read(alloc, &file(alloc, flags, words, size)?)?;
+/// The machine of such a file.
+fn loaded(alloc: Global, segments: &[Segment]) -> Result<Machine, Fail> {
+    let image: Image = elf_image::read(alloc, &file(alloc, segments)?)?;
     Ok(Machine::load(alloc, &image)?)
+}
+
+/// The machine of a text with these flags, and of `size` addresses of memory at 0x11000.
+fn machine(alloc: Global, flags: u32, words: &[u32], size: u32) -> Result<Machine, Fail> {
+    let memory = Segment {
+        start: 0x1_1000,
+        flags: 6,
+        words: &[],
+        size,
+    };
+    loaded(alloc, &[text(flags, words), memory])
 }
 
 /// A run, or `None` where a device has failed before or the steps cannot be counted.
@@ -283,20 +337,27 @@ fn traps(rt: HostRuntime) -> Result<(), Fail> {
 }
 
 #[test]
-fn own_text_written(rt: HostRuntime) -> Result<(), Fail> {
-    // lui t0, 0x500; addi t0, t0, 0x513; auipc t1, 0; sw t0, 8(t1) puts `li a0, 5` in place of the zero.
-    let words = [
-        0x0050_02b7,
-        0x5132_8293,
-        0x0000_0317,
-        0x0053_2423,
-        0,
+fn lone_texts(rt: HostRuntime) -> Result<(), Fail> {
+    // lui t0, 0x10; lw t1, 24(t0); sw t1, 12(t0) puts the last word, `li a0, 7`, in place of `li a0, 5`.
+    let own_text_written = [
+        0x0001_02b7,
+        0x0182_a303,
+        0x0062_a623,
+        0x0050_0513,
         EXIT,
         ECALL,
+        0x0070_0513,
     ];
-    let cases = [(7, Halt::Exit(5), 7), (5, trap(4, 3, 0x0053_2423), 3)];
-    for (flags, expected, executed) in cases {
-        let mut machine = machine(rt.alloc(), flags, &words, 8)?;
+    let cases: [(u32, &[u32], Halt, u64); 5] = [
+        (7, &own_text_written, Halt::Exit(7), 6),
+        (5, &own_text_written, trap(4, 2, 0x0062_a623), 2),
+        // lw t1, 2(zero); j 2; and nothing behind `li ra, 5`
+        (5, &[0x0020_2303], trap(5, 0, 0x0020_2303), 0),
+        (5, &[0x0020_006f], trap(3, 0, 0x0020_006f), 0),
+        (5, &[0x0050_0093], trap(2, 1, 0), 1),
+    ];
+    for (flags, words, expected, executed) in cases {
+        let mut machine = loaded(rt.alloc(), &[text(flags, words)])?;
         let halt = run(
             &mut machine,
             100,
@@ -305,6 +366,44 @@ fn own_text_written(rt: HostRuntime) -> Result<(), Fail> {
         );
         assert_eq!(rt; halt, Some(expected));
         assert_eq!(rt; machine.executed(), executed);
+    }
+    Ok(())
+}
+
+#[test]
+fn parts_with_gaps(rt: HostRuntime) -> Result<(), Fail> {
+    let part = |start, words, size| Segment {
+        start,
+        flags: 4,
+        words,
+        size,
+    };
+    // Loads at so many addresses behind 0x11000, and exits with the number: lbu 0, 4, 8 and 12, lhu 14, and lw 12.
+    let cases = [
+        (0x0005_c503, Halt::Exit(42)),
+        (0x0045_c503, trap(4, 1, 0x0045_c503)),
+        (0x0085_c503, Halt::Exit(7)),
+        // A zero behind the bytes of the file; the next part; and both, which lie in no one part.
+        (0x00c5_c503, Halt::Exit(0)),
+        (0x00e5_d503, Halt::Exit(9)),
+        (0x00c5_a503, trap(4, 1, 0x00c5_a503)),
+    ];
+    for (load, expected) in cases {
+        let words = [A1_MEMORY, load, EXIT, ECALL];
+        let segments = [
+            part(0x1_1008, &[7], 6),
+            text(5, &words),
+            part(0x1_100e, &[9], 4),
+            part(0x1_1000, &[42], 4),
+        ];
+        let mut machine = loaded(rt.alloc(), &segments)?;
+        let halt = run(
+            &mut machine,
+            100,
+            &mut Tape::new(b"", 0),
+            &mut Paper::new(rt.alloc(), 0),
+        );
+        assert_eq!(rt; halt, Some(expected));
     }
     Ok(())
 }
@@ -370,8 +469,8 @@ fn writes(rt: HostRuntime) -> Result<(), Fail> {
         (&three, 0, Halt::Exit(3), 7, b"\x93\x08\x00"),
         (&none, 1, Halt::Exit(0), 6, b""),
         (&twice, 0, Halt::Exit(3), 9, b"\x93\x08\x00\x93\x08\x00"),
-        (&twice, 2, Halt::OutputFault, 6, b"\x93\x08\x00"),
-        (&three, 1, Halt::OutputFault, 4, b""),
+        (&twice, 2, Halt::OutputFault, 6, b"\x93\x08\x00\x93"),
+        (&three, 1, Halt::OutputFault, 4, b"\x93"),
     ];
     for (words, fails_at, expected, executed, bytes) in cases {
         let mut machine = machine(rt.alloc(), 5, words, 8)?;

@@ -1,4 +1,4 @@
-use Rattle.std.proofs.Common.{◌≡◌, get_or, true, ap, rules}
+use Rattle.std.proofs.Common.{get_or, ap}
 use Rattle.rv_sim.proofs.Reading.{byte_loaded-put_area, bare-put, are_apart-put}
 use Rattle.rv_sim.proofs.memory.put.Goals as goal
 

@@ -1,4 +1,4 @@
-use Rattle.std.proofs.Common.{◌≡◌, refl, sym, ap, ◌∙◌}
+use Rattle.std.proofs.Common.{refl, sym, ap, ◌∙◌}
 use Rattle.rv_isa.proofs.Acts.{acts-nothing, acts-set, acts-call, acts-break}
 use Rattle.rv_sim.specs.Simulation.{machine_of}
 use Rattle.rv_sim.proofs.Stepping.{finishes}

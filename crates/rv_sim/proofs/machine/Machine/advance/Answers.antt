@@ -1,5 +1,4 @@
-use Rattle.std.proofs.Common.{◌≡◌, Some, None, refl, sym, ap, ◌∙◌, rules}
-use Rattle.rv_isa.specs.Read.{read}
+use Rattle.std.proofs.Common.{sym, ap, ◌∙◌}
 use Rattle.rv_isa.specs.Execution.{executes, decodes, step}
 use Rattle.rv_isa.proofs.Steps.{decodes-none, decodes-some}
 use Rattle.rv_sim.specs.contracts.machine.Machine.{the_view}

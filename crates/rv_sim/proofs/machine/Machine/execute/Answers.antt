@@ -1,5 +1,4 @@
-use Rattle.std.proofs.Common.{◌≡◌, ◌≢◌, ◌%◌, refl, sym, ap, ◌∙◌, rules}
-use Rattle.rv_isa.specs.Machine.{Machine}
+use Rattle.std.proofs.Common.{◌≡◌, sym, ◌∙◌, rules}
 use Rattle.rv_isa.specs.Execution.{effect_at, executes, acts}
 use Rattle.rv_isa.proofs.Steps.{executes-misaligned, executes-aligned}
 use Rattle.rv_sim.specs.contracts.machine.Machine.{the_view}

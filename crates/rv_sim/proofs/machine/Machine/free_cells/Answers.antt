@@ -1,4 +1,4 @@
-use Rattle.std.proofs.Common.{◌≡◌, sym, ap, ◌∙◌, ◌-◌, arith}
+use Rattle.std.proofs.Common.{sym, ap, ◌∙◌, ◌-◌, arith}
 use Rattle.kk_base.specs.Memory.{byte_loaded}
 use Rattle.rv_sim.proofs.Chains.{chain-more, chain-end}
 use Rattle.rv_sim.proofs.machine.Machine.free_cells.Goals as goal

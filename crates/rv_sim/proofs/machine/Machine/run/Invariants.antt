@@ -1,12 +1,13 @@
-use Rattle.std.proofs.Common.{◌≡◌, ◌≤◌, false, ◌+◌}
-use Rattle.rv_isa.specs.Machine.{going}
+use Rattle.std.proofs.Common.{◌≡◌, ◌≤◌, false, ◌-◌}
+use Rattle.rv_sim.specs.Devices.{halt_of, Runs}
 use Rattle.rv_sim.proofs.machine.Machine.run.Given as goal
 
 abbrev pub invariant-loop-left : goal.invariant-loop-left
 invariant-loop-left g l = record {
   whole : l.self.faulted ≡ false;
-  room : l.self.executed + l.left ≤ l.initial.self.executed + l.steps;
-  exact : l.self.ending ≡ going → l.self.executed + l.left ≡ l.initial.self.executed + l.steps;
+  within : l.left ≤ l.steps;
+  ran : Runs (halt_of l.self.ending) (l.steps - l.left) l.initial.self l.self
+      (g.I.Source.left l.initial.input) (g.I.Source.left l.input) (g.O.Sink.held l.initial.out) (g.O.Sink.held l.out);
   input_stays : g.I.Source.faults l.input ≡ g.I.Source.faults l.initial.input;
   output_stays : g.O.Sink.faults l.out ≡ g.O.Sink.faults l.initial.out;
 }

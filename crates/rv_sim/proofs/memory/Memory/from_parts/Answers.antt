@@ -1,4 +1,4 @@
-use Rattle.std.proofs.Common.{◌≡◌, ◌∙◌, map, subst, sym, arith}
+use Rattle.std.proofs.Common.{◌≡◌, map, subst, sym, arith}
 use Rattle.std.proofs.lemmas.Grind.{common_steps}
 use Rattle.elf_image.specs.Parts.{memory_of}
 use Rattle.rv_sim.specs.Areas.{filled, parts_of, AreApart}

@@ -1,4 +1,4 @@
-use Rattle.std.proofs.Common.{◌≡◌, ◌<◌, Option, Some, None, is_some, true, sym, ap, ◌∙◌, arith, rules}
+use Rattle.std.proofs.Common.{◌≡◌, ◌<◌, None, true, sym, arith, rules}
 use Rattle.rv_isa.specs.Machine.{can_load}
 use Rattle.rv_sim.specs.declared.area.Access.TheVariants.{Load}
 use Rattle.rv_sim.specs.Areas.{parts_of}
