@@ -1,10 +1,10 @@
 -- What the code of an expression takes.
-use Rattle.std.specs.Prelude.{ℕ, ◌+◌, List, [], ◌∷◌, length, max, ◌==◌, if◌then◌else◌}
+use Rattle.std.specs.Prelude.{ℕ, ◌+◌, List, length, max, ◌==◌, if◌then◌else◌}
 use Rattle.kk_syntax.specs.declared.tree.BinaryOperator.{BinaryOperator}
 use Rattle.kk_syntax.specs.declared.tree.BinaryOperator.TheVariants.{Divide}
 use Rattle.kk_syntax.specs.declared.tree.PrintForm.{PrintForm}
 use Rattle.kk_syntax.specs.declared.tree.PrintForm.TheVariants.{Print, PrintLine}
-use Rattle.kk_syntax.specs.Trees.{Tree, number, unary, binary, print, print_text, block, Trees, no_tree, tree}
+use Rattle.kk_syntax.specs.Trees.{Tree, number, read_byte, unary, binary, print, print_text, block, Trees, no_tree, tree}
 
 -- the instructions of an operator on two slots
 abbrev pub operator_words : BinaryOperator → ℕ
@@ -24,6 +24,7 @@ piece_words bytes = if bytes == 0 then 0 else 7
 abbrev mutual
   pub words_of : Tree → ℕ
   words_of (number value) = 3
+  words_of read_byte = 4
   words_of (unary operator operand) = words_of operand + 3
   words_of (binary operator left right) = words_of left + words_of right + operator_words operator
   words_of (print form value) = words_of value + 5
@@ -38,6 +39,7 @@ abbrev mutual
 abbrev mutual
   pub constants_of : Tree → ℕ
   constants_of (number value) = 0
+  constants_of read_byte = 0
   constants_of (unary operator operand) = constants_of operand
   constants_of (binary operator left right) = constants_of left + constants_of right
   constants_of (print form value) = constants_of value
@@ -52,6 +54,7 @@ abbrev mutual
 abbrev mutual
   pub slots_of : Tree → ℕ
   slots_of (number value) = 1
+  slots_of read_byte = 1
   slots_of (unary operator operand) = slots_of operand
   slots_of (binary operator left right) = max (slots_of left) (slots_of right + 1)
   slots_of (print form value) = slots_of value

@@ -9,13 +9,15 @@ ghost use Rattle.rv_lower.specs.declared.frame.TheConstants.{MOST_SLOTS};
 use crate::code::Code;
 use crate::frame::slot_offset;
 use crate::immediate::{forward, load_word, small};
-use crate::print::write_piece;
+use crate::print::{PRINT_NUMBER_WORDS, write_piece};
 use kk_base::NoMemory;
 use kk_syntax::{BinaryOperator, Expr, PrintForm, StringLiteral, UnaryOperator};
 use rv_isa::{Immediate, Instr, Register};
 
 /// The address of the routine that prints a number: the entry's two instructions stand before it.
 pub const PRINT_NUMBER_AT: u32 = 0x1_0008;
+/// The address of the routine that reads a byte, which is the next one.
+pub const READ_BYTE_AT: u32 = PRINT_NUMBER_AT + 4 * PRINT_NUMBER_WORDS;
 
 /// `rd = slot`
 fn load_slot(rd: Register, slot: u32) -> Instr
@@ -52,6 +54,7 @@ pub fn lower_expr(code: &mut Code, expr: &Expr, slot: u32) -> Result<(), NoMemor
 {
     match expr {
         Expr::Number(number) => lower_number(code, *number, slot),
+        Expr::ReadByte => read_to_slot(code, slot),
         Expr::Unary(UnaryOperator::Negate, operand) => {
             lower_expr(code, operand, slot)?;
             negate_slot(code, slot)
@@ -94,6 +97,27 @@ fn lower_number(code: &mut Code, number: i32, slot: u32) -> Result<(), NoMemory>
 {
     code.emit(&load_word(Register::T0, number.cast_unsigned()))?;
     code.emit(&[store_slot(Register::T0, slot)])
+}
+
+/// `slot = the next byte of the input, or -1 at its end`
+fn read_to_slot(code: &mut Code, slot: u32) -> Result<(), NoMemory>
+    requires { slot < MOST_SLOTS }
+    ensures { OnOk result (Grows 4 0 code.old code.new) }
+{
+    call(code, READ_BYTE_AT)?;
+    code.emit(&[store_slot(Register::A0, slot)])
+}
+
+/// Calls the routine at an address.
+fn call(code: &mut Code, routine_at: u32) -> Result<(), NoMemory>
+    ensures { OnOk result (Grows 3 0 code.old code.new) }
+{
+    code.emit(&load_word(Register::T0, routine_at))?;
+    code.emit(&[Instr::Jalr {
+        rd: Register::RA,
+        rs1: Register::T0,
+        imm: Immediate::ZERO,
+    }])
 }
 
 /// `slot = -slot`
@@ -174,12 +198,7 @@ fn print_slot(code: &mut Code, form: PrintForm, slot: u32) -> Result<(), NoMemor
             imm: small(line_feed),
         },
     ])?;
-    code.emit(&load_word(Register::T0, PRINT_NUMBER_AT))?;
-    code.emit(&[Instr::Jalr {
-        rd: Register::RA,
-        rs1: Register::T0,
-        imm: Immediate::ZERO,
-    }])
+    call(code, PRINT_NUMBER_AT)
 }
 
 /// Prints a string literal as one piece, which stands among the constants. An empty piece is no print at all.

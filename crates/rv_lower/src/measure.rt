@@ -59,6 +59,10 @@ pub fn measure(expr: &Expr) -> Size
             words: 3,
             constants: 0,
         },
+        Expr::ReadByte => Size {
+            words: 4,
+            constants: 0,
+        },
         Expr::Unary(_, operand) => measure(operand).and_words(3),
         Expr::Binary(operator, left, right) => measure(left)
             .and(measure(right))
@@ -98,7 +102,7 @@ pub fn slots(expr: &Expr) -> u32
     ensures few { result ≤ nodes_of (expr_tree expr.now) }
 {
     match expr {
-        Expr::Number(_) | Expr::PrintText(_, _) => 1,
+        Expr::Number(_) | Expr::ReadByte | Expr::PrintText(_, _) => 1,
         Expr::Unary(_, operand) => slots(operand),
         Expr::Print(_, value) => slots(value),
         Expr::Binary(_, left, right) => slots(left).max(slots(right) + 1),

@@ -1,9 +1,12 @@
 //! The routine that prints a number, and the calls of the environment.
 
-ghost use Rattle.std.specs.Prelude.{◌<◌};
+ghost use Rattle.std.specs.Prelude.{◌<◌, OnOk};
+ghost use Rattle.rv_lower.specs.Growth.{Grows};
 
+use crate::code::Code;
 use crate::frame::BUFFER_BYTES;
 use crate::immediate::{back, forward, minus_one, small};
+use kk_base::NoMemory;
 use rv_isa::{Immediate, Instr, Register};
 
 /// The environment's call that writes, by its number in x17.
@@ -14,7 +17,7 @@ const EXIT: u32 = 93;
 const STANDARD_OUTPUT: u32 = 1;
 
 /// `rd = number`, for a number from 0 to 2047.
-fn set_small(rd: Register, number: u32) -> Instr
+pub fn set_small(rd: Register, number: u32) -> Instr
     requires { number < 2048 }
 {
     Instr::Addi {
@@ -25,7 +28,7 @@ fn set_small(rd: Register, number: u32) -> Instr
 }
 
 /// `rd = rs1`
-fn copy(rd: Register, rs1: Register) -> Instr {
+pub fn copy(rd: Register, rs1: Register) -> Instr {
     Instr::Addi {
         rd,
         rs1,
@@ -49,12 +52,23 @@ fn put_before() -> [Instr; 2] {
     ]
 }
 
-/// How many instructions the routine has.
+/// How many instructions the routine has that prints a number.
 pub const PRINT_NUMBER_WORDS: u32 = 26;
 
-/// Prints the number in `a0`, with a line feed where `a1` is not 0, as one piece. Its bytes are written from the
-/// buffer's end backwards; `t0` is the first of them. Leaves `sp`; returns by `ra`.
-pub fn print_number() -> [Instr; 26] {
+/// Adds the routine that prints the number in `a0`, with a line feed where `a1` is not 0, as one piece. Its bytes are
+/// written from the buffer's end backwards; `t0` is the first of them. It leaves `sp` and returns by `ra`.
+pub fn add_print_number(code: &mut Code) -> Result<(), NoMemory>
+    ensures { OnOk result (Grows 26 0 code.old code.new) }
+{
+    code.emit(&begin_piece())?;
+    code.emit(&take_size())?;
+    code.emit(&put_digits())?;
+    code.emit(&put_sign())?;
+    code.emit(&print_piece())
+}
+
+/// `t0` is the buffer's end, and the line feed is put, where it is wanted.
+fn begin_piece() -> [Instr; 5] {
     let [step_back, store] = put_before();
     [
         Instr::Addi {
@@ -62,7 +76,6 @@ pub fn print_number() -> [Instr; 26] {
             rs1: Register::SP,
             imm: small(BUFFER_BYTES),
         },
-        // The line feed, where it is wanted.
         Instr::Beq {
             rs1: Register::A1,
             rs2: Register::ZERO,
@@ -71,7 +84,12 @@ pub fn print_number() -> [Instr; 26] {
         set_small(Register::T1, b'\n' as u32),
         step_back,
         store,
-        // The size of the number, as an unsigned word.
+    ]
+}
+
+/// `t2` is the size of the number in `a0`, as an unsigned word.
+fn take_size() -> [Instr; 3] {
+    [
         copy(Register::T2, Register::A0),
         Instr::Bge {
             rs1: Register::A0,
@@ -83,7 +101,13 @@ pub fn print_number() -> [Instr; 26] {
             rs1: Register::ZERO,
             rs2: Register::A0,
         },
-        // Its digits, the last one first.
+    ]
+}
+
+/// The digits of `t2` are put, the last one first.
+fn put_digits() -> [Instr; 7] {
+    let [step_back, store] = put_before();
+    [
         set_small(Register::T3, 10),
         Instr::Remu {
             rd: Register::T1,
@@ -107,7 +131,13 @@ pub fn print_number() -> [Instr; 26] {
             rs2: Register::ZERO,
             offset: back(5),
         },
-        // The sign.
+    ]
+}
+
+/// The sign is put, where the number in `a0` is negative.
+fn put_sign() -> [Instr; 4] {
+    let [step_back, store] = put_before();
+    [
         Instr::Bge {
             rs1: Register::A0,
             rs2: Register::ZERO,
@@ -116,7 +146,12 @@ pub fn print_number() -> [Instr; 26] {
         set_small(Register::T1, b'-' as u32),
         step_back,
         store,
-        // The piece: from t0 to the buffer's end.
+    ]
+}
+
+/// The piece from `t0` to the buffer's end is printed, and the routine returns.
+fn print_piece() -> [Instr; 7] {
+    [
         Instr::Addi {
             rd: Register::A2,
             rs1: Register::SP,

@@ -9,7 +9,8 @@ use crate::expr::lower_expr;
 use crate::frame::frame_bytes;
 use crate::immediate::upper_part;
 use crate::measure::{measure, slots};
-use crate::print::{PRINT_NUMBER_WORDS, exit_done, print_number};
+use crate::print::{PRINT_NUMBER_WORDS, add_print_number, exit_done};
+use crate::read::{READ_BYTE_WORDS, read_byte};
 use kk_base::NoMemory;
 use kk_syntax::Program;
 use rv_isa::{Instr, JumpOffset, Register};
@@ -17,8 +18,10 @@ use std::alloc::Global;
 
 /// The address of the text part.
 const TEXT_AT: u32 = 0x1_0000;
-/// Instructions before those of the body: the entry's and the routine's.
-const WORDS_BEFORE: u32 = 2 + PRINT_NUMBER_WORDS;
+/// Instructions of the routines.
+const ROUTINE_WORDS: u32 = PRINT_NUMBER_WORDS + READ_BYTE_WORDS;
+/// Instructions before those of the body: the entry's and the routines'.
+const WORDS_BEFORE: u32 = 2 + ROUTINE_WORDS;
 /// Instructions behind those of the body.
 const WORDS_BEHIND: u32 = 3;
 
@@ -45,7 +48,8 @@ pub fn lower(alloc: Global, program: &Program) -> Result<Asm, NoMemory>
         constants_at,
     };
     code.emit(&entry(memory_at))?;
-    code.emit(&print_number())?;
+    add_print_number(&mut code)?;
+    code.emit(&read_byte())?;
     lower_expr(&mut code, body, 0)?;
     code.emit(&exit_done())?;
     Ok(Asm {
@@ -55,7 +59,7 @@ pub fn lower(alloc: Global, program: &Program) -> Result<Asm, NoMemory>
     })
 }
 
-/// The frame stands at the memory's start; the body is behind the routine.
+/// The frame stands at the memory's start; the body is behind the routines.
 fn entry(memory_at: u32) -> [Instr; 2] {
     [
         Instr::Lui {
@@ -64,7 +68,7 @@ fn entry(memory_at: u32) -> [Instr; 2] {
         },
         Instr::Jal {
             rd: Register::ZERO,
-            offset: JumpOffset::new(4 * (1 + PRINT_NUMBER_WORDS)),
+            offset: JumpOffset::new(4 * (1 + ROUTINE_WORDS)),
         },
     ]
 }

@@ -1,4 +1,4 @@
-use Rattle.std.proofs.Common.{◌≡◌, ◌+◌, ◌≤◌, ◌<◌, ◌^◌, map, drop, vec_len}
+use Rattle.std.proofs.Common.{◌≡◌, ◌+◌, ◌≤◌, map, drop, vec_len}
 use Rattle.kk_syntax.specs.Trees.{expr_tree, trees_of}
 use Rattle.rv_lower.specs.Size.{words_of_all, constants_of_all, slots_of_all}
 use Rattle.rv_lower.proofs.expr.+lower.Given as goal
