@@ -1,18 +1,13 @@
 -- When the file of an image does what its program means.
-use Rattle.std.specs.Prelude.{◌≡◌, ◌↔◌, ℕ, ◌+◌, ◌*◌, ◌<◌, max, List, [], ◌∷◌, Option, Some, All}
-use Rattle.kk_base.specs.Trace.{Event, IsPrefix}
+use Rattle.std.specs.Prelude.{◌≡◌, ◌↔◌, ℕ, ◌+◌, ◌*◌, ◌<◌, max, List, [], ◌∷◌, Some, None, All}
+use Rattle.kk_base.specs.Trace.{IsPrefix}
 use Rattle.kk_syntax.specs.Shapes.{nodes_of}
-use Rattle.kk_syntax.specs.Programs.{FunctionTree, ProgramTree}
+use Rattle.kk_syntax.specs.Programs.{FunctionTree}
 use Rattle.kk_syntax.specs.State.{Setting, End, ended, heap_full, stack_full}
-use Rattle.kk_syntax.specs.SourceAfter.{After, source_after}
+use Rattle.kk_syntax.specs.SourceAfter.{source_after}
 use Rattle.rv_isa.specs.Machine as machine
-use Rattle.rv_isa.specs.Execution.{image_after}
-use Rattle.elf_image.specs.Fields.{entry_of}
-use Rattle.elf_image.specs.Loaded.{loaded_parts}
-
--- what the image in a file has come to on an input, after so many executed instructions
-abbrev pub file_after : List ℕ → List ℕ → ℕ → machine.After
-file_after file input count = image_after (loaded_parts file) (entry_of file) input count
+use Rattle.elf_image.specs.Loaded.{reason_of}
+use Rattle.kk_tool.specs.ImageRuns.{file_after}
 
 -- the number with which the image exits, by how the program ends: by itself, with the heap full, or with the stack full
 abbrev pub exit_of : End → ℕ
@@ -34,9 +29,10 @@ pub record AgreesOn (file : List ℕ) (setting : Setting) (input : List ℕ) : T
   pub end_alike : (end : End) → ((n : ℕ) × ((source_after setting input n).ending ≡ Some end)) ↔ ((m : ℕ) × ((file_after file input m).ending ≡ machine.exited (exit_of end)))
   pub same_trace : (end : End) (n m : ℕ) → (source_after setting input n).ending ≡ Some end → (file_after file input m).ending ≡ machine.exited (exit_of end) → (source_after setting input n).trace ≡ (file_after file input m).machine.trace
 
--- it agrees with the program on every input of bytes
-abbrev pub Agrees : List ℕ → Setting → Type 0
-Agrees file setting = (input : List ℕ) → All (λ byte. byte < 256) input → AgreesOn file setting input
+-- the file can be loaded, and its image agrees with the program on every input of bytes
+pub record Agrees (file : List ℕ) (setting : Setting) : Type 0 where
+  pub loads : reason_of file ≡ None
+  pub agrees : (input : List ℕ) → All (λ byte. byte < 256) input → AgreesOn file setting input
 
 -- the greatest number of nodes of a function's body
 abbrev pub greatest_body : List FunctionTree → ℕ

@@ -1,9 +1,12 @@
+pub mod Accepted
 pub mod Agreement
 pub mod Answer
 pub mod Causes
 pub mod Front
+pub mod ImageRuns
+pub mod Images
+pub mod Judgement
 pub mod Line
 pub mod Outcome
-pub mod Refusals
 pub mod Store
 pub mod Words

@@ -77,6 +77,10 @@ refusal_line (OfText.NotCovered function example) = not_covered_line function ex
 refusal_line (OfText.Over limit) = limit_line limit
 refusal_line OfText.NoMemory = no_memory_line
 
+-- a trap, with its cause, the address of its instruction and the word that stands there
+abbrev pub trap_line : ℕ → ℕ → ℕ → List ℕ
+trap_line cause pc word = codes "trap: cause " ++ (decimal cause ++ (codes " pc " ++ (decimal pc ++ (codes " word " ++ (decimal word ++ line_feed)))))
+
 -- the line of an answer; none where the command did its work
 abbrev pub line_of : Answer → List ℕ
 line_of Done = []
@@ -88,4 +92,4 @@ line_of (FileFault name) = codes "file fault: " ++ (name.now ++ line_feed)
 line_of InputFault = codes "input fault" ++ line_feed
 line_of OutputFault = codes "output fault" ++ line_feed
 line_of (StepsSpent steps) = codes "steps spent: " ++ (decimal steps ++ line_feed)
-line_of (Trap cause pc word) = codes "trap: cause " ++ (decimal cause ++ (codes " pc " ++ (decimal pc ++ (codes " word " ++ (decimal word ++ line_feed)))))
+line_of (Trap cause pc word) = trap_line cause pc word

@@ -1,7 +1,9 @@
 ghost use Rattle.std.specs.Prelude.{◌≡◌};
 ghost use Rattle.kk_tool.specs.Answer.{status_of, refusal_status};
+ghost use Rattle.kk_tool.specs.ImageRuns.{answer_of};
 
 use kk_base::{LexError, NameError, ParseError, Refusal, Status};
+use rv_sim::Halt;
 
 /// How a command came to its end, with all that its line tells.
 #[derive(Debug, Drop)]
@@ -29,6 +31,20 @@ pub enum Answer<'a> {
 }
 
 impl Answer<'_> {
+    /// What the run of an image answers that stopped so, out of a budget of `steps`.
+    pub fn of_halt(halt: Halt, steps: u64) -> Self
+        ensures { result ≡ answer_of halt steps }
+    {
+        match halt {
+            Halt::Exit(0) => Answer::Done,
+            Halt::Exit(code) => Answer::ImageExit { code },
+            Halt::StepsSpent => Answer::StepsSpent { steps },
+            Halt::Trap { cause, pc, word } => Answer::Trap { cause, pc, word },
+            Halt::InputFault => Answer::InputFault,
+            Halt::OutputFault => Answer::OutputFault,
+        }
+    }
+
     /// The status that the answer ends the command with.
     pub fn status(&self) -> Status
         ensures { result ≡ status_of self.now }

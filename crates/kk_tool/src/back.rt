@@ -3,7 +3,7 @@ ghost use Rattle.std.specs.Prelude.{◌≡◌, ◌+◌, ◌*◌, ◌<◌, ◌≤
 ghost use Rattle.kk_syntax.specs.Shapes.{nodes_of};
 ghost use Rattle.kk_syntax.specs.Trees.{expr_tree};
 ghost use Rattle.kk_syntax.specs.declared.tree.Function.{Function};
-ghost use Rattle.elf_image.specs.Program.{IsProgram};
+ghost use Rattle.elf_image.specs.Program.{IsProgram, text_of, memory_size_of};
 
 use byteorder::{ByteOrder, LittleEndian};
 use elf_image::Image;
@@ -16,7 +16,9 @@ use std::alloc::Global;
 /// The image of a program whose `main` has no more nodes than are allowed.
 pub fn image(alloc: Global, program: &Program) -> Result<Image, NoMemory>
     requires { (function : Function) → slice_get program.now.functions.items program.now.main ≡ Some function → nodes_of (expr_tree function.body) ≤ 480 }
-    ensures { IfOk result (λ image. IsProgram image.entry image.parts) }
+    ensures program { IfOk result (λ image. IsProgram image.entry image.parts) }
+    ensures few_bytes { IfOk result (λ image. length (text_of image.parts) ≤ 139264) }
+    ensures little_memory { IfOk result (λ image. memory_size_of image.parts < 2048) }
 {
     let Asm {
         instructions,

@@ -1,7 +1,8 @@
 //! From the bytes of a text to the bytes of its image.
-ghost use Rattle.std.specs.Prelude.{◌≡◌, ◌≤◌, length, None, IfOk, IfErr, OnOk};
-ghost use Rattle.elf_image.specs.Loaded.{reason_of};
-ghost use Rattle.kk_tool.specs.Refusals.{IsRefusalOf};
+ghost use Rattle.std.specs.Prelude.{IfOk, IfErr, OnOk};
+ghost use Rattle.kk_syntax.specs.Programs.{ProgramTree};
+ghost use Rattle.kk_tool.specs.Images.{IsCompiled};
+ghost use Rattle.kk_tool.specs.Judgement.{IsProgramOf, Refuses};
 
 use crate::back::image;
 use crate::front::read;
@@ -11,9 +12,9 @@ use std::alloc::Global;
 
 /// The bytes of the image of a text, or why the text is not accepted: its first failure.
 pub fn build(alloc: Global, text: &[u8]) -> Result<Bytes, Refusal>
-    ensures ok { OnOk result (length text.now ≤ 65536) }
-    ensures loads { IfOk result (λ bytes. reason_of bytes ≡ None) }
-    ensures err { IfErr result (IsRefusalOf (length text.now)) }
+    ensures ok { OnOk result ((program : ProgramTree) × IsProgramOf text.now program) }
+    ensures compiled { IfOk result (λ bytes. IsCompiled bytes) }
+    ensures err { IfErr result (Refuses text.now) }
 {
     let program = read(alloc, text)?;
     let Ok(image) = image(alloc, &program) else {

@@ -1,8 +1,11 @@
 //! From the bytes of a text to its program.
-ghost use Rattle.std.specs.Prelude.{◌≡◌, ◌≤◌, length, Some, None, IfOk, IfErr, OnOk};
+ghost use Rattle.std.specs.Prelude.{◌≡◌, map, Some, IfOk, IfErr, option_map};
 ghost use Rattle.std.specs.Result.{result_err};
-ghost use Rattle.kk_tool.specs.Front.{main_of, IsNoMain, nodes_limit};
-ghost use Rattle.kk_tool.specs.Refusals.{IsRefusalOf};
+ghost use Rattle.kk_base.specs.declared.limit.LimitKind.TheVariants.{FunctionNodes};
+ghost use Rattle.kk_syntax.specs.Programs.{function_tree, program_tree};
+ghost use Rattle.kk_tool.specs.Accepted.{too_many_nodes};
+ghost use Rattle.kk_tool.specs.Front.{main_among, IsNoMain};
+ghost use Rattle.kk_tool.specs.Judgement.{IsProgramOf, Refuses};
 
 use kk_base::{Limit, LimitKind, Name, NameError, Refusal};
 use kk_lexer::tokens;
@@ -12,9 +15,8 @@ use std::alloc::Global;
 
 /// The program of a text, or why it is not accepted: its first failure.
 pub fn read(alloc: Global, text: &[u8]) -> Result<Program, Refusal>
-    ensures short { OnOk result (length text.now ≤ 65536) }
-    ensures few_nodes { IfOk result (λ program. nodes_limit program.functions.items ≡ None) }
-    ensures err { IfErr result (IsRefusalOf (length text.now)) }
+    ensures ok { IfOk result (λ program. IsProgramOf text.now (program_tree program)) }
+    ensures err { IfErr result (Refuses text.now) }
 {
     let greatest = LimitKind::Source.greatest();
     if text.len() as u64 > greatest {
@@ -24,9 +26,18 @@ pub fn read(alloc: Global, text: &[u8]) -> Result<Program, Refusal>
             count: greatest + 1,
         }));
     }
-    let tokens = tokens(alloc, text).map_err(Refusal::Lex)?;
-    let tree = parse(alloc, &tokens).map_err(Refusal::Parse)?;
-    let program = resolve(alloc, tree).map_err(Refusal::Name)?;
+    let tokens = match tokens(alloc, text) {
+        Ok(tokens) => tokens,
+        Err(error) => return Err(Refusal::Lex(error)),
+    };
+    let tree = match parse(alloc, &tokens) {
+        Ok(tree) => tree,
+        Err(error) => return Err(Refusal::Parse(error)),
+    };
+    let program = match resolve(alloc, tree) {
+        Ok(program) => program,
+        Err(error) => return Err(Refusal::Name(error)),
+    };
     match check_nodes(program.functions.as_slice()) {
         Ok(()) => Ok(program),
         Err(limit) => Err(Refusal::Over(limit)),
@@ -36,7 +47,7 @@ pub fn read(alloc: Global, text: &[u8]) -> Result<Program, Refusal>
 /// The program of a tree whose names have a meaning: there is a function `main`.
 fn resolve(alloc: Global, tree: Tree) -> Result<Program, NameError>
     ensures ok { IfOk result (λ program.
-        (program.functions ≡ tree.functions) × (main_of tree.functions.items ≡ Some program.main)) }
+        (program.functions ≡ tree.functions) × (main_among tree.functions.items ≡ Some program.main)) }
     ensures err { IfErr result (IsNoMain tree) }
 {
     let Tree { functions, length } = tree;
@@ -53,7 +64,7 @@ fn resolve(alloc: Global, tree: Tree) -> Result<Program, NameError>
 }
 
 fn find_main(functions: &[Function]) -> Option<usize>
-    ensures { result ≡ main_of functions.now }
+    ensures { result ≡ main_among functions.now }
 {
     functions
         .iter()
@@ -62,8 +73,9 @@ fn find_main(functions: &[Function]) -> Option<usize>
 
 /// The first function with too many nodes passes a limit.
 fn check_nodes(functions: &[Function]) -> Result<(), Limit>
-    ensures limit { result_err result ≡ nodes_limit functions.now }
-    ensures count_told { IfErr result (λ limit. IsRefusalOf 0 (Refusal.Over limit)) }
+    ensures { result_err result
+        ≡ option_map (λ count. record { kind = FunctionNodes; count = count })
+        (too_many_nodes (map function_tree functions.now)) }
 {
     for function in functions {
         let count = nodes(&function.body);

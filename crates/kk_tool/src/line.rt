@@ -1,6 +1,6 @@
 //! The line for the user that tells how a command ended.
 ghost use Rattle.std.specs.Prelude.{flat_map};
-ghost use Rattle.kk_tool.specs.Line.{bytes_of, line_of, refusal_line, lex_line, parse_line, name_line, limit_line, no_memory_line, not_covered_line, numbered_lex_line, numbered_parse_line, numbered_name_line};
+ghost use Rattle.kk_tool.specs.Line.{bytes_of, line_of, refusal_line, lex_line, parse_line, name_line, limit_line, no_memory_line, not_covered_line, numbered_lex_line, numbered_parse_line, numbered_name_line, trap_line};
 ghost use Rattle.kk_tool.specs.Outcome.{Puts};
 
 use crate::answer::Answer;
@@ -55,19 +55,25 @@ pub fn put_line<E: Sink>(err: &mut E, answer: &Answer<'_>) -> bool
                 Piece::Text("\n"),
             ],
         ),
-        Answer::Trap { cause, pc, word } => put_pieces(
-            err,
-            &[
-                Piece::Text("trap: cause "),
-                Piece::Number(*cause as u64),
-                Piece::Text(" pc "),
-                Piece::Number(*pc as u64),
-                Piece::Text(" word "),
-                Piece::Number(*word as u64),
-                Piece::Text("\n"),
-            ],
-        ),
+        Answer::Trap { cause, pc, word } => put_trap(err, *cause, *pc, *word),
     }
+}
+
+fn put_trap<E: Sink>(err: &mut E, cause: u8, pc: u32, word: u32) -> bool
+    ensures { Puts result (trap_line cause pc word) (E.held err.old) (E.held err.new) (E.faults err.old) (E.faults err.new) }
+{
+    put_pieces(
+        err,
+        &[
+            Piece::Text("trap: cause "),
+            Piece::Number(cause as u64),
+            Piece::Text(" pc "),
+            Piece::Number(pc as u64),
+            Piece::Text(" word "),
+            Piece::Number(word as u64),
+            Piece::Text("\n"),
+        ],
+    )
 }
 
 fn put_no_memory<E: Sink>(err: &mut E) -> bool

@@ -1,4 +1,4 @@
-ghost use Rattle.std.specs.Prelude.{◌≡◌, ◌<◌, ◌^◌, Some, None, length};
+ghost use Rattle.std.specs.Prelude.{◌≡◌, ◌<◌, ◌^◌, Some, None};
 ghost use Rattle.elf_image.specs.Loaded.{reason_of};
 ghost use Rattle.kk_base.specs.Store.{SameFiles};
 ghost use Rattle.kk_tool.specs.Causes.{Answers, Executes, Runs};
@@ -8,7 +8,7 @@ use crate::build::build;
 use crate::settings::Settings;
 use elf_image::BadImage;
 use kk_base::{Bytes, NoMemory, Read, Sink, Source, Store};
-use rv_sim::{Halt, Machine};
+use rv_sim::Machine;
 use std::alloc::Global;
 
 /// How much is read of a text: one byte above the greatest number, which tells that there are too many.
@@ -50,7 +50,7 @@ pub fn run_text<'a, I: Source, O: Sink>(
     image: &mut Bytes,
 ) -> Answer<'a>
     requires { settings.steps < 2 ^ 63 }
-    ensures { Runs (length text.now) settings.steps result
+    ensures { Runs text.now settings.steps result
         (record { left = I.left input.old; faults = I.faults input.old })
         (record { left = I.left input.new; faults = I.faults input.new })
         (record { held = O.held out.old; faults = O.faults out.old })
@@ -76,7 +76,7 @@ fn run_image<'a, I: Source, O: Sink>(
 ) -> Answer<'a>
     requires loads { reason_of file.now ≡ None }
     requires fits { steps < 2 ^ 63 }
-    ensures { Executes steps result
+    ensures { Executes file.now steps result
         (record { left = I.left input.old; faults = I.faults input.old })
         (record { left = I.left input.new; faults = I.faults input.new })
         (record { held = O.held out.old; faults = O.faults out.old })
@@ -91,12 +91,5 @@ fn run_image<'a, I: Source, O: Sink>(
         Ok(machine) => machine,
         Err(NoMemory) => return Answer::NoMemory,
     };
-    match machine.run(steps, input, out) {
-        Halt::Exit(0) => Answer::Done,
-        Halt::Exit(code) => Answer::ImageExit { code },
-        Halt::StepsSpent => Answer::StepsSpent { steps },
-        Halt::Trap { cause, pc, word } => Answer::Trap { cause, pc, word },
-        Halt::InputFault => Answer::InputFault,
-        Halt::OutputFault => Answer::OutputFault,
-    }
+    Answer::of_halt(machine.run(steps, input, out), steps)
 }

@@ -2,9 +2,11 @@
 
 use crate::adapter::{FileStore, StreamSink, StreamSource};
 use kk_base::{Next, Put, Read as FileRead, Sink, Source, Store, Wrote};
+use std::alloc::Global;
 use std::fs::File;
 use std::io;
 use std::io::{ErrorKind, Read, Write};
+use std::process::Abort;
 use std::test::Fail;
 
 /// A stream that gives or takes two bytes, and then fails.
@@ -38,52 +40,95 @@ impl Write for Broken {
     }
 }
 
+/// Takes bytes of a source, and compares each answer.
+fn check_source<S: Source>(rt: &impl Abort, source: &mut S, answers: &[Next]) {
+    for answer in answers {
+        let next = source.next();
+        assert_eq!(rt; next, *answer);
+    }
+}
+
+/// Puts pieces on a sink, and compares each answer.
+fn check_sink<S: Sink>(rt: &impl Abort, sink: &mut S, puts: &[(&str, Put)]) {
+    for (piece, answer) in puts {
+        let put = sink.put(piece.as_bytes());
+        assert_eq!(rt; put, *answer);
+    }
+}
+
+/// Reads at most so many bytes of a file of a store, and compares them.
+fn check_read<S: Store>(
+    rt: &impl Abort,
+    alloc: Global,
+    store: &mut S,
+    at_most: usize,
+    bytes: &[u8],
+) {
+    let read = store.read(alloc, "store.bin", at_most);
+    assert!(rt; matches!(&read, FileRead::Bytes(read) if read.as_slice() == bytes));
+}
+
 #[test]
 fn sources_give_bytes(rt: HostRuntime) -> Result<(), Fail> {
     std::fs::write(&rt, "source.bin", b"ab")?;
     let mut source = StreamSource::new(File::open(&rt, "source.bin")?);
-    assert_eq!(rt; source.next(), Next::Byte(b'a'));
-    assert_eq!(rt; source.next(), Next::Byte(b'b'));
-    assert_eq!(rt; source.next(), Next::End);
+    check_source(
+        &rt,
+        &mut source,
+        &[Next::Byte(b'a'), Next::Byte(b'b'), Next::End, Next::End],
+    );
     std::fs::remove_file(&rt, "source.bin")?;
-
-    let mut source = StreamSource::new(Broken { calls: 0 });
-    for next in [Next::Byte(1), Next::Byte(2), Next::Failed, Next::Failed] {
-        assert_eq!(rt; source.next(), next);
-    }
     Ok(())
+}
+
+#[test]
+fn sources_tell_faults(rt: HostRuntime) {
+    let mut source = StreamSource::new(Broken { calls: 0 });
+    check_source(
+        &rt,
+        &mut source,
+        &[Next::Byte(1), Next::Byte(2), Next::Failed, Next::Failed],
+    );
 }
 
 #[test]
 fn sinks_take_pieces(rt: HostRuntime) -> Result<(), Fail> {
     let mut sink = StreamSink::new(File::create(&rt, "sink.bin")?);
-    assert_eq!(rt; sink.put(b"one "), Put::All);
-    assert_eq!(rt; sink.put(b""), Put::All);
-    assert_eq!(rt; sink.put(b"two"), Put::All);
+    check_sink(
+        &rt,
+        &mut sink,
+        &[("one ", Put::All), ("", Put::All), ("two", Put::All)],
+    );
     let written = std::fs::read(&rt, "sink.bin")?;
     assert_eq!(rt; written.as_slice(), b"one two".as_slice());
     std::fs::remove_file(&rt, "sink.bin")?;
-
-    let mut sink = StreamSink::new(Broken { calls: 0 });
-    assert_eq!(rt; sink.put(b"three"), Put::Failed(2));
-    assert_eq!(rt; sink.put(b"four"), Put::Failed(0));
     Ok(())
+}
+
+#[test]
+fn sinks_tell_faults(rt: HostRuntime) {
+    let mut sink = StreamSink::new(Broken { calls: 0 });
+    check_sink(
+        &rt,
+        &mut sink,
+        &[("three", Put::Failed(2)), ("four", Put::Failed(0))],
+    );
 }
 
 #[test]
 fn stores_keep_files(rt: HostRuntime) -> Result<(), Fail> {
     let mut store = FileStore::new(rt.alloc(), &rt);
     assert_eq!(rt; store.write("store.bin", b"some bytes"), Wrote::Done);
-    match store.read(rt.alloc(), "store.bin", 4) {
-        FileRead::Bytes(bytes) => assert_eq!(rt; bytes.as_slice(), b"some".as_slice()),
-        FileRead::Failed | FileRead::NoMemory => assert!(rt; false),
-    }
-    match store.read(rt.alloc(), "store.bin", 100) {
-        FileRead::Bytes(bytes) => assert_eq!(rt; bytes.as_slice(), b"some bytes".as_slice()),
-        FileRead::Failed | FileRead::NoMemory => assert!(rt; false),
-    }
+    check_read(&rt, rt.alloc(), &mut store, 4, b"some");
+    check_read(&rt, rt.alloc(), &mut store, 100, b"some bytes");
     std::fs::remove_file(&rt, "store.bin")?;
-    assert!(rt; matches!(&store.read(rt.alloc(), "store.bin", 4), FileRead::Failed));
-    assert_eq!(rt; store.write("no/such/folder", b""), Wrote::Failed);
     Ok(())
+}
+
+#[test]
+fn stores_tell_faults(rt: HostRuntime) {
+    let mut store = FileStore::new(rt.alloc(), &rt);
+    let read = store.read(rt.alloc(), "no/such/file", 4);
+    assert!(rt; matches!(&read, FileRead::Failed));
+    assert_eq!(rt; store.write("no/such/folder", b""), Wrote::Failed);
 }
