@@ -1,10 +1,9 @@
 -- What the acts of instructions come to, one case after the other.
-use Rattle.std.proofs.Common.{◌≡◌, ◌≢◌, ℕ, ◌+◌, ◌%◌, Bool, true, false, not, nat_eq, refl, ap, ◌∙◌, arith}
+use Rattle.std.proofs.Common.{◌≡◌, ◌≢◌, ℕ, ◌%◌, Bool, true, false, nat_eq, refl, arith}
 use Rattle.std.proofs.lemmas.Bool.Decides.{nat_tests}
-use Rattle.rv_isa.specs.declared.act.Act.{Act}
 use Rattle.rv_isa.specs.declared.act.Act.TheVariants.{Nothing, Set, Load, Store, Call, Break}
 use Rattle.rv_isa.specs.Bytes.{number_at, with_number}
-use Rattle.rv_isa.specs.Machine.{Machine, After, goes, traps, put, can_load, can_store}
+use Rattle.rv_isa.specs.Machine.{Machine, goes, traps, put, can_load, can_store}
 use Rattle.rv_isa.specs.Environment.{stepped, calls}
 use Rattle.rv_isa.specs.Execution.{widened, acts}
 

@@ -1,9 +1,9 @@
 -- What the calls of the environment come to, one case after the other.
-use Rattle.std.proofs.Common.{◌≡◌, ◌≢◌, ℕ, ◌%◌, List, [], ◌∷◌, ◌++◌, Bool, true, false, ◌&&◌, nat_eq, refl, arith}
+use Rattle.std.proofs.Common.{◌≡◌, ◌≢◌, ℕ, ◌%◌, [], ◌∷◌, ◌++◌, Bool, true, false, ◌&&◌, nat_eq, refl, arith}
 use Rattle.std.proofs.lemmas.Bool.Decides.{nat_tests}
 use Rattle.kk_base.specs.Trace.{output}
-use Rattle.rv_isa.specs.Machine.{Machine, After, goes, traps, exited, value, put, can_load, can_store}
-use Rattle.rv_isa.specs.Environment.{stepped, is_read, is_write, is_exit, asks, reads, written, writes, calls}
+use Rattle.rv_isa.specs.Machine.{Machine, goes, traps, exited, value, put, can_load, can_store}
+use Rattle.rv_isa.specs.Environment.{stepped, asks, reads, written, writes, calls}
 
 module _ (next : ℕ) (s : Machine) where
   pub reads-none : value s.registers 12 ≡ 0 → reads next s ≡ record (stepped next s) { registers = put 10 0 s.registers }

@@ -1,15 +1,17 @@
 -- What holds of every step, by a few cases: what an instruction can come to.
-use Rattle.std.proofs.Common.{◌≡◌, ℕ, ◌+◌, ◌%◌, List, [], ◌∷◌, ◌++◌, Bool, true, false, not, ◌&&◌, Option, Some, None, nat_eq, if◌then◌else◌, refl, sym, ap, ◌∙◌, add-zero, append-nil}
-use Rattle.kk_base.specs.Trace.{Event, output, input, input_end, IsPrefix}
+use Rattle.std.proofs.Common.{◌≡◌, ◌≢◌, ℕ, zero, suc, ◌+◌, ◌%◌, List, [], ◌∷◌, ◌++◌, Bool, true, false, not, ◌&&◌, Option, Some, None, nat_eq, if◌then◌else◌, refl, sym, ap, ◌∙◌, subst, add-zero, append-nil, arith}
+use Rattle.std.proofs.lemmas.Bool.Decides.{nat_tests}
+use Rattle.kk_base.specs.Trace.{output, input, input_end, IsPrefix}
 use Rattle.rv_isa.specs.declared.act.Act.{Act}
 use Rattle.rv_isa.specs.declared.act.Act.TheVariants.{Nothing, Set, Load, Store, Call, Break}
 use Rattle.rv_isa.specs.declared.instr.Instr.{Instr}
 use Rattle.rv_isa.specs.Read.{read}
 use Rattle.rv_isa.specs.Operands.{rd_of}
-use Rattle.rv_isa.specs.Bytes.{number_at, with_bytes, with_number}
-use Rattle.rv_isa.specs.Machine.{Machine, After, goes, traps, exited, counted, value, put, can_fetch, can_load, can_store}
+use Rattle.rv_isa.specs.Bytes.{number_at, with_number}
+use Rattle.rv_isa.specs.Machine.{Machine, Ending, going, exited, trapped, After, goes, traps, counted, value, put, can_fetch, can_load, can_store}
 use Rattle.rv_isa.specs.Environment.{stepped, is_read, is_write, is_exit, asks, reads, writes, written, calls}
-use Rattle.rv_isa.specs.Execution.{widened, acts, effect_at, executes, decodes, step}
+use Rattle.rv_isa.specs.Execution.{widened, acts, effect_at, executes, decodes, step, resumes, run, Leads}
+use Rattle.rv_isa.proofs.Runs.{run-zero, run-suc, Leads-run}
 
 -- what holds of both branches, each where its test holds, holds of the choice
 pub either : {X : Type 0} (P : X → Type 0) (b : Bool) (x y : X) → (b ≡ true → P x) → (b ≡ false → P y) → P (if b then x else y)
@@ -24,6 +26,9 @@ and-right : (a b : Bool) → (a && b) ≡ true → b ≡ true
 and-right true b e = e
 and-right false b e = cc
 
+not_zero : (n : ℕ) → nat_eq n 0 ≡ false → n ≢ 0
+not_zero n e = grind (arith, nat_tests)
+
 -- what holds of everything that an instruction can come to from this machine
 pub record Cases (P : After → Type 0) (s : Machine) : Type 0 where
   pub trap : (cause word : ℕ) → P (traps cause word s)
@@ -31,18 +36,18 @@ pub record Cases (P : After → Type 0) (s : Machine) : Type 0 where
   pub set : (rd v next : ℕ) → P (goes (record (stepped next s) { registers = put rd v s.registers }))
   pub store : (at width v next : ℕ) → can_store s.parts at width ≡ true → P (goes (record (stepped next s) { memory = with_number at width v s.memory }))
   pub ask_end : (next : ℕ) → s.left ≡ [] → P (goes (asks [] next s))
-  pub ask_byte : (byte : ℕ) (rest : List ℕ) (next : ℕ) → s.left ≡ byte ∷ rest → can_store s.parts (value s.registers 11) (value s.registers 12) ≡ true → P (goes (asks (byte ∷ rest) next s))
+  pub ask_byte : (byte : ℕ) (rest : List ℕ) (next : ℕ) → s.left ≡ byte ∷ rest → value s.registers 12 ≢ 0 → can_store s.parts (value s.registers 11) (value s.registers 12) ≡ true → P (goes (asks (byte ∷ rest) next s))
   pub write : (next : ℕ) → can_load s.parts (value s.registers 11) (value s.registers 12) ≡ true → P (goes (record (stepped next s) { registers = put 10 (value s.registers 12) s.registers; trace = s.trace ++ output (written s) ∷ [] }))
   pub exit : (next : ℕ) → P (record { machine = stepped next s; ending = exited (value s.registers 10 % 256) })
 
 module _ (P : After → Type 0) (s : Machine) (cases : Cases P s) where
-  by_left : (left : List ℕ) (next : ℕ) → s.left ≡ left → can_store s.parts (value s.registers 11) (value s.registers 12) ≡ true → P (goes (asks left next s))
-  by_left [] next is allowed = cases.ask_end next is
-  by_left (byte ∷ rest) next is allowed = cases.ask_byte byte rest next is allowed
+  by_left : (left : List ℕ) (next : ℕ) → s.left ≡ left → value s.registers 12 ≢ 0 → can_store s.parts (value s.registers 11) (value s.registers 12) ≡ true → P (goes (asks left next s))
+  by_left [] next is some allowed = cases.ask_end next is
+  by_left (byte ∷ rest) next is some allowed = cases.ask_byte byte rest next is some allowed
 
   by_count_read : (next : ℕ) → can_store s.parts (value s.registers 11) (value s.registers 12) ≡ true → P (goes (reads next s))
   by_count_read next allowed =
-      either (λ m. P (goes m)) (nat_eq (value s.registers 12) 0) _ _ (λ _. cases.set 10 0 next) (λ _. by_left s.left next refl allowed)
+      either (λ m. P (goes m)) (nat_eq (value s.registers 12) 0) _ _ (λ _. cases.set 10 0 next) (λ e. by_left s.left next refl (not_zero _ e) allowed)
 
   by_count_write : (next : ℕ) → can_load s.parts (value s.registers 11) (value s.registers 12) ≡ true → P (goes (writes next s))
   by_count_write next allowed =
@@ -95,7 +100,7 @@ step-parts s = step-by (λ after. after.machine.parts ≡ s.parts) s record {
   set = λ rd v next. refl;
   store = λ at width v next allowed. refl;
   ask_end = λ next is. refl;
-  ask_byte = λ byte rest next is allowed. refl;
+  ask_byte = λ byte rest next is some allowed. refl;
   write = λ next allowed. refl;
   exit = λ next. refl;
 }
@@ -107,7 +112,7 @@ step-executed s = step-by (λ after. after.machine.executed ≡ s.executed + cou
   set = λ rd v next. refl;
   store = λ at width v next allowed. refl;
   ask_end = λ next is. refl;
-  ask_byte = λ byte rest next is allowed. refl;
+  ask_byte = λ byte rest next is some allowed. refl;
   write = λ next allowed. refl;
   exit = λ next. refl;
 }
@@ -119,7 +124,34 @@ step-trace s = step-by (λ after. IsPrefix s.trace after.machine.trace) s record
   set = λ rd v next. ([], append-nil s.trace);
   store = λ at width v next allowed. ([], append-nil s.trace);
   ask_end = λ next is. (input_end ∷ [], refl);
-  ask_byte = λ byte rest next is allowed. (input byte ∷ [], refl);
+  ask_byte = λ byte rest next is some allowed. (input byte ∷ [], refl);
   write = λ next allowed. (output (written s) ∷ [], refl);
   exit = λ next. ([], append-nil s.trace);
 }
+
+-- a run that leads to a machine keeps the parts, and has executed its count of instructions
+abbrev Kept : ℕ → Machine → Machine → Type 0
+Kept n s t = (t.parts ≡ s.parts) × (t.executed ≡ s.executed + n)
+
+kept-step : (n : ℕ) (s t : Machine) (e : Ending) → (step s).ending ≡ e → (run n (step s).machine ≡ goes t → Kept n (step s).machine t)
+    → resumes e (step s).machine (run n) ≡ goes t → Kept (suc n) s t
+kept-step n s t going ending rest on =
+    let one : (step s).machine.executed ≡ s.executed + 1 = step-executed s ∙ ap (λ e. s.executed + counted e) ending in
+    let sum : s.executed + 1 + n ≡ s.executed + suc n = omega arith in
+    ((rest on).0 ∙ step-parts s, (rest on).1 ∙ ap (λ e. e + n) one ∙ sum)
+kept-step n s t (exited number) ending rest on = let e : exited number ≡ going = ap (λ after. after.ending) on in cc
+kept-step n s t (trapped cause pc word) ending rest on =
+    let e : trapped cause pc word ≡ going = ap (λ after. after.ending) on in cc
+
+kept-run : (n : ℕ) (s t : Machine) → run n s ≡ goes t → Kept n s t
+kept-run zero s t is =
+    let same : s ≡ t = ap (λ after. after.machine) (sym (run-zero s) ∙ is) in
+    subst (λ u. Kept 0 s u) same (refl, sym (add-zero s.executed))
+kept-run (suc n) s t is =
+    kept-step n s t (step s).ending refl (kept-run n (step s).machine t) (sym (run-suc n s) ∙ is)
+
+pub Leads-parts : {n : ℕ} {s t : Machine} → Leads n s t → t.parts ≡ s.parts
+Leads-parts {n} {s} {t} leads = (kept-run n s t (Leads-run leads)).0
+
+pub Leads-executed : {n : ℕ} {s t : Machine} → Leads n s t → t.executed ≡ s.executed + n
+Leads-executed {n} {s} {t} leads = (kept-run n s t (Leads-run leads)).1

@@ -1,13 +1,17 @@
 mod Examples
+mod ExampleRuns
 pub mod Acts
 pub mod Bits
 pub mod Bytes
 pub mod Cases
 pub mod Fits
+pub mod Instructions
+pub mod Memory
 pub mod Parts
 pub mod Products
 pub mod Reading
 pub mod Runs
 pub mod Same
+pub mod Standing
 pub mod Steps
 pub mod Calls

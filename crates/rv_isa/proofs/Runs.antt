@@ -1,5 +1,5 @@
 -- Runs of a machine, one after the other.
-use Rattle.std.proofs.Common.{◌≡◌, ◌≢◌, ℕ, zero, suc, ◌+◌, refl, sym, ap, ◌∙◌, rules, arith, add_assoc, add-zero, zero-add}
+use Rattle.std.proofs.Common.{◌≡◌, ◌≢◌, ℕ, zero, suc, ◌+◌, refl, sym, ap, ◌∙◌, arith, add_assoc, add-zero, zero-add}
 use Rattle.rv_isa.specs.Machine.{Machine, Ending, going, exited, trapped, After, goes}
 use Rattle.rv_isa.specs.Execution.{step, resumes, go_on, run, Leads}
 
@@ -76,3 +76,8 @@ go_on-none a = resumes-none a.ending a.machine
 -- a run of one instruction
 pub run-one : (s : Machine) → run 1 s ≡ step s
 run-one s = run-suc 0 s ∙ go_on-none (step s)
+
+-- a run that comes to an end by one more instruction stays there
+pub Leads-ended : {n : ℕ} {s t : Machine} {after : After} → Leads n s t → step t ≡ after → after.ending ≢ going → (more : ℕ) → run (n + suc more) s ≡ after
+Leads-ended {n} {s} {t} {after} leads is ended more =
+    leads.by (suc more) ∙ run-suc more t ∙ rw is (go_on-ended after (run more) ended)

@@ -1,14 +1,12 @@
 -- The next instruction of a machine, one case after the other.
-use Rattle.std.proofs.Common.{◌≡◌, ◌≢◌, ℕ, ◌%◌, Bool, true, false, nat_eq, Option, Some, None, refl, sym, ap, ◌∙◌, arith}
+use Rattle.std.proofs.Common.{◌≡◌, ◌≢◌, ℕ, ◌%◌, true, false, nat_eq, Some, None, refl, arith}
 use Rattle.std.proofs.lemmas.Bool.Decides.{nat_tests}
-use Rattle.rv_isa.specs.declared.act.Act.{Act}
 use Rattle.rv_isa.specs.declared.act.Effect.{Effect}
 use Rattle.rv_isa.specs.declared.instr.Instr.{Instr}
 use Rattle.rv_isa.specs.Read.{read}
-use Rattle.rv_isa.specs.Operands.{rd_of, rs1_of, rs2_of}
-use Rattle.rv_isa.specs.Meaning.{effect_of}
+use Rattle.rv_isa.specs.Operands.{rd_of}
 use Rattle.rv_isa.specs.Bytes.{number_at}
-use Rattle.rv_isa.specs.Machine.{Machine, After, goes, traps, value, can_fetch}
+use Rattle.rv_isa.specs.Machine.{Machine, traps, can_fetch}
 use Rattle.rv_isa.specs.Execution.{acts, effect_at, executes, decodes, step}
 
 module _ (s : Machine) where
