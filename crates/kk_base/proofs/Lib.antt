@@ -1,3 +1,4 @@
 pub mod Counters
 mod Examples
 pub mod Machines
+pub mod Traces

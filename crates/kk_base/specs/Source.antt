@@ -19,3 +19,9 @@ abbrev pub EndsAt : Next → Option (List ℕ) → Type 0
 EndsAt (Byte b) left = Unit {0}
 EndsAt End left = (rest : List ℕ) → left ≡ Some rest → rest ≡ []
 EndsAt Failed left = Unit {0}
+
+-- whether an end was met stays told: behind it no byte comes
+abbrev pub KeepsEnd : Next → Bool → Bool → Type 0
+KeepsEnd (Byte b) ended ended' = ended ≡ false
+KeepsEnd End ended ended' = ended' ≡ true
+KeepsEnd Failed ended ended' = ended' ≡ ended

@@ -1,5 +1,5 @@
 -- What a run has done on the outside: events in their order, of the source's machine and of an image alike.
-use Rattle.std.specs.Prelude.{◌≡◌, ℕ, List, [], ◌∷◌, ◌++◌}
+use Rattle.std.specs.Prelude.{◌≡◌, ℕ, List, [], ◌∷◌, ◌++◌, Bool, true, false}
 
 -- an event: a piece put on the output, which is not empty; or a byte taken from the input; or the input's end met
 pub data Event : Type 0 where
@@ -34,6 +34,13 @@ TakesFrom (input byte ∷ later) [] after = ⊥
 TakesFrom (input byte ∷ later) (next ∷ rest) after = (byte ≡ next) × TakesFrom later rest after
 TakesFrom (input_end ∷ later) [] after = TakesFrom later [] after
 TakesFrom (input_end ∷ later) (next ∷ rest) after = ⊥
+
+-- behind the end of the input no byte is taken: the end was met before the events or not, and is met after them where it was met at all
+abbrev pub EndsOnce : List Event → Bool → Bool → Type 0
+EndsOnce [] before after = before ≡ true → after ≡ true
+EndsOnce (output piece ∷ later) before after = EndsOnce later before after
+EndsOnce (input byte ∷ later) before after = (before ≡ false) × EndsOnce later false after
+EndsOnce (input_end ∷ later) before after = EndsOnce later true after
 
 -- a trace, of these events or of any others, is the beginning of another
 abbrev pub IsPrefix : {E : Type 0} → List E → List E → Type 0

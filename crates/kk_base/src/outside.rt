@@ -1,6 +1,6 @@
-ghost use Rattle.std.specs.Prelude.{◌≡◌, ℕ, List, ◌++◌, Option, option_map};
+ghost use Rattle.std.specs.Prelude.{◌≡◌, ℕ, List, ◌++◌, Bool, Option, option_map};
 ghost use Rattle.kk_base.specs.Faults.{Counts};
-ghost use Rattle.kk_base.specs.Source.{given, next_failed, EndsAt};
+ghost use Rattle.kk_base.specs.Source.{given, next_failed, EndsAt, KeepsEnd};
 ghost use Rattle.kk_base.specs.Sink.{taken, put_failed, CutWithin};
 ghost use Rattle.kk_base.specs.Store.{Files, Call, reading, writing, read_failed, wrote_failed, Reads, SameFiles, Writes, Remembers};
 
@@ -47,9 +47,12 @@ pub enum Wrote {
 /// A stream of input bytes.
 ///
 /// `left` is what is left of it, where the implementation tells its content. `faults` counts the calls that failed,
-/// as a u64 that stays at its last value: it never falls, and a call fails only where it rises.
+/// as a u64 that stays at its last value: it never falls, and a call fails only where it rises. `ended` says that an end
+/// was met, behind which no byte comes.
 pub trait Source {
     ghost left: { Self → Option (List ℕ) };
+
+    ghost ended: { Self → Bool };
 
     ghost faults: { Self → ℕ };
 
@@ -57,6 +60,7 @@ pub trait Source {
     fn next(&mut self) -> Next
         ensures content { left self.old ≡ option_map (λ rest. given result ++ rest) (left self.new) }
         ensures end { EndsAt result (left self.old) }
+        ensures keeps { KeepsEnd result (ended self.old) (ended self.new) }
         ensures faults { Counts (next_failed result) (faults self.old) (faults self.new) };
 }
 

@@ -15,3 +15,8 @@ abbrev pub Gives : Bool → Next → List ℕ → List ℕ → Type 0
 Gives planned (Byte b) old new = (planned ≡ false) × (old ≡ b ∷ new)
 Gives planned End old new = (planned ≡ false) × (old ≡ []) × (new ≡ [])
 Gives planned Failed old new = (planned ≡ true) × (new ≡ old)
+
+-- nothing is left
+abbrev pub is_used_up : List ℕ → Bool
+is_used_up [] = true
+is_used_up (byte ∷ rest) = false

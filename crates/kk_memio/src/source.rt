@@ -1,9 +1,9 @@
 ghost use Rattle.std.specs.Prelude.{◌≡◌, ℕ, List, [], ◌∷◌, false, ◌++◌, ◌≤◌, length, drop, Option, Some, option_map, IfOk};
 ghost use Rattle.kk_base.specs.Faults.{Counts};
-ghost use Rattle.kk_base.specs.Source.{given, next_failed, EndsAt};
+ghost use Rattle.kk_base.specs.Source.{given, next_failed, EndsAt, KeepsEnd};
 ghost use Rattle.kk_memio.specs.Plan.{unused, is_planned, after_call};
 ghost use Rattle.kk_memio.specs.FaultPlan.{plan_of};
-ghost use Rattle.kk_memio.specs.Source.{SourceState, Gives};
+ghost use Rattle.kk_memio.specs.Source.{SourceState, Gives, is_used_up};
 
 use crate::fault_plan::FaultPlan;
 use kk_base::{Next, NoMemory, Source};
@@ -46,11 +46,14 @@ impl PlainSource {
 impl Source for PlainSource {
     ghost left = { λ s. Some s };
 
+    ghost ended = { λ s. is_used_up s };
+
     ghost faults = { λ _. 0 };
 
     fn next(&mut self) -> Next
         ensures content { ⟦<PlainSource as Source>⟧.left self.old ≡ option_map (λ rest. given result ++ rest) (⟦<PlainSource as Source>⟧.left self.new) }
         ensures end { EndsAt result (⟦<PlainSource as Source>⟧.left self.old) }
+        ensures keeps { KeepsEnd result (⟦<PlainSource as Source>⟧.ended self.old) (⟦<PlainSource as Source>⟧.ended self.new) }
         ensures faults { Counts (next_failed result) (⟦<PlainSource as Source>⟧.faults self.old) (⟦<PlainSource as Source>⟧.faults self.new) }
         ensures gives { Gives false result self.old self.new }
     {
@@ -99,11 +102,14 @@ impl MemSource {
 impl Source for MemSource {
     ghost left = { λ s. Some s.left };
 
+    ghost ended = { λ s. is_used_up s.left };
+
     ghost faults = { λ s. s.plan.faults };
 
     fn next(&mut self) -> Next
         ensures content { ⟦<MemSource as Source>⟧.left self.old ≡ option_map (λ rest. given result ++ rest) (⟦<MemSource as Source>⟧.left self.new) }
         ensures end { EndsAt result (⟦<MemSource as Source>⟧.left self.old) }
+        ensures keeps { KeepsEnd result (⟦<MemSource as Source>⟧.ended self.old) (⟦<MemSource as Source>⟧.ended self.new) }
         ensures faults { Counts (next_failed result) (⟦<MemSource as Source>⟧.faults self.old) (⟦<MemSource as Source>⟧.faults self.new) }
         ensures gives { Gives (is_planned self.old.plan) result self.old.left self.new.left }
         ensures counted { self.new.plan ≡ after_call (next_failed result) self.old.plan }

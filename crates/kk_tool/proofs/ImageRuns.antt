@@ -1,6 +1,7 @@
 -- The run of a loaded machine is the run of the image in its file.
 use Rattle.std.proofs.Common.{◌≡◌, ◌≢◌, ◌≤◌, ◌<◌, ℕ, zero, suc, ◌+◌, ◌-◌, List, [], ◌∷◌, ◌++◌, nat_eq, Bool, true, false, Option, option_map, refl, sym, ap, subst, ◌∙◌, arith}
 use Rattle.kk_base.specs.Trace.{Event, output, TakesFrom}
+use Rattle.kk_base.proofs.Traces.{some-input}
 use Rattle.rv_isa.specs.Machine.{Machine, Ending, going, exited, After, goes, start}
 use Rattle.rv_isa.specs.Execution.{step, go_on, run, image_after}
 use Rattle.rv_isa.proofs.Runs.{run-add, run-one}
@@ -9,7 +10,7 @@ use Rattle.elf_image.specs.Loaded.{IsLoaded, loaded_parts}
 use Rattle.elf_image.specs.Parts.{memory_of}
 use Rattle.elf_image.specs.declared.part.Part.{Part}
 use Rattle.rv_sim.specs.Simulation.{Simulation, machine_of, after_of}
-use Rattle.rv_sim.specs.Devices.{ending_at, length_of, ComesTo, CountsFault, is_input_fault, is_output_fault, asked, Fails, Runs}
+use Rattle.rv_sim.specs.Devices.{Supply, ending_at, length_of, ComesTo, CountsFault, is_input_fault, is_output_fault, asked, Fails, Runs}
 use Rattle.rv_sim.specs.declared.halt.Halt.{Halt}
 use Rattle.rv_sim.specs.declared.halt.Halt.TheVariants.{Exit, StepsSpent, Trap, InputFault, OutputFault}
 use Rattle.kk_tool.specs.ImageRuns.{file_after, exit_told, answer_of, ending_told, TellsExit, HasDone, AsksNext, PutsNext, Stops, RanImage}
@@ -52,15 +53,16 @@ module _ (file : List ℕ) (entry : ℕ) (parts : List Part) (loaded : IsLoaded 
       comes_to count events comes input rest takes ∙ ap (λ e. record { machine = machine_of new rest events; ending = e }) ongoing in
       ap (λ (a : After). a.machine.trace) (one_more (start (loaded_parts file) (entry_of file) input) count (machine_of new rest events) first) ∙ next rest events
 
-  module _ (steps : ℕ) (l l' h h' : Option (List ℕ)) (nothing : old.executed ≡ 0) where
+  module _ (steps : ℕ) (l l' : Supply) (h h' : Option (List ℕ)) (nothing : old.executed ≡ 0) where
     -- no device has failed
     ran_whole : (halt : Halt) (answer : Answer) → Runs halt steps old new l l' h h' → length_of halt steps (new.executed - old.executed) ≡ steps → ending_told answer ≡ ending_at halt → TellsExit answer
-        → ((cut : List ℕ) → Fails halt cut new → cut ≡ []) → ((events : List Event) (cut : List ℕ) → cut ≡ [] → Stops answer file steps steps events cut) → RanImage file steps answer l l' h h'
+        → ((cut : List ℕ) → Fails halt cut new → cut ≡ []) → ((events : List Event) (cut : List ℕ) → cut ≡ [] → Stops answer file steps steps events cut) → RanImage file steps answer l.left l'.left h h'
     ran_whole halt answer ran whole same tells uncut stops = record {
       events = ran.events;
       cut = ran.cut;
       count = steps;
-      given = ran.given;
+      given = ran.given.content;
+      some_input = some-input ran.events l.ended l'.ended ran.given.once;
       held_then = ran.held;
       done = has_done steps ran.events (ending_told answer) (subst (λ n. ComesTo n ran.events old new) whole ran.comes) (ran.ending ∙ sym same);
       tells_exit = tells;
@@ -70,26 +72,28 @@ module _ (file : List ℕ) (entry : ℕ) (parts : List Part) (loaded : IsLoaded 
     fewer : (executed before : ℕ) → before ≡ 0 → executed < before + steps → executed - before < steps
     fewer executed before none less = omega arith
 
-    ran_to_input : Runs InputFault steps old new l l' h h' → RanImage file steps Told.InputFault l l' h h'
+    ran_to_input : Runs InputFault steps old new l l' h h' → RanImage file steps Told.InputFault l.left l'.left h h'
     ran_to_input ran = record {
       events = ran.events;
       cut = ran.cut;
       count = new.executed - old.executed;
-      given = ran.given;
+      given = ran.given.content;
+      some_input = some-input ran.events l.ended l'.ended ran.given.once;
       held_then = ran.held;
       done = has_done (new.executed - old.executed) ran.events going ran.comes ran.ending;
       tells_exit = tt;
       stops = (fewer new.executed old.executed nothing ran.executed, ran.fails.0, next_is (new.executed - old.executed) ran.events asked ran.comes ran.ending ran.fails.1);
     }
 
-    ran_to_output : Runs OutputFault steps old new l l' h h' → RanImage file steps Told.OutputFault l l' h h'
+    ran_to_output : Runs OutputFault steps old new l l' h h' → RanImage file steps Told.OutputFault l.left l'.left h h'
     ran_to_output ran =
         let put = ran.fails in
         record {
           events = ran.events;
           cut = ran.cut;
           count = new.executed - old.executed;
-          given = ran.given;
+          given = ran.given.content;
+          some_input = some-input ran.events l.ended l'.ended ran.given.once;
           held_then = ran.held;
           done = has_done (new.executed - old.executed) ran.events going ran.comes ran.ending;
           tells_exit = tt;
@@ -108,7 +112,7 @@ module _ (file : List ℕ) (entry : ℕ) (parts : List Part) (loaded : IsLoaded 
 
     module _ (input input' : ℕ) (out out' : ℕ) where
       executes_exit : (code : ℕ) (zero_or_not : Bool) → nat_eq code 0 ≡ zero_or_not → Runs (Exit code) steps old new l l' h h' → CountsFault false input input' → CountsFault false out out'
-          → Executes file steps (exit_told zero_or_not code) (record { left = l; faults = input }) (record { left = l'; faults = input' }) (record { held = h; faults = out }) (record { held = h'; faults = out' })
+          → Executes file steps (exit_told zero_or_not code) (record { left = l.left; faults = input }) (record { left = l'.left; faults = input' }) (record { held = h; faults = out }) (record { held = h'; faults = out' })
       executes_exit code true is ran in_faults out_faults = record {
         of_run = refl;
         steps_told = tt;
@@ -127,7 +131,7 @@ module _ (file : List ℕ) (entry : ℕ) (parts : List Part) (loaded : IsLoaded 
       }
 
       pub executes : (halt : Halt) → Runs halt steps old new l l' h h' → CountsFault (is_input_fault halt) input input' → CountsFault (is_output_fault halt) out out'
-          → Executes file steps (answer_of halt steps) (record { left = l; faults = input }) (record { left = l'; faults = input' }) (record { held = h; faults = out }) (record { held = h'; faults = out' })
+          → Executes file steps (answer_of halt steps) (record { left = l.left; faults = input }) (record { left = l'.left; faults = input' }) (record { held = h; faults = out }) (record { held = h'; faults = out' })
       executes (Exit code) ran in_faults out_faults = executes_exit code (nat_eq code 0) refl ran in_faults out_faults
       executes StepsSpent ran in_faults out_faults = record {
         of_run = refl;

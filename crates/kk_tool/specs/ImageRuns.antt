@@ -1,12 +1,12 @@
 -- The run of an image over the devices: what the image in a file does by the table of instructions, on each input that the run can have taken.
 use Rattle.std.specs.Prelude.{◌≡◌, ◌≢◌, ◌≤◌, ◌<◌, ℕ, ◌+◌, List, [], ◌∷◌, ◌++◌, take, length, Bool, true, false, nat_eq, Option, Some, None, option_map}
-use Rattle.kk_base.specs.Trace.{Event, output, output_of, TakesFrom}
+use Rattle.kk_base.specs.Trace.{Event, output, output_of, input_of, TakesFrom}
 use Rattle.rv_isa.specs.Machine.{Ending, going, exited, trapped}
 use Rattle.rv_isa.specs.Machine as machine
 use Rattle.rv_isa.specs.Execution.{image_after}
 use Rattle.elf_image.specs.Fields.{entry_of}
 use Rattle.elf_image.specs.Loaded.{loaded_parts}
-use Rattle.rv_sim.specs.Devices.{Gives, asked}
+use Rattle.rv_sim.specs.Devices.{GivesContent, asked}
 use Rattle.rv_sim.specs.declared.halt.Halt.{Halt}
 use Rattle.rv_sim.specs.declared.halt.Halt.TheVariants as OfHalt
 use Rattle.kk_tool.specs.declared.answer.Answer.{Answer}
@@ -65,12 +65,13 @@ Stops InputFault image steps count events cut = (count < steps) × (cut ≡ []) 
 Stops OutputFault image steps count events cut = (count < steps) × PutsNext image count events cut
 Stops _ image steps count events cut = (count ≡ steps) × (cut ≡ [])
 
--- the image was run, and did these events on the devices
+-- the image was run, and did these events on the devices; there is some input that they can have taken
 pub record RanImage (image : List ℕ) (steps : ℕ) (answer : Answer) (left left' held held' : Option (List ℕ)) : Type 0 where
   pub events : List Event
   pub cut : List ℕ
   pub count : ℕ
-  pub given : Gives events left left'
+  pub given : GivesContent events left left'
+  pub some_input : TakesFrom events (input_of events) []
   pub held_then : held' ≡ option_map (λ before. before ++ (output_of events ++ cut)) held
   pub done : HasDone image count events (ending_told answer)
   pub tells_exit : TellsExit answer

@@ -12,30 +12,43 @@ use Rattle.rv_sim.specs.Registers.{registers_of}
 use Rattle.rv_sim.specs.Simulation.{Simulation, machine_of, after_of, Does, NextDoes}
 use Rattle.rv_sim.specs.declared.halt.Turn.TheVariants.{Over}
 use Rattle.rv_sim.specs.declared.halt.Halt.TheVariants.{InputFault, OutputFault}
-use Rattle.rv_sim.specs.Devices.{halt_of, Gives, asked, Runs}
+use Rattle.rv_sim.specs.Devices.{Supply, halt_of, GivesContent, Gives, asked, Runs}
 use Rattle.rv_sim.proofs.Events.{Gives-none, held-none}
+use Rattle.kk_base.proofs.Traces.{true≢false}
 use Rattle.rv_sim.proofs.Stepping.{can_load-bare, can_store-bare, does-same}
 use Rattle.rv_sim.proofs.Turns.{Runs-one, Runs-quiet, Runs-failed}
 
 -- ---- what a source gives
 
-gives_byte : (byte : ℕ) (after before : Option (List ℕ)) → before ≡ option_map (λ rest. (byte ∷ []) ++ rest) after → Gives (input byte ∷ []) before after
-gives_byte byte None before is = subst (λ (b : Option (List ℕ)). Gives (input byte ∷ []) b None) (sym is) tt
-gives_byte byte (Some rest) before is = subst (λ (b : Option (List ℕ)). Gives (input byte ∷ []) b (Some rest)) (sym is) (refl, refl)
+content_byte : (byte : ℕ) (after before : Option (List ℕ)) → before ≡ option_map (λ rest. (byte ∷ []) ++ rest) after → GivesContent (input byte ∷ []) before after
+content_byte byte None before is = subst (λ (b : Option (List ℕ)). GivesContent (input byte ∷ []) b None) (sym is) tt
+content_byte byte (Some rest) before is = subst (λ (b : Option (List ℕ)). GivesContent (input byte ∷ []) b (Some rest)) (sym is) (refl, refl)
 
-gives_none : (after before : Option (List ℕ)) → before ≡ option_map (λ rest. [] ++ rest) after → Gives [] before after
-gives_none None before is = subst (λ (b : Option (List ℕ)). Gives [] b None) (sym is) tt
-gives_none (Some rest) before is = subst (λ (b : Option (List ℕ)). Gives [] b (Some rest)) (sym is) refl
+content_none : (after before : Option (List ℕ)) → before ≡ option_map (λ rest. [] ++ rest) after → GivesContent [] before after
+content_none None before is = subst (λ (b : Option (List ℕ)). GivesContent [] b None) (sym is) tt
+content_none (Some rest) before is = subst (λ (b : Option (List ℕ)). GivesContent [] b (Some rest)) (sym is) refl
 
-gives_end : (after before : Option (List ℕ)) → before ≡ option_map (λ rest. [] ++ rest) after → ((rest : List ℕ) → before ≡ Some rest → rest ≡ []) → Gives (input_end ∷ []) before after
-gives_end None before is end = subst (λ (b : Option (List ℕ)). Gives (input_end ∷ []) b None) (sym is) tt
-gives_end (Some rest) before is end =
+content_end : (after before : Option (List ℕ)) → before ≡ option_map (λ rest. [] ++ rest) after → ((rest : List ℕ) → before ≡ Some rest → rest ≡ []) → GivesContent (input_end ∷ []) before after
+content_end None before is end = subst (λ (b : Option (List ℕ)). GivesContent (input_end ∷ []) b None) (sym is) tt
+content_end (Some rest) before is end =
     let none = end rest is in
-    subst (λ (b : Option (List ℕ)). Gives (input_end ∷ []) b (Some rest)) (sym is) (subst (λ (xs : List ℕ). TakesFrom (input_end ∷ []) xs xs) (sym none) refl)
+    subst (λ (b : Option (List ℕ)). GivesContent (input_end ∷ []) b (Some rest)) (sym is) (subst (λ (xs : List ℕ). TakesFrom (input_end ∷ []) xs xs) (sym none) refl)
 
-gives_put : (piece : List ℕ) (left : Option (List ℕ)) → Gives (output piece ∷ []) left left
-gives_put piece None = tt
-gives_put piece (Some left) = refl
+gives_byte : (byte : ℕ) (after before : Supply) → before.left ≡ option_map (λ rest. (byte ∷ []) ++ rest) after.left → before.ended ≡ false → Gives (input byte ∷ []) before after
+gives_byte byte after before is open_still = record { content = content_byte byte after.left before.left is; once = (open_still, λ e. absurd (true≢false (sym e))) }
+
+gives_none : (after before : Supply) → before.left ≡ option_map (λ rest. [] ++ rest) after.left → after.ended ≡ before.ended → Gives [] before after
+gives_none after before is same = record { content = content_none after.left before.left is; once = λ e. same ∙ e }
+
+gives_end : (after before : Supply) → before.left ≡ option_map (λ rest. [] ++ rest) after.left → ((rest : List ℕ) → before.left ≡ Some rest → rest ≡ []) → after.ended ≡ true → Gives (input_end ∷ []) before after
+gives_end after before is end met = record { content = content_end after.left before.left is end; once = λ e. met }
+
+content_put : (piece : List ℕ) (left : Option (List ℕ)) → GivesContent (output piece ∷ []) left left
+content_put piece None = tt
+content_put piece (Some left) = refl
+
+gives_put : (piece : List ℕ) (supply : Supply) → Gives (output piece ∷ []) supply supply
+gives_put piece supply = record { content = content_put piece supply.left; once = λ e. e }
 
 asks-trace : (next : ℕ) (s : Machine) (left : List ℕ) → (asks left next s).trace ≡ s.trace ++ asked left ∷ []
 asks-trace next s [] = refl
@@ -51,7 +64,7 @@ counts old mid new next word same does =
 -- ---- a read
 
 module _ (old new : Simulation) (next : ℕ) (ongoing : old.ending ≡ going) (sound : old.faulted ≡ false) (reading : NextDoes (λ s. goes (reads next s)) old) where
-  pub read-none : (l h : Option (List ℕ)) → value (registers_of old.registers) 12 ≡ 0
+  pub read-none : (l : Supply) (h : Option (List ℕ)) → value (registers_of old.registers) 12 ≡ 0
       → Does (λ s. goes (record (stepped next s) { registers = put 10 0 s.registers })) Over old new → Runs (halt_of new.ending) 1 old new l l h h
   read-none l h none does =
       Runs-quiet old new ongoing (λ s. goes (reads next s)) l h sound reading
@@ -70,24 +83,24 @@ module _ (old new : Simulation) (next : ℕ) (ongoing : old.ending ≡ going) (s
       reads_it (x ∷ xs) rest trace takes =
           asking (x ∷ xs) trace ∙ rw (does.0 rest (trace ++ input byte ∷ []), stored, same, takes.0, takes.1) refl
 
-      pub read-byte : (l l' h : Option (List ℕ)) → l ≡ option_map (λ rest. (byte ∷ []) ++ rest) l' → Runs (halt_of new.ending) 1 old new l l' h h
-      read-byte l l' h content =
+      pub read-byte : (l l' : Supply) (h : Option (List ℕ)) → l.left ≡ option_map (λ rest. (byte ∷ []) ++ rest) l'.left → l.ended ≡ false → Runs (halt_of new.ending) 1 old new l l' h h
+      read-byte l l' h content open_still =
           Runs-one old new ongoing (input byte ∷ []) l l' h h (does.1 ∙ sound) (counts old (record old { parts = parts }) new next 1 refl does)
-          (gives_byte byte l' l content) (held-none h) reads_it
+          (gives_byte byte l' l content open_still) (held-none h) reads_it
 
     module _ (does : Does (λ s. goes (record (stepped next s) { registers = put 10 0 s.registers })) Over old new) where
       ends_it : (left rest : List ℕ) (trace : List Event) → TakesFrom (input_end ∷ []) left rest → step (machine_of old left trace) ≡ after_of new rest (trace ++ input_end ∷ [])
       ends_it [] rest trace takes = asking [] trace ∙ rw (does.0 rest (trace ++ input_end ∷ []), ← takes) refl
       ends_it (x ∷ xs) rest trace takes = absurd takes
 
-      pub read-end : (l l' h : Option (List ℕ)) → l ≡ option_map (λ rest. [] ++ rest) l' → ((rest : List ℕ) → l ≡ Some rest → rest ≡ []) → Runs (halt_of new.ending) 1 old new l l' h h
-      read-end l l' h content end =
+      pub read-end : (l l' : Supply) (h : Option (List ℕ)) → l.left ≡ option_map (λ rest. [] ++ rest) l'.left → ((rest : List ℕ) → l.left ≡ Some rest → rest ≡ []) → l'.ended ≡ true → Runs (halt_of new.ending) 1 old new l l' h h
+      read-end l l' h content end met =
           Runs-one old new ongoing (input_end ∷ []) l l' h h (does.1 ∙ sound) (counts old old new next 0 refl does)
-          (gives_end l' l content end) (held-none h) ends_it
+          (gives_end l' l content end met) (held-none h) ends_it
 
-    pub read-failed : (l l' h : Option (List ℕ)) → l ≡ option_map (λ rest. [] ++ rest) l' → Runs InputFault 1 old (record old { faulted = true }) l l' h h
-    read-failed l l' h content =
-        Runs-failed InputFault [] old l l' h h refl ongoing (gives_none l' l content) (held-none h)
+    pub read-failed : (l l' : Supply) (h : Option (List ℕ)) → l.left ≡ option_map (λ rest. [] ++ rest) l'.left → l'.ended ≡ l.ended → Runs InputFault 1 old (record old { faulted = true }) l l' h h
+    read-failed l l' h content same =
+        Runs-failed InputFault [] old l l' h h refl ongoing (gives_none l' l content same) (held-none h)
         (refl, λ left trace. ap (λ (a : After). a.machine.trace) (asking left trace) ∙ asks-trace next (machine_of old left trace) left)
 
 -- ---- a write
@@ -95,13 +108,13 @@ module _ (old new : Simulation) (next : ℕ) (ongoing : old.ending ≡ going) (s
 module _ (old new : Simulation) (next count : ℕ) (is_count : count ≡ value (registers_of old.registers) 12) (ongoing : old.ending ≡ going) (sound : old.faulted ≡ false)
     (writing : NextDoes (λ s. goes (writes next s)) old) where
   module _ (does : Does (λ s. goes (record (stepped next s) { registers = put 10 count s.registers })) Over old new) where
-    pub write-none : (l h : Option (List ℕ)) → count ≡ 0 → Runs (halt_of new.ending) 1 old new l l h h
+    pub write-none : (l : Supply) (h : Option (List ℕ)) → count ≡ 0 → Runs (halt_of new.ending) 1 old new l l h h
     write-none l h none =
         Runs-quiet old new ongoing (λ s. goes (writes next s)) l h sound writing
         (does-same (λ s. goes (record (stepped next s) { registers = put 10 count s.registers })) (λ s. goes (writes next s)) Over old new
         (λ left trace. rw is_count (ap goes (sym (writes-none next (machine_of old left trace) (sym is_count ∙ none))))) does)
 
-    pub write-all : (piece : List ℕ) (l h h' : Option (List ℕ)) → count ≢ 0 → piece ≡ bytes_at (byte_loaded old.parts) (value (registers_of old.registers) 11) count
+    pub write-all : (piece : List ℕ) (l : Supply) (h h' : Option (List ℕ)) → count ≢ 0 → piece ≡ bytes_at (byte_loaded old.parts) (value (registers_of old.registers) 11) count
         → h' ≡ option_map (λ before. before ++ piece) h → Runs (halt_of new.ending) 1 old new l l h h'
     write-all piece l h h' some spells content =
         let same : piece ≡ (piece ++ []) ++ [] = sym (append-nil (piece ++ []) ∙ append-nil piece) in
@@ -111,7 +124,7 @@ module _ (old new : Simulation) (next count : ℕ) (is_count : count ≡ value (
         writing left trace ∙ ap goes (writes-some next (machine_of old left trace) (λ none. some (is_count ∙ none)))
         ∙ rw (does.0 rest (trace ++ output piece ∷ []), spells, is_count, takes) refl)
 
-  pub write-failed : (piece : List ℕ) (n : ℕ) (l h h' : Option (List ℕ)) → count ≢ 0 → piece ≡ bytes_at (byte_loaded old.parts) (value (registers_of old.registers) 11) count
+  pub write-failed : (piece : List ℕ) (n : ℕ) (l : Supply) (h h' : Option (List ℕ)) → count ≢ 0 → piece ≡ bytes_at (byte_loaded old.parts) (value (registers_of old.registers) 11) count
       → n ≤ length piece → h' ≡ option_map (λ before. before ++ take n piece) h → Runs OutputFault 1 old (record old { faulted = true }) l l h h'
   write-failed piece n l h h' some spells within content =
       Runs-failed OutputFault (take n piece) old l l h h' refl ongoing (Gives-none l) content record {

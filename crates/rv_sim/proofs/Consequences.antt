@@ -7,7 +7,7 @@ use Rattle.rv_isa.specs.Execution.{go_on, run, image_after}
 use Rattle.rv_sim.specs.Simulation.{Simulation, after_of}
 use Rattle.rv_sim.specs.declared.halt.Halt.{Halt}
 use Rattle.rv_sim.specs.declared.halt.Halt.TheVariants.{Exit, StepsSpent, Trap, InputFault, OutputFault}
-use Rattle.rv_sim.specs.Devices.{halt_of, ending_at, is_fault, length_of, Gives, Fails, Runs}
+use Rattle.rv_sim.specs.Devices.{Supply, halt_of, ending_at, is_fault, length_of, GivesContent, Fails, Runs}
 use Rattle.rv_sim.proofs.Running.{Runs-stays}
 
 told : (answer : Halt) → ending_at answer ≢ going → answer ≡ halt_of (ending_at answer)
@@ -24,7 +24,7 @@ uncut (Trap c p w) cut s ended fails = fails
 uncut InputFault cut s ended fails = absurd (ended refl)
 uncut OutputFault cut s ended fails = absurd (ended refl)
 
-gives-nothing : (l l' : Option (List ℕ)) → Gives [] l l' → l' ≡ l
+gives-nothing : (l l' : Option (List ℕ)) → GivesContent [] l l' → l' ≡ l
 gives-nothing None None given = refl
 gives-nothing (Some xs) (Some ys) given = ap Some (sym given)
 gives-nothing None (Some ys) given = absurd given
@@ -35,8 +35,8 @@ holds-the-same None = refl
 holds-the-same (Some xs) = ap Some (append-nil xs)
 
 -- a machine that had ended answers its end again: it is as it was, and so are the devices
-pub Runs-again : (answer : Halt) (steps : ℕ) (old new : Simulation) (l l' h h' : Option (List ℕ)) → Runs answer steps old new l l' h h' → old.ending ≢ going
-    → (answer ≡ halt_of old.ending) × ((left : List ℕ) (trace : List Event) → after_of new left trace ≡ after_of old left trace) × (l' ≡ l) × (h' ≡ h)
+pub Runs-again : (answer : Halt) (steps : ℕ) (old new : Simulation) (l l' : Supply) (h h' : Option (List ℕ)) → Runs answer steps old new l l' h h' → old.ending ≢ going
+    → (answer ≡ halt_of old.ending) × ((left : List ℕ) (trace : List Event) → after_of new left trace ≡ after_of old left trace) × (l'.left ≡ l.left) × (h' ≡ h)
 Runs-again answer steps old new l l' h h' ran ended =
     let same = Runs-stays answer steps old new l l' h h' ran ended in
     let ending : ending_at answer ≡ old.ending = sym ran.ending ∙ ap (λ (a : After). a.ending) (same [] []) in
@@ -44,7 +44,7 @@ Runs-again answer steps old new l l' h h' ran ended =
     let none = ran.stays ended in (
       told answer still ∙ ap halt_of ending,
       same,
-      gives-nothing l l' (subst (λ (es : List Event). Gives es l l') none ran.given),
+      gives-nothing l.left l'.left (subst (λ (es : List Event). GivesContent es l.left l'.left) none ran.given.content),
       ran.held
           ∙ ap (λ (es : List Event). option_map (λ before. before ++ (output_of es ++ ran.cut)) h) none
           ∙ ap (λ (cut : List ℕ). option_map (λ before. before ++ ([] ++ cut)) h) (uncut answer ran.cut new still ran.fails)
@@ -59,7 +59,7 @@ length-whole InputFault steps executed sound = cc
 length-whole OutputFault steps executed sound = cc
 
 -- a machine at the start of an image comes to what the image comes to, on each input that the events can have taken
-pub Runs-image : (answer : Halt) (steps : ℕ) (old new : Simulation) (l l' h h' : Option (List ℕ)) (parts : List Part) (entry : ℕ)
+pub Runs-image : (answer : Halt) (steps : ℕ) (old new : Simulation) (l l' : Supply) (h h' : Option (List ℕ)) (parts : List Part) (entry : ℕ)
     → ((input : List ℕ) → after_of old input [] ≡ goes (start parts entry input)) → (ran : Runs answer steps old new l l' h h') → is_fault answer ≡ false
     → (input rest : List ℕ) → TakesFrom ran.events input rest → image_after parts entry input steps ≡ after_of new rest ran.events
 Runs-image answer steps old new l l' h h' parts entry starts ran sound input rest takes =

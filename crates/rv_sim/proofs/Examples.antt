@@ -1,6 +1,6 @@
 -- The definitions, tried on small cases.
 use Rattle.std.proofs.Common.{◌≡◌, ℕ, List, [], ◌∷◌, ◌++◌, replicate, true, false, Some, None, refl, sym, ap, ◌∙◌, arith, append-nil}
-use Rattle.kk_base.specs.Trace.{Event, input, input_end}
+use Rattle.kk_base.specs.Trace.{Event, input, input_end, EndsOnce}
 use Rattle.rv_isa.specs.Machine.{going, exited}
 use Rattle.rv_isa.specs.Execution.{go_on, run, step, decodes, executes, acts}
 use Rattle.rv_isa.specs.Environment.{calls}
@@ -8,21 +8,27 @@ use Rattle.rv_isa.specs.Bytes.{number_at, bytes_at}
 use Rattle.rv_isa.specs.Read.{read}
 use Rattle.rv_sim.specs.Simulation.{Simulation, after_of}
 use Rattle.rv_sim.specs.declared.halt.Halt.TheVariants.{Exit}
-use Rattle.rv_sim.specs.Devices.{Gives, AsksNext, PutsNext, Runs}
+use Rattle.rv_sim.specs.Devices.{GivesContent, AsksNext, PutsNext, Runs}
 
 -- ---- sources
 
-one_of_two : Gives (input 7 ∷ []) (Some (7 ∷ 8 ∷ [])) (Some (8 ∷ []))
+one_of_two : GivesContent (input 7 ∷ []) (Some (7 ∷ 8 ∷ [])) (Some (8 ∷ []))
 one_of_two = (refl, refl)
 
-no_end_before_a_byte : Gives (input_end ∷ []) (Some (7 ∷ [])) (Some (7 ∷ [])) → ⊥
+no_end_before_a_byte : GivesContent (input_end ∷ []) (Some (7 ∷ [])) (Some (7 ∷ [])) → ⊥
 no_end_before_a_byte given = given
 
-untold : Gives (input_end ∷ input 7 ∷ []) None None
+untold : GivesContent (input 7 ∷ input_end ∷ []) None None
 untold = tt
 
-not_told_halfway : Gives [] (Some []) None → ⊥
+not_told_halfway : GivesContent [] (Some []) None → ⊥
 not_told_halfway given = given
+
+end_behind_a_byte : EndsOnce (input 7 ∷ input_end ∷ []) false true
+end_behind_a_byte = (refl, λ e. e)
+
+no_byte_behind_an_end : EndsOnce (input_end ∷ input 7 ∷ []) false true → ⊥
+no_byte_behind_an_end once = cc
 
 -- ---- an ECALL at 0x10000, with words in x10 and x17; x11 is 0x10000, and x12 is 1
 
@@ -47,11 +53,11 @@ unfolding run step decodes executes acts calls number_at bytes_at read
 comes_to_exit left trace = refl
 
 -- one instruction of a budget of four, over devices that tell their content
-exits : Runs (Exit 5) 4 exiting at_exit (Some (7 ∷ [])) (Some (7 ∷ [])) (Some (1 ∷ [])) (Some (1 ∷ []))
+exits : Runs (Exit 5) 4 exiting at_exit (record { left = Some (7 ∷ []); ended = false }) (record { left = Some (7 ∷ []); ended = false }) (Some (1 ∷ [])) (Some (1 ∷ []))
 exits = record {
   events = [];
   cut = [];
-  given = refl;
+  given = record { content = refl; once = λ e. e };
   held = refl;
   comes = λ left rest trace same.
       comes_to_exit left trace ∙ ap (λ (xs : List ℕ). after_of at_exit xs trace) same ∙ ap (λ (es : List Event). after_of at_exit rest es) (sym (append-nil trace));

@@ -7,8 +7,9 @@ use Rattle.rv_isa.proofs.Runs.{go_on-ended, go_on-add, go_on-none}
 use Rattle.rv_sim.specs.Simulation.{Simulation, after_of}
 use Rattle.rv_sim.specs.declared.halt.Halt.{Halt}
 use Rattle.rv_sim.specs.declared.halt.Halt.TheVariants.{Exit, StepsSpent, Trap, InputFault, OutputFault}
-use Rattle.rv_sim.specs.Devices.{halt_of, ending_at, is_fault, Executes, length_of, ComesTo, Fails, Runs}
-use Rattle.rv_sim.proofs.Events.{TakesFrom-split, Gives-none, Gives-join, held-none, held-join}
+use Rattle.rv_sim.specs.Devices.{Supply, halt_of, ending_at, is_fault, Executes, length_of, ComesTo, Fails, Runs}
+use Rattle.rv_sim.proofs.Events.{Gives-none, Gives-join, held-none, held-join}
+use Rattle.kk_base.proofs.Traces.{TakesFrom-split}
 
 pub ComesTo-same : (events : List Event) (old new : Simulation) {n m : ℕ} → n ≡ m → ComesTo n events old new → ComesTo m events old new
 ComesTo-same events old new same comes = subst (λ k. ComesTo k events old new) same comes
@@ -62,7 +63,7 @@ length-none (exited k) n = refl
 length-none (trapped c p w) n = refl
 
 -- a run of no steps
-pub Runs-none : (s : Simulation) (left held : Option (List ℕ)) → s.faulted ≡ false → Runs (halt_of s.ending) 0 s s left left held held
+pub Runs-none : (s : Simulation) (left : Supply) (held : Option (List ℕ)) → s.faulted ≡ false → Runs (halt_of s.ending) 0 s s left left held held
 Runs-none s left held sound = record {
   events = [];
   cut = [];
@@ -78,7 +79,7 @@ Runs-none s left held sound = record {
   fails = fails-none s.ending s;
 }
 
-pub Runs-same : {answer answer' : Halt} {n m : ℕ} {a b : Simulation} {l l' h h' : Option (List ℕ)} → answer ≡ answer' → n ≡ m → Runs answer n a b l l' h h' → Runs answer' m a b l l' h h'
+pub Runs-same : {answer answer' : Halt} {n m : ℕ} {a b : Simulation} {l l' : Supply} {h h' : Option (List ℕ)} → answer ≡ answer' → n ≡ m → Runs answer n a b l l' h h' → Runs answer' m a b l l' h h'
 Runs-same {answer} {answer'} {n} {m} {a} {b} {l} {l'} {h} {h'} same_answer same ran =
     subst (λ (r : Halt). Runs r m a b l l' h h') same_answer (subst (λ (k : ℕ). Runs answer k a b l l' h h') same ran)
 
@@ -99,7 +100,7 @@ executes-then InputFault n k a b c is more = omega arith
 executes-then OutputFault n k a b c is more = omega arith
 
 -- a machine that had ended has not gone on
-pub Runs-stays : (answer : Halt) (n : ℕ) (a b : Simulation) (l l' h h' : Option (List ℕ)) → Runs answer n a b l l' h h' → a.ending ≢ going
+pub Runs-stays : (answer : Halt) (n : ℕ) (a b : Simulation) (l l' : Supply) (h h' : Option (List ℕ)) → Runs answer n a b l l' h h' → a.ending ≢ going
     → (left : List ℕ) (trace : List Event) → after_of b left trace ≡ after_of a left trace
 Runs-stays answer n a b l l' h h' ran ended left trace =
     let none = ran.stays ended in
@@ -107,7 +108,7 @@ Runs-stays answer n a b l l' h h' ran ended left trace =
     ap (λ (es : List Event). after_of b left es) (sym (append-nil trace) ∙ ap (λ (es : List Event). trace ++ es) (sym none))
     ∙ sym (ran.comes left left trace takes) ∙ go_on-ended (after_of a left trace) (run (length_of answer n (b.executed - a.executed))) ended
 
-pub Runs-then : (answer : Halt) (n k : ℕ) (a b c : Simulation) (l l' l'' h h' h'' : Option (List ℕ))
+pub Runs-then : (answer : Halt) (n k : ℕ) (a b c : Simulation) (l l' l'' : Supply) (h h' h'' : Option (List ℕ))
     → Runs StepsSpent n a b l l' h h' → Runs answer k b c l' l'' h' h'' → Runs answer (n + k) a c l l'' h h''
 Runs-then answer n k a b c l l' l'' h h' h'' first second =
     let whole_held = subst (λ (cut : List ℕ). h' ≡ option_map (λ before. before ++ (output_of first.events ++ cut)) h) first.fails first.held in
@@ -144,7 +145,7 @@ executes-more InputFault n m a b early less holds = omega arith
 executes-more OutputFault n m a b early less holds = omega arith
 
 -- what has stopped within a budget stops so within a greater one
-pub Runs-more : (answer : Halt) (n m : ℕ) (a b : Simulation) (l l' h h' : Option (List ℕ)) → answer ≢ StepsSpent → n ≤ m → Runs answer n a b l l' h h' → Runs answer m a b l l' h h'
+pub Runs-more : (answer : Halt) (n m : ℕ) (a b : Simulation) (l l' : Supply) (h h' : Option (List ℕ)) → answer ≢ StepsSpent → n ≤ m → Runs answer n a b l l' h h' → Runs answer m a b l l' h h'
 Runs-more answer n m a b l l' h h' early less ran = record {
   events = ran.events;
   cut = ran.cut;
@@ -160,7 +161,7 @@ Runs-more answer n m a b l l' h h' early less ran = record {
 }
 
 -- what has ended within a budget has ended so within a greater one
-pub Runs-ended : (e : Ending) (n m : ℕ) (a b : Simulation) (l l' h h' : Option (List ℕ)) → e ≢ going → n ≤ m → Runs (halt_of e) n a b l l' h h' → Runs (halt_of e) m a b l l' h h'
+pub Runs-ended : (e : Ending) (n m : ℕ) (a b : Simulation) (l l' : Supply) (h h' : Option (List ℕ)) → e ≢ going → n ≤ m → Runs (halt_of e) n a b l l' h h' → Runs (halt_of e) m a b l l' h h'
 Runs-ended going n m a b l l' h h' ended less ran = absurd (ended refl)
 Runs-ended (exited k) n m a b l l' h h' ended less ran = Runs-more (Exit k) n m a b l l' h h' (λ same. cc) less ran
 Runs-ended (trapped c p w) n m a b l l' h h' ended less ran = Runs-more (Trap c p w) n m a b l l' h h' (λ same. cc) less ran

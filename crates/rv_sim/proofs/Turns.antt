@@ -9,7 +9,7 @@ use Rattle.rv_sim.specs.Simulation.{Simulation, machine_of, after_of, Does, Next
 use Rattle.rv_sim.specs.declared.halt.Turn.TheVariants.{Over}
 use Rattle.rv_sim.specs.declared.halt.Halt.{Halt}
 use Rattle.rv_sim.specs.declared.halt.Halt.TheVariants.{Exit, StepsSpent, Trap, InputFault, OutputFault}
-use Rattle.rv_sim.specs.Devices.{halt_of, ending_at, is_fault, Executes, length_of, Gives, Fails, Runs}
+use Rattle.rv_sim.specs.Devices.{Supply, halt_of, ending_at, is_fault, Executes, length_of, Gives, Fails, Runs}
 use Rattle.rv_sim.proofs.Events.{Gives-none, held-none}
 use Rattle.rv_sim.proofs.Running.{ComesTo-same, halt_of-ending, halt_of-no_fault, fails-none}
 
@@ -49,7 +49,7 @@ module _ (old new : Simulation) (ongoing : old.ending ≡ going) where
   one_step left trace = ap (λ (e : Ending). resumes e (machine_of old left trace) (run 1)) ongoing ∙ run-one (machine_of old left trace)
 
   -- an instruction that no device failed at
-  pub Runs-one : (events : List Event) (l l' h h' : Option (List ℕ)) → new.faulted ≡ false → new.executed ≡ old.executed + counted new.ending
+  pub Runs-one : (events : List Event) (l l' : Supply) (h h' : Option (List ℕ)) → new.faulted ≡ false → new.executed ≡ old.executed + counted new.ending
       → Gives events l l' → h' ≡ option_map (λ before. before ++ (output_of events ++ [])) h
       → ((left rest : List ℕ) (trace : List Event) → TakesFrom events left rest → step (machine_of old left trace) ≡ after_of new rest (trace ++ events))
       → Runs (halt_of new.ending) 1 old new l l' h h'
@@ -68,7 +68,7 @@ module _ (old new : Simulation) (ongoing : old.ending ≡ going) where
   }
 
   -- one that has done nothing on the outside
-  pub Runs-quiet : (what : Machine → After) (left held : Option (List ℕ)) → old.faulted ≡ false → NextDoes what old → Does what Over old new → Runs (halt_of new.ending) 1 old new left left held held
+  pub Runs-quiet : (what : Machine → After) (left : Supply) (held : Option (List ℕ)) → old.faulted ≡ false → NextDoes what old → Does what Over old new → Runs (halt_of new.ending) 1 old new left left held held
   Runs-quiet what left held sound next does =
       let after : (xs : List ℕ) (trace : List Event) → after_of new xs trace ≡ step (machine_of old xs trace) = λ xs trace. does.0 xs trace ∙ sym (next xs trace) in
       Runs-one [] left left held held (does.1 ∙ sound)
@@ -78,7 +78,7 @@ module _ (old new : Simulation) (ongoing : old.ending ≡ going) where
       sym (after before trace) ∙ ap (λ (xs : List ℕ). after_of new xs trace) same ∙ ap (λ (es : List Event). after_of new rest es) (sym (append-nil trace)))
 
 -- an instruction that a device failed at
-pub Runs-failed : (answer : Halt) (cut : List ℕ) (old : Simulation) (l l' h h' : Option (List ℕ)) → is_fault answer ≡ true → old.ending ≡ going
+pub Runs-failed : (answer : Halt) (cut : List ℕ) (old : Simulation) (l l' : Supply) (h h' : Option (List ℕ)) → is_fault answer ≡ true → old.ending ≡ going
     → Gives [] l l' → h' ≡ option_map (λ before. before ++ ([] ++ cut)) h → Fails answer cut (record old { faulted = true }) → Runs answer 1 old (record old { faulted = true }) l l' h h'
 Runs-failed answer cut old l l' h h' is ongoing given held fails = record {
   events = [];

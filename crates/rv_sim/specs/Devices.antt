@@ -1,7 +1,7 @@
 -- What a run does: to the machine, as its definition says, and on the devices, whose contents are lists where they tell them.
 use Rattle.std.specs.Prelude.{◌≡◌, ◌≢◌, ◌≤◌, ◌<◌, ℕ, ◌+◌, ◌-◌, List, [], ◌∷◌, ◌++◌, take, length, Bool, true, false, Option, Some, None, option_map}
 use Rattle.kk_base.specs.Faults.{Rose}
-use Rattle.kk_base.specs.Trace.{Event, output, input, input_end, output_of, TakesFrom}
+use Rattle.kk_base.specs.Trace.{Event, output, input, input_end, output_of, TakesFrom, EndsOnce}
 use Rattle.rv_isa.specs.Machine.{Ending, going, exited, trapped}
 use Rattle.rv_isa.specs.Execution.{step, go_on, run}
 use Rattle.rv_sim.specs.Simulation.{Simulation, machine_of, after_of}
@@ -73,11 +73,21 @@ abbrev pub ComesTo : ℕ → List Event → Simulation → Simulation → Type 0
 ComesTo count events old new =
     (left rest : List ℕ) (trace : List Event) → TakesFrom events left rest → go_on (after_of old left trace) (run count) ≡ after_of new rest (trace ++ events)
 
+-- what a source tells: what is left of it, where it tells its content; and whether it has met its end
+pub record Supply : Type 0 where
+  pub left : Option (List ℕ)
+  pub ended : Bool
+
 -- a source has given what the events took, where it tells what is left of it
-abbrev pub Gives : List Event → Option (List ℕ) → Option (List ℕ) → Type 0
-Gives events None None = Unit {0}
-Gives events (Some before) (Some after) = TakesFrom events before after
-Gives events _ _ = ⊥
+abbrev pub GivesContent : List Event → Option (List ℕ) → Option (List ℕ) → Type 0
+GivesContent events None None = Unit {0}
+GivesContent events (Some before) (Some after) = TakesFrom events before after
+GivesContent events _ _ = ⊥
+
+-- a source has given the events
+pub record Gives (events : List Event) (before after : Supply) : Type 0 where
+  pub content : GivesContent events before.left after.left
+  pub once : EndsOnce events before.ended after.ended
 
 -- what is asked for is the next byte of what is left, or the end
 abbrev pub asked : List ℕ → Event
@@ -104,12 +114,12 @@ Fails OutputFault cut s = PutsNext cut s
 Fails _ cut s = cut ≡ []
 
 -- what a run of at most `steps` instructions has done, by its answer
-pub record Runs (answer : Halt) (steps : ℕ) (old new : Simulation) (left_before left_after held_before held_after : Option (List ℕ)) : Type 0 where
+pub record Runs (answer : Halt) (steps : ℕ) (old new : Simulation) (supply_before supply_after : Supply) (held_before held_after : Option (List ℕ)) : Type 0 where
   -- on the outside: these events, and first bytes of one more piece
   pub events : List Event
   pub cut : List ℕ
   -- the devices have given and taken just that
-  pub given : Gives events left_before left_after
+  pub given : Gives events supply_before supply_after
   pub held : held_after ≡ option_map (λ before. before ++ (output_of events ++ cut)) held_before
   -- the machine has come to what its definition comes to; one that had ended has done nothing
   pub comes : ComesTo (length_of answer steps (new.executed - old.executed)) events old new

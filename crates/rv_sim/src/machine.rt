@@ -6,7 +6,7 @@ ghost use Rattle.rv_isa.specs.Execution.{acts, executes, step, widened};
 ghost use Rattle.rv_isa.specs.FreeCells.{free_cells};
 ghost use Rattle.elf_image.specs.Parts.{memory_of};
 ghost use Rattle.rv_sim.specs.Areas.{IsWidth, MovesWidth};
-ghost use Rattle.rv_sim.specs.Devices.{CountsFault, is_input, is_output, is_input_fault, is_output_fault, halt_of, answer_of, Runs};
+ghost use Rattle.rv_sim.specs.Devices.{Supply, CountsFault, is_input, is_output, is_input_fault, is_output_fault, halt_of, answer_of, Runs};
 ghost use Rattle.rv_sim.specs.Registers.{registers_of};
 ghost use Rattle.rv_sim.specs.Simulation.{machine_of, after_of, Does, NextDoes};
 
@@ -96,7 +96,9 @@ impl Machine {
         ensures input_faults { CountsFault (is_input_fault result) (I.faults input.old) (I.faults input.new) }
         ensures output_faults { CountsFault (is_output_fault result) (O.faults out.old) (O.faults out.new) }
         ensures ran { Runs result steps self.old self.new
-            (I.left input.old) (I.left input.new) (O.held out.old) (O.held out.new) }
+            (record { left = I.left input.old; ended = I.ended input.old })
+            (record { left = I.left input.new; ended = I.ended input.new })
+            (O.held out.old) (O.held out.new) }
     {
         let mut left = steps;
         while left > 0 && self.phase == Phase::Going {
@@ -168,7 +170,9 @@ impl Machine {
         ensures input_faults { CountsFault (is_input result) (I.faults input.old) (I.faults input.new) }
         ensures output_faults { CountsFault (is_output result) (O.faults out.old) (O.faults out.new) }
         ensures ran { Runs (answer_of result self.new.ending) 1 self.old self.new
-            (I.left input.old) (I.left input.new) (O.held out.old) (O.held out.new) }
+            (record { left = I.left input.old; ended = I.ended input.old })
+            (record { left = I.left input.new; ended = I.ended input.new })
+            (O.held out.old) (O.held out.new) }
     {
         match self.advance() {
             Turn::Over => None,
@@ -191,7 +195,9 @@ impl Machine {
         ensures input_faults { CountsFault (is_input result) (I.faults input.old) (I.faults input.new) }
         ensures output_faults { CountsFault (is_output result) (O.faults out.old) (O.faults out.new) }
         ensures ran { Runs (answer_of result self.new.ending) 1 self.old self.new
-            (I.left input.old) (I.left input.new) (O.held out.old) (O.held out.new) }
+            (record { left = I.left input.old; ended = I.ended input.old })
+            (record { left = I.left input.new; ended = I.ended input.new })
+            (O.held out.old) (O.held out.new) }
     {
         let file = self.registers.get(Register::A0);
         let at = self.registers.get(Register::A1);
@@ -226,7 +232,8 @@ impl Machine {
         ensures faults { CountsFault result (I.faults input.old) (I.faults input.new) }
         ensures ran { (held : Option (List ℕ))
             → Runs (answer_of (then_some result Device.Input) self.new.ending) 1 self.old self.new
-            (I.left input.old) (I.left input.new) held held }
+            (record { left = I.left input.old; ended = I.ended input.old })
+            (record { left = I.left input.new; ended = I.ended input.new }) held held }
     {
         if self.registers.get(Register::A2) == 0 {
             self.set(Register::A0, 0, next);
@@ -260,9 +267,9 @@ impl Machine {
             (value (registers_of self.old.registers) 12)
             ≡ true }
         ensures faults { CountsFault result (O.faults out.old) (O.faults out.new) }
-        ensures ran { (left : Option (List ℕ))
+        ensures ran { (supply : Supply)
             → Runs (answer_of (then_some result Device.Output) self.new.ending) 1 self.old self.new
-            left left (O.held out.old) (O.held out.new) }
+            supply supply (O.held out.old) (O.held out.new) }
     {
         let at = self.registers.get(Register::A1);
         let count = self.registers.get(Register::A2);

@@ -1,4 +1,4 @@
-ghost use Rattle.std.specs.Prelude.{None};
+ghost use Rattle.std.specs.Prelude.{None, length, nat_le};
 
 use super::*;
 use elf_image::Image;
@@ -52,6 +52,8 @@ impl Tape {
 
 impl Source for Tape {
     ghost left = { λ _. None };
+
+    ghost ended = { λ tape. nat_le (length tape.bytes.now) tape.at };
 
     ghost faults = { λ tape. tape.faults };
 

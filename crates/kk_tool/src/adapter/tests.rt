@@ -26,6 +26,23 @@ impl Read for Broken {
     }
 }
 
+/// A stream that ends, and then has a byte again.
+#[derive(Drop)]
+struct Resumed {
+    calls: u8,
+}
+
+impl Read for Resumed {
+    fn read(&mut self, buf: &mut [u8]) -> io::Result<usize> {
+        self.calls = self.calls.saturating_add(1);
+        if self.calls == 1 || buf.is_empty() {
+            return Ok(0);
+        }
+        buf[0] = self.calls;
+        Ok(1)
+    }
+}
+
 impl Write for Broken {
     fn write(&mut self, buf: &[u8]) -> io::Result<usize> {
         self.calls = self.calls.saturating_add(1);
@@ -79,6 +96,12 @@ fn sources_give_bytes(rt: HostRuntime) -> Result<(), Fail> {
     );
     std::fs::remove_file(&rt, "source.bin")?;
     Ok(())
+}
+
+#[test]
+fn sources_end_once(rt: HostRuntime) {
+    let mut source = StreamSource::new(Resumed { calls: 0 });
+    check_source(&rt, &mut source, &[Next::End, Next::End]);
 }
 
 #[test]

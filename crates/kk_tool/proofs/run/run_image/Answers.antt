@@ -22,4 +22,4 @@ returns g c =
     (record { held = g.O.Sink.held c.args.out.now; faults = g.O.Sink.faults c.args.out.now })
     (record { held = g.O.Sink.held c.run.new.out; faults = g.O.Sink.faults c.run.new.out }) in
     subst P (sym c.of_halt.ensures)
-    (executes c.args.file.now c.in-Ok.image.entry c.in-Ok.image.parts c.in-Ok.ensures.ok c.in-Ok-load.machine c.run.new.self start.start c.args.steps _ _ _ _ none _ _ _ _ c.run.result ran.ran ran.input_faults ran.output_faults)
+    (executes c.args.file.now c.in-Ok.image.entry c.in-Ok.image.parts c.in-Ok.ensures.ok c.in-Ok-load.machine c.run.new.self start.start c.args.steps (record { left = g.I.Source.left c.args.input.now; ended = g.I.Source.ended c.args.input.now }) (record { left = g.I.Source.left c.run.new.input; ended = g.I.Source.ended c.run.new.input }) _ _ none _ _ _ _ c.run.result ran.ran ran.input_faults ran.output_faults)
