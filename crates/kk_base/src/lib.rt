@@ -10,6 +10,7 @@ mod name;
 mod outside;
 mod refusal;
 mod simulation;
+mod sizes;
 mod span;
 mod status;
 
@@ -24,6 +25,7 @@ pub use simulation::{
     Layers, Simulation, TwoAgreements, agreements_compose, every_state_is_passing, layers_compose,
     related_states_agree, seen_machines_simulate,
 };
+pub use sizes::{GREATEST_CELLS, GREATEST_DEPTH};
 pub use span::Span;
 pub use status::Status;
 
