@@ -6,6 +6,7 @@ mod arithmetic;
 mod code;
 mod decoding;
 mod encoding;
+pub mod environment;
 mod immediate;
 mod instr;
 mod meaning;

@@ -3,7 +3,7 @@ use Rattle.std.proofs.Common.{◌≡◌, ◌≢◌, ◌<◌, ℕ, zero, suc, ◌
 use Rattle.std.proofs.lemmas.Bool.Decides.{nat_tests}
 use Rattle.kk_base.specs.Memory.{Part}
 use Rattle.rv_isa.specs.Bytes.{number_at}
-use Rattle.rv_isa.specs.Machine.{bare, lies_in_part}
+use Rattle.rv_isa.specs.Processor.{bare, lies_in_part}
 use Rattle.rv_isa.specs.FreeCells.{chain}
 use Rattle.rv_sim.proofs.Stepping.{lies_in_part-bare, some_if, some_if_is, none_if}
 

@@ -2,7 +2,7 @@
 use Rattle.std.proofs.Common.{◌≡◌, ℕ, List, [], ◌∷◌, ◌++◌, Bool, true, false, Option, Some, None, option_map, refl, sym, ap, subst, ◌∙◌, append_assoc, append-nil}
 use Rattle.kk_base.specs.Trace.{Event, output, input, input_end, output_of, input_of, TakesFrom}
 use Rattle.kk_base.proofs.Traces.{TakesFrom-join, output_of-append, once-join}
-use Rattle.rv_sim.specs.Devices.{Supply, GivesContent, Gives}
+use Rattle.rv_sim.specs.Devices.{Supply, GivesContent, GivesEvents}
 
 -- a source, told or not
 content-none : (left : Option (List ℕ)) → GivesContent [] left left
@@ -17,11 +17,11 @@ content-join es fs None (Some mid) after first second = absurd first
 content-join es fs (Some before) None after first second = absurd first
 content-join es fs (Some before) (Some mid) None first second = second
 
-pub Gives-none : (s : Supply) → Gives [] s s
-Gives-none s = record { content = content-none s.left; once = λ e. e }
+pub GivesEvents-none : (s : Supply) → GivesEvents [] s s
+GivesEvents-none s = record { content = content-none s.left; once = λ e. e }
 
-pub Gives-join : (es fs : List Event) (before mid after : Supply) → Gives es before mid → Gives fs mid after → Gives (es ++ fs) before after
-Gives-join es fs before mid after first second = record {
+pub GivesEvents-join : (es fs : List Event) (before mid after : Supply) → GivesEvents es before mid → GivesEvents fs mid after → GivesEvents (es ++ fs) before after
+GivesEvents-join es fs before mid after first second = record {
   content = content-join es fs before.left mid.left after.left first.content second.content;
   once = once-join es fs before.ended mid.ended after.ended first.once second.once;
 }

@@ -4,7 +4,7 @@ use Rattle.std.proofs.lemmas.Bool.Decides.{nat_tests}
 use Rattle.std.proofs.lemmas.Bool.{cases_lt}
 use Rattle.std.proofs.lemmas.List.Folds.{list_any_at}
 use Rattle.kk_base.specs.Memory.{Part, covers, byte_loaded}
-use Rattle.rv_isa.specs.Machine.{bare, lies_in_part}
+use Rattle.rv_isa.specs.Processor.{bare, lies_in_part}
 use Rattle.rv_isa.specs.Bytes.{bytes_at, with_bytes}
 use Rattle.rv_isa.proofs.Bytes.{with_bytes-inside, with_bytes-below, with_bytes-above}
 use Rattle.std.proofs.lemmas.List.Edits.{length-between, get_or-between}

@@ -6,7 +6,7 @@ use Rattle.std.proofs.Math.Seq.{map-set_same}
 use Rattle.kk_base.specs.Memory.{covers, byte_loaded}
 use Rattle.rv_isa.specs.Bytes.{little_endian, lowest_bytes, bytes_at, with_bytes, number_at, with_number}
 use Rattle.std.specs.Int.{to_le_bytes, w32}
-use Rattle.rv_isa.specs.Machine.{bare}
+use Rattle.rv_isa.specs.Processor.{bare}
 use Rattle.rv_sim.specs.declared.area.Access.{Access}
 use Rattle.rv_sim.specs.declared.area.Area.{Area}
 use Rattle.rv_sim.specs.Areas.{part_of, parts_of, permits, allows, AreApart, IsWidth}

@@ -1,7 +1,7 @@
 -- The parts of a machine's memory, with the bytes that they hold.
 use Rattle.std.specs.Prelude.{◌≡◌, ℕ, ◌-◌, ◌⊎◌, List, [], ◌∷◌, ◌++◌, length, replicate, map, Bool, true, false, ◌&&◌}
 use Rattle.kk_base.specs.Memory.{Part, covers}
-use Rattle.rv_isa.specs.Machine.{can_fetch, can_load, can_store, lies_in_part}
+use Rattle.rv_isa.specs.Processor.{can_fetch, can_load, can_store, lies_in_part}
 use Rattle.rv_isa.specs.declared.act.Act.{Act}
 use Rattle.rv_isa.specs.declared.act.Act.TheVariants as act
 use Rattle.rv_sim.specs.declared.area.Access.{Access}

@@ -2,9 +2,10 @@
 use Rattle.std.specs.Prelude.{◌≡◌, ◌≢◌, ◌≤◌, ◌<◌, ℕ, ◌+◌, ◌-◌, List, [], ◌∷◌, ◌++◌, take, length, Bool, true, false, Option, Some, None, option_map}
 use Rattle.kk_base.specs.Faults.{Rose}
 use Rattle.kk_base.specs.Trace.{Event, output, input, input_end, output_of, TakesFrom, EndsOnce}
-use Rattle.rv_isa.specs.Machine.{Ending, going, exited, trapped}
-use Rattle.rv_isa.specs.Execution.{step, go_on, run}
-use Rattle.rv_sim.specs.Simulation.{Simulation, machine_of, after_of}
+use Rattle.rv_isa.specs.Processor.{Ending, going, exited, trapped}
+use Rattle.rv_isa.specs.InstructionSet.{go_on}
+use Rattle.rv_isa.specs.Execution.{step, run}
+use Rattle.rv_sim.specs.Simulation.{Simulation, processor_of, progress_of}
 use Rattle.rv_sim.specs.declared.halt.Device.{Device}
 use Rattle.rv_sim.specs.declared.halt.Device.TheVariants.{Input, Output}
 use Rattle.rv_sim.specs.declared.halt.Halt.{Halt}
@@ -55,11 +56,11 @@ ending_at (Trap cause pc word) = trapped cause pc word
 ending_at _ = going
 
 -- how many instructions were executed, out of a budget of `steps`: all of it where it is spent, and fewer where a device has failed
-abbrev pub Executes : Halt → ℕ → ℕ → ℕ → Type 0
-Executes StepsSpent steps before now = now ≡ before + steps
-Executes InputFault steps before now = now < before + steps
-Executes OutputFault steps before now = now < before + steps
-Executes _ steps before now = now ≤ before + steps
+abbrev pub ExecutesWithin : Halt → ℕ → ℕ → ℕ → Type 0
+ExecutesWithin StepsSpent steps before now = now ≡ before + steps
+ExecutesWithin InputFault steps before now = now < before + steps
+ExecutesWithin OutputFault steps before now = now < before + steps
+ExecutesWithin _ steps before now = now ≤ before + steps
 
 -- how long the definition's run is that comes to the same: as the budget, since an ended machine stays; or, where a device has failed, as many
 -- instructions as were executed
@@ -71,7 +72,7 @@ length_of _ steps executed = steps
 -- the definition's run of `count` instructions leads from one to the other, and has done `events`, on each input that they can have taken
 abbrev pub ComesTo : ℕ → List Event → Simulation → Simulation → Type 0
 ComesTo count events old new =
-    (left rest : List ℕ) (trace : List Event) → TakesFrom events left rest → go_on (after_of old left trace) (run count) ≡ after_of new rest (trace ++ events)
+    (left rest : List ℕ) (trace : List Event) → TakesFrom events left rest → go_on (progress_of old left trace) (run count) ≡ progress_of new rest (trace ++ events)
 
 -- what a source tells: what is left of it, where it tells its content; and whether it has met its end
 pub record Supply : Type 0 where
@@ -85,7 +86,7 @@ GivesContent events (Some before) (Some after) = TakesFrom events before after
 GivesContent events _ _ = ⊥
 
 -- a source has given the events
-pub record Gives (events : List Event) (before after : Supply) : Type 0 where
+pub record GivesEvents (events : List Event) (before after : Supply) : Type 0 where
   pub content : GivesContent events before.left after.left
   pub once : EndsOnce events before.ended after.ended
 
@@ -95,31 +96,31 @@ asked [] = input_end
 asked (byte ∷ rest) = input byte
 
 -- the next instruction asks for a byte
-abbrev pub AsksNext : Simulation → Type 0
-AsksNext s = (left : List ℕ) (trace : List Event) → (step (machine_of s left trace)).machine.trace ≡ trace ++ asked left ∷ []
+abbrev pub NextAsks : Simulation → Type 0
+NextAsks s = (left : List ℕ) (trace : List Event) → (step (processor_of s left trace)).processor.trace ≡ trace ++ asked left ∷ []
 
 -- the next instruction puts a piece, and `cut` are first bytes of it
-pub record PutsNext (cut : List ℕ) (s : Simulation) : Type 0 where
+pub record NextPuts (cut : List ℕ) (s : Simulation) : Type 0 where
   pub piece : List ℕ
   pub some : 0 < length piece
   pub count : ℕ
   pub within : count ≤ length piece
   pub first : cut ≡ take count piece
-  pub next : (left : List ℕ) (trace : List Event) → (step (machine_of s left trace)).machine.trace ≡ trace ++ output piece ∷ []
+  pub next : (left : List ℕ) (trace : List Event) → (step (processor_of s left trace)).processor.trace ≡ trace ++ output piece ∷ []
 
 -- a device that has failed was called by the next instruction; only where a put failed is a piece cut
-abbrev pub Fails : Halt → List ℕ → Simulation → Type 0
-Fails InputFault cut s = (cut ≡ []) × AsksNext s
-Fails OutputFault cut s = PutsNext cut s
-Fails _ cut s = cut ≡ []
+abbrev pub DeviceFails : Halt → List ℕ → Simulation → Type 0
+DeviceFails InputFault cut s = (cut ≡ []) × NextAsks s
+DeviceFails OutputFault cut s = NextPuts cut s
+DeviceFails _ cut s = cut ≡ []
 
 -- what a run of at most `steps` instructions has done, by its answer
-pub record Runs (answer : Halt) (steps : ℕ) (old new : Simulation) (supply_before supply_after : Supply) (held_before held_after : Option (List ℕ)) : Type 0 where
+pub record HasRun (answer : Halt) (steps : ℕ) (old new : Simulation) (supply_before supply_after : Supply) (held_before held_after : Option (List ℕ)) : Type 0 where
   -- on the outside: these events, and first bytes of one more piece
   pub events : List Event
   pub cut : List ℕ
   -- the devices have given and taken just that
-  pub given : Gives events supply_before supply_after
+  pub given : GivesEvents events supply_before supply_after
   pub held : held_after ≡ option_map (λ before. before ++ (output_of events ++ cut)) held_before
   -- the machine has come to what its definition comes to; one that had ended has done nothing
   pub comes : ComesTo (length_of answer steps (new.executed - old.executed)) events old new
@@ -128,6 +129,6 @@ pub record Runs (answer : Halt) (steps : ℕ) (old new : Simulation) (supply_bef
   pub ending : new.ending ≡ ending_at answer
   pub faulted : new.faulted ≡ is_fault answer
   pub later : old.executed ≤ new.executed
-  pub executed : Executes answer steps old.executed new.executed
+  pub executed : ExecutesWithin answer steps old.executed new.executed
   -- a device has failed at the next instruction
-  pub fails : Fails answer cut new
+  pub fails : DeviceFails answer cut new

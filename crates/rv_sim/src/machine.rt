@@ -1,14 +1,15 @@
 ghost use Rattle.std.specs.Prelude.{◌≡◌, ℕ, ◌+◌, ◌*◌, ◌%◌, ◌<◌, ◌^◌, List, [], true, false, Option, IfOk};
 ghost use Rattle.std.specs.Bool.{then_some};
-ghost use Rattle.rv_isa.specs.Machine.{start, going, exited, goes, traps, value, put, can_load, can_store};
+ghost use Rattle.rv_isa.specs.Processor.{start, going, exited, goes, traps, value, put, can_load, can_store};
 ghost use Rattle.rv_isa.specs.Environment.{stepped, calls, reads, writes};
-ghost use Rattle.rv_isa.specs.Execution.{acts, executes, step, widened};
+ghost use Rattle.rv_isa.specs.Arithmetic.{widened};
+ghost use Rattle.rv_isa.specs.Execution.{acts, executes, step};
 ghost use Rattle.rv_isa.specs.FreeCells.{free_cells};
 ghost use Rattle.elf_image.specs.Parts.{memory_of};
 ghost use Rattle.rv_sim.specs.Areas.{IsWidth, MovesWidth};
-ghost use Rattle.rv_sim.specs.Devices.{Supply, CountsFault, is_input, is_output, is_input_fault, is_output_fault, halt_of, answer_of, Runs};
+ghost use Rattle.rv_sim.specs.Devices.{Supply, CountsFault, is_input, is_output, is_input_fault, is_output_fault, halt_of, answer_of, HasRun};
 ghost use Rattle.rv_sim.specs.Registers.{registers_of};
-ghost use Rattle.rv_sim.specs.Simulation.{machine_of, after_of, Does, NextDoes};
+ghost use Rattle.rv_sim.specs.Simulation.{processor_of, progress_of, Does, NextDoes};
 
 use crate::area::Access;
 use crate::halt::{Device, Halt, Phase, Turn};
@@ -16,34 +17,13 @@ use crate::memory::Memory;
 use crate::registers::Registers;
 use elf_image::Image;
 use kk_base::{Next, NoMemory, Put, Sink, Source};
+use rv_isa::environment::{
+    ACCESS_FAULT, EXIT, FETCH_FAULT, ILLEGAL_INSTRUCTION, MISALIGNED_ACCESS, MISALIGNED_TARGET,
+    READ, STANDARD_INPUT, STANDARD_OUTPUT, UNKNOWN_CALL, WRITE,
+};
 use rv_isa::{Act, Effect, Instr, Register, decode, effect};
 use std::alloc::Global;
 use std::marker::Model;
-
-/// A word that is no instruction's, or EBREAK.
-const NO_INSTRUCTION: u8 = 1;
-/// A fetch where none is allowed.
-const FETCH_FAULT: u8 = 2;
-/// A transfer to an address that is no multiple of 4.
-const MISALIGNED_TARGET: u8 = 3;
-/// A load or a store where none is allowed.
-const ACCESS_FAULT: u8 = 4;
-/// A load or a store at an address that is no multiple of its width.
-const MISALIGNED_ACCESS: u8 = 5;
-/// An ECALL that is no call of the environment.
-const NO_CALL: u8 = 6;
-
-/// The calls of the environment, as Linux numbers them.
-const READ: u32 = 63;
-
-const WRITE: u32 = 64;
-
-const EXIT: u32 = 93;
-
-/// The files that are read and written, as POSIX numbers them.
-const STANDARD_INPUT: u32 = 0;
-
-const STANDARD_OUTPUT: u32 = 1;
 
 /// A machine that executes an image.
 #[derive(Debug, Drop)]
@@ -72,7 +52,7 @@ impl Machine {
         ensures start { IfOk result
             (λ machine.
             (input : List ℕ)
-            → after_of machine input []
+            → progress_of machine input []
             ≡ goes (start (memory_of image.now.parts) image.now.entry input)) }
         ensures whole { IfOk result (λ machine. machine.faulted ≡ false) }
         ensures fresh { IfOk result (λ machine. machine.executed ≡ 0) }
@@ -95,7 +75,7 @@ impl Machine {
         requires room { self.old.executed + steps < 2 ^ 64 }
         ensures input_faults { CountsFault (is_input_fault result) (I.faults input.old) (I.faults input.new) }
         ensures output_faults { CountsFault (is_output_fault result) (O.faults out.old) (O.faults out.new) }
-        ensures ran { Runs result steps self.old self.new
+        ensures ran { HasRun result steps self.old self.new
             (record { left = I.left input.old; ended = I.ended input.old })
             (record { left = I.left input.new; ended = I.ended input.new })
             (O.held out.old) (O.held out.new) }
@@ -148,7 +128,7 @@ impl Machine {
     /// How many free cells the image has: the length of the chain from x8 through the first word of each cell, at most
     /// `cells`.
     pub fn free_cells(&self, cells: u32) -> u32
-        ensures { result ≡ free_cells cells (machine_of self.now [] []) }
+        ensures { result ≡ free_cells cells (processor_of self.now [] []) }
     {
         let mut at = self.registers.get(Register::S0);
         let mut count = 0;
@@ -169,7 +149,7 @@ impl Machine {
         requires room { self.old.executed + 1 < 2 ^ 64 }
         ensures input_faults { CountsFault (is_input result) (I.faults input.old) (I.faults input.new) }
         ensures output_faults { CountsFault (is_output result) (O.faults out.old) (O.faults out.new) }
-        ensures ran { Runs (answer_of result self.new.ending) 1 self.old self.new
+        ensures ran { HasRun (answer_of result self.new.ending) 1 self.old self.new
             (record { left = I.left input.old; ended = I.ended input.old })
             (record { left = I.left input.new; ended = I.ended input.new })
             (O.held out.old) (O.held out.new) }
@@ -194,7 +174,7 @@ impl Machine {
         requires calls { NextDoes (calls next word) self.old }
         ensures input_faults { CountsFault (is_input result) (I.faults input.old) (I.faults input.new) }
         ensures output_faults { CountsFault (is_output result) (O.faults out.old) (O.faults out.new) }
-        ensures ran { Runs (answer_of result self.new.ending) 1 self.old self.new
+        ensures ran { HasRun (answer_of result self.new.ending) 1 self.old self.new
             (record { left = I.left input.old; ended = I.ended input.old })
             (record { left = I.left input.new; ended = I.ended input.new })
             (O.held out.old) (O.held out.new) }
@@ -214,7 +194,7 @@ impl Machine {
                 None
             }
             _ => {
-                self.trap(NO_CALL, word);
+                self.trap(UNKNOWN_CALL, word);
                 None
             }
         }
@@ -231,7 +211,7 @@ impl Machine {
             ≡ true }
         ensures faults { CountsFault result (I.faults input.old) (I.faults input.new) }
         ensures ran { (held : Option (List ℕ))
-            → Runs (answer_of (then_some result Device.Input) self.new.ending) 1 self.old self.new
+            → HasRun (answer_of (then_some result Device.Input) self.new.ending) 1 self.old self.new
             (record { left = I.left input.old; ended = I.ended input.old })
             (record { left = I.left input.new; ended = I.ended input.new }) held held }
     {
@@ -268,7 +248,7 @@ impl Machine {
             ≡ true }
         ensures faults { CountsFault result (O.faults out.old) (O.faults out.new) }
         ensures ran { (supply : Supply)
-            → Runs (answer_of (then_some result Device.Output) self.new.ending) 1 self.old self.new
+            → HasRun (answer_of (then_some result Device.Output) self.new.ending) 1 self.old self.new
             supply supply (O.held out.old) (O.held out.new) }
     {
         let at = self.registers.get(Register::A1);
@@ -287,7 +267,7 @@ impl Machine {
     fn exit(&mut self, next: u32)
         requires room { self.old.executed + 1 < 2 ^ 64 }
         ensures { Does
-            (λ s. record { machine = stepped next s; ending = exited (value s.registers 10 % 256) })
+            (λ s. record { processor = stepped next s; ending = exited (value s.registers 10 % 256) })
             Turn.Over self.old self.new }
     {
         self.phase = Phase::Exited((self.registers.get(Register::A0) % 256) as u8);
@@ -307,7 +287,7 @@ impl Machine {
         match decode(word) {
             Some(instr) => self.execute(instr, word),
             None => {
-                self.trap(NO_INSTRUCTION, word);
+                self.trap(ILLEGAL_INSTRUCTION, word);
                 Turn::Over
             }
         }
@@ -344,7 +324,7 @@ impl Machine {
             Act::Load { at, width, signed } => self.load_number(rd, at, width, signed, next, word),
             Act::Store { at, width, value } => self.store_number(at, width, value, next, word),
             Act::Call => return Turn::Call { next, word },
-            Act::Break => self.trap(NO_INSTRUCTION, word),
+            Act::Break => self.trap(ILLEGAL_INSTRUCTION, word),
         }
         Turn::Over
     }

@@ -1,6 +1,6 @@
 use Rattle.std.proofs.Common.{◌≡◌, ◌≢◌, arith, rules}
 use Rattle.rv_sim.specs.contracts.machine.Machine.{the_view}
-use Rattle.rv_isa.specs.Machine.{value}
+use Rattle.rv_isa.specs.Processor.{value}
 use Rattle.rv_sim.specs.Registers.{registers_of}
 use Rattle.rv_sim.proofs.Stepping.{can_store-one}
 use Rattle.rv_sim.proofs.Calling.{read-none, read-byte, read-end, read-failed}

@@ -1,7 +1,7 @@
 use Rattle.std.proofs.Common.{◌≡◌, ap, ◌∙◌, arith, rules}
 use Rattle.kk_base.specs.Memory.{byte_loaded}
 use Rattle.rv_isa.specs.Bytes.{bytes_at}
-use Rattle.rv_isa.specs.Machine.{value}
+use Rattle.rv_isa.specs.Processor.{value}
 use Rattle.rv_sim.specs.Registers.{registers_of}
 use Rattle.rv_sim.specs.contracts.machine.Machine.{the_view}
 use Rattle.rv_sim.proofs.Calling.{write-none, write-all, write-failed}
