@@ -1,4 +1,5 @@
-//! The numbers of the execution environment: its calls, the files that they name, and the causes of traps.
+//! The numbers of the execution environment: its calls, the files that they name, the causes of traps, and the size of a
+//! cell.
 
 /// The call that reads, as Linux numbers it.
 pub const READ: u32 = 63;
@@ -32,3 +33,6 @@ pub const MISALIGNED_ACCESS: u8 = 5;
 
 /// A trap at an ECALL that is no call of the environment.
 pub const UNKNOWN_CALL: u8 = 6;
+
+/// The size of a cell in memory, in bytes. A cell lies at a multiple of it.
+pub const CELL_SIZE: u32 = 32;

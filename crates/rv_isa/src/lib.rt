@@ -1,4 +1,4 @@
-//! The instructions of RV32IM: their words and what each does.
+//! The instructions of RV32IM: their words and what each does; and the numbers of the environment that they run in.
 #![tactic(auto)]
 
 mod act;

@@ -1,10 +1,10 @@
-ghost use Rattle.std.specs.Prelude.{◌≡◌, ℕ, ◌+◌, ◌*◌, ◌%◌, ◌<◌, ◌^◌, List, [], true, false, Option, IfOk};
+ghost use Rattle.std.specs.Prelude.{◌≡◌, ℕ, ◌+◌, ◌*◌, ◌%◌, ◌<◌, ◌≤◌, ◌^◌, List, [], length, true, false, Option, IfOk};
 ghost use Rattle.std.specs.Bool.{then_some};
 ghost use Rattle.rv_isa.specs.Processor.{start, going, exited, goes, traps, value, put, can_load, can_store};
 ghost use Rattle.rv_isa.specs.Environment.{stepped, calls, reads, writes};
 ghost use Rattle.rv_isa.specs.Arithmetic.{widened};
 ghost use Rattle.rv_isa.specs.Execution.{acts, executes, step};
-ghost use Rattle.rv_isa.specs.FreeCells.{free_cells};
+ghost use Rattle.rv_isa.specs.FreeCells.{free_chain, border_size, free_cells};
 ghost use Rattle.elf_image.specs.Parts.{memory_of};
 ghost use Rattle.rv_sim.specs.Areas.{IsWidth, MovesWidth};
 ghost use Rattle.rv_sim.specs.Devices.{Supply, CountsFault, is_input, is_output, is_input_fault, is_output_fault, halt_of, answer_of, HasRun};
@@ -18,8 +18,8 @@ use crate::registers::Registers;
 use elf_image::Image;
 use kk_base::{Next, NoMemory, Put, Sink, Source};
 use rv_isa::environment::{
-    ACCESS_FAULT, EXIT, FETCH_FAULT, ILLEGAL_INSTRUCTION, MISALIGNED_ACCESS, MISALIGNED_TARGET,
-    READ, STANDARD_INPUT, STANDARD_OUTPUT, UNKNOWN_CALL, WRITE,
+    ACCESS_FAULT, CELL_SIZE, EXIT, FETCH_FAULT, ILLEGAL_INSTRUCTION, MISALIGNED_ACCESS,
+    MISALIGNED_TARGET, READ, STANDARD_INPUT, STANDARD_OUTPUT, UNKNOWN_CALL, WRITE,
 };
 use rv_isa::{Act, Effect, Instr, Register, decode, effect};
 use std::alloc::Global;
@@ -125,10 +125,19 @@ impl Machine {
         self.executed += 1;
     }
 
-    /// How many free cells the image has: the length of the chain from x8 through the first word of each cell, at most
-    /// `cells`.
+    /// How many free cells the image has: those on the chain from x8 through the first word of each, and those from x18 on
+    /// below x19; at most `cells` in all.
     pub fn free_cells(&self, cells: u32) -> u32
         ensures { result ≡ free_cells cells (processor_of self.now [] []) }
+    {
+        let chained = self.free_chain(cells);
+        chained + self.border_size().min(cells - chained)
+    }
+
+    /// How many cells the chain from x8 through the first word of each has, at most `cells`.
+    fn free_chain(&self, cells: u32) -> u32
+        ensures value { result ≡ length (free_chain cells (processor_of self.now [] [])) }
+        ensures within { result ≤ cells }
     {
         let mut at = self.registers.get(Register::S0);
         let mut count = 0;
@@ -140,6 +149,21 @@ impl Machine {
             count += 1;
         }
         count
+    }
+
+    /// How many cells lie from x18 on below x19: none where one of the two is no multiple of a cell's size, or x18 is above
+    /// x19.
+    fn border_size(&self) -> u32
+        ensures { result
+            ≡ border_size (value (registers_of self.now.registers) 18) (value (registers_of self.now.registers) 19) }
+    {
+        let low = self.registers.get(Register::S2);
+        let high = self.registers.get(Register::S3);
+        if low % CELL_SIZE == 0 && high % CELL_SIZE == 0 && low <= high {
+            (high - low) / CELL_SIZE
+        } else {
+            0
+        }
     }
 
     /// Executes the next instruction. Answers the device that failed, if one did; then nothing was executed.

@@ -3,7 +3,7 @@ use Rattle.kk_base.specs.Memory.{byte_loaded}
 use Rattle.rv_isa.specs.Processor.{bare, value}
 use Rattle.rv_isa.specs.FreeCells.{chain}
 use Rattle.rv_sim.specs.Registers.{registers_of}
-use Rattle.rv_sim.proofs.machine.Machine.free_cells.Given as goal
+use Rattle.rv_sim.proofs.machine.Machine.free_chain.Given as goal
 
 abbrev pub invariant-loop-count : goal.invariant-loop-count
 invariant-loop-count l = record {
