@@ -10,7 +10,7 @@ use Rattle.rv_isa.specs.Bytes.{Apart, number_at}
 use Rattle.rv_isa.specs.Arithmetic.{sum_word}
 use Rattle.rv_isa.specs.Processor.{Processor, Ending, going, exited, trapped, Progress, value, can_fetch, can_store}
 use Rattle.rv_isa.specs.InstructionSet.{resumes}
-use Rattle.rv_isa.specs.Execution.{acts, effect_at, decodes, step, run, Leads}
+use Rattle.rv_isa.specs.Execution.{rv32im, acts, effect_at, decodes, step, run, Leads}
 use Rattle.rv_isa.specs.Standing.{Code, Has, code_of, Stands}
 use Rattle.rv_isa.proofs.Runs.{run-zero, run-suc, Leads-run}
 use Rattle.rv_isa.proofs.Steps.{step-fetched, decodes-some, executes-aligned}
@@ -136,7 +136,7 @@ not-none n some = omega arith
 
 module _ {code : Code} {s : Processor} (stands : Stands code s) where
   pub step-words : (at : ℕ) (i : Instr) → code at ≡ Some i → number_at (step s).processor.memory at 4 ≡ number_at s.memory at 4
-  step-words at i here = step-by (λ after. number_at after.processor.memory at 4 ≡ number_at s.memory at 4) s record {
+  step-words at i here = step-by rv32im (λ after. number_at after.processor.memory at 4 ≡ number_at s.memory at 4) s record {
     trap = λ cause word. refl;
     nothing = λ next. refl;
     set = λ rd v next. refl;
@@ -151,7 +151,7 @@ module _ {code : Code} {s : Processor} (stands : Stands code s) where
   }
 
   pub Stands-step : Stands code (step s).processor
-  Stands-step = Stands-same (step s).processor stands (step-parts s) step-words
+  Stands-step = Stands-same (step s).processor stands (step-parts rv32im s) step-words
 
 -- ---- a run
 
@@ -161,10 +161,10 @@ Stands-resumes code (exited n) s f here there = here
 Stands-resumes code (trapped c p w) s f here there = here
 
 pub Stands-run : {code : Code} (n : ℕ) (s : Processor) → Stands code s → Stands code (run n s).processor
-Stands-run {code} zero s stands = rw (run-zero s) stands
+Stands-run {code} zero s stands = rw (run-zero rv32im s) stands
 Stands-run {code} (suc n) s stands =
     let next = Stands-step stands in
-    rw (run-suc n s) (Stands-resumes code (step s).ending (step s).processor (run n) next (Stands-run n (step s).processor next))
+    rw (run-suc rv32im n s) (Stands-resumes code (step s).ending (step s).processor (run n) next (Stands-run n (step s).processor next))
 
 pub Stands-leads : {code : Code} {n : ℕ} {s t : Processor} → Leads n s t → Stands code s → Stands code t
 Stands-leads {code} {n} {s} {t} leads stands =

@@ -14,5 +14,6 @@ pub mod Processor
 pub mod Environment
 pub mod InstructionSet
 pub mod Execution
+pub mod ProcessorMachine
 pub mod FreeCells
 pub mod Standing

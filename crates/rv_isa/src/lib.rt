@@ -2,6 +2,7 @@
 #![tactic(auto)]
 
 mod act;
+mod agreement;
 mod arithmetic;
 mod code;
 mod decoding;
@@ -15,6 +16,7 @@ mod register;
 mod tests;
 
 pub use act::{Act, Effect};
+pub use agreement::{AgreedImage, agreed_image_agrees};
 pub use decoding::decode;
 pub use encoding::encode;
 pub use immediate::{BranchOffset, Immediate, JumpOffset, ShiftAmount, UpperImmediate};

@@ -3,7 +3,7 @@ use Rattle.std.proofs.Common.{◌≡◌, ◌≢◌, ◌≤◌, ℕ, ◌+◌, ◌
 use Rattle.kk_base.specs.Trace.{Event, TakesFrom, output_of}
 use Rattle.rv_isa.specs.Processor.{Ending, going, exited, trapped, Progress}
 use Rattle.rv_isa.specs.InstructionSet.{go_on}
-use Rattle.rv_isa.specs.Execution.{run}
+use Rattle.rv_isa.specs.Execution.{rv32im, run}
 use Rattle.rv_isa.proofs.Runs.{go_on-ended, go_on-add, go_on-none}
 use Rattle.rv_sim.specs.Simulation.{Simulation, progress_of}
 use Rattle.rv_sim.specs.declared.halt.Halt.{Halt}
@@ -19,7 +19,7 @@ ComesTo-same events old new same comes = subst (λ k. ComesTo k events old new) 
 ComesTo-then : (n k : ℕ) (es fs : List Event) (a b c : Simulation) → ComesTo n es a b → ComesTo k fs b c → ComesTo (n + k) (es ++ fs) a c
 ComesTo-then n k es fs a b c first second = λ left rest trace takes.
     let parts = TakesFrom-split es fs left rest takes in
-    go_on-add (progress_of a left trace) n k
+    go_on-add rv32im (progress_of a left trace) n k
     ∙ ap (λ (after : Progress). go_on after (run k)) (first left parts.0 trace parts.1)
     ∙ second parts.0 rest (trace ++ es) parts.2
     ∙ ap (λ (events : List Event). progress_of c rest events) (append_assoc trace es fs)
@@ -29,7 +29,7 @@ ComesTo-more : (n m : ℕ) (es : List Event) (a b : Simulation) → n ≤ m → 
 ComesTo-more n m es a b less ended comes = λ left rest trace takes.
     let sum : n + (m - n) ≡ m = omega arith in
     ap (λ k. go_on (progress_of a left trace) (run k)) (sym sum)
-    ∙ go_on-add (progress_of a left trace) n (m - n)
+    ∙ go_on-add rv32im (progress_of a left trace) n (m - n)
     ∙ ap (λ (after : Progress). go_on after (run (m - n))) (comes left rest trace takes)
     ∙ go_on-ended (progress_of b rest (trace ++ es)) (run (m - n)) ended
 
@@ -71,7 +71,7 @@ HasRun-none s left held sound = record {
   given = GivesEvents-none left;
   held = held-none held;
   comes = ComesTo-same [] s s (length-none s.ending s.executed) (λ before rest trace same.
-      go_on-none (progress_of s before trace) ∙ ap (λ (xs : List ℕ). progress_of s xs trace) same ∙ ap (λ (es : List Event). progress_of s rest es) (sym (append-nil trace)));
+      go_on-none rv32im (progress_of s before trace) ∙ ap (λ (xs : List ℕ). progress_of s xs trace) same ∙ ap (λ (es : List Event). progress_of s rest es) (sym (append-nil trace)));
   stays = λ ended. refl;
   ending = sym (halt_of-ending s.ending);
   faulted = sound ∙ sym (halt_of-no_fault s.ending);

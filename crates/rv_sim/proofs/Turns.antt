@@ -3,7 +3,7 @@ use Rattle.std.proofs.Common.{◌≡◌, ℕ, ◌+◌, ◌-◌, List, [], ◌++�
 use Rattle.kk_base.specs.Trace.{Event, output_of, TakesFrom}
 use Rattle.rv_isa.specs.Processor.{Processor, Ending, going, exited, trapped, counted, Progress}
 use Rattle.rv_isa.specs.InstructionSet.{resumes, go_on}
-use Rattle.rv_isa.specs.Execution.{run, step}
+use Rattle.rv_isa.specs.Execution.{rv32im, run, step}
 use Rattle.rv_isa.proofs.Runs.{run-one, go_on-none}
 use Rattle.rv_isa.proofs.Cases.{step-executed}
 use Rattle.rv_sim.specs.Simulation.{Simulation, processor_of, progress_of, Does, NextDoes}
@@ -47,7 +47,7 @@ length-fault OutputFault n is = omega arith
 
 module _ (old new : Simulation) (ongoing : old.ending ≡ going) where
   one_step : (left : List ℕ) (trace : List Event) → go_on (progress_of old left trace) (run 1) ≡ step (processor_of old left trace)
-  one_step left trace = ap (λ (e : Ending). resumes e (processor_of old left trace) (run 1)) ongoing ∙ run-one (processor_of old left trace)
+  one_step left trace = ap (λ (e : Ending). resumes e (processor_of old left trace) (run 1)) ongoing ∙ run-one rv32im (processor_of old left trace)
 
   -- an instruction that no device failed at
   pub HasRun-one : (events : List Event) (l l' : Supply) (h h' : Option (List ℕ)) → new.faulted ≡ false → new.executed ≡ old.executed + counted new.ending
@@ -73,7 +73,7 @@ module _ (old new : Simulation) (ongoing : old.ending ≡ going) where
   HasRun-quiet what left held sound next does =
       let after : (xs : List ℕ) (trace : List Event) → progress_of new xs trace ≡ step (processor_of old xs trace) = λ xs trace. does.0 xs trace ∙ sym (next xs trace) in
       HasRun-one [] left left held held (does.1 ∙ sound)
-      (ap (λ (a : Progress). a.processor.executed) (after [] []) ∙ step-executed (processor_of old [] []) ∙ ap (λ (a : Progress). old.executed + counted a.ending) (sym (after [] [])))
+      (ap (λ (a : Progress). a.processor.executed) (after [] []) ∙ step-executed rv32im (processor_of old [] []) ∙ ap (λ (a : Progress). old.executed + counted a.ending) (sym (after [] [])))
       (GivesEvents-none left) (held-none held)
       (λ before rest trace same.
       sym (after before trace) ∙ ap (λ (xs : List ℕ). progress_of new xs trace) same ∙ ap (λ (es : List Event). progress_of new rest es) (sym (append-nil trace)))
@@ -87,7 +87,7 @@ HasRun-failed answer cut old l l' h h' is ongoing given held fails = record {
   given = given;
   held = held;
   comes = ComesTo-same [] old (record old { faulted = true }) (length-fault answer old.executed is) (λ left rest trace same.
-      go_on-none (progress_of old left trace) ∙ ap (λ (xs : List ℕ). progress_of old xs trace) same ∙ ap (λ (es : List Event). progress_of old rest es) (sym (append-nil trace)));
+      go_on-none rv32im (progress_of old left trace) ∙ ap (λ (xs : List ℕ). progress_of old xs trace) same ∙ ap (λ (es : List Event). progress_of old rest es) (sym (append-nil trace)));
   stays = λ ended. refl;
   ending = ongoing ∙ sym (ending_at-fault answer is);
   faulted = sym is;
