@@ -1,5 +1,6 @@
 -- The definitions, tried on small cases.
-use Rattle.std.proofs.Common.{◌≡◌, ℕ, List, [], ◌∷◌, ◌++◌, replicate, true, false, Some, None, refl, sym, ap, ◌∙◌, arith, append-nil}
+use Rattle.std.proofs.Common.{◌≡◌, ◌<◌, ℕ, List, [], ◌∷◌, ◌++◌, replicate, true, false, Some, None, refl, sym, ap, ◌∙◌, arith, append-nil}
+use Rattle.std.proofs.lemmas.List.Elements.{All-nil}
 use Rattle.kk_base.specs.Trace.{Event, input, input_end, EndsOnce}
 use Rattle.rv_isa.specs.Processor.{going, exited}
 use Rattle.rv_isa.specs.InstructionSet.{go_on, acts_over, decodes_over, executes_over, run_over, step_over}
@@ -54,11 +55,11 @@ unfolding run_over step_over decodes_over executes_over acts_over calls number_a
 comes_to_exit left trace = refl
 
 -- one instruction of a budget of four, over devices that tell their content
-exits : HasRun (Exit 5) 4 exiting at_exit (record { left = Some (7 ∷ []); ended = false }) (record { left = Some (7 ∷ []); ended = false }) (Some (1 ∷ [])) (Some (1 ∷ []))
+exits : HasRun (Exit 5) 4 exiting at_exit (record { left = Some (7 ∷ []); ended = false; faults = 0 }) (record { left = Some (7 ∷ []); ended = false; faults = 0 }) (record { held = Some (1 ∷ []); faults = 0 }) (record { held = Some (1 ∷ []); faults = 0 })
 exits = record {
   events = [];
   cut = [];
-  given = record { content = refl; once = λ e. e };
+  given = record { content = refl; once = λ e. e; bytes = All-nil (λ byte. byte < 256) };
   held = refl;
   comes = λ left rest trace same.
       comes_to_exit left trace ∙ ap (λ (xs : List ℕ). progress_of at_exit xs trace) same ∙ ap (λ (es : List Event). progress_of at_exit rest es) (sym (append-nil trace));

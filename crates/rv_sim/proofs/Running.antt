@@ -1,5 +1,7 @@
 -- Runs one after the other, as one run.
 use Rattle.std.proofs.Common.{◌≡◌, ◌≢◌, ◌≤◌, ℕ, ◌+◌, ◌-◌, List, [], ◌++◌, false, Option, option_map, refl, sym, ap, subst, ◌∙◌, arith, append_assoc, append-nil}
+use Rattle.kk_base.specs.Source.{SourceState}
+use Rattle.kk_base.specs.Sink.{SinkState}
 use Rattle.kk_base.specs.Trace.{Event, TakesFrom, output_of}
 use Rattle.rv_isa.specs.Processor.{Ending, going, exited, trapped, Progress}
 use Rattle.rv_isa.specs.InstructionSet.{go_on}
@@ -8,7 +10,7 @@ use Rattle.rv_isa.proofs.Runs.{go_on-ended, go_on-add, go_on-none}
 use Rattle.rv_sim.specs.Simulation.{Simulation, progress_of}
 use Rattle.rv_sim.specs.declared.halt.Halt.{Halt}
 use Rattle.rv_sim.specs.declared.halt.Halt.TheVariants.{Exit, StepsSpent, Trap, InputFault, OutputFault}
-use Rattle.rv_sim.specs.Devices.{Supply, halt_of, ending_at, is_fault, ExecutesWithin, length_of, ComesTo, DeviceFails, HasRun}
+use Rattle.rv_sim.specs.Devices.{halt_of, ending_at, is_fault, ExecutesWithin, length_of, ComesTo, DeviceFails, HasRun}
 use Rattle.rv_sim.proofs.Events.{GivesEvents-none, GivesEvents-join, held-none, held-join}
 use Rattle.kk_base.proofs.Traces.{TakesFrom-split}
 
@@ -64,12 +66,12 @@ length-none (exited k) n = refl
 length-none (trapped c p w) n = refl
 
 -- a run of no steps
-pub HasRun-none : (s : Simulation) (left : Supply) (held : Option (List ℕ)) → s.faulted ≡ false → HasRun (halt_of s.ending) 0 s s left left held held
+pub HasRun-none : (s : Simulation) (left : SourceState) (held : SinkState) → s.faulted ≡ false → HasRun (halt_of s.ending) 0 s s left left held held
 HasRun-none s left held sound = record {
   events = [];
   cut = [];
   given = GivesEvents-none left;
-  held = held-none held;
+  held = held-none held.held;
   comes = ComesTo-same [] s s (length-none s.ending s.executed) (λ before rest trace same.
       go_on-none rv32im (progress_of s before trace) ∙ ap (λ (xs : List ℕ). progress_of s xs trace) same ∙ ap (λ (es : List Event). progress_of s rest es) (sym (append-nil trace)));
   stays = λ ended. refl;
@@ -80,7 +82,7 @@ HasRun-none s left held sound = record {
   fails = fails-none s.ending s;
 }
 
-pub HasRun-same : {answer answer' : Halt} {n m : ℕ} {a b : Simulation} {l l' : Supply} {h h' : Option (List ℕ)} → answer ≡ answer' → n ≡ m → HasRun answer n a b l l' h h' → HasRun answer' m a b l l' h h'
+pub HasRun-same : {answer answer' : Halt} {n m : ℕ} {a b : Simulation} {l l' : SourceState} {h h' : SinkState} → answer ≡ answer' → n ≡ m → HasRun answer n a b l l' h h' → HasRun answer' m a b l l' h h'
 HasRun-same {answer} {answer'} {n} {m} {a} {b} {l} {l'} {h} {h'} same_answer same ran =
     subst (λ (r : Halt). HasRun r m a b l l' h h') same_answer (subst (λ (k : ℕ). HasRun answer k a b l l' h h') same ran)
 
@@ -101,7 +103,7 @@ executes-then InputFault n k a b c is more = omega arith
 executes-then OutputFault n k a b c is more = omega arith
 
 -- a machine that had ended has not gone on
-pub HasRun-stays : (answer : Halt) (n : ℕ) (a b : Simulation) (l l' : Supply) (h h' : Option (List ℕ)) → HasRun answer n a b l l' h h' → a.ending ≢ going
+pub HasRun-stays : (answer : Halt) (n : ℕ) (a b : Simulation) (l l' : SourceState) (h h' : SinkState) → HasRun answer n a b l l' h h' → a.ending ≢ going
     → (left : List ℕ) (trace : List Event) → progress_of b left trace ≡ progress_of a left trace
 HasRun-stays answer n a b l l' h h' ran ended left trace =
     let none = ran.stays ended in
@@ -109,15 +111,15 @@ HasRun-stays answer n a b l l' h h' ran ended left trace =
     ap (λ (es : List Event). progress_of b left es) (sym (append-nil trace) ∙ ap (λ (es : List Event). trace ++ es) (sym none))
     ∙ sym (ran.comes left left trace takes) ∙ go_on-ended (progress_of a left trace) (run (length_of answer n (b.executed - a.executed))) ended
 
-pub HasRun-then : (answer : Halt) (n k : ℕ) (a b c : Simulation) (l l' l'' : Supply) (h h' h'' : Option (List ℕ))
+pub HasRun-then : (answer : Halt) (n k : ℕ) (a b c : Simulation) (l l' l'' : SourceState) (h h' h'' : SinkState)
     → HasRun StepsSpent n a b l l' h h' → HasRun answer k b c l' l'' h' h'' → HasRun answer (n + k) a c l l'' h h''
 HasRun-then answer n k a b c l l' l'' h h' h'' first second =
-    let whole_held = subst (λ (cut : List ℕ). h' ≡ option_map (λ before. before ++ (output_of first.events ++ cut)) h) first.fails first.held in
+    let whole_held = subst (λ (cut : List ℕ). h'.held ≡ option_map (λ before. before ++ (output_of first.events ++ cut)) h.held) first.fails first.held in
     record {
       events = first.events ++ second.events;
       cut = second.cut;
       given = GivesEvents-join first.events second.events l l' l'' first.given second.given;
-      held = held-join first.events second.events second.cut h h' h'' whole_held second.held;
+      held = held-join first.events second.events second.cut h.held h'.held h''.held whole_held second.held;
       comes = ComesTo-same (first.events ++ second.events) a c (length-then answer n k a.executed b.executed c.executed first.executed second.later)
           (ComesTo-then n (length_of answer k (c.executed - b.executed)) first.events second.events a b c first.comes second.comes);
       stays = λ ended. absurd (ended (ap (λ (after : Progress). after.ending) (sym (HasRun-stays StepsSpent n a b l l' h h' first ended [] [])) ∙ first.ending));
@@ -146,7 +148,7 @@ executes-more InputFault n m a b early less holds = omega arith
 executes-more OutputFault n m a b early less holds = omega arith
 
 -- what has stopped within a budget stops so within a greater one
-pub HasRun-more : (answer : Halt) (n m : ℕ) (a b : Simulation) (l l' : Supply) (h h' : Option (List ℕ)) → answer ≢ StepsSpent → n ≤ m → HasRun answer n a b l l' h h' → HasRun answer m a b l l' h h'
+pub HasRun-more : (answer : Halt) (n m : ℕ) (a b : Simulation) (l l' : SourceState) (h h' : SinkState) → answer ≢ StepsSpent → n ≤ m → HasRun answer n a b l l' h h' → HasRun answer m a b l l' h h'
 HasRun-more answer n m a b l l' h h' early less ran = record {
   events = ran.events;
   cut = ran.cut;
@@ -162,7 +164,7 @@ HasRun-more answer n m a b l l' h h' early less ran = record {
 }
 
 -- what has ended within a budget has ended so within a greater one
-pub HasRun-ended : (e : Ending) (n m : ℕ) (a b : Simulation) (l l' : Supply) (h h' : Option (List ℕ)) → e ≢ going → n ≤ m → HasRun (halt_of e) n a b l l' h h' → HasRun (halt_of e) m a b l l' h h'
+pub HasRun-ended : (e : Ending) (n m : ℕ) (a b : Simulation) (l l' : SourceState) (h h' : SinkState) → e ≢ going → n ≤ m → HasRun (halt_of e) n a b l l' h h' → HasRun (halt_of e) m a b l l' h h'
 HasRun-ended going n m a b l l' h h' ended less ran = absurd (ended refl)
 HasRun-ended (exited k) n m a b l l' h h' ended less ran = HasRun-more (Exit k) n m a b l l' h h' (λ same. cc) less ran
 HasRun-ended (trapped c p w) n m a b l l' h h' ended less ran = HasRun-more (Trap c p w) n m a b l l' h h' (λ same. cc) less ran

@@ -16,7 +16,7 @@ use Rattle.rv_isa.proofs.Acts.{acts-load, acts-load_denied, acts-store, acts-sto
 use Rattle.rv_sim.specs.Registers.{registers_of}
 use Rattle.rv_sim.specs.declared.halt.Turn.{Turn}
 use Rattle.rv_sim.specs.declared.halt.Turn.TheVariants.{Over, Call}
-use Rattle.rv_sim.specs.Simulation.{Simulation, processor_of, progress_of, Does}
+use Rattle.rv_sim.specs.Simulation.{Simulation, processor_of, progress_of, TurnDoes}
 use Rattle.rv_sim.proofs.Finding.{list_any-map, list_any-weaker}
 
 pub can_fetch-bare : (ps : List Part) (at count : ℕ) → can_fetch (map bare ps) at count ≡ can_fetch ps at count
@@ -74,7 +74,7 @@ module _ (old : Simulation) (left : List ℕ) (trace : List Event) (rd next word
   finishes new ongoing is = rw (is, ongoing) refl
 
 pub does-same : (what other : Processor → Progress) (turn : Turn) (old new : Simulation) → ((left : List ℕ) (trace : List Event) → what (processor_of old left trace) ≡ other (processor_of old left trace))
-    → Does what turn old new → Does other turn old new
+    → TurnDoes what turn old new → TurnDoes other turn old new
 does-same what other Over old new same does = (λ left trace. does.0 left trace ∙ same left trace, does.1)
 does-same what other (Call next word) old new same does = (does.0, λ left trace. sym (same left trace) ∙ does.1 left trace)
 

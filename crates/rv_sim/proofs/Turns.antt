@@ -1,16 +1,18 @@
 -- One instruction, as a run of one step.
 use Rattle.std.proofs.Common.{◌≡◌, ℕ, ◌+◌, ◌-◌, List, [], ◌++◌, true, false, Option, option_map, refl, sym, ap, ◌∙◌, arith, append-nil}
+use Rattle.kk_base.specs.Source.{SourceState}
+use Rattle.kk_base.specs.Sink.{SinkState}
 use Rattle.kk_base.specs.Trace.{Event, output_of, TakesFrom}
 use Rattle.rv_isa.specs.Processor.{Processor, Ending, going, exited, trapped, counted, Progress}
 use Rattle.rv_isa.specs.InstructionSet.{resumes, go_on}
 use Rattle.rv_isa.specs.Execution.{rv32im, run, step}
 use Rattle.rv_isa.proofs.Runs.{run-one, go_on-none}
 use Rattle.rv_isa.proofs.Cases.{step-executed}
-use Rattle.rv_sim.specs.Simulation.{Simulation, processor_of, progress_of, Does, NextDoes}
+use Rattle.rv_sim.specs.Simulation.{Simulation, processor_of, progress_of, TurnDoes, NextDoes}
 use Rattle.rv_sim.specs.declared.halt.Turn.TheVariants.{Over}
 use Rattle.rv_sim.specs.declared.halt.Halt.{Halt}
 use Rattle.rv_sim.specs.declared.halt.Halt.TheVariants.{Exit, StepsSpent, Trap, InputFault, OutputFault}
-use Rattle.rv_sim.specs.Devices.{Supply, halt_of, ending_at, is_fault, ExecutesWithin, length_of, GivesEvents, DeviceFails, HasRun}
+use Rattle.rv_sim.specs.Devices.{halt_of, ending_at, is_fault, ExecutesWithin, length_of, GivesEvents, DeviceFails, HasRun}
 use Rattle.rv_sim.proofs.Events.{GivesEvents-none, held-none}
 use Rattle.rv_sim.proofs.Running.{ComesTo-same, halt_of-ending, halt_of-no_fault, fails-none}
 
@@ -50,8 +52,8 @@ module _ (old new : Simulation) (ongoing : old.ending ≡ going) where
   one_step left trace = ap (λ (e : Ending). resumes e (processor_of old left trace) (run 1)) ongoing ∙ run-one rv32im (processor_of old left trace)
 
   -- an instruction that no device failed at
-  pub HasRun-one : (events : List Event) (l l' : Supply) (h h' : Option (List ℕ)) → new.faulted ≡ false → new.executed ≡ old.executed + counted new.ending
-      → GivesEvents events l l' → h' ≡ option_map (λ before. before ++ (output_of events ++ [])) h
+  pub HasRun-one : (events : List Event) (l l' : SourceState) (h h' : SinkState) → new.faulted ≡ false → new.executed ≡ old.executed + counted new.ending
+      → GivesEvents events l l' → h'.held ≡ option_map (λ before. before ++ (output_of events ++ [])) h.held
       → ((left rest : List ℕ) (trace : List Event) → TakesFrom events left rest → step (processor_of old left trace) ≡ progress_of new rest (trace ++ events))
       → HasRun (halt_of new.ending) 1 old new l l' h h'
   HasRun-one events l l' h h' sound executed given held steps = record {
@@ -69,18 +71,18 @@ module _ (old new : Simulation) (ongoing : old.ending ≡ going) where
   }
 
   -- one that has done nothing on the outside
-  pub HasRun-quiet : (what : Processor → Progress) (left : Supply) (held : Option (List ℕ)) → old.faulted ≡ false → NextDoes what old → Does what Over old new → HasRun (halt_of new.ending) 1 old new left left held held
+  pub HasRun-quiet : (what : Processor → Progress) (left : SourceState) (held : SinkState) → old.faulted ≡ false → NextDoes what old → TurnDoes what Over old new → HasRun (halt_of new.ending) 1 old new left left held held
   HasRun-quiet what left held sound next does =
       let after : (xs : List ℕ) (trace : List Event) → progress_of new xs trace ≡ step (processor_of old xs trace) = λ xs trace. does.0 xs trace ∙ sym (next xs trace) in
       HasRun-one [] left left held held (does.1 ∙ sound)
       (ap (λ (a : Progress). a.processor.executed) (after [] []) ∙ step-executed rv32im (processor_of old [] []) ∙ ap (λ (a : Progress). old.executed + counted a.ending) (sym (after [] [])))
-      (GivesEvents-none left) (held-none held)
+      (GivesEvents-none left) (held-none held.held)
       (λ before rest trace same.
       sym (after before trace) ∙ ap (λ (xs : List ℕ). progress_of new xs trace) same ∙ ap (λ (es : List Event). progress_of new rest es) (sym (append-nil trace)))
 
 -- an instruction that a device failed at
-pub HasRun-failed : (answer : Halt) (cut : List ℕ) (old : Simulation) (l l' : Supply) (h h' : Option (List ℕ)) → is_fault answer ≡ true → old.ending ≡ going
-    → GivesEvents [] l l' → h' ≡ option_map (λ before. before ++ ([] ++ cut)) h → DeviceFails answer cut (record old { faulted = true }) → HasRun answer 1 old (record old { faulted = true }) l l' h h'
+pub HasRun-failed : (answer : Halt) (cut : List ℕ) (old : Simulation) (l l' : SourceState) (h h' : SinkState) → is_fault answer ≡ true → old.ending ≡ going
+    → GivesEvents [] l l' → h'.held ≡ option_map (λ before. before ++ ([] ++ cut)) h.held → DeviceFails answer cut (record old { faulted = true }) → HasRun answer 1 old (record old { faulted = true }) l l' h h'
 HasRun-failed answer cut old l l' h h' is ongoing given held fails = record {
   events = [];
   cut = cut;

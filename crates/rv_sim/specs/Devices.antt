@@ -1,7 +1,8 @@
 -- What a run does: to the machine, as its definition says, and on the devices, whose contents are lists where they tell them.
 use Rattle.std.specs.Prelude.{◌≡◌, ◌≢◌, ◌≤◌, ◌<◌, ℕ, ◌+◌, ◌-◌, List, [], ◌∷◌, ◌++◌, take, length, Bool, true, false, Option, Some, None, option_map}
-use Rattle.kk_base.specs.Faults.{Rose}
-use Rattle.kk_base.specs.Trace.{Event, output, input, input_end, output_of, TakesFrom, EndsOnce}
+use Rattle.kk_base.specs.Source.{SourceState}
+use Rattle.kk_base.specs.Sink.{SinkState}
+use Rattle.kk_base.specs.Trace.{Event, output, input, input_end, output_of, TakesBytes, TakesFrom, EndsOnce}
 use Rattle.rv_isa.specs.Processor.{Ending, going, exited, trapped}
 use Rattle.rv_isa.specs.InstructionSet.{go_on}
 use Rattle.rv_isa.specs.Execution.{step, run}
@@ -10,11 +11,6 @@ use Rattle.rv_sim.specs.declared.halt.Device.{Device}
 use Rattle.rv_sim.specs.declared.halt.Device.TheVariants.{Input, Output}
 use Rattle.rv_sim.specs.declared.halt.Halt.{Halt}
 use Rattle.rv_sim.specs.declared.halt.Halt.TheVariants.{Exit, StepsSpent, Trap, InputFault, OutputFault}
-
--- the count of faults rose where the device failed, and stayed where it did not
-abbrev pub CountsFault : Bool → ℕ → ℕ → Type 0
-CountsFault true before now = Rose before now
-CountsFault false before now = now ≡ before
 
 abbrev pub is_input : Option Device → Bool
 is_input (Some Input) = true
@@ -74,21 +70,17 @@ abbrev pub ComesTo : ℕ → List Event → Simulation → Simulation → Type 0
 ComesTo count events old new =
     (left rest : List ℕ) (trace : List Event) → TakesFrom events left rest → go_on (progress_of old left trace) (run count) ≡ progress_of new rest (trace ++ events)
 
--- what a source tells: what is left of it, where it tells its content; and whether it has met its end
-pub record Supply : Type 0 where
-  pub left : Option (List ℕ)
-  pub ended : Bool
-
 -- a source has given what the events took, where it tells what is left of it
 abbrev pub GivesContent : List Event → Option (List ℕ) → Option (List ℕ) → Type 0
 GivesContent events None None = Unit {0}
 GivesContent events (Some before) (Some after) = TakesFrom events before after
 GivesContent events _ _ = ⊥
 
--- a source has given the events
-pub record GivesEvents (events : List Event) (before after : Supply) : Type 0 where
+-- a source has given the events, behind whose end no byte comes; what they took are bytes
+pub record GivesEvents (events : List Event) (before after : SourceState) : Type 0 where
   pub content : GivesContent events before.left after.left
   pub once : EndsOnce events before.ended after.ended
+  pub bytes : TakesBytes events
 
 -- what is asked for is the next byte of what is left, or the end
 abbrev pub asked : List ℕ → Event
@@ -115,13 +107,13 @@ DeviceFails OutputFault cut s = NextPuts cut s
 DeviceFails _ cut s = cut ≡ []
 
 -- what a run of at most `steps` instructions has done, by its answer
-pub record HasRun (answer : Halt) (steps : ℕ) (old new : Simulation) (supply_before supply_after : Supply) (held_before held_after : Option (List ℕ)) : Type 0 where
+pub record HasRun (answer : Halt) (steps : ℕ) (old new : Simulation) (source_before source_after : SourceState) (sink_before sink_after : SinkState) : Type 0 where
   -- on the outside: these events, and first bytes of one more piece
   pub events : List Event
   pub cut : List ℕ
   -- the devices have given and taken just that
-  pub given : GivesEvents events supply_before supply_after
-  pub held : held_after ≡ option_map (λ before. before ++ (output_of events ++ cut)) held_before
+  pub given : GivesEvents events source_before source_after
+  pub held : sink_after.held ≡ option_map (λ before. before ++ (output_of events ++ cut)) sink_before.held
   -- the machine has come to what its definition comes to; one that had ended has done nothing
   pub comes : ComesTo (length_of answer steps (new.executed - old.executed)) events old new
   pub stays : old.ending ≢ going → events ≡ []

@@ -44,10 +44,10 @@ ending_of (Trapped cause pc word) = trapped cause pc word
 
 -- an instruction that is over has done `what` the machine does, and no device failed; one that calls the environment has changed nothing, and
 -- what it does is the call
-abbrev pub Does : (Processor → Progress) → Turn → Simulation → Simulation → Type 0
-Does what Over old new =
+abbrev pub TurnDoes : (Processor → Progress) → Turn → Simulation → Simulation → Type 0
+TurnDoes what Over old new =
     ((left : List ℕ) (trace : List Event) → progress_of new left trace ≡ what (processor_of old left trace)) × (new.faulted ≡ old.faulted)
-Does what (Call next word) old new =
+TurnDoes what (Call next word) old new =
     (new ≡ old) × ((left : List ℕ) (trace : List Event) → what (processor_of old left trace) ≡ calls next word (processor_of old left trace))
 
 -- this is what the next instruction does

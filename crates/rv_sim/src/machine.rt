@@ -1,5 +1,8 @@
 ghost use Rattle.std.specs.Prelude.{◌≡◌, ℕ, ◌+◌, ◌*◌, ◌%◌, ◌<◌, ◌≤◌, ◌^◌, List, [], length, true, false, Option, IfOk};
 ghost use Rattle.std.specs.Bool.{then_some};
+ghost use Rattle.kk_base.specs.Faults.{Rises};
+ghost use Rattle.kk_base.specs.Source.{SourceState};
+ghost use Rattle.kk_base.specs.Sink.{SinkState};
 ghost use Rattle.rv_isa.specs.Processor.{start, going, exited, goes, traps, value, put, can_load, can_store};
 ghost use Rattle.rv_isa.specs.Environment.{stepped, calls, reads, writes};
 ghost use Rattle.rv_isa.specs.Arithmetic.{widened};
@@ -7,9 +10,9 @@ ghost use Rattle.rv_isa.specs.Execution.{acts, executes, step};
 ghost use Rattle.rv_isa.specs.FreeCells.{free_chain, border_size, free_cells};
 ghost use Rattle.elf_image.specs.Parts.{memory_of};
 ghost use Rattle.rv_sim.specs.Areas.{IsWidth, MovesWidth};
-ghost use Rattle.rv_sim.specs.Devices.{Supply, CountsFault, is_input, is_output, is_input_fault, is_output_fault, halt_of, answer_of, HasRun};
+ghost use Rattle.rv_sim.specs.Devices.{is_input, is_output, is_input_fault, is_output_fault, halt_of, answer_of, HasRun};
 ghost use Rattle.rv_sim.specs.Registers.{registers_of};
-ghost use Rattle.rv_sim.specs.Simulation.{processor_of, progress_of, Does, NextDoes};
+ghost use Rattle.rv_sim.specs.Simulation.{processor_of, progress_of, TurnDoes, NextDoes};
 
 use crate::area::Access;
 use crate::halt::{Device, Halt, Phase, Turn};
@@ -73,12 +76,10 @@ impl Machine {
     pub fn run<I: Source, O: Sink>(&mut self, steps: u64, input: &mut I, out: &mut O) -> Halt
         requires whole { self.old.faulted ≡ false }
         requires room { self.old.executed + steps < 2 ^ 64 }
-        ensures input_faults { CountsFault (is_input_fault result) (I.faults input.old) (I.faults input.new) }
-        ensures output_faults { CountsFault (is_output_fault result) (O.faults out.old) (O.faults out.new) }
+        ensures input_faults { Rises (is_input_fault result) (I.state input.old).faults (I.state input.new).faults }
+        ensures output_faults { Rises (is_output_fault result) (O.state out.old).faults (O.state out.new).faults }
         ensures ran { HasRun result steps self.old self.new
-            (record { left = I.left input.old; ended = I.ended input.old })
-            (record { left = I.left input.new; ended = I.ended input.new })
-            (O.held out.old) (O.held out.new) }
+            (I.state input.old) (I.state input.new) (O.state out.old) (O.state out.new) }
     {
         let mut left = steps;
         while left > 0 && self.phase == Phase::Going {
@@ -171,12 +172,10 @@ impl Machine {
         requires whole { self.old.faulted ≡ false }
         requires going { self.old.ending ≡ going }
         requires room { self.old.executed + 1 < 2 ^ 64 }
-        ensures input_faults { CountsFault (is_input result) (I.faults input.old) (I.faults input.new) }
-        ensures output_faults { CountsFault (is_output result) (O.faults out.old) (O.faults out.new) }
+        ensures input_faults { Rises (is_input result) (I.state input.old).faults (I.state input.new).faults }
+        ensures output_faults { Rises (is_output result) (O.state out.old).faults (O.state out.new).faults }
         ensures ran { HasRun (answer_of result self.new.ending) 1 self.old self.new
-            (record { left = I.left input.old; ended = I.ended input.old })
-            (record { left = I.left input.new; ended = I.ended input.new })
-            (O.held out.old) (O.held out.new) }
+            (I.state input.old) (I.state input.new) (O.state out.old) (O.state out.new) }
     {
         match self.advance() {
             Turn::Over => None,
@@ -184,7 +183,7 @@ impl Machine {
         }
     }
 
-    /// Does what an ECALL asks for. Answers the device that failed, if one did; then nothing was executed.
+    /// TurnDoes what an ECALL asks for. Answers the device that failed, if one did; then nothing was executed.
     fn call<I: Source, O: Sink>(
         &mut self,
         next: u32,
@@ -196,12 +195,10 @@ impl Machine {
         requires going { self.old.ending ≡ going }
         requires room { self.old.executed + 1 < 2 ^ 64 }
         requires calls { NextDoes (calls next word) self.old }
-        ensures input_faults { CountsFault (is_input result) (I.faults input.old) (I.faults input.new) }
-        ensures output_faults { CountsFault (is_output result) (O.faults out.old) (O.faults out.new) }
+        ensures input_faults { Rises (is_input result) (I.state input.old).faults (I.state input.new).faults }
+        ensures output_faults { Rises (is_output result) (O.state out.old).faults (O.state out.new).faults }
         ensures ran { HasRun (answer_of result self.new.ending) 1 self.old self.new
-            (record { left = I.left input.old; ended = I.ended input.old })
-            (record { left = I.left input.new; ended = I.ended input.new })
-            (O.held out.old) (O.held out.new) }
+            (I.state input.old) (I.state input.new) (O.state out.old) (O.state out.new) }
     {
         let file = self.registers.get(Register::A0);
         let at = self.registers.get(Register::A1);
@@ -233,11 +230,11 @@ impl Machine {
         requires allowed { can_store self.old.parts (value (registers_of self.old.registers) 11)
             (value (registers_of self.old.registers) 12)
             ≡ true }
-        ensures faults { CountsFault result (I.faults input.old) (I.faults input.new) }
-        ensures ran { (held : Option (List ℕ))
+        ensures faults { Rises result (I.state input.old).faults (I.state input.new).faults }
+        ensures ran { (sink : SinkState)
             → HasRun (answer_of (then_some result Device.Input) self.new.ending) 1 self.old self.new
-            (record { left = I.left input.old; ended = I.ended input.old })
-            (record { left = I.left input.new; ended = I.ended input.new }) held held }
+            (I.state input.old)
+            (I.state input.new) sink sink }
     {
         if self.registers.get(Register::A2) == 0 {
             self.set(Register::A0, 0, next);
@@ -270,10 +267,10 @@ impl Machine {
         requires allowed { can_load self.old.parts (value (registers_of self.old.registers) 11)
             (value (registers_of self.old.registers) 12)
             ≡ true }
-        ensures faults { CountsFault result (O.faults out.old) (O.faults out.new) }
-        ensures ran { (supply : Supply)
+        ensures faults { Rises result (O.state out.old).faults (O.state out.new).faults }
+        ensures ran { (source : SourceState)
             → HasRun (answer_of (then_some result Device.Output) self.new.ending) 1 self.old self.new
-            supply supply (O.held out.old) (O.held out.new) }
+            source source (O.state out.old) (O.state out.new) }
     {
         let at = self.registers.get(Register::A1);
         let count = self.registers.get(Register::A2);
@@ -290,7 +287,7 @@ impl Machine {
     /// The run has ended by an exit with the lowest 8 bits of x10.
     fn exit(&mut self, next: u32)
         requires room { self.old.executed + 1 < 2 ^ 64 }
-        ensures { Does
+        ensures { TurnDoes
             (λ s. record { processor = stepped next s; ending = exited (value s.registers 10 % 256) })
             Turn.Over self.old self.new }
     {
@@ -302,7 +299,7 @@ impl Machine {
     fn advance(&mut self) -> Turn
         requires going { self.old.ending ≡ going }
         requires room { self.old.executed + 1 < 2 ^ 64 }
-        ensures { Does step result self.old self.new }
+        ensures { TurnDoes step result self.old self.new }
     {
         let Some(word) = self.memory.fetch(self.pc) else {
             self.trap(FETCH_FAULT, 0);
@@ -321,7 +318,7 @@ impl Machine {
     fn execute(&mut self, instr: Instr, word: u32) -> Turn
         requires going { self.old.ending ≡ going }
         requires room { self.old.executed + 1 < 2 ^ 64 }
-        ensures { Does (λ s. executes s word instr) result self.old self.new }
+        ensures { TurnDoes (λ s. executes s word instr) result self.old self.new }
     {
         let operands = instr.operands();
         let a = self.registers.get(operands.rs1);
@@ -334,12 +331,12 @@ impl Machine {
         self.act(effect, operands.rd, word)
     }
 
-    /// Does what an instruction asks for, up to a call of the environment.
+    /// TurnDoes what an instruction asks for, up to a call of the environment.
     fn act(&mut self, effect: Effect, rd: Register, word: u32) -> Turn
         requires going { self.old.ending ≡ going }
         requires room { self.old.executed + 1 < 2 ^ 64 }
         requires width { MovesWidth effect.act }
-        ensures { Does (acts effect.act rd.number effect.next word) result self.old self.new }
+        ensures { TurnDoes (acts effect.act rd.number effect.next word) result self.old self.new }
     {
         let next = effect.next;
         match effect.act {
@@ -355,7 +352,7 @@ impl Machine {
 
     /// The run has ended by a trap at this instruction.
     fn trap(&mut self, cause: u8, word: u32)
-        ensures { Does (traps cause word) Turn.Over self.old self.new }
+        ensures { TurnDoes (traps cause word) Turn.Over self.old self.new }
     {
         self.phase = Phase::Trapped {
             cause,
@@ -368,7 +365,7 @@ impl Machine {
     fn set(&mut self, register: Register, word: u32, next: u32)
         requires going { self.old.ending ≡ going }
         requires room { self.old.executed + 1 < 2 ^ 64 }
-        ensures { Does (λ s. goes (record (stepped next s) { registers = put register.number word s.registers }))
+        ensures { TurnDoes (λ s. goes (record (stepped next s) { registers = put register.number word s.registers }))
             Turn.Over self.old self.new }
     {
         self.registers.set(register, word);
@@ -380,7 +377,7 @@ impl Machine {
         requires going { self.old.ending ≡ going }
         requires room { self.old.executed + 1 < 2 ^ 64 }
         requires width { IsWidth width }
-        ensures { Does (acts (Act.Load at width signed) rd.number next word) Turn.Over self.old self.new }
+        ensures { TurnDoes (acts (Act.Load at width signed) rd.number next word) Turn.Over self.old self.new }
     {
         if at % u32::from(width) != 0 {
             self.trap(MISALIGNED_ACCESS, word);
@@ -397,7 +394,7 @@ impl Machine {
         requires going { self.old.ending ≡ going }
         requires room { self.old.executed + 1 < 2 ^ 64 }
         requires width { IsWidth width }
-        ensures { (rd : ℕ) → Does (acts (Act.Store at width value) rd next word) Turn.Over self.old self.new }
+        ensures { (rd : ℕ) → TurnDoes (acts (Act.Store at width value) rd next word) Turn.Over self.old self.new }
     {
         if at % u32::from(width) != 0 {
             self.trap(MISALIGNED_ACCESS, word);

@@ -51,11 +51,7 @@ impl Tape {
 }
 
 impl Source for Tape {
-    ghost left = { λ _. None };
-
-    ghost ended = { λ tape. nat_le (length tape.bytes.now) tape.at };
-
-    ghost faults = { λ tape. tape.faults };
+    ghost state = { λ tape. record { left = None; ended = nat_le (length tape.bytes.now) tape.at; faults = tape.faults } };
 
     fn next(&mut self) -> Next {
         self.calls = self.calls.saturating_add(1);
@@ -94,9 +90,7 @@ impl Paper {
 }
 
 impl Sink for Paper {
-    ghost held = { λ _. None };
-
-    ghost faults = { λ paper. paper.faults };
+    ghost state = { λ paper. record { held = None; faults = paper.faults } };
 
     fn put(&mut self, piece: &[u8]) -> Put {
         self.calls = self.calls.saturating_add(1);

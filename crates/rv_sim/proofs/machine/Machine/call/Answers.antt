@@ -22,10 +22,10 @@ write-requires-clause-writes g c =
     (next-writes (the_view c.self.inside) c.args.next c.args.word (rw (← c.self.view_is) at c.requires.calls) (search rules) (search rules) (search rules))
 
 pub returns-in-63-clause-ran : goal.returns-in-63-clause-ran
-returns-in-63-clause-ran g c = rw c.then_some.ensures (c.read.ensures.ran (g.O.Sink.held c.args.out.now))
+returns-in-63-clause-ran g c = rw c.then_some.ensures (c.read.ensures.ran (g.O.Sink.state c.args.out.now))
 
 pub returns-in-64-clause-ran : goal.returns-in-64-clause-ran
-returns-in-64-clause-ran g c = rw c.then_some-in-64.ensures (c.write.ensures.ran (record { left = g.I.Source.left c.args.input.now; ended = g.I.Source.ended c.args.input.now }))
+returns-in-64-clause-ran g c = rw c.then_some-in-64.ensures (c.write.ensures.ran (g.I.Source.state c.args.input.now))
 
 pub returns-in-93-clause-ran : goal.returns-in-93-clause-ran
 returns-in-93-clause-ran g c =

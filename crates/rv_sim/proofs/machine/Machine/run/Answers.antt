@@ -10,7 +10,7 @@ pub loop-left-init : goal.loop-left-init
 loop-left-init g c = record {
   whole = c.requires.whole;
   within = omega arith;
-  ran = HasRun-same refl (omega arith) (HasRun-none c.args.self.now (record { left = g.I.Source.left c.args.input.now; ended = g.I.Source.ended c.args.input.now }) (g.O.Sink.held c.args.out.now) c.requires.whole);
+  ran = HasRun-same refl (omega arith) (HasRun-none c.args.self.now (g.I.Source.state c.args.input.now) (g.O.Sink.state c.args.out.now) c.requires.whole);
   input_stays = refl;
   output_stays = refl;
 }
