@@ -1,6 +1,6 @@
 -- What each instruction does, over the values of its registers: one row for each. Words are numbers below 2^32.
 -- The RISC-V Instruction Set Manual, Volume I: Unprivileged ISA, 2.4 Integer Computational Instructions, 2.5 Control Transfer Instructions, 2.6 Load and Store Instructions, 2.7 Memory Ordering Instructions, 2.8 Environment Call and Breakpoints, and the chapter '"M" Standard Extension for Integer Multiplication and Division'.
-use Rattle.std.specs.Prelude.{ℕ, ◌-◌, ◌%◌, Bool, true, false, not, if◌then◌else◌, nat_eq, nat_lt, int_lt, bit_and, bit_or, bit_xor}
+use Rattle.std.specs.Prelude.{◌≡◌, ◌⊎◌, ℕ, ◌-◌, ◌%◌, Bool, true, false, not, if◌then◌else◌, nat_eq, nat_lt, int_lt, bit_and, bit_or, bit_xor}
 use Rattle.rv_isa.specs.declared.immediate.Immediate.{Immediate}
 use Rattle.rv_isa.specs.declared.immediate.BranchOffset.{BranchOffset}
 use Rattle.rv_isa.specs.declared.act.Act.{Act}
@@ -30,6 +30,10 @@ loads pc a imm width signed = loads_in w32 pc a imm.word width signed
 
 abbrev pub stores : ℕ → ℕ → ℕ → Immediate → ℕ → Effect
 stores pc a b imm width = stores_in w32 pc a b imm.word width
+
+-- the numbers of bytes that loads and stores move
+abbrev pub IsWidth : ℕ → Type 0
+IsWidth count = (count ≡ 1) ⊎ ((count ≡ 2) ⊎ (count ≡ 4))
 
 -- where the instruction stands at pc, rs1 holds a and rs2 holds b
 abbrev pub effect_of : Instr → ℕ → ℕ → ℕ → Effect

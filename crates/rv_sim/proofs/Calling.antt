@@ -1,4 +1,4 @@
--- The calls of the environment, as runs of one step.
+-- Each call of the environment is a run of one step.
 use Rattle.std.proofs.Common.{◌≡◌, ◌≢◌, ◌≤◌, ◌<◌, ℕ, ◌+◌, ◌%◌, List, [], ◌∷◌, ◌++◌, All, map, take, length, true, false, Option, Some, None, option_map, refl, sym, ap, subst, ◌∙◌, arith, append-nil}
 use Rattle.std.proofs.lemmas.List.Elements.{All-nil}
 use Rattle.kk_base.specs.Memory.{Part, byte_loaded}
@@ -12,8 +12,9 @@ use Rattle.rv_isa.specs.Environment.{stepped, asks, reads, writes, calls}
 use Rattle.rv_isa.specs.Execution.{step}
 use Rattle.rv_isa.proofs.Bytes.{length-bytes_at}
 use Rattle.rv_isa.proofs.Calls.{reads-none, reads-some, writes-none, writes-some, calls-read, calls-write, calls-exit, calls-none}
+use Rattle.rv_sim.specs.Turns.{TurnDoes, NextDoes}
 use Rattle.rv_sim.specs.Registers.{registers_of}
-use Rattle.rv_sim.specs.Simulation.{Simulation, processor_of, progress_of, TurnDoes, NextDoes}
+use Rattle.rv_sim.specs.Simulation.{Simulation, processor_of, progress_of}
 use Rattle.rv_sim.specs.declared.halt.Turn.TheVariants.{Over}
 use Rattle.rv_sim.specs.declared.halt.Halt.TheVariants.{InputFault, OutputFault}
 use Rattle.rv_sim.specs.Devices.{halt_of, GivesContent, GivesEvents, asked, HasRun}

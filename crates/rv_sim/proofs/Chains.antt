@@ -1,4 +1,4 @@
--- The chain of free cells, one member after the other, and how many free cells there are.
+-- How long the chain of free cells is, member by member, and how many free cells there are with the border's.
 use Rattle.std.proofs.Common.{◌≡◌, ◌≢◌, ◌<◌, ◌≤◌, ℕ, zero, suc, ◌+◌, ◌-◌, min, List, ◌++◌, map, length, take, length-append, length-take, true, false, Some, None, if◌then◌else◌, nat_eq, refl, sym, ap, ◌∙◌, arith}
 use Rattle.std.proofs.lemmas.Bool.Decides.{nat_tests}
 use Rattle.kk_base.specs.Memory.{Part}

@@ -1,4 +1,4 @@
--- Events in two parts: what they take, put and leave.
+-- What events take, put and leave, in two parts, is what they do together.
 use Rattle.std.proofs.Common.{◌≡◌, ◌<◌, ℕ, List, [], ◌∷◌, ◌++◌, Bool, true, false, Option, Some, None, option_map, refl, sym, ap, subst, ◌∙◌, append_assoc, append-nil}
 use Rattle.std.proofs.lemmas.List.Elements.{All-nil}
 use Rattle.kk_base.specs.Source.{SourceState}

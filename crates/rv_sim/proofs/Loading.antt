@@ -1,6 +1,7 @@
--- The parts of an image as areas of a memory.
+-- A machine whose areas are an image's parts, with zeros behind their bytes, is at the image's start.
 use Rattle.std.proofs.Common.{◌≡◌, ℕ, zero, suc, ◌-◌, List, [], ◌∷◌, ◌++◌, map, length, replicate, slice_index, Bool, true, false, not, ◌||◌, ◌&&◌, IsTrue, refl, sym, ap, ◌∙◌, arith}
 use Rattle.std.specs.List.{list_any}
+use Rattle.std.proofs.lemmas.Bool.{true≢false}
 use Rattle.std.proofs.lemmas.Bool.Decides.{nat_tests}
 use Rattle.kk_base.specs.Memory as memory
 use Rattle.kk_base.specs.Memory.{covers, byte_loaded}
@@ -11,7 +12,7 @@ use Rattle.rv_sim.specs.Areas.{filled, AreApart}
 use Rattle.rv_sim.specs.Registers.{registers_of}
 use Rattle.rv_sim.specs.Simulation.{progress_of}
 use Rattle.rv_sim.proofs.Parts.{are_apart-same}
-use Rattle.rv_sim.proofs.Reading.{and-right}
+use Rattle.rv_isa.proofs.Cases.{and-right}
 use Rattle.rv_sim.proofs.Zeros.{index-zeros}
 
 pub bare-filled : (ps : List memory.Part) → map bare (map filled ps) ≡ map bare ps
@@ -32,9 +33,6 @@ byte_loaded-filled_at (p ∷ ps) x =
 
 pub byte_loaded-filled : (ps : List memory.Part) → byte_loaded (map filled ps) ≡ byte_loaded ps
 byte_loaded-filled ps = λ i x. byte_loaded-filled_at ps x i
-
-true≢false : true ≡ false → ⊥
-true≢false e = cc
 
 or-false-left : (a b : Bool) → (a || b) ≡ false → a ≡ false
 or-false-left true b e = e

@@ -1,4 +1,4 @@
--- Runs one after the other, as one run.
+-- Runs one after the other are one run; what has ended within a budget has ended so within a greater one.
 use Rattle.std.proofs.Common.{◌≡◌, ◌≢◌, ◌≤◌, ℕ, ◌+◌, ◌-◌, List, [], ◌++◌, false, Option, option_map, refl, sym, ap, subst, ◌∙◌, arith, append_assoc, append-nil}
 use Rattle.kk_base.specs.Source.{SourceState}
 use Rattle.kk_base.specs.Sink.{SinkState}

@@ -1,4 +1,4 @@
--- The acts of instructions on what a simulated machine holds.
+-- The code's way through an instruction comes to what the definition's act comes to.
 use Rattle.std.proofs.Common.{◌≡◌, ◌<◌, ℕ, ◌+◌, ◌&&◌, ◌%◌, List, map, Bool, true, false, Some, None, if◌then◌else◌, refl, sym, ap, ◌∙◌, arith}
 use Rattle.std.proofs.lemmas.Bool.Decides.{nat_tests}
 use Rattle.kk_base.specs.Memory.{Part, covers, byte_loaded}
@@ -13,10 +13,11 @@ use Rattle.rv_isa.specs.Execution.{acts, decodes, step}
 use Rattle.rv_isa.specs.Read.{read}
 use Rattle.rv_isa.proofs.Steps.{step-unfetched, step-fetched}
 use Rattle.rv_isa.proofs.Acts.{acts-load, acts-load_denied, acts-store, acts-store_denied}
+use Rattle.rv_sim.specs.Turns.{TurnDoes}
 use Rattle.rv_sim.specs.Registers.{registers_of}
 use Rattle.rv_sim.specs.declared.halt.Turn.{Turn}
 use Rattle.rv_sim.specs.declared.halt.Turn.TheVariants.{Over, Call}
-use Rattle.rv_sim.specs.Simulation.{Simulation, processor_of, progress_of, TurnDoes}
+use Rattle.rv_sim.specs.Simulation.{Simulation, processor_of, progress_of}
 use Rattle.rv_sim.proofs.Finding.{list_any-map, list_any-weaker}
 
 pub can_fetch-bare : (ps : List Part) (at count : ℕ) → can_fetch (map bare ps) at count ≡ can_fetch ps at count

@@ -1,4 +1,4 @@
--- One instruction, as a run of one step.
+-- One instruction is a run of one step, also where a device fails at it.
 use Rattle.std.proofs.Common.{◌≡◌, ℕ, ◌+◌, ◌-◌, List, [], ◌++◌, true, false, Option, option_map, refl, sym, ap, ◌∙◌, arith, append-nil}
 use Rattle.kk_base.specs.Source.{SourceState}
 use Rattle.kk_base.specs.Sink.{SinkState}
@@ -8,7 +8,8 @@ use Rattle.rv_isa.specs.InstructionSet.{resumes, go_on}
 use Rattle.rv_isa.specs.Execution.{rv32im, run, step}
 use Rattle.rv_isa.proofs.Runs.{run-one, go_on-none}
 use Rattle.rv_isa.proofs.Cases.{step-executed}
-use Rattle.rv_sim.specs.Simulation.{Simulation, processor_of, progress_of, TurnDoes, NextDoes}
+use Rattle.rv_sim.specs.Turns.{TurnDoes, NextDoes}
+use Rattle.rv_sim.specs.Simulation.{Simulation, processor_of, progress_of}
 use Rattle.rv_sim.specs.declared.halt.Turn.TheVariants.{Over}
 use Rattle.rv_sim.specs.declared.halt.Halt.{Halt}
 use Rattle.rv_sim.specs.declared.halt.Halt.TheVariants.{Exit, StepsSpent, Trap, InputFault, OutputFault}

@@ -7,18 +7,8 @@ use Rattle.rv_isa.specs.Processor.{Ending, going, exited, trapped}
 use Rattle.rv_isa.specs.InstructionSet.{go_on}
 use Rattle.rv_isa.specs.Execution.{step, run}
 use Rattle.rv_sim.specs.Simulation.{Simulation, processor_of, progress_of}
-use Rattle.rv_sim.specs.declared.halt.Device.{Device}
-use Rattle.rv_sim.specs.declared.halt.Device.TheVariants.{Input, Output}
 use Rattle.rv_sim.specs.declared.halt.Halt.{Halt}
 use Rattle.rv_sim.specs.declared.halt.Halt.TheVariants.{Exit, StepsSpent, Trap, InputFault, OutputFault}
-
-abbrev pub is_input : Option Device → Bool
-is_input (Some Input) = true
-is_input _ = false
-
-abbrev pub is_output : Option Device → Bool
-is_output (Some Output) = true
-is_output _ = false
 
 abbrev pub is_input_fault : Halt → Bool
 is_input_fault InputFault = true
@@ -38,12 +28,6 @@ abbrev pub halt_of : Ending → Halt
 halt_of going = StepsSpent
 halt_of (exited number) = Exit number
 halt_of (trapped cause pc word) = Trap cause pc word
-
--- the answer of a run of one instruction, at which a device has failed or none
-abbrev pub answer_of : Option Device → Ending → Halt
-answer_of None ending = halt_of ending
-answer_of (Some Input) ending = InputFault
-answer_of (Some Output) ending = OutputFault
 
 -- how the machine has ended where a run answers so
 abbrev pub ending_at : Halt → Ending

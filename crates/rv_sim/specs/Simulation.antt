@@ -3,13 +3,9 @@ use Rattle.std.specs.Prelude.{◌≡◌, ℕ, List, map, Bool}
 use Rattle.kk_base.specs.Memory.{Part, byte_loaded}
 use Rattle.kk_base.specs.Trace.{Event}
 use Rattle.rv_isa.specs.Processor.{Processor, bare, Ending, going, exited, trapped, Progress}
-use Rattle.rv_isa.specs.Environment.{calls}
-use Rattle.rv_isa.specs.Execution.{step}
 use Rattle.rv_sim.specs.Registers.{registers_of}
 use Rattle.rv_sim.specs.declared.halt.Phase.{Phase}
 use Rattle.rv_sim.specs.declared.halt.Phase.TheVariants.{Going, Exited, Trapped}
-use Rattle.rv_sim.specs.declared.halt.Turn.{Turn}
-use Rattle.rv_sim.specs.declared.halt.Turn.TheVariants.{Over, Call}
 
 -- the registers by number, the parts with all the bytes that they hold, how many instructions were executed, whether the machine has ended, and
 -- whether a device has failed
@@ -41,15 +37,3 @@ abbrev pub ending_of : Phase → Ending
 ending_of Going = going
 ending_of (Exited number) = exited number
 ending_of (Trapped cause pc word) = trapped cause pc word
-
--- an instruction that is over has done `what` the machine does, and no device failed; one that calls the environment has changed nothing, and
--- what it does is the call
-abbrev pub TurnDoes : (Processor → Progress) → Turn → Simulation → Simulation → Type 0
-TurnDoes what Over old new =
-    ((left : List ℕ) (trace : List Event) → progress_of new left trace ≡ what (processor_of old left trace)) × (new.faulted ≡ old.faulted)
-TurnDoes what (Call next word) old new =
-    (new ≡ old) × ((left : List ℕ) (trace : List Event) → what (processor_of old left trace) ≡ calls next word (processor_of old left trace))
-
--- this is what the next instruction does
-abbrev pub NextDoes : (Processor → Progress) → Simulation → Type 0
-NextDoes what s = (left : List ℕ) (trace : List Event) → step (processor_of s left trace) ≡ what (processor_of s left trace)

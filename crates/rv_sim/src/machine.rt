@@ -9,10 +9,12 @@ ghost use Rattle.rv_isa.specs.Arithmetic.{widened};
 ghost use Rattle.rv_isa.specs.Execution.{acts, executes, step};
 ghost use Rattle.rv_isa.specs.FreeCells.{free_chain, border_size, free_cells};
 ghost use Rattle.elf_image.specs.Parts.{memory_of};
-ghost use Rattle.rv_sim.specs.Areas.{IsWidth, MovesWidth};
-ghost use Rattle.rv_sim.specs.Devices.{is_input, is_output, is_input_fault, is_output_fault, halt_of, answer_of, HasRun};
+ghost use Rattle.rv_isa.specs.Meaning.{IsWidth};
+ghost use Rattle.rv_sim.specs.Turns.{TurnDoes, NextDoes, is_input, is_output, answer_of};
+ghost use Rattle.rv_sim.specs.Areas.{MovesWidth};
+ghost use Rattle.rv_sim.specs.Devices.{is_input_fault, is_output_fault, halt_of, HasRun};
 ghost use Rattle.rv_sim.specs.Registers.{registers_of};
-ghost use Rattle.rv_sim.specs.Simulation.{processor_of, progress_of, TurnDoes, NextDoes};
+ghost use Rattle.rv_sim.specs.Simulation.{processor_of, progress_of};
 
 use crate::area::Access;
 use crate::halt::{Device, Halt, Phase, Turn};

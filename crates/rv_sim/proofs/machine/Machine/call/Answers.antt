@@ -3,9 +3,9 @@ use Rattle.std.proofs.lemmas.Bool.{false≢true}
 use Rattle.rv_isa.specs.declared.environment.TheConstants.{EXIT, UNKNOWN_CALL}
 use Rattle.rv_isa.specs.Processor.{exited, traps, value}
 use Rattle.rv_isa.specs.Environment.{stepped}
+use Rattle.rv_sim.specs.Turns.{NextDoes}
 use Rattle.rv_sim.specs.Registers.{registers_of}
 use Rattle.rv_sim.specs.contracts.machine.Machine.{the_view}
-use Rattle.rv_sim.specs.Simulation.{NextDoes}
 use Rattle.rv_sim.proofs.Turns.{HasRun-quiet}
 use Rattle.rv_sim.proofs.Calling.{next-reads, next-writes, next-exits, next-traps}
 use Rattle.rv_sim.proofs.machine.Machine.call.Goals as goal
