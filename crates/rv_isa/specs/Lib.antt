@@ -12,3 +12,6 @@ pub mod Machine
 pub mod Environment
 pub mod Execution
 pub mod FreeCells
+pub mod Routines
+pub mod AsmCode
+pub mod PlacedCode
