@@ -15,3 +15,9 @@ pub mod FreeCells
 pub mod Routines
 pub mod AsmCode
 pub mod PlacedCode
+pub mod Conventions
+pub mod Primitives
+pub mod Frames
+pub mod Costs
+pub mod AsmMachine
+pub mod PlacedMachine
