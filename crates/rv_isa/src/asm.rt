@@ -75,7 +75,27 @@ pub enum Condition {
 /// assembler.
 #[derive(Clone, Copy, PartialEq, Eq, Debug)]
 pub enum Operation {
-    // On two values
+    /// On two values.
+    Register(RegisterOperation),
+    /// On a value and an immediate.
+    Immediate(ImmediateOperation, Immediate),
+    /// On a value, by so many places.
+    Shift(ShiftOperation, ShiftAmount),
+    /// `li`: this word.
+    Li(u32),
+    /// `mv`: a copy.
+    Mv,
+    /// `la`: the address of the constant of this index.
+    La(u32),
+    /// `lw`: the word at the argument and this offset.
+    Lw(Immediate),
+    /// `sw`: stores the second argument at the first and this offset. It writes no value.
+    Sw(Immediate),
+}
+
+/// An instruction on two registers.
+#[derive(Clone, Copy, PartialEq, Eq, Debug)]
+pub enum RegisterOperation {
     Add,
     Sub,
     Sll,
@@ -94,29 +114,23 @@ pub enum Operation {
     Divu,
     Rem,
     Remu,
+}
 
-    // On a value and an immediate
-    Addi(Immediate),
-    Slti(Immediate),
-    Sltiu(Immediate),
-    Xori(Immediate),
-    Ori(Immediate),
-    Andi(Immediate),
-    Slli(ShiftAmount),
-    Srli(ShiftAmount),
-    Srai(ShiftAmount),
+/// An instruction on a register and an immediate.
+#[derive(Clone, Copy, PartialEq, Eq, Debug)]
+pub enum ImmediateOperation {
+    Addi,
+    Slti,
+    Sltiu,
+    Xori,
+    Ori,
+    Andi,
+}
 
-    // Pseudo-instructions
-    /// `li`: this word.
-    Li(u32),
-    /// `mv`: a copy.
-    Mv,
-    /// `la`: the address of the constant of this index.
-    La(u32),
-
-    // Words of cells
-    /// `lw`: the word at the argument and this offset.
-    Lw(Immediate),
-    /// `sw`: stores the second argument at the first and this offset. It writes no value.
-    Sw(Immediate),
+/// A shift by a number of places that the instruction names.
+#[derive(Clone, Copy, PartialEq, Eq, Debug)]
+pub enum ShiftOperation {
+    Slli,
+    Srli,
+    Srai,
 }

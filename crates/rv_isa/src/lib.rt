@@ -17,7 +17,10 @@ mod routine;
 mod tests;
 
 pub use act::{Act, Effect};
-pub use asm::{Action, Asm, AsmFunction, Condition, Operation, Statement};
+pub use asm::{
+    Action, Asm, AsmFunction, Condition, ImmediateOperation, Operation, RegisterOperation,
+    ShiftOperation, Statement,
+};
 pub use decoding::decode;
 pub use encoding::encode;
 pub use immediate::{BranchOffset, Immediate, JumpOffset, ShiftAmount, UpperImmediate};

@@ -1,3 +1,5 @@
 //! Places for the values of assembler code, checked: whatever gave values their places, a form that passes the check means
 //! what the code means.
 #![tactic(auto)]
+
+mod actions;
