@@ -1,6 +1,6 @@
 -- The machine of the assembler form: what a program over values does.
 use Rattle.std.specs.Prelude.{◌==◌, ℕ, ◌+◌, ◌*◌, List, [], ◌∷◌, Option, Some, None, Bool, true, false, cond, option_map, map, length, drop, nat_le, slice_get}
-use Rattle.kk_base.specs.Machines.{Machine, until}
+use Rattle.kk_base.specs.Machines.{Machine, weighing}
 use Rattle.rv_isa.specs.declared.asm.Action.{Action}
 use Rattle.rv_isa.specs.declared.asm.Action.TheVariants.{Compute, Label, Jump, Branch, Call, TailCall, Return, Routine, Hold, Unhold}
 use Rattle.rv_isa.specs.AsmCode.{Line, Lines}
@@ -65,7 +65,7 @@ asm_acts m depth q f fs shared (Branch condition l) args into words =
     or_stuck (m.holds condition words) (λ taken. cond taken (asm_jumps l f fs shared) (asm_goes f fs shared))
 asm_acts m depth q f fs shared (Call g) args into words =
     or_stuck (slice_get q g) (λ callee. or_stuck (bound callee.params words) (λ cells.
-      cond (nat_le depth (length (f ∷ fs))) (ended m.stack_full shared) (asm_goes (asm_entered callee cells) (record f { into = into } ∷ fs) shared)))
+    cond (nat_le depth (length (f ∷ fs))) (ended m.stack_full shared) (asm_goes (asm_entered callee cells) (record f { into = into } ∷ fs) shared)))
 asm_acts m depth q f fs shared (TailCall g) args into words =
     unless_held f.held (or_stuck (slice_get q g) (λ callee. or_stuck (bound callee.params words) (λ cells. asm_goes (asm_entered callee cells) fs shared)))
 asm_acts m depth q f fs shared Return args into words =
@@ -117,7 +117,7 @@ asm_weight m moves stuck = 0
 -- the machine of a program at a depth, each of whose lines may have so many moves before it once it is placed
 abbrev pub asm_machine : {H E W : Type 0} → Primitives H E W → ℕ → ℕ → List Lines → Machine (AsmTurn H W) E W
 asm_machine m moves depth q =
-    until end_of (λ t. (drop (length (asm_told m t)) (asm_told m (asm_next m depth q t)), asm_next m depth q t))
+    weighing (asm_weight m moves) end_of (λ t. (drop (length (asm_told m t)) (asm_told m (asm_next m depth q t)), asm_next m depth q t))
 
 -- the start of a function without parameters
 abbrev pub asm_start : {H W : Type 0} → Lines → H → AsmTurn H W

@@ -1,6 +1,6 @@
 -- The machine of the placed form: what code over registers and slots does.
 use Rattle.std.specs.Prelude.{◌==◌, ℕ, suc, ◌+◌, List, [], ◌∷◌, Option, Some, None, Bool, true, false, cond, option_map, map, length, drop, nat_le, slice_get}
-use Rattle.kk_base.specs.Machines.{Machine, until}
+use Rattle.kk_base.specs.Machines.{Machine, weighing}
 use Rattle.rv_isa.specs.declared.asm.Action.{Action}
 use Rattle.rv_isa.specs.declared.asm.Action.TheVariants.{Compute, Label, Jump, Branch, Call, TailCall, Return, Routine, Hold, Unhold}
 use Rattle.rv_isa.specs.declared.placed.Place.{Place}
@@ -109,7 +109,7 @@ placed_acts m depth q f fs registers shared (Branch condition l) args into words
     or_stuck (m.holds condition words) (λ taken. cond taken (placed_jumps l f fs registers shared) (placed_goes f fs registers shared))
 placed_acts m depth q f fs registers shared (Call g) args into words =
     or_stuck (slice_get q g) (λ callee.
-      cond (nat_le depth (length (f ∷ fs))) (ended m.stack_full shared) (placed_goes (placed_entered callee) (record f { into = awaited into } ∷ fs) (passed 0 words) shared))
+    cond (nat_le depth (length (f ∷ fs))) (ended m.stack_full shared) (placed_goes (placed_entered callee) (record f { into = awaited into } ∷ fs) (passed 0 words) shared))
 placed_acts m depth q f fs registers shared (TailCall g) args into words =
     unless_held f.held (or_stuck (slice_get q g) (λ callee. placed_goes (placed_entered callee) fs (passed 0 words) shared))
 placed_acts m depth q f fs registers shared Return args into words =
@@ -127,8 +127,8 @@ abbrev pub placed_line : {H E W : Type 0} → Primitives H E W → ℕ → List 
 placed_line m depth q f fs registers shared [] = stuck
 placed_line m depth q f fs registers shared (does alive action args into ∷ rest) =
     cond (conforms action args into)
-      (or_stuck (all_of (map (λ arg. read_at registers f.cells arg.place) args)) (λ words. placed_acts m depth q (record f { code = rest }) fs registers shared action args into words))
-      stuck
+    (or_stuck (all_of (map (λ arg. read_at registers f.cells arg.place) args)) (λ words. placed_acts m depth q (record f { code = rest }) fs registers shared action args into words))
+    stuck
 placed_line m depth q f fs registers shared (moves alive value way ∷ rest) =
     placed_writes (to_of way) (read_at registers f.cells (from_of way)) (record f { code = rest }) fs registers shared
 
@@ -167,7 +167,7 @@ placed_weight m stuck = 0
 -- the machine of a text at a depth
 abbrev pub placed_machine : {H E W : Type 0} → Primitives H E W → ℕ → List PlacedLines → Machine (PlacedTurn H W) E W
 placed_machine m depth q =
-    until end_of (λ t. (drop (length (placed_told m t)) (placed_told m (placed_next m depth q t)), placed_next m depth q t))
+    weighing (placed_weight m) end_of (λ t. (drop (length (placed_told m t)) (placed_told m (placed_next m depth q t)), placed_next m depth q t))
 
 -- the start of a function without parameters
 abbrev pub placed_start : {H W : Type 0} → PlacedLines → H → PlacedTurn H W
