@@ -1,11 +1,10 @@
--- Lines of the placed form: what each reads, writes and spoils, what is alive before it, and where it goes on.
-use Rattle.std.specs.Prelude.{◌==◌, ℕ, List, [], ◌∷◌, Option, Some, None, Bool, true, false, cond}
-use Rattle.rv_isa.specs.AsmCode.{Line}
+-- Code of the placed form: what is alive at its points, and where it goes on.
+use Rattle.std.specs.Prelude.{◌==◌, ◌||◌, ℕ, List, [], ◌∷◌, Option, Some, None, Bool, true, false, cond, option_map}
 use Rattle.rv_isa.specs.declared.asm.Action.{Action}
-use Rattle.rv_isa.specs.declared.asm.Action.TheVariants.{Compute, Label, Jump, Branch, Call, TailCall, Return, Routine, Hold, Unhold}
+use Rattle.rv_isa.specs.declared.asm.Action.TheVariants.{Jump, Branch, TailCall, Return, Hold, Unhold}
 use Rattle.rv_isa.specs.declared.placed.Operand.{Operand}
 use Rattle.rv_isa.specs.declared.placed.Listed.{Listed}
-use Rattle.rv_isa.specs.PlacedCode.{PlacedLine, does, moves, from_of, to_of}
+use Rattle.rv_isa.specs.PlacedCode.{PlacedLine, does, moves}
 use Rattle.rv_isa.specs.Conventions.{spoils}
 use Rattle.rv_isa.specs.Frames.{found}
 use Rattle.rv_isa.specs.PlacedMachine.{is_label_line}
@@ -15,59 +14,48 @@ abbrev pub alive_before : PlacedLine → List Listed
 alive_before (does alive action args into) = alive
 alive_before (moves alive value way) = alive
 
--- what it reads: a move, the value where it comes from
-abbrev pub reads_of : PlacedLine → List Operand
-reads_of (does alive action args into) = args
-reads_of (moves alive value way) = record { value = value; place = from_of way } ∷ []
-
--- what it writes: a move, the value where it goes to
-abbrev pub write_of : PlacedLine → Option Operand
-write_of (does alive action args into) = into
-write_of (moves alive value way) = Some (record { value = value; place = to_of way })
-
--- whether it may change the register otherwise
-abbrev pub line_spoils : PlacedLine → ℕ → Bool
-line_spoils (does alive action args into) x = spoils action x
-line_spoils (moves alive value way) x = false
-
 -- what is alive at the begin of code; behind the end, nothing
 abbrev pub first_alive : List PlacedLine → List Listed
 first_alive [] = []
 first_alive (line ∷ code) = alive_before line
 
-abbrev pub alive_at_label : Option (List PlacedLine) → List (List Listed)
-alive_at_label None = []
-alive_at_label (Some code) = first_alive code ∷ []
+-- what is alive behind a line that goes on at the next
+abbrev pub alive_behind : List PlacedLine → Action → Option (List Listed)
+alive_behind rest (Jump l) = None
+alive_behind rest (TailCall f) = None
+alive_behind rest Return = None
+alive_behind rest _ = Some (first_alive rest)
 
-abbrev pub nexts_of_action : List PlacedLine → List PlacedLine → Action → List (List Listed)
-nexts_of_action whole rest (Jump l) = alive_at_label (found (is_label_line l) whole)
-nexts_of_action whole rest (Branch condition l) = first_alive rest ∷ alive_at_label (found (is_label_line l) whole)
-nexts_of_action whole rest (TailCall f) = []
-nexts_of_action whole rest Return = []
-nexts_of_action whole rest _ = first_alive rest ∷ []
+-- what is alive at the label where it may go on, if that is there
+abbrev pub alive_at_label : List PlacedLine → Action → Option (List Listed)
+alive_at_label whole (Jump l) = option_map first_alive (found (is_label_line l) whole)
+alive_at_label whole (Branch condition l) = option_map first_alive (found (is_label_line l) whole)
+alive_at_label whole _ = None
 
--- what is alive at each point of its function, `whole`, where a line goes on before `rest`
-abbrev pub nexts_of : List PlacedLine → List PlacedLine → PlacedLine → List (List Listed)
-nexts_of whole rest (does alive action args into) = nexts_of_action whole rest action
-nexts_of whole rest (moves alive value way) = first_alive rest ∷ []
+-- the two of them, where they are there
+abbrev pub one_if : {A : Type 0} → Option A → List A → List A
+one_if None more = more
+one_if (Some a) more = a ∷ more
+
+abbrev pub both_of : {A : Type 0} → Option A → Option A → List A
+both_of a b = one_if a (one_if b [])
 
 -- the listing of a value, the first one
 abbrev pub listed_as : ℕ → List Listed → Option Listed
 listed_as v [] = None
 listed_as v (l ∷ ls) = cond (l.value == v) (Some l) (listed_as v ls)
 
--- the listing of a value with this mark
-abbrev pub with_mark : ℕ → Bool → List Listed → List Listed
-with_mark v held [] = []
-with_mark v held (l ∷ ls) = cond (l.value == v) (record l { held = held }) l ∷ with_mark v held ls
+abbrev pub is_read_in : List Operand → ℕ → Bool
+is_read_in [] v = false
+is_read_in (arg ∷ args) v = (arg.value == v) || is_read_in args v
 
-abbrev pub with_marks : List Operand → Bool → List Listed → List Listed
-with_marks [] held alive = alive
-with_marks (arg ∷ args) held alive = with_mark arg.value held (with_marks args held alive)
+-- A move is no action. Whether a line may change a register, besides what it writes:
+abbrev pub spoils_by : Option Action → ℕ → Bool
+spoils_by None x = false
+spoils_by (Some action) x = spoils action x
 
--- what is alive before a line, with the marks of behind it: a token is held from its Hold to its Unhold
-abbrev pub marked : PlacedLine → List Listed
-marked (does alive Hold args into) = with_marks args true alive
-marked (does alive Unhold args into) = with_marks args false alive
-marked (does alive _ args into) = alive
-marked (moves alive value way) = alive
+-- The listing behind a line of what is listed before it: a token is held from its Hold to its Unhold.
+abbrev pub marks : Option Action → List Operand → Listed → Listed
+marks (Some Hold) reads l = cond (is_read_in reads l.value) (record l { held = true }) l
+marks (Some Unhold) reads l = cond (is_read_in reads l.value) (record l { held = false }) l
+marks _ reads l = l

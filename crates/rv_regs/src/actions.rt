@@ -3,7 +3,7 @@
 ghost use Rattle.std.specs.Prelude.{◌≡◌, ◌↔◌, IsTrue};
 
 use rv_isa::{
-    Action, Condition, Immediate, ImmediateOperation, Operation, Place, Register,
+    Action, Condition, Immediate, ImmediateOperation, Listed, Operation, Place, Register,
     RegisterOperation, Routine, ShiftAmount, ShiftOperation,
 };
 
@@ -103,4 +103,11 @@ pub fn same_action(a: Action, b: Action) -> bool
         (Action::Unhold, Action::Unhold) => true,
         _ => false,
     }
+}
+
+/// Whether two listings are the same.
+pub fn same_listing(a: Listed, b: Listed) -> bool
+    ensures { IsTrue result ↔ (a ≡ b) }
+{
+    a.value == b.value && same_place(a.place, b.place) && a.held == b.held
 }

@@ -3,3 +3,7 @@
 #![tactic(auto)]
 
 mod actions;
+mod conventions;
+mod keeping;
+mod needs;
+mod places;
