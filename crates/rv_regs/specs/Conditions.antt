@@ -1,5 +1,6 @@
 -- When code with places is the code over values that it was made of: one condition a definition.
-use Rattle.std.specs.Prelude.{◌≡◌, ◌≢◌, ◌⊎◌, ℕ, zero, suc, List, [], ◌∷◌, Option, Some, None, Bool, true, false, cond, ◌==◌, map, option_map, ⊤, All, IsSome, IsTrue}
+use Rattle.std.specs.Prelude.{◌≡◌, ◌≢◌, ◌⊎◌, ℕ, List, [], ◌∷◌, Option, Some, None, Bool, true, false, ◌==◌, map, option_map, ⊤, All, IsSome, IsTrue, IsSomeAnd}
+use Rattle.std.specs.List.{position}
 use Rattle.std.specs.List.{AllByRecursion}
 use Rattle.rv_isa.specs.AsmCode.{Line, Lines}
 use Rattle.rv_isa.specs.declared.asm.Action.{Action}
@@ -8,8 +9,7 @@ use Rattle.rv_isa.specs.declared.placed.Place.TheVariants.{Register as register,
 use Rattle.rv_isa.specs.declared.placed.Operand.{Operand}
 use Rattle.rv_isa.specs.declared.placed.Listed.{Listed}
 use Rattle.rv_isa.specs.PlacedCode.{PlacedLine, does, moves, PlacedLines, from_of, to_of}
-use Rattle.rv_isa.specs.Conventions.{is_handed_out, argument, conforms}
-use Rattle.rv_isa.specs.PlacedMachine.{number_of}
+use Rattle.rv_isa.specs.Conventions.{is_handed_out, is_in, argument, conforms}
 use Rattle.rv_regs.specs.Listings.{first_alive, alive_behind, alive_at_label, both_of, listed_as, is_read_in, spoils_by, marks}
 
 abbrev pub value_of : Operand → ℕ
@@ -42,12 +42,9 @@ IsNeeded reads write nexts l = IsRead reads l.value ⊎ ((IsWritten write l.valu
 
 -- 3. At the start only parameters are listed, each in the register where callers put it: the n-th in a<n>. And each operand
 -- stands where its action takes or gives it: `conforms`. A move has its value to read and to write.
-abbrev pub parameter_register : ℕ → List ℕ → ℕ → Option ℕ
-parameter_register n [] v = None
-parameter_register n (param ∷ params) v = cond (param == v) (Some (argument n)) (parameter_register (suc n) params v)
-
-abbrev pub IsPassed : List ℕ → Listed → Type 0
-IsPassed params l = (x : ℕ) × (parameter_register 0 params l.value ≡ Some x) × (number_of l.place ≡ Some x) × (l.held ≡ false)
+unfoldable pub IsPassed : List ℕ → Listed → Type 0
+IsPassed params l =
+    IsSomeAnd (position (λ (param : ℕ). param == l.value) params) (λ n. IsTrue (is_in (argument n) l.place) × (l.held ≡ false))
 
 -- 4. Values that are listed at one point are different, and so are their places.
 abbrev pub AreApart : Listed → Listed → Type 0

@@ -1,7 +1,7 @@
 // Whether operands stand where their action takes and gives them.
 
 ghost use Rattle.std.specs.Prelude.{◌≡◌};
-ghost use Rattle.rv_isa.specs.Conventions.{is_handed_out, is_in, is_in_any, is_register, is_slot, takes_at, gives_at, take_from, gives_into, conforms};
+ghost use Rattle.rv_isa.specs.Conventions.{is_handed_out, is_in, is_in_any, is_register, is_slot, argument, takes_at, gives_at, take_from, gives_into, conforms};
 
 use rv_isa::{Action, Operand, Operation, Place};
 
@@ -36,8 +36,14 @@ fn is_any_register(place: Place) -> bool
     matches!(place, Place::Register(_))
 }
 
-/// Whether the place is a slot.
-pub fn is_any_slot(place: Place) -> bool
+/// Whether the place is the register of the call's argument of this index.
+pub fn is_argument(index: usize, place: Place) -> bool
+    ensures { result ≡ is_in (argument index) place }
+{
+    index < 22 && is_in_register(10 + index, place)
+}
+
+fn is_any_slot(place: Place) -> bool
     ensures { result ≡ is_slot place }
 {
     matches!(place, Place::Slot(_))
@@ -49,9 +55,7 @@ fn takes(action: Action, index: usize, place: Place) -> bool
     match action {
         Action::Compute(_) | Action::Branch(..) => is_any_register(place),
         Action::Label(_) | Action::Jump(_) => false,
-        Action::Call(_) | Action::TailCall(_) | Action::Return => {
-            index < 22 && is_in_register(10 + index, place)
-        }
+        Action::Call(_) | Action::TailCall(_) | Action::Return => { is_argument(index, place) }
         Action::Routine(routine) => is_in_one(routine.takes(index), place),
         Action::Hold | Action::Unhold => is_any_slot(place),
     }

@@ -3,7 +3,11 @@
 #![tactic(auto)]
 
 mod actions;
+mod checking;
 mod conventions;
 mod keeping;
+mod lines;
 mod needs;
 mod places;
+
+pub use checking::valid;

@@ -1,4 +1,4 @@
-use Rattle.std.proofs.Common.{◌≡◌, ◌↔◌, drop}
+use Rattle.std.proofs.Common.{◌↔◌, drop}
 use Rattle.rv_regs.specs.Conditions.{Apart}
 use Rattle.rv_regs.proofs.places.all_apart.Given as goal
 

@@ -1,6 +1,5 @@
-use Rattle.std.proofs.Common.{◌≡◌, ◌↔◌, drop}
+use Rattle.std.proofs.Common.{◌≡◌, drop}
 use Rattle.rv_regs.specs.Listings.{is_read_in}
-use Rattle.rv_regs.specs.Conditions.{IsRead}
 use Rattle.rv_regs.proofs.places.is_read.Given as goal
 
 abbrev pub invariant-loop-read : goal.invariant-loop-read
