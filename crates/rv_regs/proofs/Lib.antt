@@ -1,1 +1,5 @@
 pub mod Codes
+pub mod Placing
+pub mod Changing
+pub mod Chains
+pub mod Tokens
