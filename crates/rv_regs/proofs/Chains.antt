@@ -60,7 +60,7 @@ slot_not_among alive v k l apart listed place (u ∷ vs) (j ∷ ks) held none =
       (ne_eqb j k (λ same. eqb-false u v parts.0 (one_place alive u v (token u j) l apart held.0 listed (ap (λ (x : ℕ). slot x) same ∙ sym place))))
       (slot_not_among alive v k l apart listed place vs ks held.1.1 parts.1)
 
-mark_hold : (reads : List Operand) (v k : ℕ) → marks (Some Hold) reads (token v k) ≡ token v k
+pub mark_hold : (reads : List Operand) (v k : ℕ) → marks (Some Hold) reads (token v k) ≡ token v k
 mark_hold reads v k = both (is_read_in reads v)
   where
     both : (b : Bool) → cond b (token v k) (token v k) ≡ token v k

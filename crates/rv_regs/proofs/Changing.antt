@@ -47,11 +47,11 @@ stayed alive action reads l stays =
     let s = some_of_map (marks action reads) (listed_as l.value alive) l stays in
     (s.0, s.1, sym (marks_place action reads s.0) ∙ ap (λ (m : Listed). m.place) s.2)
 
-clear_write : (write : Option Operand) (l : Listed) → IsClearOf write l → (IsWritten write l.value → ⊥) × NotAt write l.place
+pub clear_write : (write : Option Operand) (l : Listed) → IsClearOf write l → (IsWritten write l.value → ⊥) × NotAt write l.place
 clear_write None l clear = (λ w. w, tt)
 clear_write (Some into) l clear = clear
 
-new_place : (write : Option Operand) (l : Listed) → IsNew write l → (into : Operand) × (write ≡ Some into) × (into.value ≡ l.value) × (into.place ≡ l.place)
+pub new_place : (write : Option Operand) (l : Listed) → IsNew write l → (into : Operand) × (write ≡ Some into) × (into.value ≡ l.value) × (into.place ≡ l.place)
 new_place None l new = absurd new
 new_place (Some into) l new = (into, refl, new.0, new.1)
 

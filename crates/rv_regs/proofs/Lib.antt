@@ -3,3 +3,5 @@ pub mod Placing
 pub mod Changing
 pub mod Chains
 pub mod Tokens
+pub mod Steps
+pub mod Following

@@ -1,6 +1,6 @@
 -- When code with places is the code over values that it was made of: one condition a definition.
 use Rattle.std.specs.Prelude.{◌≡◌, ◌≢◌, ◌⊎◌, ℕ, List, [], ◌∷◌, Option, Some, None, Bool, true, false, ◌==◌, map, option_map, ⊤, All, IsSome, IsTrue, IsSomeAnd}
-use Rattle.std.specs.List.{position}
+use Rattle.std.specs.List.{position_from}
 use Rattle.std.specs.List.{AllByRecursion}
 use Rattle.rv_isa.specs.AsmCode.{Line, Lines}
 use Rattle.rv_isa.specs.declared.asm.Action.{Action}
@@ -44,7 +44,7 @@ IsNeeded reads write nexts l = IsRead reads l.value ⊎ ((IsWritten write l.valu
 -- stands where its action takes or gives it: `conforms`. A move has its value to read and to write.
 unfoldable pub IsPassed : List ℕ → Listed → Type 0
 IsPassed params l =
-    IsSomeAnd (position (λ (param : ℕ). param == l.value) params) (λ n. IsTrue (is_in (argument n) l.place) × (l.held ≡ false))
+    IsSomeAnd (position_from (λ (param : ℕ). param == l.value) 0 params) (λ n. IsTrue (is_in (argument n) l.place) × (l.held ≡ false))
 
 -- 4. Values that are listed at one point are different, and so are their places.
 abbrev pub AreApart : Listed → Listed → Type 0

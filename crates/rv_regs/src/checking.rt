@@ -1,7 +1,7 @@
 // The check of a placed form against its assembler form.
 
 ghost use Rattle.std.specs.Prelude.{◌≡◌, ◌↔◌, ◌==◌, ℕ, IsTrue, All, map, option_map};
-ghost use Rattle.std.specs.List.{position};
+ghost use Rattle.std.specs.List.{position_from};
 ghost use Rattle.rv_isa.specs.AsmCode.{line_of, lines_of};
 ghost use Rattle.rv_isa.specs.PlacedCode.{placed_line_of, placed_lines_of};
 ghost use Rattle.rv_regs.specs.Listings.{first_alive};
@@ -70,9 +70,14 @@ fn is_code(code: &[Item], statements: &[Statement]) -> bool
 }
 
 fn index_of(params: &[u32], value: u32) -> Option<usize>
-    ensures { result ≡ position (λ (param : ℕ). param == value) params.now }
+    ensures { result ≡ position_from (λ (param : ℕ). param == value) 0 params.now }
 {
-    params.iter().position(|param| *param == value)
+    for (index, param) in params.iter().enumerate() {
+        if *param == value {
+            return Some(index);
+        }
+    }
+    None
 }
 
 #[tactic(auto, unfolding(crate::specs::Conditions::IsPassed))]
