@@ -250,3 +250,109 @@ module _ {H E W : Type 0} (m : Primitives H E W) (depth : ℕ) (asm : List Lines
   returns into ok fits =
       held_go alive f.held g.held (or_stuck (result_of words) (λ result. asm_returns m fs shared result)) (or_stuck (result_of words) (λ result. placed_returns m gs shared result)) stands.held
         (same_go (result_of words) (λ result. asm_returns m fs shared result) (λ result. placed_returns m gs shared result) (λ result e. goes_back result fs gs waits))
+
+  -- a routine's answer comes to the running frame, after what it took and spoilt
+  answered : (routine : RoutineName) (into : Option Operand) → Fits alive args into (Some (Routine routine)) (first_alive g.code ∷ []) → (word : ℕ) (shared' : H) (left : List (Frame Line)) (taken : Option (List (Frame PlacedLine)))
+      → Left alive registers g left taken
+      → (left' : List (Frame PlacedLine)) × (taken ≡ Some left') × StandsFor {W = W} (asm_gives (option_map value_of into) word left shared') (placed_answered into word left' (kept_by (Routine routine) registers) shared')
+  answered routine into fits word shared' left taken l =
+      let next : IsNext (first_alive l.g'.code) (first_alive g.code ∷ []) = inl (sym (ap first_alive l.code_is)) in
+      (l.g' ∷ l.gs', l.taken_is,
+        subst (λ (ls : List (Frame Line)). StandsFor {W = W} (asm_gives (option_map value_of into) word ls shared') (placed_answered into word (l.g' ∷ l.gs') (kept_by (Routine routine) registers) shared')) (sym l.left_is)
+          (gives W alive (Routine routine) args into (first_alive g.code ∷ []) registers shared' word l.f' l.fs' l.g' l.gs' fits l.stands l.waits next (λ v k. refl)))
+
+  served : (routine : RoutineName) (into : Option Operand) → Fits alive args into (Some (Routine routine)) (first_alive g.code ∷ []) → (reply : Reply H W)
+      → StandsFor (asm_served (option_map value_of into) (f ∷ fs) reply) (placed_served into (g ∷ gs) (kept_by (Routine routine) registers) reply)
+  served routine into fits (answers word shared' took) =
+      both_go (taken_if took (f ∷ fs)) (taken_if took (g ∷ gs)) (λ left. asm_gives (option_map value_of into) word left shared') (λ left. placed_answered into word left (kept_by (Routine routine) registers) shared')
+        (λ left e. answered routine into fits word shared' left (taken_if took (g ∷ gs)) (left_over alive registers took f fs g gs stands waits left e))
+  served routine into fits (ends how shared') = (refl, refl)
+  served routine into fits fails = tt
+
+  routines : (routine : RoutineName) (into : Option Operand) → Follows (Routine routine) into
+  routines routine into ok fits =
+      subst (λ (held : Option ℕ). StandsFor (asm_served (option_map value_of into) (f ∷ fs) (m.serve routine words (top (f ∷ fs)) shared)) (placed_served into (g ∷ gs) (kept_by (Routine routine) registers) (m.serve routine words held shared)))
+        (top_same alive registers f fs g gs stands waits) (served routine into fits (m.serve routine words (top (f ∷ fs)) shared))
+
+slot_place : (place : Place) → is_slot place ≡ true → (k : ℕ) × (slot_of place ≡ Some k) × (place ≡ slot k)
+slot_place (register r) is = cc
+slot_place (slot k) is = (k, refl, refl)
+
+-- the listing of an argument in a slot
+record InSlot (alive : List Listed) (arg : Operand) : Type 0 where
+  k : ℕ
+  l : Listed
+  slot_is : slot_of arg.place ≡ Some k
+  listed : listed_as arg.value alive ≡ Some l
+  place : l.place ≡ slot k
+
+in_slot : (alive : List Listed) (arg : Operand) → IsAtPlace alive arg → is_slot arg.place ≡ true → InSlot alive arg
+in_slot alive arg stand is =
+    let s = slot_place arg.place is in
+    let r = read_listed alive arg stand in
+    record { k = s.0; l = r.0; slot_is = s.1; listed = r.1; place = r.2 ∙ s.2 }
+
+-- a frame whose chain changes goes on
+chained : {H : Type 0} (W : Type 0) (alive : List Listed) (action : Action) (arg : Operand) (registers : ℕ → Option ℕ) (shared : H) (f : Frame Line) (fs : List (Frame Line)) (g : Frame PlacedLine) (gs : List (Frame PlacedLine))
+    → Fits alive (arg ∷ []) None (Some action) (first_alive g.code ∷ []) → Stands alive registers f g → AllWait fs gs → (held held' : List ℕ) → HeldAs (first_alive g.code) held held'
+    → StandsFor {W = W} (asm_goes (record f { held = held }) fs shared) (placed_goes (record g { held = held' }) gs (λ x. cond (spoils_by (Some action) x) None (registers x)) shared)
+chained W alive action arg registers shared f fs g gs fits stands waits held held' chain =
+    ((lands alive action (arg ∷ []) None (first_alive g.code ∷ []) f.cells registers g.cells (λ x. cond (spoils_by (Some action) x) None (registers x)) (record f { held = held }) (record g { held = held' }) fits stands.holds
+        (same_code f (record f { held = held }) g (record g { held = held' }) stands.same refl refl refl refl) (inl refl)
+        (change_nothing (spoils_by (Some action)) f.cells registers g.cells) chain, waits), refl)
+
+module _ {H E W : Type 0} (m : Primitives H E W) (depth : ℕ) (asm : List Lines) (placed : List PlacedLines)
+         (alive : List Listed) (registers : ℕ → Option ℕ) (shared : H) (f : Frame Line) (fs : List (Frame Line)) (g : Frame PlacedLine) (gs : List (Frame PlacedLine)) (words : List ℕ)
+         (stands : Stands alive registers f g) (waits : AllWait fs gs) where
+
+  abbrev Chains : Action → List Operand → Option Operand → Type 0
+  Chains action args into =
+      conforms action args into ≡ true → Fits alive args into (Some action) (first_alive g.code ∷ [])
+      → StandsFor (asm_acts m depth asm f fs shared action (map value_of args) (option_map value_of into) words) (placed_acts m depth placed g gs registers shared action args into words)
+
+  holds_token : (args : List Operand) (into : Option Operand) → Chains Hold args into
+  holds_token args (Some o) ok fits = absurd (no_write Hold args o refl ok)
+  holds_token [] None ok fits = tt
+  holds_token (arg ∷ other ∷ more) None ok fits = tt
+  holds_token (arg ∷ []) None ok fits =
+      let s = in_slot alive arg (All-head (IsAtPlace alive) arg [] fits.stand) (and_parts (is_slot arg.place) true (and_parts (is_slot arg.place && true) true ok).0).0 in
+      subst (λ (o : Option ℕ). StandsFor {W = W} (or_stuck (only_of words) (λ word. or_stuck (holding arg.value word f.held) (λ held. asm_goes (record f { held = held }) fs shared)))
+            (or_stuck o (λ k. or_stuck (only_of words) (λ word. or_stuck (holding k word g.held) (λ held. placed_goes (record g { held = held }) gs (kept_by Hold registers) shared))))) (sym s.slot_is)
+        (same_go (only_of words) (λ word. or_stuck (holding arg.value word f.held) (λ held. asm_goes (record f { held = held }) fs shared))
+          (λ word. or_stuck (holding s.k word g.held) (λ held. placed_goes (record g { held = held }) gs (kept_by Hold registers) shared))
+          (λ word e. both_go (holding arg.value word f.held) (holding s.k word g.held) (λ held. asm_goes (record f { held = held }) fs shared) (λ held. placed_goes (record g { held = held }) gs (kept_by Hold registers) shared)
+            (λ held e'.
+              let there = held_both alive (first_alive g.code) (first_alive g.code ∷ []) arg s.k s.l (inl refl) stands.apart s.listed s.place f.held g.held held word fits.held stands.held e' in
+              (there.0, there.1, chained W alive Hold arg registers shared f fs g gs fits stands waits held there.0 there.2))))
+
+  takes_back : (args : List Operand) (into : Option Operand) → Chains Unhold args into
+  takes_back args (Some o) ok fits = absurd (no_write Unhold args o refl ok)
+  takes_back [] None ok fits = tt
+  takes_back (arg ∷ other ∷ more) None ok fits = tt
+  takes_back (arg ∷ []) None ok fits =
+      let s = in_slot alive arg (All-head (IsAtPlace alive) arg [] fits.stand) (and_parts (is_slot arg.place) true (and_parts (is_slot arg.place && true) true ok).0).0 in
+      subst (λ (o : Option ℕ). StandsFor {W = W} (or_stuck (only_of words) (λ word. or_stuck (unholding arg.value word f.held) (λ held. asm_goes (record f { held = held }) fs shared)))
+            (or_stuck o (λ k. or_stuck (only_of words) (λ word. or_stuck (unholding k word g.held) (λ held. placed_goes (record g { held = held }) gs (kept_by Unhold registers) shared))))) (sym s.slot_is)
+        (same_go (only_of words) (λ word. or_stuck (unholding arg.value word f.held) (λ held. asm_goes (record f { held = held }) fs shared))
+          (λ word. or_stuck (unholding s.k word g.held) (λ held. placed_goes (record g { held = held }) gs (kept_by Unhold registers) shared))
+          (λ word e. both_go (unholding arg.value word f.held) (unholding s.k word g.held) (λ held. asm_goes (record f { held = held }) fs shared) (λ held. placed_goes (record g { held = held }) gs (kept_by Unhold registers) shared)
+            (λ held e'.
+              let there = unheld_both alive (first_alive g.code) (first_alive g.code ∷ []) arg s.k s.l (inl refl) stands.apart s.listed s.place fits.held f.held g.held held word stands.held e' in
+              (there.0, there.1, chained W alive Unhold arg registers shared f fs g gs fits stands waits held there.0 there.2))))
+
+-- Of an action that fits, the two machines make turns that stand for each other.
+pub follows : {H E W : Type 0} (m : Primitives H E W) (depth : ℕ) (asm : List Lines) (placed : List PlacedLines) → ArePlacings asm placed
+    → (alive : List Listed) (args : List Operand) (registers : ℕ → Option ℕ) (shared : H) (f : Frame Line) (fs : List (Frame Line)) (g : Frame PlacedLine) (gs : List (Frame PlacedLine)) (words : List ℕ)
+    → Stands alive registers f g → AllWait fs gs → (action : Action) (into : Option Operand) → conforms action args into ≡ true
+    → Fits alive args into (Some action) (both_of (alive_behind g.code action) (alive_at_label g.whole action))
+    → StandsFor (asm_acts m depth asm f fs shared action (map value_of args) (option_map value_of into) words) (placed_acts m depth placed g gs registers shared action args into words)
+follows m depth asm placed all alive args registers shared f fs g gs words stands waits (Compute operation) into ok fits = computes m depth asm placed all alive args registers shared f fs g gs words stands waits operation into ok fits
+follows m depth asm placed all alive args registers shared f fs g gs words stands waits (Label l) into ok fits = is_label_ m depth asm placed all alive args registers shared f fs g gs words stands waits l into ok fits
+follows m depth asm placed all alive args registers shared f fs g gs words stands waits (Jump l) into ok fits = jumps_to m depth asm placed all alive args registers shared f fs g gs words stands waits l into ok fits
+follows m depth asm placed all alive args registers shared f fs g gs words stands waits (Branch condition l) into ok fits = branches m depth asm placed all alive args registers shared f fs g gs words stands waits condition l into ok fits
+follows m depth asm placed all alive args registers shared f fs g gs words stands waits (Call n) into ok fits = calls m depth asm placed all alive args registers shared f fs g gs words stands waits n into ok fits
+follows m depth asm placed all alive args registers shared f fs g gs words stands waits (TailCall n) into ok fits = tail_calls m depth asm placed all alive args registers shared f fs g gs words stands waits n into ok fits
+follows m depth asm placed all alive args registers shared f fs g gs words stands waits Return into ok fits = returns m depth asm placed all alive args registers shared f fs g gs words stands waits into ok fits
+follows m depth asm placed all alive args registers shared f fs g gs words stands waits (Routine routine) into ok fits = routines m depth asm placed all alive args registers shared f fs g gs words stands waits routine into ok fits
+follows m depth asm placed all alive args registers shared f fs g gs words stands waits Hold into ok fits = holds_token m depth asm placed alive registers shared f fs g gs words stands waits args into ok fits
+follows m depth asm placed all alive args registers shared f fs g gs words stands waits Unhold into ok fits = takes_back m depth asm placed alive registers shared f fs g gs words stands waits args into ok fits

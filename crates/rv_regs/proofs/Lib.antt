@@ -5,3 +5,4 @@ pub mod Chains
 pub mod Tokens
 pub mod Steps
 pub mod Following
+pub mod Simulating
