@@ -6,3 +6,4 @@ pub mod Tokens
 pub mod Steps
 pub mod Following
 pub mod Simulating
+pub mod Rows

@@ -1,6 +1,7 @@
 -- The placed form's machine simulates the assembler form's: the moves that stand before a statement, and then the statement.
 use Rattle.std.proofs.Common.{◌≡◌, ◌≢◌, ◌+◌, ◌-◌, ◌*◌, ◌≤◌, ◌<◌, ℕ, zero, suc, List, [], ◌∷◌, ◌++◌, Option, Some, None, Bool, true, false, cond, All, length, drop, refl, sym, ◌∙◌, ap, subst, arith, map, option_map}
 use Rattle.std.proofs.Math.Seq.{drop-length}
+use Rattle.std.proofs.lemmas.List.{append-nil}
 use Rattle.std.proofs.lemmas.List.Elements.{All-head}
 use Rattle.std.proofs.lemmas.Bool.{cond-true}
 use Rattle.kk_base.specs.Machines.{Machine, trace, state, weight_of}
@@ -20,10 +21,11 @@ use Rattle.rv_isa.specs.AsmMachine.{AsmState, AsmTurn, asm_acts, asm_line, asm_n
 use Rattle.rv_isa.specs.PlacedMachine.{PlacedState, PlacedTurn, read_at, registers_with, slots_with, placed_acts, placed_line, placed_running, placed_next, placed_machine, placed_told, placed_weight, placed_line_weight}
 use Rattle.rv_regs.specs.Listings.{first_alive, alive_behind, alive_at_label, both_of, marks, spoils_by}
 use Rattle.rv_regs.specs.Conditions.{value_of, without_moves, IsAtPlace, IsKept, Fits, AllFit, ArePlacings}
-use Rattle.rv_regs.specs.Relation.{Holds, HeldAs, SameCode, Stands, AllWait, FramesStand, StandsFor, NeverStuck, leading}
+use Rattle.rv_regs.specs.Relation.{Holds, HeldAs, SameCode, Stands, AllWait, FramesStand, StandsFor, NeverStuck, leading, FewMoves, AllFewMoves, FramesFewMoves, HasFewMoves, Related}
 use Rattle.rv_regs.proofs.Changing.{holds_next, change_place}
 use Rattle.rv_regs.proofs.Chains.{held_next}
 use Rattle.rv_regs.proofs.Tokens.{apart_first, top_same}
+use Rattle.rv_regs.proofs.Rows.{leading_within, few_next}
 use Rattle.rv_regs.proofs.Steps.{words_at, word_at}
 use Rattle.rv_regs.proofs.Following.{follows}
 
@@ -82,3 +84,97 @@ module _ {H E W : Type 0} (m : Primitives H E W) (depth : ℕ) (asm : List Lines
             (subst (λ (ws : List (Option ℕ)). StandsFor (or_stuck (all_of (map f.cells (map value_of args))) next) (or_stuck (all_of ws) next')) same
               (Rattle.rv_regs.proofs.Steps.same_go (all_of (map f.cells (map value_of args))) next next'
                 (λ words e. follows m depth asm placed all alive args registers shared f' fs g' gs words on waits action into fit.0.0 fit.0.1)))))
+
+  -- a statement weighs as much in both machines
+  weighs_same : (alive : List Listed) (action : Action) (args : List Operand) (into : Option Operand) (rest : List PlacedLine) (registers : ℕ → Option ℕ) (shared : H) (f : Frame Line) (fs : List (Frame Line)) (g : Frame PlacedLine) (gs : List (Frame PlacedLine))
+      → g.code ≡ does alive action args into ∷ rest → Stands (first_alive g.code) registers f g → AllWait fs gs
+      → placed_line_weight m (g ∷ gs) registers shared g g.code ≤ 0 * move_instructions + asm_line_weight m 0 (f ∷ fs) shared f f.code
+  weighs_same alive action args into rest registers shared f fs g gs at stands waits =
+      let stands' : Stands alive registers f g = subst (λ (c : List PlacedLine). Stands (first_alive c) registers f g) at stands in
+      let fit : AllFit g.whole (does alive action args into ∷ rest) = subst (λ (c : List PlacedLine). AllFit g.whole c) at stands.same.code_fits in
+      let here : f.code ≡ record { action = action; args = map value_of args; into = option_map value_of into } ∷ without_moves rest = sym stands.same.code ∙ ap without_moves at in
+      let same : map f.cells (map value_of args) ≡ map (λ (arg : Operand). read_at registers g.cells arg.place) args = words_at alive f.cells registers g.cells args stands'.holds fit.0.1.stand in
+      let a : placed_line_weight m (g ∷ gs) registers shared g g.code ≡ instructions_of m action (all_of (map (λ (arg : Operand). read_at registers g.cells arg.place) args)) (top (g ∷ gs)) shared = ap (placed_line_weight m (g ∷ gs) registers shared g) at in
+      let b : asm_line_weight m 0 (f ∷ fs) shared f f.code ≡ 0 * move_instructions + instructions_of m action (all_of (map f.cells (map value_of args))) (top (f ∷ fs)) shared = ap (asm_line_weight m 0 (f ∷ fs) shared f) here in
+      let c : instructions_of m action (all_of (map f.cells (map value_of args))) (top (f ∷ fs)) shared ≡ instructions_of m action (all_of (map (λ (arg : Operand). read_at registers g.cells arg.place) args)) (top (g ∷ gs)) shared
+        = ap (λ ws. instructions_of m action (all_of ws) (top (f ∷ fs)) shared) same ∙ ap (λ held. instructions_of m action (all_of (map (λ (arg : Operand). read_at registers g.cells arg.place) args)) held shared) (top_same alive registers f fs g gs stands' waits) in
+      omega (arith, a, b, c)
+
+  -- where the upper machine can go on, what was told is the same
+  told_same : (s : AsmTurn H W) (t : PlacedTurn H W) → s ≢ stuck → StandsFor s t → asm_told m s ≡ placed_told m t
+  told_same (go s) (go t) goes stands = ap m.told stands.1
+  told_same (go s) (ended how shared) goes stands = absurd stands
+  told_same (go s) stuck goes stands = absurd stands
+  told_same (ended how shared) (go t) goes stands = absurd stands
+  told_same (ended how shared) (ended how' shared') goes stands = ap m.told stands.1
+  told_same (ended how shared) stuck goes stands = absurd stands
+  told_same stuck t goes stands = absurd (goes refl)
+
+  -- The placed machine comes by so many steps, of so much weight at most, to a state that stands for another, with these events.
+  record Arrives (most weight : ℕ) (events : List E) (s : AsmTurn H W) (t : PlacedTurn H W) : Type 0 where
+    steps : ℕ
+    some : 1 ≤ steps
+    within : weight_of (placed_machine m depth placed) steps t ≤ weight
+    events_are : trace (placed_machine m depth placed) steps t ≡ events
+    stands : StandsFor s (state (placed_machine m depth placed) steps t)
+    few : HasFewMoves most (state (placed_machine m depth placed) steps t)
+
+  -- one step
+  arrives_now : (most weight : ℕ) (s : AsmTurn H W) (t : PlacedState H) → placed_weight m (go t) ≤ weight → s ≢ stuck → StandsFor s (placed_next m depth placed (go t)) → HasFewMoves most (placed_next m depth placed (go t))
+      → Arrives most weight (drop (length (m.told t.shared)) (asm_told m s)) s (go t)
+  arrives_now most weight s t within goes stands few =
+      let told : asm_told m s ≡ placed_told m (placed_next m depth placed (go t)) = told_same s (placed_next m depth placed (go t)) goes stands in
+      record {
+        steps = 1;
+        some = omega arith;
+        within = omega (arith, within);
+        events_are = append_nil_of (drop (length (m.told t.shared)) (placed_told m (placed_next m depth placed (go t)))) ∙ ap (drop (length (m.told t.shared))) (sym told);
+        stands = stands;
+        few = few;
+      }
+    where
+      append_nil_of : (xs : List E) → xs ++ [] ≡ xs
+      append_nil_of xs = append-nil xs
+
+  -- a step without events before
+  arrives_later : (most weight more : ℕ) (events : List E) (s : AsmTurn H W) (t : PlacedTurn H W) (moved_weight : (placed_machine m depth placed).weight t ≤ more) → ((placed_machine m depth placed).step t).0 ≡ []
+      → Arrives most weight events s ((placed_machine m depth placed).step t).1 → Arrives most (more + weight) events s t
+  arrives_later most weight more events s t light silent later =
+      record {
+        steps = suc later.steps;
+        some = omega arith;
+        within = omega (arith, light, later.within);
+        events_are = ap (λ (first : List E). first ++ trace (placed_machine m depth placed) later.steps ((placed_machine m depth placed).step t).1) silent ∙ later.events_are;
+        stands = later.stands;
+        few = later.few;
+      }
+
+  asm_goes_on : Frame Line → List (Frame Line) → H → AsmTurn H W
+  asm_goes_on f fs shared = asm_line m depth asm f fs shared f.code
+
+  -- the moves before a statement, and the statement
+  arrives : (most : ℕ) (code : List PlacedLine) (registers : ℕ → Option ℕ) (shared : H) (f : Frame Line) (fs : List (Frame Line)) (g : Frame PlacedLine) (gs : List (Frame PlacedLine))
+      → AllFewMoves most placed → g.code ≡ code → Stands (first_alive g.code) registers f g → AllWait fs gs → FramesFewMoves most (g ∷ gs) → asm_line m depth asm f fs shared f.code ≢ stuck
+      → Arrives most (leading code * move_instructions + asm_line_weight m 0 (f ∷ fs) shared f f.code) (drop (length (m.told shared)) (asm_told m (asm_line m depth asm f fs shared f.code)))
+          (asm_line m depth asm f fs shared f.code) (go (record { frames = g ∷ gs; registers = registers; shared = shared }))
+  arrives most [] registers shared f fs g gs all_few at stands waits few goes =
+      absurd (goes (ap (asm_line m depth asm f fs shared) (sym stands.same.code ∙ ap without_moves at)))
+  arrives most (does alive action args into ∷ rest) registers shared f fs g gs all_few at stands waits few goes =
+      arrives_now most (leading (does alive action args into ∷ rest) * move_instructions + asm_line_weight m 0 (f ∷ fs) shared f f.code) (asm_line m depth asm f fs shared f.code)
+        (record { frames = g ∷ gs; registers = registers; shared = shared }) (weighs_same alive action args into rest registers shared f fs g gs at stands waits) goes
+        (statement alive action args into rest registers shared f fs g gs at stands waits) (few_next m most depth placed all_few g gs registers shared few)
+  arrives most (moves alive value way ∷ rest) registers shared f fs g gs all_few at stands waits few goes =
+      let registers' : ℕ → Option ℕ = registers_with (to_of way) (read_at registers g.cells (from_of way)) registers in
+      let g' : Frame PlacedLine = record g { code = rest; cells = slots_with (to_of way) (read_at registers g.cells (from_of way)) g.cells } in
+      let t : PlacedState H = record { frames = g ∷ gs; registers = registers; shared = shared } in
+      let t' : PlacedState H = record { frames = g' ∷ gs; registers = registers'; shared = shared } in
+      let on : placed_next m depth placed (go t) ≡ go t' = ap (placed_line m depth placed g gs registers shared) at in
+      let few' : FramesFewMoves most (g' ∷ gs) = subst (λ (u : PlacedTurn H W). HasFewMoves most u) on (few_next m most depth placed all_few g gs registers shared few) in
+      let later = arrives most rest registers' shared f fs g' gs all_few refl (moved alive value way rest registers f g at stands) waits few' goes in
+      let light : placed_weight m (go t) ≤ move_instructions = omega (arith, ap (placed_line_weight m (g ∷ gs) registers shared g) at) in
+      let silent : drop (length (m.told shared)) (placed_told m (placed_next m depth placed (go t))) ≡ [] = ap (λ (u : PlacedTurn H W). drop (length (m.told shared)) (placed_told m u)) on ∙ drop-length (m.told shared) in
+      let events : List E = drop (length (m.told shared)) (asm_told m (asm_line m depth asm f fs shared f.code)) in
+      let weight : ℕ = leading rest * move_instructions + asm_line_weight m 0 (f ∷ fs) shared f f.code in
+      let there : Arrives most weight events (asm_line m depth asm f fs shared f.code) (placed_next m depth placed (go t)) = subst (λ (u : PlacedTurn H W). Arrives most weight events (asm_line m depth asm f fs shared f.code) u) (sym on) later in
+      subst (λ w. Arrives most w events (asm_line m depth asm f fs shared f.code) (go t)) (omega arith)
+        (arrives_later most weight move_instructions events (asm_line m depth asm f fs shared f.code) (go t) light silent there)

@@ -1,5 +1,6 @@
 -- When a state of the placed form's machine stands for one of the assembler form's.
 use Rattle.std.specs.Prelude.{◌≡◌, ◌≢◌, ◌⊎◌, ◌≤◌, ℕ, suc, ◌+◌, List, [], ◌∷◌, Option, Some, None, Bool, true, false, ⊤}
+use Rattle.std.specs.List.{AllByRecursion}
 use Rattle.kk_base.specs.Machines.{state}
 use Rattle.rv_isa.specs.declared.placed.Place.{Place}
 use Rattle.rv_isa.specs.declared.placed.Place.TheVariants.{Slot as slot}
@@ -80,8 +81,28 @@ StandsFor stuck t = ⊤
 abbrev pub NeverStuck : {H E W : Type 0} → Primitives H E W → ℕ → List Lines → AsmTurn H W → Type 0
 NeverStuck m depth q s = (n : ℕ) → state (asm_machine m 0 depth q) n s ≢ stuck
 
--- so many moves at most stand in a row
+-- the moves with which code begins
 abbrev pub leading : List PlacedLine → ℕ
 leading [] = 0
 leading (does alive action args into ∷ code) = 0
 leading (moves alive value way ∷ code) = suc (leading code)
+
+-- so many moves at most stand in a row
+abbrev pub FewMoves : ℕ → List PlacedLine → Type 0
+FewMoves most [] = ⊤
+FewMoves most (line ∷ code) = (leading (line ∷ code) ≤ most) × FewMoves most code
+
+abbrev pub AllFewMoves : ℕ → List PlacedLines → Type 0
+AllFewMoves most functions = AllByRecursion (λ (function : PlacedLines). FewMoves most function.code) functions
+
+abbrev pub FramesFewMoves : ℕ → List (Frame PlacedLine) → Type 0
+FramesFewMoves most frames = AllByRecursion (λ (frame : Frame PlacedLine). FewMoves most frame.code × FewMoves most frame.whole) frames
+
+abbrev pub HasFewMoves : {H W : Type 0} → ℕ → PlacedTurn H W → Type 0
+HasFewMoves most (go t) = FramesFewMoves most t.frames
+HasFewMoves most (ended how shared) = ⊤
+HasFewMoves most stuck = ⊤
+
+-- what the simulation keeps; it saves no weight, and each step is paid for at once
+abbrev pub Related : {H E W : Type 0} → Primitives H E W → ℕ → ℕ → List Lines → ℕ → ℕ → AsmTurn H W → PlacedTurn H W → Type 0
+Related m most depth asm credit idle s t = NeverStuck m depth asm s × (StandsFor s t × HasFewMoves most t)
