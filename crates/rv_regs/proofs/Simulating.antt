@@ -178,3 +178,68 @@ module _ {H E W : Type 0} (m : Primitives H E W) (depth : ℕ) (asm : List Lines
       let there : Arrives most weight events (asm_line m depth asm f fs shared f.code) (placed_next m depth placed (go t)) = subst (λ (u : PlacedTurn H W). Arrives most weight events (asm_line m depth asm f fs shared f.code) u) (sym on) later in
       subst (λ w. Arrives most w events (asm_line m depth asm f fs shared f.code) (go t)) (omega arith)
         (arrives_later most weight move_instructions events (asm_line m depth asm f fs shared f.code) (go t) light silent there)
+
+  weighs_rows : (most lead : ℕ) (frames : List (Frame Line)) (shared : H) (f : Frame Line) (code : List Line) → code ≢ [] → lead ≤ most
+      → lead * move_instructions + asm_line_weight m 0 frames shared f code ≤ asm_line_weight m most frames shared f code
+  weighs_rows most lead frames shared f [] some within = absurd (some refl)
+  weighs_rows most lead frames shared f (line ∷ rest) some within = omega (arith, within)
+
+  -- a step of the upper machine, by steps of the lower
+  steps_on : (most credit idle : ℕ) (frames : List (Frame Line)) (frames' : List (Frame PlacedLine)) (registers : ℕ → Option ℕ) (shared : H) → AllFewMoves most placed
+      → NeverStuck m depth asm (go (record { frames = frames; shared = shared })) → FramesStand registers frames frames' → FramesFewMoves most frames'
+      → Reaches (placed_machine m depth placed) (Related m most depth asm) (λ t. Unit {0}) 1 ((asm_machine m most depth asm).weight (go (record { frames = frames; shared = shared })) + credit) 1 idle
+          ((asm_machine m most depth asm).step (go (record { frames = frames; shared = shared }))).0 ((asm_machine m most depth asm).step (go (record { frames = frames; shared = shared }))).1
+          (go (record { frames = frames'; registers = registers; shared = shared }))
+  steps_on most credit idle [] frames' registers shared all_few never stands few = absurd stands
+  steps_on most credit idle (f ∷ fs) [] registers shared all_few never stands few = absurd stands
+  steps_on most credit idle (f ∷ fs) (g ∷ gs) registers shared all_few never stands few =
+      let goes : asm_line m depth asm f fs shared f.code ≢ stuck = never 1 in
+      let some_code : f.code ≢ [] = λ none. goes (ap (asm_line m depth asm f fs shared) none) in
+      let there = arrives most g.code registers shared f fs g gs all_few refl stands.0 stands.1 few goes in
+      let rows = weighs_rows most (leading g.code) (f ∷ fs) shared f f.code some_code (leading_within most g.code few.0.0) in
+      record {
+        steps = there.steps;
+        credit_after = credit;
+        idle_after = idle;
+        paid = omega (arith, there.within, rows);
+        moves = omega (arith, there.some);
+        events_are = there.events_are;
+        passes = λ k lt. tt;
+        related = ((λ n. never (suc n)), (there.stands, there.few));
+      }
+
+  steps_by : (most credit idle : ℕ) (s : AsmTurn H W) (t : PlacedTurn H W) → AllFewMoves most placed → Related m most depth asm credit idle s t
+      → Reaches (placed_machine m depth placed) (Related m most depth asm) (λ t. Unit {0}) 1 ((asm_machine m most depth asm).weight s + credit) 1 idle ((asm_machine m most depth asm).step s).0 ((asm_machine m most depth asm).step s).1 t
+  steps_by most credit idle (go s) (go t) all_few related =
+      subst (λ (shared : H). Reaches (placed_machine m depth placed) (Related m most depth asm) (λ u. Unit {0}) 1 ((asm_machine m most depth asm).weight (go s) + credit) 1 idle ((asm_machine m most depth asm).step (go s)).0 ((asm_machine m most depth asm).step (go s)).1
+          (go (record { frames = t.frames; registers = t.registers; shared = shared }))) related.1.0.1
+        (steps_on most credit idle s.frames t.frames t.registers s.shared all_few related.0 related.1.0.0 related.1.1)
+  steps_by most credit idle (go s) (ended how shared) all_few related = absurd related.1.0
+  steps_by most credit idle (go s) stuck all_few related = absurd related.1.0
+  steps_by most credit idle (ended how shared) (go t) all_few related = absurd related.1.0
+  steps_by most credit idle (ended how shared) (ended how' shared') all_few related =
+      record {
+        steps = 1;
+        credit_after = credit;
+        idle_after = idle;
+        paid = omega arith;
+        moves = omega arith;
+        events_are = refl;
+        passes = λ k lt. tt;
+        related = ((λ n. related.0 (suc n)), (related.1.0, tt));
+      }
+  steps_by most credit idle (ended how shared) stuck all_few related = absurd related.1.0
+  steps_by most credit idle stuck t all_few related = absurd (related.0 0 refl)
+
+  ends_alike : (most credit idle : ℕ) (s : AsmTurn H W) (t : PlacedTurn H W) → Related m most depth asm credit idle s t → end_of t ≡ end_of s
+  ends_alike most credit idle (go s) (go t) related = refl
+  ends_alike most credit idle (go s) (ended how shared) related = absurd related.1.0
+  ends_alike most credit idle (go s) stuck related = absurd related.1.0
+  ends_alike most credit idle (ended how shared) (go t) related = absurd related.1.0
+  ends_alike most credit idle (ended how shared) (ended how' shared') related = ap (λ (w : W). Some w) (sym related.1.0.0)
+  ends_alike most credit idle (ended how shared) stuck related = absurd related.1.0
+  ends_alike most credit idle stuck t related = absurd (related.0 0 refl)
+
+  -- code with places simulates the code that it was made of
+  pub simulates : (most : ℕ) → AllFewMoves most placed → Simulates (asm_machine m most depth asm) (placed_machine m depth placed) (Related m most depth asm) (λ t. Unit {0}) 1
+  simulates most all_few = record { by = λ credit idle s t related. steps_by most credit idle s t all_few related; alike = ends_alike most }
