@@ -44,9 +44,10 @@ pub held_next : (alive next : List Listed) (nexts : List (List Listed)) (action 
 held_next alive next nexts action reads is all [] [] marked held = tt
 held_next alive next nexts action reads is all [] (k ∷ ks) marked held = held
 held_next alive next nexts action reads is all (v ∷ vs) [] marked held = held
-held_next alive next nexts action reads is all (v ∷ vs) (k ∷ ks) marked held =
-    (token_next alive next nexts action reads v k is all (marked v k (or_left (v == v) (is_among v vs) (eq-eqb v v refl))) held.0,
-      (held.1.0, held_next alive next nexts action reads is all vs ks (λ u j among. marked u j (or_right (v == u) (is_among u vs) among)) held.1.1))
+held_next alive next nexts action reads is all (v ∷ vs) (k ∷ ks) marked held = (
+  token_next alive next nexts action reads v k is all (marked v k (or_left (v == v) (is_among v vs) (eq-eqb v v refl))) held.0,
+  (held.1.0, held_next alive next nexts action reads is all vs ks (λ u j among. marked u j (or_right (v == u) (is_among u vs) among)) held.1.1),
+)
 
 -- a value's slot is on the chain only if the value is
 pub slot_not_among : (alive : List Listed) (v k : ℕ) (l : Listed) → Apart alive → listed_as v alive ≡ Some l → l.place ≡ slot k
@@ -57,8 +58,8 @@ slot_not_among alive v k l apart listed place (u ∷ vs) [] held none = refl
 slot_not_among alive v k l apart listed place (u ∷ vs) (j ∷ ks) held none =
     let parts = or_parts (u == v) (is_among v vs) none in
     or_from (j == k) (is_among k ks)
-      (ne_eqb j k (λ same. eqb-false u v parts.0 (one_place alive u v (token u j) l apart held.0 listed (ap (λ (x : ℕ). slot x) same ∙ sym place))))
-      (slot_not_among alive v k l apart listed place vs ks held.1.1 parts.1)
+    (ne_eqb j k (λ same. eqb-false u v parts.0 (one_place alive u v (token u j) l apart held.0 listed (ap (λ (x : ℕ). slot x) same ∙ sym place))))
+    (slot_not_among alive v k l apart listed place vs ks held.1.1 parts.1)
 
 pub mark_hold : (reads : List Operand) (v k : ℕ) → marks (Some Hold) reads (token v k) ≡ token v k
 mark_hold reads v k = both (is_read_in reads v)
@@ -72,8 +73,7 @@ mark_held arg l same = cond-true ((arg.value == l.value) || false) (record l { h
 
 -- A token that is held goes on both chains, or stays off both.
 module _ (alive next : List Listed) (nexts : List (List Listed)) (arg : Operand) (k : ℕ) (l : Listed) (is : IsNext next nexts) (apart : Apart alive)
-         (listed : listed_as arg.value alive ≡ Some l) (place : l.place ≡ slot k) where
-
+    (listed : listed_as arg.value alive ≡ Some l) (place : l.place ≡ slot k) where
   put_on : (vs ks vs' : List ℕ) (w : ℕ) (a z : Bool) → is_among arg.value vs ≡ a → (w == 0) ≡ z → All (StaysHeld (marks (Some Hold) (arg ∷ [])) nexts) alive
       → HeldAs alive vs ks → is_among k ks ≡ false → a ≡ false → cond z (Some vs) (Some (arg.value ∷ vs)) ≡ Some vs'
       → (ks' : List ℕ) × (cond z (Some ks) (Some (k ∷ ks)) ≡ Some ks') × HeldAs next vs' ks'
@@ -107,12 +107,11 @@ other_unmarked arg u j ne =
 
 -- A token that is taken back is off both chains.
 module _ (alive next : List Listed) (nexts : List (List Listed)) (arg : Operand) (k : ℕ) (l : Listed) (is : IsNext next nexts) (apart : Apart alive)
-         (listed : listed_as arg.value alive ≡ Some l) (place : l.place ≡ slot k) (all : All (StaysHeld (marks (Some Unhold) (arg ∷ [])) nexts) alive) where
-
+    (listed : listed_as arg.value alive ≡ Some l) (place : l.place ≡ slot k) (all : All (StaysHeld (marks (Some Unhold) (arg ∷ [])) nexts) alive) where
   stay_without : (vs ks : List ℕ) → is_among arg.value vs ≡ false → HeldAs alive vs ks → HeldAs next vs ks
   stay_without vs ks none held =
       held_next alive next nexts (Some Unhold) (arg ∷ []) is all vs ks
-        (λ u j among. other_unmarked arg u j (λ same. false≢true (sym none ∙ ap (λ (v : ℕ). is_among v vs) same ∙ among))) held
+      (λ u j among. other_unmarked arg u j (λ same. false≢true (sym none ∙ ap (λ (v : ℕ). is_among v vs) same ∙ among))) held
 
   off_both : (vs ks vs' : List ℕ) → HeldAs alive vs ks → off_top arg.value vs ≡ Some vs' → (ks' : List ℕ) × (off_top k ks ≡ Some ks') × HeldAs next vs' ks'
   off_both [] ks vs' held e = cc
@@ -127,9 +126,11 @@ module _ (alive next : List Listed) (nexts : List (List Listed)) (arg : Operand)
           let there : listed_as arg.value alive ≡ Some (token u j) = ap (λ v. listed_as v alive) (sym same) ∙ held.0 in
           let is_l : l ≡ token u j = cc in
           let places : slot k ≡ slot j = sym place ∙ ap (λ (m : Listed). m.place) is_l in
-          let slots_same : j ≡ k = cc in
-          (js, cond-true (j == k) (Some js) None (eq-eqb j k slots_same),
-            subst (λ ws. HeldAs next ws js) rest (stay_without us js (ap (λ v. is_among v us) (sym same) ∙ held.1.0) held.1.1))
+          let slots_same : j ≡ k = cc in (
+            js,
+            cond-true (j == k) (Some js) None (eq-eqb j k slots_same),
+            subst (λ ws. HeldAs next ws js) rest (stay_without us js (ap (λ v. is_among v us) (sym same) ∙ held.1.0) held.1.1),
+          )
 
   pub unheld_both : (vs ks vs' : List ℕ) (w : ℕ) → HeldAs alive vs ks → unholding arg.value w vs ≡ Some vs' → (ks' : List ℕ) × (unholding k w ks ≡ Some ks') × HeldAs next vs' ks'
   unheld_both vs ks vs' w held e = go (w == 0) (is_among arg.value vs) refl e
@@ -138,9 +139,11 @@ module _ (alive next : List Listed) (nexts : List (List Listed)) (arg : Operand)
           → (ks' : List ℕ) × (cond z (cond (is_among k ks) None (Some ks)) (off_top k ks) ≡ Some ks') × HeldAs next vs' ks'
       go true true among e' = cc
       go true false among e' =
-          let same : vs ≡ vs' = cc in
-          (ks, cond-false (is_among k ks) None (Some ks) (slot_not_among alive arg.value k l apart listed place vs ks held among),
-            subst (λ ws. HeldAs next ws ks) same (stay_without vs ks among held))
+          let same : vs ≡ vs' = cc in (
+            ks,
+            cond-false (is_among k ks) None (Some ks) (slot_not_among alive arg.value k l apart listed place vs ks held among),
+            subst (λ ws. HeldAs next ws ks) same (stay_without vs ks among held),
+          )
       go false a among e' = off_both vs ks vs' held e'
 
 -- the word of a token in a frame that waits

@@ -56,8 +56,7 @@ new_place None l new = absurd new
 new_place (Some into) l new = (into, refl, new.0, new.1)
 
 module _ (alive : List Listed) (action : Option Action) (reads : List Operand) (write : Option Operand) (spoilt : ℕ → Bool)
-         (values registers slots values' registers' slots' : ℕ → Option ℕ) where
-
+    (values registers slots values' registers' slots' : ℕ → Option ℕ) where
   kept_listing : (l : Listed) → Holds alive values registers slots → Changes write spoilt values registers slots values' registers' slots'
       → IsKept alive (marks action reads) write spoilt l → values' l.value ≡ read_at registers' slots' l.place
   kept_listing l holds change (inl new) =

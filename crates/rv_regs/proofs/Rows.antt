@@ -37,7 +37,7 @@ found_few : (most : ℕ) (marks : PlacedLine → Bool) (code k : List PlacedLine
 found_few most marks [] k few e = cc
 found_few most marks (line ∷ rest) k few e = found_step_few most line rest k (found marks rest) (marks line) few (found_few most marks rest k few.1) e
 
-function_few : (most : ℕ) (functions : List PlacedLines) (n : ℕ) (function : PlacedLines) → AllFewMoves most functions → slice_get functions n ≡ Some function → FewMoves most function.code
+pub function_few : (most : ℕ) (functions : List PlacedLines) (n : ℕ) (function : PlacedLines) → AllFewMoves most functions → slice_get functions n ≡ Some function → FewMoves most function.code
 function_few most [] n function few e = cc
 function_few most (p ∷ ps) zero function few e = let same : p ≡ function = cc in subst (λ (q : PlacedLines). FewMoves most q.code) same few.0
 function_few most (p ∷ ps) (suc n) function few e = function_few most ps n function few.1 e
@@ -82,11 +82,10 @@ returns_few m most [] shared result few = tt
 returns_few m most (g ∷ gs) shared result few = some_few most (received g.into result empty) (λ registers. placed_goes g gs registers shared) (λ registers e. few)
 
 module _ {H E W : Type 0} (m : Primitives H E W) (most depth : ℕ) (placed : List PlacedLines) (all : AllFewMoves most placed) where
-
   jumps_few : (l : ℕ) (g : Frame PlacedLine) (gs : List (Frame PlacedLine)) (registers : ℕ → Option ℕ) (shared : H) → FramesFewMoves most (g ∷ gs) → HasFewMoves {W = W} most (placed_jumps l g gs registers shared)
   jumps_few l g gs registers shared few =
       some_few most (found (is_label_line l) g.whole) (λ code. placed_goes (record g { code = code }) gs registers shared)
-        (λ k e. ((found_few most (is_label_line l) g.whole k few.0.1 e, few.0.1), few.1))
+      (λ k e. ((found_few most (is_label_line l) g.whole k few.0.1 e, few.0.1), few.1))
 
   acts_few : (g : Frame PlacedLine) (gs : List (Frame PlacedLine)) (registers : ℕ → Option ℕ) (shared : H) (args : List Operand) (into : Option Operand) (words : List ℕ) (action : Action) → FramesFewMoves most (g ∷ gs)
       → HasFewMoves most (placed_acts m depth placed g gs registers shared action args into words)
@@ -96,35 +95,35 @@ module _ {H E W : Type 0} (m : Primitives H E W) (most depth : ℕ) (placed : Li
   acts_few g gs registers shared args into words (Jump l) few = jumps_few l g gs registers shared few
   acts_few g gs registers shared args into words (Branch condition l) few =
       some_few most (m.holds condition words) (λ taken. cond taken (placed_jumps l g gs registers shared) (placed_goes g gs registers shared))
-        (λ taken e. cond_few most taken (placed_jumps l g gs registers shared) (placed_goes g gs registers shared) (jumps_few l g gs registers shared few) few)
+      (λ taken e. cond_few most taken (placed_jumps l g gs registers shared) (placed_goes g gs registers shared) (jumps_few l g gs registers shared few) few)
   acts_few g gs registers shared args into words (Call n) few =
       some_few most (slice_get placed n) (λ callee. cond (nat_le depth (length (g ∷ gs))) (ended m.stack_full shared) (placed_goes (placed_entered callee) (record g { into = awaited into } ∷ gs) (passed 0 words) shared))
-        (λ callee e. cond_few most (nat_le depth (length (g ∷ gs))) (ended m.stack_full shared) (placed_goes (placed_entered callee) (record g { into = awaited into } ∷ gs) (passed 0 words) shared) tt
-          ((function_few most placed n callee all e, function_few most placed n callee all e), few))
+      (λ callee e. cond_few most (nat_le depth (length (g ∷ gs))) (ended m.stack_full shared) (placed_goes (placed_entered callee) (record g { into = awaited into } ∷ gs) (passed 0 words) shared) tt
+      ((function_few most placed n callee all e, function_few most placed n callee all e), few))
   acts_few g gs registers shared args into words (TailCall n) few =
       unless_few most g.held (or_stuck (slice_get placed n) (λ callee. placed_goes (placed_entered callee) gs (passed 0 words) shared))
-        (some_few most (slice_get placed n) (λ callee. placed_goes (placed_entered callee) gs (passed 0 words) shared) (λ callee e. ((function_few most placed n callee all e, function_few most placed n callee all e), few.1)))
+      (some_few most (slice_get placed n) (λ callee. placed_goes (placed_entered callee) gs (passed 0 words) shared) (λ callee e. ((function_few most placed n callee all e, function_few most placed n callee all e), few.1)))
   acts_few g gs registers shared args into words Return few =
       unless_few most g.held (or_stuck (result_of words) (λ result. placed_returns m gs shared result))
-        (some_few most (result_of words) (λ result. placed_returns m gs shared result) (λ result e. returns_few m most gs shared result few.1))
+      (some_few most (result_of words) (λ result. placed_returns m gs shared result) (λ result e. returns_few m most gs shared result few.1))
   acts_few g gs registers shared args into words (Routine routine) few = served_few most into (g ∷ gs) (kept_by (Routine routine) registers) (m.serve routine words (top (g ∷ gs)) shared) few
   acts_few g gs registers shared args into words Hold few =
       some_few most (only_slot args) (λ k. or_stuck (only_of words) (λ word. or_stuck (holding k word g.held) (λ held. placed_goes (record g { held = held }) gs (kept_by Hold registers) shared)))
-        (λ k e. some_few most (only_of words) (λ word. or_stuck (holding k word g.held) (λ held. placed_goes (record g { held = held }) gs (kept_by Hold registers) shared))
-          (λ word e'. some_few most (holding k word g.held) (λ held. placed_goes (record g { held = held }) gs (kept_by Hold registers) shared) (λ held e''. few)))
+      (λ k e. some_few most (only_of words) (λ word. or_stuck (holding k word g.held) (λ held. placed_goes (record g { held = held }) gs (kept_by Hold registers) shared))
+      (λ word e'. some_few most (holding k word g.held) (λ held. placed_goes (record g { held = held }) gs (kept_by Hold registers) shared) (λ held e''. few)))
   acts_few g gs registers shared args into words Unhold few =
       some_few most (only_slot args) (λ k. or_stuck (only_of words) (λ word. or_stuck (unholding k word g.held) (λ held. placed_goes (record g { held = held }) gs (kept_by Unhold registers) shared)))
-        (λ k e. some_few most (only_of words) (λ word. or_stuck (unholding k word g.held) (λ held. placed_goes (record g { held = held }) gs (kept_by Unhold registers) shared))
-          (λ word e'. some_few most (unholding k word g.held) (λ held. placed_goes (record g { held = held }) gs (kept_by Unhold registers) shared) (λ held e''. few)))
+      (λ k e. some_few most (only_of words) (λ word. or_stuck (unholding k word g.held) (λ held. placed_goes (record g { held = held }) gs (kept_by Unhold registers) shared))
+      (λ word e'. some_few most (unholding k word g.held) (λ held. placed_goes (record g { held = held }) gs (kept_by Unhold registers) shared) (λ held e''. few)))
 
   line_few : (code : List PlacedLine) (g : Frame PlacedLine) (gs : List (Frame PlacedLine)) (registers : ℕ → Option ℕ) (shared : H) → FewMoves most code → FramesFewMoves most (g ∷ gs)
       → HasFewMoves most (placed_line m depth placed g gs registers shared code)
   line_few [] g gs registers shared here few = tt
   line_few (does alive action args into ∷ rest) g gs registers shared here few =
       cond_few most (conforms action args into) (or_stuck (all_of (map (λ (arg : Operand). read_at registers g.cells arg.place) args)) (λ words. placed_acts m depth placed (record g { code = rest }) gs registers shared action args into words)) stuck
-        (some_few most (all_of (map (λ (arg : Operand). read_at registers g.cells arg.place) args)) (λ words. placed_acts m depth placed (record g { code = rest }) gs registers shared action args into words)
-          (λ words e. acts_few (record g { code = rest }) gs registers shared args into words action ((here.1, few.0.1), few.1)))
-        tt
+      (some_few most (all_of (map (λ (arg : Operand). read_at registers g.cells arg.place) args)) (λ words. placed_acts m depth placed (record g { code = rest }) gs registers shared action args into words)
+      (λ words e. acts_few (record g { code = rest }) gs registers shared args into words action ((here.1, few.0.1), few.1)))
+      tt
   line_few (moves alive value way ∷ rest) g gs registers shared here few = ((here.1, few.0.1), few.1)
 
   -- a step leads to such code

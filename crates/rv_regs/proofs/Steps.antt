@@ -96,16 +96,18 @@ bound_step : (p w v n i : ℕ) (ws : List ℕ) (c cells : ℕ → Option ℕ) (o
     → cond b (Some i) o ≡ Some n → (i ≤ n) × (cells v ≡ passed i (w ∷ ws) (argument n))
 bound_step p w v n i ws c cells o true t made later e =
     let same : p ≡ v = eqb-true p v t in
-    let first : i ≡ n = cc in
-    (omega arith,
+    let first : i ≡ n = cc in (
+      omega arith,
       ap (λ (f : ℕ → Option ℕ). f v) (sym made) ∙ ap (put p (Some w) c) (sym same) ∙ put_same p (Some w) c
-      ∙ sym (ap (λ (j : ℕ). put (argument i) (Some w) (passed (suc i) ws) (argument j)) (sym first) ∙ put_same (argument i) (Some w) (passed (suc i) ws)))
+          ∙ sym (ap (λ (j : ℕ). put (argument i) (Some w) (passed (suc i) ws) (argument j)) (sym first) ∙ put_same (argument i) (Some w) (passed (suc i) ws)),
+    )
 bound_step p w v n i ws c cells o false t made later e =
-    let rest = later e in
-    (omega (arith, rest.0),
+    let rest = later e in (
+      omega (arith, rest.0),
       ap (λ (f : ℕ → Option ℕ). f v) (sym made) ∙ put_other p (Some w) c v (λ same. eqb-false p v t (sym same)) ∙ rest.1
-      ∙ ap (λ (j : ℕ). passed j ws (argument n)) (add-one i)
-      ∙ sym (put_other (argument i) (Some w) (passed (suc i) ws) (argument n) (λ same. absurd (omega (arith, rest.0, same)))))
+          ∙ ap (λ (j : ℕ). passed j ws (argument n)) (add-one i)
+          ∙ sym (put_other (argument i) (Some w) (passed (suc i) ws) (argument n) (λ same. absurd (omega (arith, rest.0, same)))),
+    )
 
 -- a parameter is the word that was passed at its place
 pub bound_at : (params words : List ℕ) (cells : ℕ → Option ℕ) (v n i : ℕ) → bound params words ≡ Some cells → position_from (λ (param : ℕ). param == v) i params ≡ Some n

@@ -69,9 +69,11 @@ waits_taken_in [] [] f fs g gs waits all held later left e = wait_left f fs g gs
 waits_taken_in [] (k ∷ ks) f fs g gs waits all held later left e = absurd held
 waits_taken_in (v ∷ vs) [] f fs g gs waits all held later left e = absurd held
 waits_taken_in (v ∷ vs) (k ∷ ks) f fs g gs waits all held later left e =
-    let same : record f { cells = put v (Some 0) f.cells; held = vs } ∷ fs ≡ left = cc in
-    (record g { cells = put k (Some 0) g.cells; held = ks } ∷ gs, refl,
-      subst (λ ls. AllWait ls (record g { cells = put k (Some 0) g.cells; held = ks } ∷ gs)) same (wait_taken f g v k vs ks waits held, all))
+    let same : record f { cells = put v (Some 0) f.cells; held = vs } ∷ fs ≡ left = cc in (
+      record g { cells = put k (Some 0) g.cells; held = ks } ∷ gs,
+      refl,
+      subst (λ ls. AllWait ls (record g { cells = put k (Some 0) g.cells; held = ks } ∷ gs)) same (wait_taken f g v k vs ks waits held, all),
+    )
 
 waits_taken : (fs : List (Frame Line)) (gs : List (Frame PlacedLine)) → AllWait fs gs → (left : List (Frame Line)) → top_taken fs ≡ Some left
     → (left' : List (Frame PlacedLine)) × (top_taken gs ≡ Some left') × AllWait left left'

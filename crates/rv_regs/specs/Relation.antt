@@ -106,3 +106,7 @@ HasFewMoves most stuck = ⊤
 -- what the simulation keeps; it saves no weight, and each step is paid for at once
 abbrev pub Related : {H E W : Type 0} → Primitives H E W → ℕ → ℕ → List Lines → ℕ → ℕ → AsmTurn H W → PlacedTurn H W → Type 0
 Related m most depth asm credit idle s t = NeverStuck m depth asm s × (StandsFor s t × HasFewMoves most t)
+
+-- the placed form's machine may pass any state
+abbrev pub Any : {H W : Type 0} → PlacedTurn H W → Type 0
+Any t = ⊤

@@ -6,8 +6,10 @@ mod actions;
 mod checking;
 mod conventions;
 mod keeping;
+mod keeps;
 mod lines;
 mod needs;
 mod places;
 
 pub use checking::valid;
+pub use keeps::{Execution, valid_forms_keep_meaning};
