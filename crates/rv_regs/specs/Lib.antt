@@ -3,3 +3,5 @@ pub mod Conditions
 pub mod Valid
 pub mod Views
 pub mod Relation
+pub mod Alive
+pub mod WellFormed
