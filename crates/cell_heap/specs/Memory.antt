@@ -7,7 +7,7 @@
 --
 -- x8 has the first free cell of the chain, or 0; x9 the newest held token, or 0; x18 and x19 bound the cells that were never used, of which no
 -- word is said.
-use Rattle.std.specs.Prelude.{◌≡◌, ℕ, ◌+◌, ◌*◌, ◌%◌, ◌^◌, ◌<◌, ◌≤◌, ◌⊎◌, List, [], ◌∷◌, map, length, true}
+use Rattle.std.specs.Prelude.{◌≡◌, ◌≢◌, ℕ, ◌+◌, ◌*◌, ◌%◌, ◌^◌, ◌<◌, ◌≤◌, ◌⊎◌, List, [], ◌∷◌, map, length, true}
 use Rattle.kk_base.specs.Memory.{Part}
 use Rattle.rv_isa.specs.Bytes.{number_at}
 use Rattle.rv_isa.specs.Machine.{Machine, value, can_load, can_store}
@@ -79,6 +79,7 @@ IsHeldChain pool parts memory heap at (link ∷ links) =
 pub record Memory (pool : Pool) (view : View) (s : Machine) : Type 0 where
   pub usable : IsUsable pool s.parts
   pub shown : IsShown pool s.memory view.heap
+  pub settled : (at : ℕ) (body : Body) → view.heap at ≢ waiting body
   pub chain : IsChain s.memory view.heap (value s.registers 8) view.frees
   pub held : IsHeldChain pool s.parts s.memory view.heap (value s.registers 9) view.held
   pub border : value s.registers 18 ≡ view.border
