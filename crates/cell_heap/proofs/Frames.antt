@@ -127,3 +127,126 @@ IsChain-changed {pool} {old} {new} {heap} at cell shown is_cell but from (first 
     let next : word new first ≡ word old first = words.same first (omega arith) (omega arith) in
     let rest = IsChain-changed at cell shown is_cell but (word old first) cells apart.1 chain.3 in
     (chain.0, changed-other at cell heap first differ ∙ chain.1, chain.2, subst (λ w. IsChain new (changed at cell heap) w cells) (sym next) rest)
+
+-- ---- held tokens
+
+not-token-free : (cell : Cell) → IsToken cell → cell ≢ no_cell
+not-token-free no_cell is_token e = is_token
+not-token-free free is_token e = is_token
+not-token-free (token fields) is_token e = cc
+not-token-free (waiting body) is_token e = is_token
+not-token-free (counted count body) is_token e = is_token
+
+-- a slot lies outside of each cell
+slot-apart : (pool : Pool) (parts : List Part) (slot at : ℕ) → pool.first % 32 ≡ 0 → IsSlot pool parts slot → IsCell pool at → (slot + 4 ≤ at) ⊎ (at + 32 ≤ slot)
+slot-apart pool parts slot at aligned is_slot cell = by-side is_slot.apart
+  where
+    by-side : (slot + 4 ≤ pool.first) ⊎ (end_of pool ≤ slot) → (slot + 4 ≤ at) ⊎ (at + 32 ≤ slot)
+    by-side (inl before) = let low = cell.behind in inl (omega arith)
+    by-side (inr behind) = let high = cell.before in let here = cell.aligned in inr (omega arith)
+
+pub IsHeld-cell : {pool : Pool} {parts : List Part} {memory : ℕ → ℕ} {heap : Heap} {link : Link} → IsShown pool memory heap → IsHeld pool parts memory heap link → IsCell pool link.cell
+IsHeld-cell {pool} {parts} {memory} {heap} {link} shown held =
+    shown-cell shown link.cell (heap link.cell) refl (not-token-free (heap link.cell) held.is_token)
+
+pub IsHeldChain-changed : {pool : Pool} (parts : List Part) {old new : ℕ → ℕ} {heap : Heap} (at : ℕ) (cell : Cell) → pool.first % 32 ≡ 0 → IsShown pool old heap → IsCell pool at → SameBut old new at
+    → (from : ℕ) (links : List Link) → occurs at (map (λ l. l.cell) links) ≡ 0 → IsHeldChain pool parts old heap from links → IsHeldChain pool parts new (changed at cell heap) from links
+IsHeldChain-changed parts at cell aligned shown is_cell but from [] none chain = chain
+IsHeldChain-changed {pool} parts {old} {new} {heap} at cell aligned shown is_cell but from (link ∷ links) none chain =
+    let apart = occurs-other at link.cell (map (λ l. l.cell) links) none in
+    let differ : link.cell ≢ at = λ e. apart.0 (sym e) in
+    let held = chain.1 in
+    let held_cell = IsHeld-cell shown held in
+    let words = SameWords-but but is_cell link.cell differ held_cell in
+    let next : word new link.cell ≡ word old link.cell = words.same link.cell (omega arith) (omega arith) in
+    let rest = IsHeldChain-changed parts at cell aligned shown is_cell but (word old link.cell) links apart.1 chain.4 in (
+      chain.0,
+      record {
+        is_token = subst IsToken (sym (changed-other at cell heap link.cell differ)) held.is_token;
+        is_slot = held.is_slot;
+        names_slot = words.same (link.cell + 4) (omega arith) (omega arith) ∙ held.names_slot;
+        is_in_slot = but.same link.slot (slot-apart pool parts link.slot at aligned held.is_slot is_cell) ∙ held.is_in_slot;
+      },
+      chain.2,
+      chain.3,
+      subst (λ w. IsHeldChain pool parts new (changed at cell heap) w links) (sym next) rest,
+    )
+
+-- ---- a change outside of all cells
+
+pub record SameInside (pool : Pool) (old new : ℕ → ℕ) : Type 0 where
+  pub same : (x : ℕ) → pool.first ≤ x → x + 4 ≤ end_of pool → word new x ≡ word old x
+
+-- all words of a cell are inside
+cell-inside : (pool : Pool) (at : ℕ) → pool.first % 32 ≡ 0 → IsCell pool at → at + 32 ≤ end_of pool
+cell-inside pool at aligned cell = let high = cell.before in let here = cell.aligned in omega arith
+
+SameWords-inside : {pool : Pool} {old new : ℕ → ℕ} → pool.first % 32 ≡ 0 → SameInside pool old new → (at : ℕ) → IsCell pool at → SameWords old new at (at + 32)
+SameWords-inside {pool} aligned inside at cell = record {
+  same = λ y low high. let end = cell-inside pool at aligned cell in let begin = cell.behind in inside.same y (omega arith) (omega arith);
+}
+
+pub IsShown-outside : {pool : Pool} {old new : ℕ → ℕ} {heap : Heap} → pool.first % 32 ≡ 0 → SameInside pool old new → IsShown pool old heap → IsShown pool new heap
+IsShown-outside {pool} {old} {new} {heap} aligned inside shown = record {
+  cell = λ x. Shows-same pool old new x (heap x) (SameWords-inside aligned inside x) (shown.cell x);
+}
+
+pub IsChain-outside : {pool : Pool} {old new : ℕ → ℕ} {heap : Heap} → pool.first % 32 ≡ 0 → SameInside pool old new → IsShown pool old heap
+    → (from : ℕ) (cells : List ℕ) → IsChain old heap from cells → IsChain new heap from cells
+IsChain-outside aligned inside shown from [] chain = chain
+IsChain-outside {pool} {old} {new} {heap} aligned inside shown from (first ∷ cells) chain =
+    let words = SameWords-inside aligned inside first (shown-cell shown first free chain.1 free-some) in
+    let next : word new first ≡ word old first = words.same first (omega arith) (omega arith) in
+    let rest = IsChain-outside aligned inside shown (word old first) cells chain.3 in
+    (chain.0, chain.1, chain.2, subst (λ w. IsChain new heap w cells) (sym next) rest)
+
+-- the slots of the held tokens have the words that they had
+pub record SameSlots (old new : ℕ → ℕ) (links : List Link) : Type 0 where
+  pub same : (slot : ℕ) → occurs slot (map (λ l. l.slot) links) ≢ 0 → word new slot ≡ word old slot
+
+occurs-first : (x : ℕ) (xs : List ℕ) → occurs x (x ∷ xs) ≢ 0
+occurs-first x xs = let same : nat_eq x x ≡ true = grind (arith, nat_tests) in rw same (λ none. omega arith)
+
+occurs-later : (x y : ℕ) (ys : List ℕ) → occurs x ys ≢ 0 → occurs x (y ∷ ys) ≢ 0
+occurs-later x y ys some = λ none. some (occurs-other x y ys none).1
+
+pub IsHeldChain-outside : {pool : Pool} (parts : List Part) {old new : ℕ → ℕ} {heap : Heap} → pool.first % 32 ≡ 0 → SameInside pool old new → IsShown pool old heap
+    → (from : ℕ) (links : List Link) → SameSlots old new links → IsHeldChain pool parts old heap from links → IsHeldChain pool parts new heap from links
+IsHeldChain-outside parts aligned inside shown from [] slots chain = chain
+IsHeldChain-outside {pool} parts {old} {new} {heap} aligned inside shown from (link ∷ links) slots chain =
+    let held = chain.1 in
+    let words = SameWords-inside aligned inside link.cell (IsHeld-cell shown held) in
+    let next : word new link.cell ≡ word old link.cell = words.same link.cell (omega arith) (omega arith) in
+    let later : SameSlots old new links = record { same = λ slot some. slots.same slot (occurs-later slot link.slot (map (λ l. l.slot) links) some) } in
+    let rest = IsHeldChain-outside parts aligned inside shown (word old link.cell) links later chain.4 in (
+      chain.0,
+      record {
+        is_token = held.is_token;
+        is_slot = held.is_slot;
+        names_slot = words.same (link.cell + 4) (omega arith) (omega arith) ∙ held.names_slot;
+        is_in_slot = slots.same link.slot (occurs-first link.slot (map (λ l. l.slot) links)) ∙ held.is_in_slot;
+      },
+      chain.2,
+      chain.3,
+      subst (λ w. IsHeldChain pool parts new heap w links) (sym next) rest,
+    )
+
+-- ---- one store
+
+-- a store of a word of a cell changes that cell alone
+pub SameBut-store : (memory : ℕ → ℕ) (at to n : ℕ) → at ≤ to → to + 4 ≤ at + 32 → SameBut memory (with_number to 4 n memory) at
+SameBut-store memory at to n low high =
+    record { same = λ x apart. word-apart to n memory x (apart-word x apart) }
+  where
+    apart-word : (x : ℕ) → (x + 4 ≤ at) ⊎ (at + 32 ≤ x) → Apart to 4 x 4
+    apart-word x (inl before) = inl (omega arith)
+    apart-word x (inr behind) = inr (omega arith)
+
+-- a store of a word outside of all cells changes none
+pub SameInside-store : (pool : Pool) (memory : ℕ → ℕ) (to n : ℕ) → (to + 4 ≤ pool.first) ⊎ (end_of pool ≤ to) → SameInside pool memory (with_number to 4 n memory)
+SameInside-store pool memory to n apart =
+    record { same = λ x low high. word-apart to n memory x (apart-word x low high apart) }
+  where
+    apart-word : (x : ℕ) → pool.first ≤ x → x + 4 ≤ end_of pool → (to + 4 ≤ pool.first) ⊎ (end_of pool ≤ to) → Apart to 4 x 4
+    apart-word x low high (inl before) = inr (omega arith)
+    apart-word x low high (inr behind) = inl (omega arith)
