@@ -1,12 +1,13 @@
 -- What a change of memory leaves of what cells show: a change of one cell's words, and one outside of all cells.
-use Rattle.std.proofs.Common.{◌≡◌, ◌≢◌, ◌≤◌, ◌<◌, ℕ, zero, suc, ◌+◌, ◌*◌, ◌%◌, ◌^◌, ◌⊎◌, inl, inr, List, [], ◌∷◌, map, length, Bool, true, false, nat_eq, if◌then◌else◌, refl, sym, ap, ◌∙◌, subst, arith}
+use Rattle.std.proofs.Common.{◌≡◌, ◌≢◌, ◌≤◌, ℕ, ◌+◌, ◌*◌, ◌%◌, ◌⊎◌, inl, inr, List, [], ◌∷◌, map, length, Bool, true, false, nat_eq, if◌then◌else◌, refl, sym, ◌∙◌, subst, arith}
 use Rattle.std.proofs.lemmas.Bool.{cases_lt}
 use Rattle.std.proofs.lemmas.Bool.Decides.{nat_tests}
 use Rattle.kk_base.specs.Memory.{Part}
 use Rattle.rv_isa.specs.Bytes.{with_number, Apart}
-use Rattle.rv_isa.proofs.Memory.{word-same, word-apart}
+use Rattle.rv_isa.proofs.Memory.{word-apart}
+use Rattle.cell_heap.proofs.Sums.{occurs-none, occurs-first, occurs-later}
 use Rattle.cell_heap.specs.Cells.{Body, Cell, no_cell, free, token, waiting, counted, Heap, changed, occurs}
-use Rattle.cell_heap.specs.Pool.{Pool, end_of, IsCell, IsUsable}
+use Rattle.cell_heap.specs.Pool.{Pool, end_of, IsCell}
 use Rattle.cell_heap.specs.View.{Link}
 use Rattle.cell_heap.specs.Memory.{word, HasWords, HasBody, Shows, IsShown, IsChain, IsSlot, IsToken, IsHeld, IsHeldChain}
 
@@ -27,11 +28,6 @@ changed-same at cell heap =
 pub changed-other : (at : ℕ) (cell : Cell) (heap : Heap) (x : ℕ) → x ≢ at → changed at cell heap x ≡ heap x
 changed-other at cell heap x differ =
     changed-by (λ c. c ≡ heap x) x at cell heap (λ e. absurd (differ e)) (λ d. refl)
-
--- ---- members of lists
-
-pub occurs-other : (x y : ℕ) (ys : List ℕ) → occurs x (y ∷ ys) ≡ 0 → (x ≢ y) × (occurs x ys ≡ 0)
-occurs-other x y ys none = (grind (arith, nat_tests), grind (arith, nat_tests))
 
 -- ---- words
 
@@ -120,7 +116,7 @@ pub IsChain-changed : {pool : Pool} {old new : ℕ → ℕ} {heap : Heap} (at : 
     → (from : ℕ) (cells : List ℕ) → occurs at cells ≡ 0 → IsChain old heap from cells → IsChain new (changed at cell heap) from cells
 IsChain-changed at cell shown is_cell but from [] none chain = chain
 IsChain-changed {pool} {old} {new} {heap} at cell shown is_cell but from (first ∷ cells) none chain =
-    let apart = occurs-other at first cells none in
+    let apart = occurs-none at first cells none in
     let differ : first ≢ at = λ e. apart.0 (sym e) in
     let first_cell = shown-cell shown first free chain.1 free-some in
     let words = SameWords-but but is_cell first differ first_cell in
@@ -153,7 +149,7 @@ pub IsHeldChain-changed : {pool : Pool} (parts : List Part) {old new : ℕ → �
     → (from : ℕ) (links : List Link) → occurs at (map (λ l. l.cell) links) ≡ 0 → IsHeldChain pool parts old heap from links → IsHeldChain pool parts new (changed at cell heap) from links
 IsHeldChain-changed parts at cell aligned shown is_cell but from [] none chain = chain
 IsHeldChain-changed {pool} parts {old} {new} {heap} at cell aligned shown is_cell but from (link ∷ links) none chain =
-    let apart = occurs-other at link.cell (map (λ l. l.cell) links) none in
+    let apart = occurs-none at link.cell (map (λ l. l.cell) links) none in
     let differ : link.cell ≢ at = λ e. apart.0 (sym e) in
     let held = chain.1 in
     let held_cell = IsHeld-cell shown held in
@@ -203,12 +199,6 @@ IsChain-outside {pool} {old} {new} {heap} aligned inside shown from (first ∷ c
 -- the slots of the held tokens have the words that they had
 pub record SameSlots (old new : ℕ → ℕ) (links : List Link) : Type 0 where
   pub same : (slot : ℕ) → occurs slot (map (λ l. l.slot) links) ≢ 0 → word new slot ≡ word old slot
-
-occurs-first : (x : ℕ) (xs : List ℕ) → occurs x (x ∷ xs) ≢ 0
-occurs-first x xs = let same : nat_eq x x ≡ true = grind (arith, nat_tests) in rw same (λ none. omega arith)
-
-occurs-later : (x y : ℕ) (ys : List ℕ) → occurs x ys ≢ 0 → occurs x (y ∷ ys) ≢ 0
-occurs-later x y ys some = λ none. some (occurs-other x y ys none).1
 
 pub IsHeldChain-outside : {pool : Pool} (parts : List Part) {old new : ℕ → ℕ} {heap : Heap} → pool.first % 32 ≡ 0 → SameInside pool old new → IsShown pool old heap
     → (from : ℕ) (links : List Link) → SameSlots old new links → IsHeldChain pool parts old heap from links → IsHeldChain pool parts new heap from links

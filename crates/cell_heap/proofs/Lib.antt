@@ -1,2 +1,4 @@
 mod Examples
+pub mod Sums
 pub mod Frames
+pub mod Counting
