@@ -2,3 +2,6 @@ mod Examples
 pub mod Sums
 pub mod Frames
 pub mod Counting
+pub mod Turns
+pub mod GivingUp
+pub mod OneEnd
