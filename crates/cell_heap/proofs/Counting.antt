@@ -5,9 +5,10 @@ use Rattle.cell_heap.specs.Counts.{count_of, references_to, HasCounts, IsAcyclic
 use Rattle.cell_heap.proofs.Sums.{occurs-same, occurs-other, occurs-first, occurs-append, total-change}
 use Rattle.cell_heap.proofs.Frames.{changed-by, changed-same, changed-other}
 
--- each cell is at one of the places, which are told once each
+-- each cell is at an even address, which is one of the places, once
 pub record IsListed (places : List ℕ) (heap : Heap) : Type 0 where
   pub once : (at : ℕ) → heap at ≢ no_cell → occurs at places ≡ 1
+  pub even : (at : ℕ) → heap at ≢ no_cell → at % 2 ≡ 0
 
 pub counted-some : (count : ℕ) (body : Body) → counted count body ≢ no_cell
 counted-some count body e = cc
@@ -23,6 +24,9 @@ IsListed-changed {places} {heap} at cell some listed = record {
   once = λ x. changed-by (λ c. c ≢ no_cell → occurs x places ≡ 1) x at cell heap
       (λ e is. listed.once x (subst (λ y. heap y ≢ no_cell) (sym e) some))
       (λ differ. listed.once x);
+  even = λ x. changed-by (λ c. c ≢ no_cell → x % 2 ≡ 0) x at cell heap
+      (λ e is. listed.even x (subst (λ y. heap y ≢ no_cell) (sym e) some))
+      (λ differ. listed.even x);
 }
 
 -- ---- sums over the places

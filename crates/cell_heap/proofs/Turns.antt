@@ -133,7 +133,7 @@ module _ {places : List ℕ} {roots : ℕ → ℕ} {heap : Heap} where
       }
 
 -- each turn takes a reference, or a cell with its references, off what is left
-abbrev left_to_do : List ℕ → List ℕ → Heap → ℕ
+abbrev pub left_to_do : List ℕ → List ℕ → Heap → ℕ
 left_to_do places refs heap = length refs + credit 1 1 places heap
 
 module _ (places : List ℕ) (heap : Heap) (listed : IsListed places heap) where
@@ -155,7 +155,7 @@ module _ (places : List ℕ) (heap : Heap) (listed : IsListed places heap) where
       let had = ap (λ c. credit_of 1 1 c) is in
       omega arith
 
-odd-or-even : (x : ℕ) → (x % 2 ≡ 1) ⊎ (x % 2 ≡ 0)
+pub odd-or-even : (x : ℕ) → (x % 2 ≡ 1) ⊎ (x % 2 ≡ 0)
 odd-or-even x = elim (cases_eq (x % 2) 0) [ inl e ↦ inr e | inr some ↦ inl (grind arith) ]
 
 pub Turns-exist : (n : ℕ) {places : List ℕ} {roots : ℕ → ℕ} (refs waits frees : List ℕ) (heap : Heap) → left_to_do places refs heap ≤ n → IsReady places roots refs waits heap → Done refs waits frees heap
