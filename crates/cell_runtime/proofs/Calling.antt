@@ -8,7 +8,8 @@ use Rattle.rv_isa.specs.Machine.{Machine, After, Ending, going, exited, value, p
 use Rattle.rv_isa.specs.Environment.{stepped}
 use Rattle.rv_isa.specs.Execution.{run, step, Leads}
 use Rattle.rv_isa.proofs.Runs.{Leads-then, Leads-ended}
-use Rattle.rv_isa.proofs.Standing.{Code, Stands, Stands-leads}
+use Rattle.rv_isa.specs.Standing.{Code, Stands}
+use Rattle.rv_isa.proofs.Standing.{Stands-leads}
 use Rattle.rv_isa.proofs.Instructions.{leads-jalr, step-exit}
 use Rattle.cell_runtime.proofs.Operands.{x0, x1, imm_0}
 

@@ -10,7 +10,8 @@ use Rattle.rv_isa.specs.Environment.{stepped}
 use Rattle.rv_isa.specs.Execution.{Leads}
 use Rattle.rv_isa.proofs.Runs.{Leads-then}
 use Rattle.rv_isa.proofs.Memory.{bytes_at-none, bytes_at-more}
-use Rattle.rv_isa.proofs.Standing.{Code, Has, Stands, Stands-leads, next-is}
+use Rattle.rv_isa.specs.Standing.{Code, Has, Stands}
+use Rattle.rv_isa.proofs.Standing.{Stands-leads, next-is}
 use Rattle.rv_isa.proofs.Instructions.{leads-addi, leads-write, leads-write_none, value-put_other}
 use Rattle.cell_runtime.specs.declared.routine.Routine.TheVariants.{PrintText}
 use Rattle.cell_runtime.specs.Registers.{KeptBy}

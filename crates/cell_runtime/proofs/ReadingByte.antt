@@ -12,7 +12,8 @@ use Rattle.rv_isa.specs.Machine.{Machine, value, put, can_load}
 use Rattle.rv_isa.specs.Environment.{stepped}
 use Rattle.rv_isa.specs.Execution.{Leads}
 use Rattle.rv_isa.proofs.Memory.{with_byte-same, with_byte-apart}
-use Rattle.rv_isa.proofs.Standing.{Code, Has, Stands, Stands-leads, next-is}
+use Rattle.rv_isa.specs.Standing.{Code, Has, Stands}
+use Rattle.rv_isa.proofs.Standing.{Stands-leads, next-is}
 use Rattle.rv_isa.proofs.Instructions.{leads-lui, leads-addi, leads-bne_taken, leads-bne_not_taken, leads-lbu, leads-read_byte, leads-read_end, value-put_other}
 use Rattle.cell_runtime.specs.declared.routine.Routine.TheVariants.{ReadByte}
 use Rattle.cell_runtime.specs.declared.item.Item.{Item}

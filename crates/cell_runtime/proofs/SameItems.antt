@@ -6,10 +6,10 @@ use Rattle.rv_isa.specs.declared.immediate.BranchOffset.{BranchOffset}
 use Rattle.rv_isa.specs.declared.instr.Instr.{Instr}
 use Rattle.rv_isa.specs.declared.instr.Instr.TheVariants.{Jalr, Beq, Bne, Bge, Lw, Lbu, Sb, Sw, Addi, Add, Sub, Divu, Remu}
 use Rattle.rv_isa.proofs.Same.{same_register, same_immediate, same_branch_offset}
-use Rattle.rv_isa.proofs.Standing.{Code}
+use Rattle.rv_isa.specs.Standing.{Code}
 use Rattle.cell_runtime.specs.declared.item.Item.{Item}
 use Rattle.cell_runtime.specs.declared.item.Item.TheVariants.{Plain, Address}
-use Rattle.cell_runtime.specs.Items.{Makes}
+use Rattle.cell_runtime.specs.Items.{Makes, IsSet, IsWayBack}
 
 -- what the same items make
 pub made : {K : ℕ → Code → ℕ → Type 0} {items others : List Item} → items ≡ others → Makes others K → Makes items K
@@ -78,4 +78,20 @@ same_divu = same_register_format Divu _ _ _ _ _ _
 pub same_remu : {a a' b b' c c' : Register} → a.number ≡ a'.number → b.number ≡ b'.number → c.number ≡ c'.number → Remu a b c ≡ Remu a' b' c'
 same_remu = same_register_format Remu _ _ _ _ _ _
 
-pub ruleset same_items = (then_item, then_address, same_addi, same_jalr, same_lw, same_lbu, same_sb, same_sw, same_beq, same_bne, same_bge, same_add, same_sub, same_divu, same_remu)
+-- items as functions give them
+pub then_plain : {a : Item} {i j : Instr} {is js : List Item} → a ≡ Plain i → i ≡ j → is ≡ js → a ∷ is ≡ Plain j ∷ js
+then_plain {is = is} given e rest = ap (λ item. item ∷ is) given ∙ then_item e rest
+
+pub then_address_of : {a : Item} {rd rd' : Register} {n n' : ℕ} {is js : List Item} → a ≡ Address rd n → rd.number ≡ rd'.number → n ≡ n' → is ≡ js → a ∷ is ≡ Address rd' n' ∷ js
+then_address_of {is = is} given e same rest = ap (λ item. item ∷ is) given ∙ then_address e same rest
+
+pub then_set : {a : Item} {rd rd' zero : Register} {imm : Immediate} {n : ℕ} {is js : List Item} → IsSet rd n a → rd.number ≡ rd'.number → zero.number ≡ 0 → imm.word ≡ n → is ≡ js → a ∷ is ≡ Plain (Addi rd' zero imm) ∷ js
+then_set {is = is} given e zero same rest =
+    ap (λ item. item ∷ is) given.item_is
+    ∙ then_item (same_immediate_format Addi _ _ _ _ _ _ e (given.zero_is ∙ sym zero) (given.immediate_is ∙ sym same)) rest
+
+pub then_back : {a : Item} {zero way : Register} {imm : Immediate} {is js : List Item} → IsWayBack a → zero.number ≡ 0 → way.number ≡ 1 → imm.word ≡ 0 → is ≡ js → a ∷ is ≡ Plain (Jalr zero way imm) ∷ js
+then_back {is = is} given zero way same rest =
+    ap (λ item. item ∷ is) given.item_is
+    ∙ then_item (same_immediate_format Jalr _ _ _ _ _ _ (given.zero_is ∙ sym zero) (given.way_is ∙ sym way) (given.immediate_is ∙ sym same)) rest
+

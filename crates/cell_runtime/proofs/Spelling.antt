@@ -6,7 +6,7 @@ use Rattle.rv_isa.specs.declared.immediate.UpperImmediate.{UpperImmediate}
 use Rattle.rv_isa.specs.declared.instr.Instr.{Instr}
 use Rattle.rv_isa.specs.declared.instr.Instr.TheVariants.{Lui, Addi}
 use Rattle.rv_isa.specs.Arithmetic.{sum_word}
-use Rattle.rv_isa.proofs.Standing.{Code, Has}
+use Rattle.rv_isa.specs.Standing.{Code, Has}
 use Rattle.cell_runtime.specs.declared.item.Item.{Item}
 use Rattle.cell_runtime.specs.declared.item.Item.TheVariants.{Plain, Address}
 use Rattle.cell_runtime.specs.Items.{Spells, Makes}

@@ -9,7 +9,8 @@ use Rattle.rv_isa.specs.Machine.{Machine, value, put}
 use Rattle.rv_isa.specs.Environment.{stepped}
 use Rattle.rv_isa.specs.Execution.{Leads}
 use Rattle.rv_isa.proofs.Runs.{Leads-then}
-use Rattle.rv_isa.proofs.Standing.{Code, Has, Stands, Stands-leads, next-is}
+use Rattle.rv_isa.specs.Standing.{Code, Has, Stands}
+use Rattle.rv_isa.proofs.Standing.{Stands-leads, next-is}
 use Rattle.rv_isa.proofs.Instructions.{leads-addi, value-put_other}
 use Rattle.cell_runtime.specs.declared.stop.Ending.{Ending}
 use Rattle.cell_runtime.specs.declared.stop.Ending.TheVariants.{Ended, HeapFull, StackFull}

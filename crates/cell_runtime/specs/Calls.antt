@@ -2,7 +2,7 @@
 use Rattle.std.specs.Prelude.{◌≡◌, ℕ, ◌+◌, ◌%◌, ◌^◌, ◌<◌, ◌≤◌, ◌⊎◌}
 use Rattle.rv_isa.specs.Machine.{Machine, exited, value}
 use Rattle.rv_isa.specs.Execution.{run, Leads}
-use Rattle.rv_isa.proofs.Standing.{Code, Stands}
+use Rattle.rv_isa.specs.Standing.{Code, Stands}
 use Rattle.cell_runtime.specs.declared.routine.Routine.{Routine}
 use Rattle.cell_runtime.specs.declared.routine.Routine.TheVariants.{Stop}
 use Rattle.cell_runtime.specs.Registers.{KeptBy}

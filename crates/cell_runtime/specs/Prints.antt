@@ -5,7 +5,7 @@ use Rattle.kk_base.specs.Trace.{Event, output, input, input_end}
 use Rattle.rv_isa.specs.Arithmetic.{signed}
 use Rattle.rv_isa.specs.Bytes.{bytes_at}
 use Rattle.rv_isa.specs.Machine.{Machine, value, can_load, can_store}
-use Rattle.rv_isa.proofs.Standing.{Code}
+use Rattle.rv_isa.specs.Standing.{Code}
 use Rattle.cell_runtime.specs.declared.routine.Routine.TheVariants.{PrintInt, PrintText, ReadByte}
 use Rattle.cell_runtime.specs.Calls.{IsAt, HasWayBack, Returns, KeepsOutside}
 

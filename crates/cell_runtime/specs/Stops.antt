@@ -1,7 +1,7 @@
 -- The routine that ends the run: an exit with one of three numbers.
 use Rattle.std.specs.Prelude.{ℕ}
 use Rattle.rv_isa.specs.Machine.{Machine}
-use Rattle.rv_isa.proofs.Standing.{Code}
+use Rattle.rv_isa.specs.Standing.{Code}
 use Rattle.cell_runtime.specs.declared.stop.Ending.{Ending}
 use Rattle.cell_runtime.specs.declared.stop.Ending.TheVariants.{Ended, HeapFull, StackFull}
 use Rattle.cell_runtime.specs.Calls.{IsAt, Exits}

@@ -3,8 +3,10 @@
 //! Each is RV32IM code. A routine that returns is called with the way back in `x1`; it uses no stack.
 #![tactic(auto)]
 
-mod immediate;
+mod assembly;
+mod environment;
 mod item;
+mod print_int;
 mod print_text;
 mod read_byte;
 mod routine;

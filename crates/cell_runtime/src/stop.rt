@@ -5,8 +5,9 @@ ghost use Rattle.cell_runtime.specs.Items.{Makes};
 ghost use Rattle.cell_runtime.specs.Stops.{number_of, IsStop};
 
 use crate::Item;
-use crate::immediate::small;
-use rv_isa::{Immediate, Instr, Register};
+use crate::assembly::{ecall, set};
+use crate::environment::EXIT;
+use rv_isa::Register;
 
 /// How a run ends.
 #[derive(Clone, Copy, PartialEq, Eq, Debug)]
@@ -38,16 +39,8 @@ pub fn stop(ending: Ending) -> [Item; 3]
     ensures { Makes result (λ memory. IsStop ending) }
 {
     [
-        Item::Plain(Instr::Addi {
-            rd: Register::A0,
-            rs1: Register::ZERO,
-            imm: small(ending.number()),
-        }),
-        Item::Plain(Instr::Addi {
-            rd: Register::A7,
-            rs1: Register::ZERO,
-            imm: small(93),
-        }),
-        Item::Plain(Instr::Ecall),
+        set(Register::A0, ending.number()),
+        set(Register::A7, EXIT),
+        ecall(),
     ]
 }
