@@ -9,7 +9,8 @@ use Rattle.rv_isa.specs.declared.instr.Instr.TheVariants.{Bne, Addi, Add, Ecall}
 use Rattle.rv_isa.specs.Machine.{Machine, going, exited, value, put}
 use Rattle.rv_isa.specs.Execution.{run, Leads}
 use Rattle.rv_isa.proofs.Runs.{Leads-none, Leads-then, Leads-ended}
-use Rattle.rv_isa.proofs.Standing.{Code, Has, Stands, Stands-leads, next-is}
+use Rattle.rv_isa.specs.Standing.{Code, Has, Stands}
+use Rattle.rv_isa.proofs.Standing.{Stands-leads, next-is}
 use Rattle.rv_isa.proofs.Instructions.{leads-addi, leads-add, leads-bne_taken, leads-bne_not_taken, step-exit}
 
 abbrev x0 : Register

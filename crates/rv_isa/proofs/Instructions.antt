@@ -21,7 +21,8 @@ use Rattle.rv_isa.proofs.Runs.{Leads-step}
 use Rattle.rv_isa.proofs.Acts.{acts-nothing, acts-set, acts-load, acts-store, acts-call}
 use Rattle.rv_isa.proofs.Calls.{reads-some, writes-none, writes-some, calls-read, calls-write, calls-exit}
 use Rattle.rv_isa.proofs.Memory.{number_at-one}
-use Rattle.rv_isa.proofs.Standing.{Code, Stands, next-aligned, step-at}
+use Rattle.rv_isa.specs.Standing.{Code, Stands}
+use Rattle.rv_isa.proofs.Standing.{next-aligned, step-at}
 
 -- a register that was set holds the value, and another register what it held
 pub value-put_same : (number v : ℕ) (registers : ℕ → ℕ) → number ≢ 0 → value (put number v registers) number ≡ v

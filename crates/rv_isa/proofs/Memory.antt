@@ -3,12 +3,8 @@ use Rattle.std.proofs.Common.{◌≡◌, ◌≢◌, ◌≤◌, ◌<◌, ℕ, zer
 use Rattle.std.proofs.Common.{slice_index}
 use Rattle.std.proofs.Math.Nat.{div-one}
 use Rattle.std.proofs.lemmas.Bool.Decides.{nat_tests}
-use Rattle.rv_isa.specs.Bytes.{little_endian, lowest_bytes, bytes_at, with_bytes, number_at, with_number}
+use Rattle.rv_isa.specs.Bytes.{Apart, little_endian, lowest_bytes, bytes_at, with_bytes, number_at, with_number}
 use Rattle.rv_isa.proofs.Bytes.{with_bytes-inside, bytes_at-with_bytes, bytes_at-with_bytes_apart, length-lowest_bytes, little_endian-lowest_from, number_at-same, number_at-with_number, number_at-with_number_apart, with_number-below, with_number-above}
-
--- two ranges that share no address
-abbrev pub Apart : ℕ → ℕ → ℕ → ℕ → Type 0
-Apart at count other size = (other + size ≤ at) ⊎ (at + count ≤ other)
 
 -- ---- bytes
 

@@ -1,4 +1,4 @@
--- Code that stands in a machine: an instruction at each of its addresses, which may be fetched and which no store can change.
+-- What the code of a list has, and that code which stands in a machine stands after every step, and is what the next step executes.
 use Rattle.std.proofs.Common.{◌≡◌, ◌≢◌, ◌≤◌, ◌<◌, ℕ, zero, suc, ◌+◌, ◌-◌, ◌*◌, ◌/◌, ◌%◌, ◌^◌, inl, inr, List, [], ◌∷◌, ◌++◌, length, Option, Some, None, Bool, true, false, ◌&&◌, if◌then◌else◌, nat_eq, nat_le, refl, sym, ap, ◌∙◌, subst, arith}
 use Rattle.std.proofs.lemmas.Bool.Decides.{nat_tests}
 use Rattle.std.specs.List.{slice_get}
@@ -6,23 +6,15 @@ use Rattle.rv_isa.specs.declared.act.Effect.{Effect}
 use Rattle.rv_isa.specs.declared.instr.Instr.{Instr}
 use Rattle.rv_isa.specs.Read.{read}
 use Rattle.rv_isa.specs.Operands.{rd_of}
-use Rattle.rv_isa.specs.Bytes.{number_at}
+use Rattle.rv_isa.specs.Bytes.{Apart, number_at}
 use Rattle.rv_isa.specs.Arithmetic.{sum_word}
 use Rattle.rv_isa.specs.Machine.{Machine, Ending, going, exited, trapped, After, value, can_fetch, can_store}
 use Rattle.rv_isa.specs.Execution.{acts, effect_at, decodes, step, resumes, run, Leads}
+use Rattle.rv_isa.specs.Standing.{Code, Has, code_of, Stands}
 use Rattle.rv_isa.proofs.Runs.{run-zero, run-suc, Leads-run}
 use Rattle.rv_isa.proofs.Steps.{step-fetched, decodes-some, executes-aligned}
 use Rattle.rv_isa.proofs.Cases.{step-by, step-parts}
-use Rattle.rv_isa.proofs.Memory.{Apart, number_at-apart, number_at-with_bytes_apart}
-
--- the instruction at each address, where there is one
-abbrev pub Code : Type 0
-Code = ℕ → Option Instr
-
--- these instructions stand one after the other from an address on
-abbrev pub Has : Code → ℕ → List Instr → Type 0
-Has code at [] = Unit {0}
-Has code at (i ∷ is) = (code at ≡ Some i) × Has code (at + 4) is
+use Rattle.rv_isa.proofs.Memory.{number_at-apart, number_at-with_bytes_apart}
 
 module _ (code : Code) where
   pub Has-front : (at : ℕ) (front back : List Instr) → Has code at (front ++ back) → Has code at front
@@ -64,11 +56,6 @@ module _ (code : Code) where
             subst (λ a. code a ≡ slice_get is k) e (each (suc k) (omega arith))),
       )
 
--- the code of one list that stands from an address on
-abbrev pub code_of : ℕ → List Instr → Code
-code_of start is at =
-    if nat_le start at && nat_eq ((at - start) % 4) 0 then slice_get is ((at - start) / 4) else None
-
 pub code_of-get : (start : ℕ) (is : List Instr) (k : ℕ) → code_of start is (start + 4 * k) ≡ slice_get is k
 code_of-get start is k =
     let from : nat_le start (start + 4 * k) ≡ true = grind (arith, nat_tests) in
@@ -79,14 +66,6 @@ code_of-get start is k =
 
 pub code_of-Has : (start : ℕ) (is : List Instr) → Has (code_of start is) start is
 code_of-Has start is = Has-by (code_of start is) start is (λ k below. code_of-get start is k)
-
--- the code stands in the machine: at whole words, each as the machine reads it, where it may be fetched and out of the reach of stores
-pub record Stands (code : Code) (s : Machine) : Type 0 where
-  pub aligned : (at : ℕ) (i : Instr) → code at ≡ Some i → at % 4 ≡ 0
-  pub below : (at : ℕ) (i : Instr) → code at ≡ Some i → at < 2 ^ 32
-  pub fetched : (at : ℕ) (i : Instr) → code at ≡ Some i → can_fetch s.parts at 4 ≡ true
-  pub holds : (at : ℕ) (i : Instr) → code at ≡ Some i → read (number_at s.memory at 4) ≡ Some i
-  pub kept : (at : ℕ) (i : Instr) → code at ≡ Some i → (x count : ℕ) → can_store s.parts x count ≡ true → 0 < count → Apart x count at 4
 
 -- ---- code of a list
 

@@ -12,3 +12,4 @@ pub mod Machine
 pub mod Environment
 pub mod Execution
 pub mod FreeCells
+pub mod Standing
