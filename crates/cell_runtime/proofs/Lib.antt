@@ -5,3 +5,4 @@ pub mod Calling
 pub mod PrintingText
 pub mod Stopping
 pub mod ReadingByte
+pub mod PrintingDigits
