@@ -1,0 +1,5 @@
+pub mod Registers
+pub mod Calls
+pub mod Items
+pub mod Prints
+pub mod Stops

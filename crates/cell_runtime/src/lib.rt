@@ -1,0 +1,17 @@
+//! The routines that every image begins with: the start, cells and tokens, prints, reads and stops.
+//!
+//! Each is RV32IM code. A routine that returns is called with the way back in `x1`; it uses no stack.
+#![tactic(auto)]
+
+mod assembly;
+mod environment;
+mod item;
+mod print_int;
+mod print_text;
+mod read_byte;
+mod routine;
+mod stop;
+
+pub use item::Item;
+pub use routine::Routine;
+pub use stop::Ending;
