@@ -6,3 +6,4 @@ pub mod Leaving
 pub mod Turns
 pub mod GivingUp
 pub mod OneEnd
+pub mod Waits

@@ -37,7 +37,8 @@ Shows pool memory at no_cell = IsCell pool at → ⊥
 Shows pool memory at free = IsCell pool at
 Shows pool memory at (token fields) = IsCell pool at × (length fields ≤ 6) × HasWords memory (at + 8) fields
 Shows pool memory at (waiting body) = IsCell pool at × HasBody memory at body
-Shows pool memory at (counted count body) = IsCell pool at × (word memory at ≡ count) × HasBody memory at body
+Shows pool memory at (counted count body) =
+    IsCell pool at × (word memory at ≡ count) × (count < 2 ^ 32) × HasBody memory at body
 
 pub record IsShown (pool : Pool) (memory : ℕ → ℕ) (heap : Heap) : Type 0 where
   pub cell : (at : ℕ) → Shows pool memory at (heap at)
