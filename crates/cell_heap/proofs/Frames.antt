@@ -174,7 +174,7 @@ pub record SameInside (pool : Pool) (old new : ℕ → ℕ) : Type 0 where
   pub same : (x : ℕ) → pool.first ≤ x → x + 4 ≤ end_of pool → word new x ≡ word old x
 
 -- all words of a cell are inside
-cell-inside : (pool : Pool) (at : ℕ) → pool.first % 32 ≡ 0 → IsCell pool at → at + 32 ≤ end_of pool
+pub cell-inside : (pool : Pool) (at : ℕ) → pool.first % 32 ≡ 0 → IsCell pool at → at + 32 ≤ end_of pool
 cell-inside pool at aligned cell = let high = cell.before in let here = cell.aligned in omega arith
 
 pub SameWords-inside : {pool : Pool} {old new : ℕ → ℕ} → pool.first % 32 ≡ 0 → SameInside pool old new → (at : ℕ) → IsCell pool at → SameWords old new at (at + 32)

@@ -7,3 +7,4 @@ pub mod Turns
 pub mod GivingUp
 pub mod OneEnd
 pub mod Waits
+pub mod Choosing
