@@ -81,7 +81,7 @@ waiting-free : (heap : Heap) (at : ℕ) (body : Body) → heap at ≡ waiting bo
 waiting-free heap at body is e = cc
 
 -- the words behind the first one stay
-SameWords-first : (memory : ℕ → ℕ) (at n : ℕ) → SameWords memory (with_number at 4 n memory) (at + 4) (at + 32)
+pub SameWords-first : (memory : ℕ → ℕ) (at n : ℕ) → SameWords memory (with_number at 4 n memory) (at + 4) (at + 32)
 SameWords-first memory at n = record { same = λ x low high. word-apart at n memory x (inr low) }
 
 module _ {pool : Pool} {parts : List Part} {memory : ℕ → ℕ} {heap : Heap} {free_at wait_at : ℕ} {frees waits : List ℕ} (cells : AreCells pool parts memory heap free_at frees wait_at waits) where

@@ -6,3 +6,7 @@ pub mod PrintingText
 pub mod Stopping
 pub mod ReadingByte
 pub mod PrintingDigits
+pub mod DropRows
+pub mod DropStates
+pub mod DropMoves
+pub mod DropRuns

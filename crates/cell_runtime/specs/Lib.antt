@@ -3,3 +3,4 @@ pub mod Calls
 pub mod Items
 pub mod Prints
 pub mod Stops
+pub mod Drops
