@@ -8,3 +8,5 @@ pub mod GivingUp
 pub mod OneEnd
 pub mod Waits
 pub mod Choosing
+pub mod Borders
+pub mod Held

@@ -86,3 +86,7 @@ pub record Memory (pool : Pool) (view : View) (s : Machine) : Type 0 where
   pub border : value s.registers 18 ≡ view.border
   pub end : value s.registers 19 ≡ end_of pool
   pub has_border : HasBorder pool view
+
+-- the byte at an address is none of the first word of a counted cell
+abbrev pub IsNoCount : Heap → ℕ → Type 0
+IsNoCount heap x = (at count : ℕ) (body : Body) → heap at ≡ counted count body → (x < at) ⊎ (at + 4 ≤ x)

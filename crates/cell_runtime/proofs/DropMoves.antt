@@ -176,10 +176,10 @@ module _ (code : Code) (at : ℕ) (has : Has code at drop_code) (fits : at + 112
         scan-now mask 1 [] s (mask-none mask scanning.below) here within scanning (omega arith)
     scan-none (y ∷ ys) mask s here within scanning none =
         elim (cases_eq mask 0) [
-          inl empty ↦ scan-now mask (7 * length (y ∷ ys) + 1) (y ∷ ys) s empty here within scanning (omega arith)
+          | inl empty ↦ scan-now mask (7 * length (y ∷ ys) + 1) (y ∷ ys) s empty here within scanning (omega arith)
           | inr some ↦
               elim (cases_eq (mask % 2) 1) [
-                inl set ↦ absurd (nil-cons y (chosen (mask / 2) ys) (none ∙ chosen-set mask y ys set))
+                | inl set ↦ absurd (nil-cons y (chosen (mask / 2) ys) (none ∙ chosen-set mask y ys set))
                 | inr other ↦
                     (let clear = mask-clear mask other in
                     let use_it = field-use within (value s.registers 11) y ys scanning.fields in
@@ -197,10 +197,10 @@ module _ (code : Code) (at : ℕ) (has : Has code at drop_code) (fits : at + 112
     scan-some x rest [] mask s here within scanning some = absurd (nil-cons x rest (sym some))
     scan-some x rest (y ∷ ys) mask s here within scanning given =
         elim (cases_eq mask 0) [
-          inl empty ↦ absurd (nil-cons x rest (sym (given ∙ ap (λ m. chosen m (y ∷ ys)) empty ∙ chosen-none (y ∷ ys))))
+          | inl empty ↦ absurd (nil-cons x rest (sym (given ∙ ap (λ m. chosen m (y ∷ ys)) empty ∙ chosen-none (y ∷ ys))))
           | inr some ↦
               elim (cases_eq (mask % 2) 1) [
-                inl set ↦
+                | inl set ↦
                     (let use_it = field-use within (value s.registers 11) y ys scanning.fields in
                     let leads = row_reference code at has fits at_whole s mask (value s.registers 11) y within.stands here scanning.mask_is some set refl use_it scanning.fields.0 in
                     let parts = cons-parts x y rest (chosen (mask / 2) ys) (given ∙ chosen-set mask y ys set) in

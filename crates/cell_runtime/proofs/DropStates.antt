@@ -9,14 +9,13 @@ use Rattle.rv_isa.proofs.Bytes.{with_number-below, with_number-above}
 use Rattle.rv_isa.proofs.Instructions.{value-put_other}
 use Rattle.cell_heap.specs.Cells.{Body, Heap, waiting, counted}
 use Rattle.cell_heap.specs.Pool.{Pool, IsCell}
-use Rattle.cell_heap.specs.Memory.{word}
+use Rattle.cell_heap.specs.Memory.{word, IsNoCount}
 use Rattle.cell_heap.proofs.Frames.{cell-inside}
 use Rattle.cell_heap.proofs.Leaving.{IsLeft}
 use Rattle.cell_heap.proofs.Waits.{AreCells, AreFields}
 use Rattle.cell_runtime.specs.declared.routine.Routine.TheVariants.{Drop}
 use Rattle.cell_runtime.specs.Registers.{KeptBy}
 use Rattle.cell_runtime.specs.Calls.{HasWayBack}
-use Rattle.cell_runtime.specs.Drops.{IsNoCount}
 use Rattle.cell_runtime.proofs.DropRows.{MayUse}
 
 -- from one machine to a later one only registers that the routine spoils and counts of the first heap have changed
@@ -130,5 +129,18 @@ Comes-from {most = most} {k} {n} leads quiet way fits comes =
       within = omega arith;
       back = comes.back ∙ way;
       quiet = IsQuiet-then quiet comes.quiet;
+      cells = comes.cells;
+    }
+
+pub Comes-weaker : {pool : Pool} {first end : Heap} {left : List ℕ} {most n : ℕ} {s : Machine} → most ≤ n → Comes pool first end left most s → Comes pool first end left n s
+Comes-weaker fits comes =
+    let within = comes.within in
+    record {
+      last = comes.last;
+      count = comes.count;
+      leads = comes.leads;
+      within = omega arith;
+      back = comes.back;
+      quiet = comes.quiet;
       cells = comes.cells;
     }

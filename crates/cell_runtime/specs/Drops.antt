@@ -2,10 +2,9 @@
 use Rattle.std.specs.Prelude.{◌≡◌, ℕ, ◌+◌, ◌*◌, ◌<◌, ◌≤◌, ◌⊎◌, List, [], ◌∷◌}
 use Rattle.rv_isa.specs.Machine.{Machine, value}
 use Rattle.rv_isa.specs.Standing.{Code}
-use Rattle.cell_heap.specs.Cells.{Body, counted, Heap}
 use Rattle.cell_heap.specs.Pool.{Pool, places}
 use Rattle.cell_heap.specs.View.{View}
-use Rattle.cell_heap.specs.Memory.{Memory}
+use Rattle.cell_heap.specs.Memory.{Memory, IsNoCount}
 use Rattle.cell_heap.specs.GivingUp.{GivesUp}
 use Rattle.cell_heap.specs.Counts.{HasCounts, IsAcyclic}
 use Rattle.cell_runtime.specs.declared.routine.Routine.TheVariants.{Drop}
@@ -19,10 +18,6 @@ pub record BeforeDrop (pool : Pool) (roots : ℕ → ℕ) (reference : ℕ) (vie
   pub memory : Memory pool view s
   pub counts : HasCounts (places pool) roots (reference ∷ []) view.heap
   pub acyclic : IsAcyclic view.heap
-
--- the byte is none of the first word of a counted cell
-abbrev pub IsNoCount : Heap → ℕ → Type 0
-IsNoCount heap x = (at count : ℕ) (body : Body) → heap at ≡ counted count body → (x < at) ⊎ (at + 4 ≤ x)
 
 -- the reference is given up, with all that it was the last to hold, and that alone: border, held tokens and every other byte of memory stay. That
 -- takes 8 instructions at most for each reference that is given up, 52 for each cell that is freed, and 5

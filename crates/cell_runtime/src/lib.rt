@@ -4,7 +4,7 @@
 #![tactic(auto)]
 
 mod assembly;
-pub mod drop;
+mod drop;
 mod environment;
 mod item;
 mod print_int;
