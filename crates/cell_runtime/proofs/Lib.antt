@@ -5,4 +5,6 @@ pub mod Calling
 pub mod PrintingText
 pub mod Stopping
 pub mod ReadingByte
+pub mod Ranges
 pub mod PrintingDigits
+pub mod PrintingInt

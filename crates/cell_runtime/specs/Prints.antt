@@ -35,7 +35,7 @@ pub record BeforePrintInt (buffer : ℕ) (s : Machine) : Type 0 where
   pub way_back : HasWayBack s
   pub word : value s.registers 10 < 2 ^ 32
   pub choice : value s.registers 11 ≤ 1
-  pub in_range : buffer + buffer_bytes ≤ 2 ^ 32
+  pub in_range : buffer + buffer_bytes < 2 ^ 32
   pub stored : can_store s.parts buffer buffer_bytes ≡ true
   pub loaded : can_load s.parts buffer buffer_bytes ≡ true
 
