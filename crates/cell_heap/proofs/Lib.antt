@@ -1,0 +1,8 @@
+mod Examples
+pub mod Sums
+pub mod Frames
+pub mod Counting
+pub mod Leaving
+pub mod Turns
+pub mod GivingUp
+pub mod OneEnd

@@ -1,0 +1,6 @@
+pub mod Cells
+pub mod Pool
+pub mod View
+pub mod Memory
+pub mod GivingUp
+pub mod Counts
