@@ -8,3 +8,4 @@ pub mod ReadingByte
 pub mod Ranges
 pub mod PrintingDigits
 pub mod PrintingInt
+pub mod TakingCells

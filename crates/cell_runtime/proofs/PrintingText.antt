@@ -55,7 +55,7 @@ module _ (code : Code) (s : Machine) (stands : Stands code s) (has : Has code s.
       let second_is : sum_word (value s.registers 10) 0 ≡ value s.registers 10 = omega arith in
       let a = leads-addi stands {v = value s.registers 11} has.0 first_is (next-is stands s.pc _ has.1.0) in
       let b = then_one stands a (λ on. leads-addi on {v = value s.registers 10} has.1.0 second_is (next-is stands (s.pc + 4) _ has.1.1.0)) in
-      let c = then_one stands b (λ on. leads-addi on {v = 1} has.1.1.0 refl (next-is stands (s.pc + 4 + 4 + 4 + 4) _ has.1.1.1.1.1.0)) in
+      let c = then_one stands b (λ on. leads-addi on {v = 1} has.1.1.0 refl (next-is stands (s.pc + 4 + 4) _ has.1.1.1.0)) in
       then_one stands c (λ on. leads-addi on {v = 64} has.1.1.1.0 refl (next-is stands (s.pc + 4 + 4 + 4) _ has.1.1.1.1.0))
 
   called : Stands code (asking s)
