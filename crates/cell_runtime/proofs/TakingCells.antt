@@ -2,19 +2,16 @@
 use Rattle.std.proofs.Common.{◌≡◌, ◌≢◌, ◌≤◌, ◌<◌, ℕ, ◌+◌, ◌%◌, ◌⊎◌, ◌↔◌, inl, inr, List, [], ◌∷◌, map, length, nat_eq, refl, sym, ap, ◌∙◌, subst, lit≤, arith}
 use Rattle.std.proofs.lemmas.Bool.Decides.{nat_tests}
 use Rattle.kk_base.specs.Memory.{Part}
+use Rattle.std.proofs.lemmas.Bool.{cases_lt}
+use Rattle.rv_isa.specs.Bytes.{with_number, Apart}
 use Rattle.rv_isa.specs.Machine.{Machine, value}
+use Rattle.rv_isa.proofs.Memory.{word-apart}
 use Rattle.cell_heap.specs.Cells.{Body, Cell, no_cell, free, token, waiting, counted, Heap, changed, occurs}
 use Rattle.cell_heap.specs.Pool.{Pool, end_of, IsCell, IsUsable}
 use Rattle.cell_heap.specs.View.{Link, View, HasBorder}
-use Rattle.cell_heap.specs.Memory.{word, IsShown, IsChain, IsToken, IsHeld, IsHeldChain, Memory}
-use Rattle.cell_heap.proofs.Sums.{occurs-first}
-use Rattle.cell_heap.proofs.Frames.{changed-by, changed-same, changed-other, SameBut, shown-cell, IsShown-changed, IsChain-changed, IsHeldChain-changed}
-
-occurs-not : (at first : ℕ) (rest : List ℕ) → at ≢ first → occurs at rest ≡ 0 → occurs at (first ∷ rest) ≡ 0
-occurs-not at first rest differ none = grind (arith, nat_tests)
-
-occurs-other : (at first : ℕ) (rest : List ℕ) → at ≢ first → occurs at (first ∷ rest) ≡ occurs at rest
-occurs-other at first rest differ = grind (arith, nat_tests)
+use Rattle.cell_heap.specs.Memory.{word, IsShown, IsChain, IsToken, IsSlot, IsHeld, IsHeldChain, Memory}
+use Rattle.cell_heap.proofs.Sums.{occurs-first, occurs-other, occurs-by, occurs-none}
+use Rattle.cell_heap.proofs.Frames.{changed-by, changed-same, changed-other, SameBut, shown-cell, IsShown-changed, IsChain-changed, IsHeldChain-changed, SameInside, SameInside-store, SameSlots, IsShown-outside, IsChain-outside, IsHeldChain-outside, IsHeld-cell}
 
 -- a cell that is no token is none of the held ones
 module _ (pool : Pool) (parts : List Part) (memory : ℕ → ℕ) (heap : Heap) (at : ℕ) (no_token : IsToken (heap at) → ⊥) where
@@ -22,7 +19,7 @@ module _ (pool : Pool) (parts : List Part) (memory : ℕ → ℕ) (heap : Heap) 
   none_held from [] chain = refl
   none_held from (link ∷ links) chain =
       let differ : at ≢ link.cell = λ e. no_token (subst (λ c. IsToken (heap c)) (sym e) chain.1.is_token) in
-      occurs-not at link.cell (map (λ link. link.cell) links) differ (none_held (word memory link.cell) links chain.4)
+      occurs-other at link.cell (map (λ link. link.cell) links) differ ∙ none_held (word memory link.cell) links chain.4
 
 free-no-token : (cell : Cell) → cell ≡ free → IsToken cell → ⊥
 free-no-token no_cell is held = held
@@ -161,3 +158,63 @@ module _ (pool : Pool) (view : View) (s t : Machine) (memory : Memory pool view 
       end = end ∙ memory.end;
       has_border = border_rises;
     }
+
+-- ---- the newest held token
+
+module _ (pool : Pool) (parts : List Part) (memory : ℕ → ℕ) (heap : Heap) where
+  -- a slot of a held token is a slot
+  held_slot : (slot from : ℕ) (links : List Link) → occurs slot (map (λ link. link.slot) links) ≢ 0 → IsHeldChain pool parts memory heap from links → IsSlot pool parts slot
+  held_slot slot from [] some chain = absurd (some refl)
+  held_slot slot from (link ∷ links) some chain =
+      elim (occurs-by slot link.slot (map (λ link. link.slot) links) some) [
+        inl e ↦ subst (IsSlot pool parts) (sym e) chain.1.is_slot
+      | inr later ↦ held_slot slot (word memory link.cell) links later chain.4
+      ]
+
+words-apart : (a b : ℕ) → a % 4 ≡ 0 → b % 4 ≡ 0 → a ≢ b → Apart a 4 b 4
+words-apart a b p q differ = elim (cases_lt a b) [ inl low ↦ inr (omega arith) | inr high ↦ inl (omega arith) ]
+
+module _ (pool : Pool) (view : View) (s t : Machine) (memory : Memory pool view s) (link : Link) (links : List Link) (newest : view.held ≡ link ∷ links)
+    (stored : t.memory ≡ with_number link.slot 4 0 s.memory) (parts : t.parts ≡ s.parts) where
+  held_at : IsHeldChain pool s.parts s.memory view.heap (value s.registers 9) (link ∷ links)
+  held_at = subst (IsHeldChain pool s.parts s.memory view.heap (value s.registers 9)) newest memory.held
+
+  inside : SameInside pool s.memory t.memory
+  inside = rw stored (SameInside-store pool s.memory link.slot 0 held_at.1.is_slot.apart)
+
+  slots : SameSlots s.memory t.memory links
+  slots = record { same = λ slot some.
+      let there = held_slot pool s.parts s.memory view.heap slot (word s.memory link.cell) links some held_at.4 in
+      let differ : link.slot ≢ slot = λ e. some (ap (λ x. occurs x (map (λ link. link.slot) links)) (sym e) ∙ held_at.3) in
+      ap (λ m. word m slot) stored ∙ word-apart link.slot 0 s.memory slot (words-apart link.slot slot held_at.1.is_slot.aligned there.aligned differ) }
+
+  pub memory_taken_back : value t.registers 8 ≡ value s.registers 8 → value t.registers 9 ≡ word s.memory link.cell → value t.registers 18 ≡ value s.registers 18 → value t.registers 19 ≡ value s.registers 19
+      → Memory pool (record view { held = links }) t
+  memory_taken_back first next border end =
+      let aligned = memory.usable.aligned in
+      let chain = IsHeldChain-outside s.parts aligned inside memory.shown (word s.memory link.cell) links slots held_at.4 in
+      record {
+        usable = subst (IsUsable pool) (sym parts) memory.usable;
+        shown = IsShown-outside aligned inside memory.shown;
+        settled = memory.settled;
+        chain = rw first (IsChain-outside aligned inside memory.shown (value s.registers 8) view.frees memory.chain);
+        held = rw (parts, next) chain;
+        border = border ∙ memory.border;
+        end = end ∙ memory.end;
+        has_border = record {
+          aligned = memory.has_border.aligned;
+          behind = memory.has_border.behind;
+          within = memory.has_border.within;
+          fresh = memory.has_border.fresh;
+          chained = memory.has_border.chained;
+        };
+      }
+
+  pub newest_is : value s.registers 9 ≡ link.cell
+  newest_is = held_at.0
+
+  pub newest_held : IsHeld pool s.parts s.memory view.heap link
+  newest_held = held_at.1
+
+  pub newest_cell : IsCell pool link.cell
+  newest_cell = IsHeld-cell memory.shown held_at.1
