@@ -9,3 +9,4 @@ pub mod Ranges
 pub mod PrintingDigits
 pub mod PrintingInt
 pub mod TakingCells
+pub mod Taking

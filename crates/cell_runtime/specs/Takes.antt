@@ -47,3 +47,7 @@ abbrev pub IsTake : Pool → Code → ℕ → Type 0
 IsTake pool code at =
     (view : View) (s : Machine) → IsAt code at s → HasWayBack s → Memory pool view s
     → ((t : Machine) × AfterTake pool view s t) ⊎ (IsFull pool view × Exits 101 6 s)
+
+-- the code of a take does not depend on where the cells are
+abbrev pub IsTakeOfPools : Code → ℕ → Type 0
+IsTakeOfPools code at = (pool : Pool) → IsTake pool code at
