@@ -19,6 +19,7 @@ pub record View : Type 0 where
 -- the free cells are those of the chain and those from the border on
 pub record HasBorder (pool : Pool) (view : View) : Type 0 where
   pub aligned : view.border % 32 ≡ 0
+  pub behind : pool.first ≤ view.border
   pub within : view.border ≤ end_of pool
   pub fresh : (at : ℕ) → IsCell pool at → view.border ≤ at → view.heap at ≡ free
   pub chained : (at : ℕ) → view.heap at ≡ free → (occurs at view.frees ≢ 0) ↔ (at < view.border)

@@ -1,5 +1,5 @@
 -- The ways in and out of a routine.
-use Rattle.std.proofs.Common.{◌≡◌, ◌≢◌, ℕ, zero, suc, ◌+◌, ◌%◌, ◌^◌, ◌<◌, ◌≤◌, Some, nat_eq, refl, sym, ap, ◌∙◌, subst, arith}
+use Rattle.std.proofs.Common.{◌≡◌, ◌≢◌, ℕ, zero, suc, ◌+◌, ◌%◌, ◌^◌, ◌<◌, ◌≤◌, Some, nat_eq, add_assoc, refl, sym, ap, ◌∙◌, subst, arith}
 use Rattle.std.proofs.lemmas.Bool.Decides.{nat_tests}
 use Rattle.rv_isa.specs.declared.instr.Instr.{Instr}
 use Rattle.rv_isa.specs.declared.instr.Instr.TheVariants.{Jalr, Ecall}
@@ -11,6 +11,7 @@ use Rattle.rv_isa.proofs.Runs.{Leads-then, Leads-ended}
 use Rattle.rv_isa.specs.Standing.{Code, Stands}
 use Rattle.rv_isa.proofs.Standing.{Stands-leads}
 use Rattle.rv_isa.proofs.Instructions.{leads-jalr, step-exit}
+use Rattle.cell_runtime.specs.Calls.{Exits}
 use Rattle.cell_runtime.proofs.Operands.{x0, x1, imm_0}
 
 -- a jump to the way back
@@ -33,3 +34,15 @@ ends-exit {s = s} {n} {number} t stands leads here call number_is more =
 -- one instruction more
 pub then_one : {code : Code} {s t u : Machine} {n : ℕ} → Stands code s → Leads n s t → (Stands code t → Leads 1 t u) → Leads (n + 1) s u
 then_one stands leads more = Leads-then leads (more (Stands-leads leads stands))
+
+-- an exit that comes after some instructions that change nothing but the address and the count
+pub exits-after : {number n k : ℕ} {s t : Machine} → Leads n s t → t.registers ≡ s.registers → t.memory ≡ s.memory → t.parts ≡ s.parts → t.trace ≡ s.trace → t.executed ≡ s.executed + n → Exits number k t → Exits number (n + k) s
+exits-after {n = n} {k = k} {s = s} leads registers memory parts trace executed exits = record {
+  last = exits.last;
+  ends = λ more. ap (λ count. run count s) (add_assoc n k more) ∙ leads.by (k + more) ∙ exits.ends more;
+  executed = (let e = exits.executed in omega arith);
+  trace = exits.trace ∙ trace;
+  memory = exits.memory ∙ memory;
+  parts = exits.parts ∙ parts;
+  registers = λ x out. exits.registers x out ∙ ap (λ r. value r x) registers;
+}

@@ -5,7 +5,11 @@ pub mod Calling
 pub mod PrintingText
 pub mod Stopping
 pub mod ReadingByte
+pub mod Ranges
 pub mod PrintingDigits
+pub mod PrintingInt
+pub mod TakingCells
+pub mod Taking
 pub mod DropRows
 pub mod DropStates
 pub mod DropMoves

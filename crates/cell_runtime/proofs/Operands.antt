@@ -87,3 +87,9 @@ forward_16 = record { word = 16; in_range = (lit< tt, lit< tt, refl) }
 
 abbrev pub back_20 : BranchOffset
 back_20 = record { word = 2 ^ 32 - 20; in_range = (lit< tt, lit< tt, refl) }
+
+abbrev pub imm_101 : Immediate
+imm_101 = record { word = 101; in_range = (lit< tt, lit< tt) }
+
+abbrev pub forward_24 : BranchOffset
+forward_24 = record { word = 24; in_range = (lit< tt, lit< tt, refl) }

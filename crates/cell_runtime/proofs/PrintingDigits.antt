@@ -36,10 +36,10 @@ pub record AtDigits (code : Code) (at n p low : ℕ) (s : Machine) : Type 0 wher
   pub below : p < 2 ^ 32
   pub room : MayStore s.parts low p
 
--- behind the loop: the digits end before p, and begin at the address in x5
-pub record Wrote (at : ℕ) (digits : List ℕ) (p : ℕ) (s t : Machine) : Type 0 where
-  pub leads : Leads (6 * length digits) s t
-  pub pc_is : t.pc ≡ at + 4 + 4 + 4 + 4 + 4 + 4
+-- so many instructions lead to the machine, which has gone on at an address: the digits end before p, and begin at the address in x5
+pub record Wrote (count next : ℕ) (digits : List ℕ) (p : ℕ) (s t : Machine) : Type 0 where
+  pub leads : Leads count s t
+  pub pc_is : t.pc ≡ next
   pub place : value t.registers 5 + length digits ≡ p
   pub bytes : bytes_at t.memory (value t.registers 5) (length digits) ≡ digits
   pub outside : (x : ℕ) → (x < value t.registers 5) ⊎ (p ≤ x) → t.memory x ≡ s.memory x
@@ -112,7 +112,7 @@ module _ (code : Code) (at low : ℕ) (after : Instr) (later : List Instr) (has 
 
   -- what is to be shown of a number and its digits
   abbrev Writes : ℕ → List ℕ → Type 0
-  Writes n digits = (s : Machine) (p : ℕ) → AtDigits code at n p low s → low + length digits ≤ p → (t : Machine) × Wrote at digits p s t
+  Writes n digits = (s : Machine) (p : ℕ) → AtDigits code at n p low s → low + length digits ≤ p → (t : Machine) × Wrote (6 * length digits) (at + 4 + 4 + 4 + 4 + 4 + 4) digits p s t
 
   one_digit : (n : ℕ) → n < 10 → Writes n ((48 + n) ∷ [])
   one_digit n small s p here room =

@@ -3,4 +3,7 @@ pub mod Calls
 pub mod Items
 pub mod Prints
 pub mod Stops
+pub mod Takes
+pub mod Tokens
+pub mod Starts
 pub mod Drops

@@ -35,7 +35,7 @@ pub record BeforePrintInt (buffer : ℕ) (s : Machine) : Type 0 where
   pub way_back : HasWayBack s
   pub word : value s.registers 10 < 2 ^ 32
   pub choice : value s.registers 11 ≤ 1
-  pub in_range : buffer + buffer_bytes ≤ 2 ^ 32
+  pub in_range : buffer + buffer_bytes < 2 ^ 32
   pub stored : can_store s.parts buffer buffer_bytes ≡ true
   pub loaded : can_load s.parts buffer buffer_bytes ≡ true
 
@@ -51,14 +51,16 @@ IsPrintInt buffer code at =
 
 -- ---- print-text
 
--- x11 holds the address of the bytes and x12 their number; they may be loaded
+-- x10 holds the address of the bytes and x11 their number; they may be loaded
 pub record BeforePrintText (s : Machine) : Type 0 where
   pub way_back : HasWayBack s
-  pub loaded : can_load s.parts (value s.registers 11) (value s.registers 12) ≡ true
+  pub address : value s.registers 10 < 2 ^ 32
+  pub count : value s.registers 11 < 2 ^ 32
+  pub loaded : can_load s.parts (value s.registers 10) (value s.registers 11) ≡ true
 
 pub record AfterPrintText (s t : Machine) : Type 0 where
-  pub returns : Returns PrintText 4 s t
-  pub trace : t.trace ≡ s.trace ++ put_of (bytes_at s.memory (value s.registers 11) (value s.registers 12))
+  pub returns : Returns PrintText 6 s t
+  pub trace : t.trace ≡ s.trace ++ put_of (bytes_at s.memory (value s.registers 10) (value s.registers 11))
   pub left : t.left ≡ s.left
   pub memory : t.memory ≡ s.memory
 

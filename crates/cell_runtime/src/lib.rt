@@ -12,6 +12,7 @@ mod print_text;
 mod read_byte;
 mod routine;
 mod stop;
+mod take;
 
 pub use item::Item;
 pub use routine::Routine;

@@ -4,15 +4,17 @@ ghost use Rattle.cell_runtime.specs.Items.{Makes};
 ghost use Rattle.cell_runtime.specs.Prints.{IsPrintText};
 
 use crate::Item;
-use crate::assembly::{ecall, ret, set};
+use crate::assembly::{addi, ecall, ret, set, small};
 use crate::environment::{STANDARD_OUTPUT, WRITE};
 use rv_isa::Register;
 
-/// Puts the bytes from the address in `a1` on, as many as `a2` says, at once.
-pub fn print_text() -> [Item; 4]
+/// Puts the bytes from the address in `a0` on, as many as `a1` says, at once.
+pub fn print_text() -> [Item; 6]
     ensures { Makes result (λ memory. IsPrintText) }
 {
     [
+        addi(Register::A2, Register::A1, small(0)),
+        addi(Register::A1, Register::A0, small(0)),
         set(Register::A0, STANDARD_OUTPUT),
         set(Register::A7, WRITE),
         ecall(),
