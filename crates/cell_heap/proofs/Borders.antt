@@ -94,4 +94,4 @@ Turns-frees (opened {x = x} {heap = heap} {body = body} is rest) placed has =
 pub Turns-border : {pool : Pool} {refs waits left : List ℕ} {end : Heap} {gave freed : ℕ} (view : View) → Turns refs waits view.frees view.heap gave freed left end → IsPlaced pool view.heap → HasBorder pool view → HasBorder pool (record view { heap = end; frees = left })
 Turns-border view turns placed has =
     let frees = Turns-frees turns placed (record { fresh = has.fresh; chained = has.chained }) in
-    record { aligned = has.aligned; within = has.within; fresh = frees.fresh; chained = frees.chained }
+    record { aligned = has.aligned; behind = has.behind; within = has.within; fresh = frees.fresh; chained = frees.chained }
