@@ -10,3 +10,4 @@ pub mod Waits
 pub mod Choosing
 pub mod Borders
 pub mod Held
+pub mod Owning
