@@ -11,3 +11,5 @@ pub mod Choosing
 pub mod Borders
 pub mod Held
 pub mod Owning
+pub mod Counted
+pub mod FreeCells
