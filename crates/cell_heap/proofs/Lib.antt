@@ -13,3 +13,4 @@ pub mod Held
 pub mod Owning
 pub mod Counted
 pub mod FreeCells
+pub mod Sound
