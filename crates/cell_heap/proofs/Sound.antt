@@ -1,5 +1,5 @@
 -- What is true of giving up references in a sound heap.
-use Rattle.std.proofs.Common.{◌≡◌, ℕ, ◌+◌, List, [], length, ap, arith}
+use Rattle.std.proofs.Common.{◌≡◌, ◌%◌, ℕ, ◌+◌, List, [], length, ap, arith}
 use Rattle.cell_heap.specs.Cells.{Heap, occurs}
 use Rattle.cell_heap.specs.Pool.{Pool, places}
 use Rattle.cell_heap.specs.GivingUp.{GivesUp}
@@ -11,10 +11,11 @@ use Rattle.cell_heap.proofs.Borders.{IsPlaced-listed}
 use Rattle.cell_heap.proofs.GivingUp.{Given, GivesUp-exists, GivesUp-paid}
 use Rattle.cell_heap.proofs.OneEnd.{IsEnd, same-end, GivesUp-end}
 
--- the same references in another order
-HasCounts-order : {places : List ℕ} {roots : ℕ → ℕ} {given : List ℕ} {heap : Heap} (others : List ℕ) → ((x : ℕ) → occurs x others ≡ occurs x given) → HasCounts places roots given heap → HasCounts places roots others heap
-HasCounts-order others same counts = record {
-  right = λ at even. let right = counts.right at even in let e = same at in omega arith;
+-- references go from those that stay to those that are given up, or back, and the order of these does not matter
+pub HasCounts-moved : {places : List ℕ} {roots : ℕ → ℕ} {given : List ℕ} {heap : Heap} (later : ℕ → ℕ) (left : List ℕ) → ((x : ℕ) → x % 2 ≡ 0 → later x + occurs x left ≡ roots x + occurs x given)
+    → HasCounts places roots given heap → HasCounts places later left heap
+HasCounts-moved later left same counts = record {
+  right = λ at even. let right = counts.right at even in let e = same at even in omega arith;
   some = counts.some;
 }
 
@@ -44,7 +45,7 @@ module _ {pool : Pool} {roots : ℕ → ℕ} {given : List ℕ} {heap : Heap} (s
   pub sound-one_end : (others : List ℕ) (end other : Heap) (gave freed gave_others freed_others : ℕ) → ((x : ℕ) → occurs x others ≡ occurs x given) → GivesUp given heap gave freed end → GivesUp others heap gave_others freed_others other
       → (end ≡ other) × (freed ≡ freed_others)
   sound-one_end others end other gave freed gave_others freed_others same first second =
-      let counts = HasCounts-order others same sound.counts in
+      let counts = HasCounts-moved roots others (λ x even. ap (λ n. roots x + n) (same x)) sound.counts in
       let ends = sound-end end gave freed first in
       let other_ends = GivesUp-end others [] heap sound-listed sound.acyclic (record { none = sound.settled }) counts second in
       let e : end ≡ other = same-end sound-listed sound.acyclic ends other_ends in
