@@ -1,4 +1,5 @@
 mod Examples
+mod ExampleView
 pub mod Sums
 pub mod Frames
 pub mod Counting
