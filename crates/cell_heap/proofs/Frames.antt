@@ -134,7 +134,7 @@ not-token-free (waiting body) is_token e = is_token
 not-token-free (counted count body) is_token e = is_token
 
 -- a slot lies outside of each cell
-slot-apart : (pool : Pool) (parts : List Part) (slot at : ℕ) → pool.first % 32 ≡ 0 → IsSlot pool parts slot → IsCell pool at → (slot + 4 ≤ at) ⊎ (at + 32 ≤ slot)
+pub slot-apart : (pool : Pool) (parts : List Part) (slot at : ℕ) → pool.first % 32 ≡ 0 → IsSlot pool parts slot → IsCell pool at → (slot + 4 ≤ at) ⊎ (at + 32 ≤ slot)
 slot-apart pool parts slot at aligned is_slot cell = by-side is_slot.apart
   where
     by-side : (slot + 4 ≤ pool.first) ⊎ (end_of pool ≤ slot) → (slot + 4 ≤ at) ⊎ (at + 32 ≤ slot)

@@ -10,3 +10,5 @@ pub mod PrintingDigits
 pub mod PrintingInt
 pub mod TakingCells
 pub mod Taking
+pub mod HoldingTokens
+pub mod Holding

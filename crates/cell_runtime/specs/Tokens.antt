@@ -52,3 +52,10 @@ IsUnhold pool code at =
     (view : View) (held : List Link) (count : ℕ) (s : Machine) → IsAt code at s → HasWayBack s → Memory pool view s
     → IsSlot pool s.parts (value s.registers 10) → Unheld view s.memory (value s.registers 10) held count
     → (t : Machine) × AfterUnhold pool view held count s t
+
+-- the code of neither depends on where the cells are
+abbrev pub IsHoldOfPools : Code → ℕ → Type 0
+IsHoldOfPools code at = (pool : Pool) → IsHold pool code at
+
+abbrev pub IsUnholdOfPools : Code → ℕ → Type 0
+IsUnholdOfPools code at = (pool : Pool) → IsUnhold pool code at

@@ -12,6 +12,7 @@ mod read_byte;
 mod routine;
 mod stop;
 mod take;
+mod tokens;
 
 pub use item::Item;
 pub use routine::Routine;
