@@ -12,8 +12,8 @@ use Rattle.cell_runtime.specs.declared.item.Item.TheVariants.{Plain, Address}
 use Rattle.cell_runtime.specs.Items.{Makes, IsSet, IsWayBack}
 
 -- what the same items make
-pub made : {K : ℕ → Code → ℕ → Type 0} {items others : List Item} → items ≡ others → Makes others K → Makes items K
-made {K} e makes = subst (λ items. Makes items K) (sym e) makes
+pub made : {K : ℕ → Code → ℕ → Type 0} {words : ℕ} {items others : List Item} → items ≡ others → Makes others words K → Makes items words K
+made {K} {words} e makes = subst (λ items. Makes items words K) (sym e) makes
 
 -- a list, one item after the other
 pub then_item : {i j : Instr} {is js : List Item} → i ≡ j → is ≡ js → Plain i ∷ is ≡ Plain j ∷ js

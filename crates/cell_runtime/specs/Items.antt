@@ -18,8 +18,15 @@ Spells memory (Address rd offset ∷ items) is =
     (upper : UpperImmediate) × (lower : Immediate) × (rest : List Instr) × (sum_word upper.word lower.word ≡ memory + offset)
     × (is ≡ Lui rd upper ∷ Addi rd rd lower ∷ rest) × Spells memory items rest
 
--- wherever the instructions of these items stand, the code there is of this kind
-pub record Makes (items : List Item) (IsOfKind : ℕ → Code → ℕ → Type 0) : Type 0 where
+-- how many instructions they are
+abbrev pub words_of : List Item → ℕ
+words_of [] = 0
+words_of (Plain i ∷ items) = 1 + words_of items
+words_of (Address rd offset ∷ items) = 2 + words_of items
+
+-- these items are so many instructions, and wherever they stand, the code there is of this kind
+pub record Makes (items : List Item) (words : ℕ) (IsOfKind : ℕ → Code → ℕ → Type 0) : Type 0 where
+  pub size : words_of items ≡ words
   pub code : (memory : ℕ) (is : List Instr) (code : Code) (at : ℕ) → Spells memory items is → Has code at is → IsOfKind memory code at
 
 -- a register becomes a number: ADDI from x0

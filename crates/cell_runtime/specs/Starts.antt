@@ -34,5 +34,4 @@ pub record AfterStart (pool : Pool) (stack_end main at : ℕ) (s t : Machine) : 
 
 abbrev pub IsStart : Pool → ℕ → ℕ → Code → ℕ → Type 0
 IsStart pool stack_end main code at =
-    (s : Machine) → IsAt code at s → IsUsable pool s.parts → stack_end < 2 ^ 32
-    → (t : Machine) × AfterStart pool stack_end main at s t
+    (s : Machine) → IsAt code at s → IsUsable pool s.parts → main < 2 ^ 32 → (t : Machine) × AfterStart pool stack_end main at s t

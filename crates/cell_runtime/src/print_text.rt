@@ -10,7 +10,7 @@ use rv_isa::Register;
 
 /// Puts the bytes from the address in `a0` on, as many as `a1` says, at once.
 pub fn print_text() -> [Item; 6]
-    ensures { Makes result (λ memory. IsPrintText) }
+    ensures { Makes result 6 (λ memory. IsPrintText) }
 {
     [
         addi(Register::A2, Register::A1, small(0)),

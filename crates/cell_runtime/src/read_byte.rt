@@ -10,7 +10,7 @@ use rv_isa::Register;
 
 /// Takes the next byte of the input: `a0` is the byte, or -1 at the input's end.
 pub fn read_byte() -> [Item; 9]
-    ensures { Makes result IsReadByte }
+    ensures { Makes result 10 IsReadByte }
 {
     [
         address(Register::A1, 0),

@@ -36,7 +36,7 @@ impl Ending {
 
 /// Exits.
 pub fn stop(ending: Ending) -> [Item; 3]
-    ensures { Makes result (λ memory. IsStop ending) }
+    ensures { Makes result 3 (λ memory. IsStop ending) }
 {
     [
         set(Register::A0, ending.number()),

@@ -9,7 +9,7 @@ use rv_isa::Register;
 
 /// Puts the token in the slot whose address is in `a0` on the chain; where the slot holds none, does nothing.
 pub fn hold() -> [Item; 6]
-    ensures { Makes result (λ memory. IsHoldOfPools) }
+    ensures { Makes result 6 (λ memory. IsHoldOfPools) }
 {
     [
         lw(Register::T0, Register::A0, small(0)),
@@ -24,7 +24,7 @@ pub fn hold() -> [Item; 6]
 /// Takes the token in the slot whose address is in `a0`, which is the newest one, off the chain; where the slot holds
 /// none, as where the token was taken back, does nothing.
 pub fn unhold() -> [Item; 4]
-    ensures { Makes result (λ memory. IsUnholdOfPools) }
+    ensures { Makes result 4 (λ memory. IsUnholdOfPools) }
 {
     [
         lw(Register::T0, Register::A0, small(0)),
