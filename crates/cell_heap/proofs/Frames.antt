@@ -70,7 +70,7 @@ Shows-same pool old new at (waiting body) same shows =
     (shows.0, HasBody-same old new at body record { same = λ y low high. words.same y (omega arith) high } shows.1)
 Shows-same pool old new at (counted count body) same shows =
     let words = same shows.0 in
-    (shows.0, words.same at (omega arith) (omega arith) ∙ shows.1, HasBody-same old new at body record { same = λ y low high. words.same y (omega arith) high } shows.2)
+    (shows.0, words.same at (omega arith) (omega arith) ∙ shows.1, shows.2, HasBody-same old new at body record { same = λ y low high. words.same y (omega arith) high } shows.3)
 
 -- an address that is no cell's shows none
 Shows-cell : (pool : Pool) (memory : ℕ → ℕ) (at : ℕ) (cell : Cell) → cell ≢ no_cell → Shows pool memory at cell → IsCell pool at
@@ -95,7 +95,7 @@ other-cell : (x at y : ℕ) → x % 32 ≡ 0 → at % 32 ≡ 0 → x ≢ at → 
 other-cell x at y x_aligned at_aligned differ low high =
     elim (cases_lt x at) [ inl below ↦ inl (omega arith) | inr above ↦ inr (omega arith) ]
 
-SameWords-but : {pool : Pool} {old new : ℕ → ℕ} {at : ℕ} → SameBut old new at → IsCell pool at → (x : ℕ) → x ≢ at → IsCell pool x → SameWords old new x (x + 32)
+pub SameWords-but : {pool : Pool} {old new : ℕ → ℕ} {at : ℕ} → SameBut old new at → IsCell pool at → (x : ℕ) → x ≢ at → IsCell pool x → SameWords old new x (x + 32)
 SameWords-but {pool} {old} {new} {at} but cell x differ other = record {
   same = λ y low high. but.same y (other-cell x at y other.aligned cell.aligned differ low high);
 }
@@ -108,7 +108,7 @@ IsShown-changed {pool} {old} {new} {heap} at cell shown is_cell but shows = reco
 }
 
 -- a free cell is not none
-free-some : free ≢ no_cell
+pub free-some : free ≢ no_cell
 free-some e = cc
 
 -- a chain that the cell is not on stays
@@ -174,10 +174,10 @@ pub record SameInside (pool : Pool) (old new : ℕ → ℕ) : Type 0 where
   pub same : (x : ℕ) → pool.first ≤ x → x + 4 ≤ end_of pool → word new x ≡ word old x
 
 -- all words of a cell are inside
-cell-inside : (pool : Pool) (at : ℕ) → pool.first % 32 ≡ 0 → IsCell pool at → at + 32 ≤ end_of pool
+pub cell-inside : (pool : Pool) (at : ℕ) → pool.first % 32 ≡ 0 → IsCell pool at → at + 32 ≤ end_of pool
 cell-inside pool at aligned cell = let high = cell.before in let here = cell.aligned in omega arith
 
-SameWords-inside : {pool : Pool} {old new : ℕ → ℕ} → pool.first % 32 ≡ 0 → SameInside pool old new → (at : ℕ) → IsCell pool at → SameWords old new at (at + 32)
+pub SameWords-inside : {pool : Pool} {old new : ℕ → ℕ} → pool.first % 32 ≡ 0 → SameInside pool old new → (at : ℕ) → IsCell pool at → SameWords old new at (at + 32)
 SameWords-inside {pool} aligned inside at cell = record {
   same = λ y low high. let end = cell-inside pool at aligned cell in let begin = cell.behind in inside.same y (omega arith) (omega arith);
 }

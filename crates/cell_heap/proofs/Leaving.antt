@@ -112,3 +112,32 @@ IsLeft-kept {start} {heap} left at cell other is = by-cell cell other (subst (λ
     by-cell free other becomes = becomes
     by-cell (token fields) other becomes = becomes
     by-cell (waiting body) other becomes = becomes
+
+-- what is counted now was counted, and so was what waits, where nothing waited
+Becomes-was_counted : (cell now : Cell) (count : ℕ) (body : Body) → now ≡ counted count body → Becomes cell now → (before : ℕ) × (cell ≡ counted before body)
+Becomes-was_counted (counted n other) now count body is (inl gone) = cc
+Becomes-was_counted (counted n other) now count body is (inr (inl waits)) = cc
+Becomes-was_counted (counted n other) now count body is (inr (inr kept)) =
+    let there = kept.1 in let same : other ≡ body = cc in (n, ap (counted n) same)
+Becomes-was_counted no_cell now count body is left = cc
+Becomes-was_counted free now count body is left = cc
+Becomes-was_counted (token fields) now count body is left = cc
+Becomes-was_counted (waiting other) now count body is left = cc
+
+pub IsLeft-was_counted : {start heap : Heap} → IsLeft start heap → (at count : ℕ) (body : Body) → heap at ≡ counted count body → (before : ℕ) × (start at ≡ counted before body)
+IsLeft-was_counted {start} {heap} left at count body is =
+    Becomes-was_counted (start at) (heap at) count body is (left.each at)
+
+Becomes-was_waiting : (cell now : Cell) (body : Body) → now ≡ waiting body → ((other : Body) → cell ≢ waiting other) → Becomes cell now → (before : ℕ) × (cell ≡ counted before body)
+Becomes-was_waiting (counted n other) now body is settled (inl gone) = cc
+Becomes-was_waiting (counted n other) now body is settled (inr (inl waits)) =
+    let same : other ≡ body = cc in (n, ap (counted n) same)
+Becomes-was_waiting (counted n other) now body is settled (inr (inr kept)) = let there = kept.1 in cc
+Becomes-was_waiting no_cell now body is settled left = cc
+Becomes-was_waiting free now body is settled left = cc
+Becomes-was_waiting (token fields) now body is settled left = cc
+Becomes-was_waiting (waiting other) now body is settled left = absurd (settled other refl)
+
+pub IsLeft-was_waiting : {start heap : Heap} → ((x : ℕ) (other : Body) → start x ≢ waiting other) → IsLeft start heap → (at : ℕ) (body : Body) → heap at ≡ waiting body → (before : ℕ) × (start at ≡ counted before body)
+IsLeft-was_waiting {start} {heap} settled left at body is =
+    Becomes-was_waiting (start at) (heap at) body is (settled at) (left.each at)

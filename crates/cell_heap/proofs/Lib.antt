@@ -6,3 +6,7 @@ pub mod Leaving
 pub mod Turns
 pub mod GivingUp
 pub mod OneEnd
+pub mod Waits
+pub mod Choosing
+pub mod Borders
+pub mod Held

@@ -37,7 +37,8 @@ Shows pool memory at no_cell = IsCell pool at → ⊥
 Shows pool memory at free = IsCell pool at
 Shows pool memory at (token fields) = IsCell pool at × (length fields ≤ 6) × HasWords memory (at + 8) fields
 Shows pool memory at (waiting body) = IsCell pool at × HasBody memory at body
-Shows pool memory at (counted count body) = IsCell pool at × (word memory at ≡ count) × HasBody memory at body
+Shows pool memory at (counted count body) =
+    IsCell pool at × (word memory at ≡ count) × (count < 2 ^ 32) × HasBody memory at body
 
 pub record IsShown (pool : Pool) (memory : ℕ → ℕ) (heap : Heap) : Type 0 where
   pub cell : (at : ℕ) → Shows pool memory at (heap at)
@@ -85,3 +86,7 @@ pub record Memory (pool : Pool) (view : View) (s : Machine) : Type 0 where
   pub border : value s.registers 18 ≡ view.border
   pub end : value s.registers 19 ≡ end_of pool
   pub has_border : HasBorder pool view
+
+-- the byte at an address is none of the first word of a counted cell
+abbrev pub IsNoCount : Heap → ℕ → Type 0
+IsNoCount heap x = (at count : ℕ) (body : Body) → heap at ≡ counted count body → (x < at) ⊎ (at + 4 ≤ x)

@@ -12,3 +12,7 @@ pub mod TakingCells
 pub mod Taking
 pub mod HoldingTokens
 pub mod Holding
+pub mod DropRows
+pub mod DropStates
+pub mod DropMoves
+pub mod DropRuns

@@ -122,18 +122,20 @@ module _ (code : Code) (at low : ℕ) (after : Instr) (later : List Instr) (has 
       let none : n / 10 ≡ 0 = omega arith in
       let same : 48 + n % 10 ≡ 48 + n = omega arith in
       let above : low ≤ p - 1 = omega arith in
-      let at_q = subst (λ v. AtDigits code at n v low s) last here in
-      (turned n q next s, record {
-        leads = goes_on n q s at_q above none;
-        pc_is = refl;
-        place = omega arith;
-        bytes = bytes_at-one _ q ∙ ap (λ byte. byte ∷ []) (digit_there n q s at_q above next ∙ same);
-        outside = λ x away. other_there n q s at_q above next x (away_from x q p last away);
-        registers = kept n q s at_q above next;
-        parts = refl;
-        left = refl;
-        trace = refl;
-      })
+      let at_q = subst (λ v. AtDigits code at n v low s) last here in (
+        turned n q next s,
+        record {
+          leads = goes_on n q s at_q above none;
+          pc_is = refl;
+          place = omega arith;
+          bytes = bytes_at-one _ q ∙ ap (λ byte. byte ∷ []) (digit_there n q s at_q above next ∙ same);
+          outside = λ x away. other_there n q s at_q above next x (away_from x q p last away);
+          registers = kept n q s at_q above next;
+          parts = refl;
+          left = refl;
+          trace = refl;
+        },
+      )
     where
       away_from : (x q p : ℕ) → p ≡ suc q → (x < q) ⊎ (p ≤ x) → x ≢ q
       away_from x q p last (inl low) = omega arith
@@ -156,19 +158,21 @@ module _ (code : Code) (at low : ℕ) (after : Instr) (later : List Instr) (has 
       let counts : 6 * length (digits ++ ((48 + n % 10) ∷ [])) ≡ 6 + 6 * length digits = omega arith in
       let digit_is : t.memory q ≡ 48 + n % 10 = wrote.outside q (inr (omega arith)) ∙ digit_there n q s at_q above at in
       let last_is : bytes_at t.memory (value t.registers 5 + length digits) 1 ≡ (48 + n % 10) ∷ [] =
-      ap (λ a. bytes_at t.memory a 1) place ∙ bytes_at-one t.memory q ∙ ap (λ byte. byte ∷ []) digit_is in
-      (t, record {
-        leads = subst (λ count. Leads count s t) (sym counts) (Leads-then back wrote.leads);
-        pc_is = wrote.pc_is;
-        place = omega arith;
-        bytes = ap (bytes_at t.memory (value t.registers 5)) size ∙ bytes_at-add t.memory (value t.registers 5) (length digits) 1
-            ∙ ap (λ front. front ++ bytes_at t.memory (value t.registers 5 + length digits) 1) wrote.bytes ∙ ap (λ end. digits ++ end) last_is;
-        outside = λ x away. wrote.outside x (nearer x (value t.registers 5) q p last away) ∙ other_there n q s at_q above at x (elsewhere x (value t.registers 5) q p (length digits) place last away);
-        registers = λ x a b c. wrote.registers x a b c ∙ kept n q s at_q above at x a b c;
-        parts = wrote.parts;
-        left = wrote.left;
-        trace = wrote.trace;
-      })
+      ap (λ a. bytes_at t.memory a 1) place ∙ bytes_at-one t.memory q ∙ ap (λ byte. byte ∷ []) digit_is in (
+        t,
+        record {
+          leads = subst (λ count. Leads count s t) (sym counts) (Leads-then back wrote.leads);
+          pc_is = wrote.pc_is;
+          place = omega arith;
+          bytes = ap (bytes_at t.memory (value t.registers 5)) size ∙ bytes_at-add t.memory (value t.registers 5) (length digits) 1
+              ∙ ap (λ front. front ++ bytes_at t.memory (value t.registers 5 + length digits) 1) wrote.bytes ∙ ap (λ end. digits ++ end) last_is;
+          outside = λ x away. wrote.outside x (nearer x (value t.registers 5) q p last away) ∙ other_there n q s at_q above at x (elsewhere x (value t.registers 5) q p (length digits) place last away);
+          registers = λ x a b c. wrote.registers x a b c ∙ kept n q s at_q above at x a b c;
+          parts = wrote.parts;
+          left = wrote.left;
+          trace = wrote.trace;
+        },
+      )
     where
       nearer : (x from q p : ℕ) → p ≡ suc q → (x < from) ⊎ (p ≤ x) → (x < from) ⊎ (q ≤ x)
       nearer x from q p last (inl low) = inl low

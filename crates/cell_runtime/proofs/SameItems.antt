@@ -94,4 +94,3 @@ pub then_back : {a : Item} {zero way : Register} {imm : Immediate} {is js : List
 then_back {is = is} given zero way same rest =
     ap (λ item. item ∷ is) given.item_is
     ∙ then_item (same_immediate_format Jalr _ _ _ _ _ _ (given.zero_is ∙ sym zero) (given.way_is ∙ sym way) (given.immediate_is ∙ sym same)) rest
-

@@ -6,3 +6,4 @@ pub mod Stops
 pub mod Takes
 pub mod Tokens
 pub mod Starts
+pub mod Drops

@@ -4,6 +4,7 @@
 #![tactic(auto)]
 
 mod assembly;
+mod drop;
 mod environment;
 mod item;
 mod print_int;

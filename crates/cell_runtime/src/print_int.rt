@@ -5,7 +5,8 @@ ghost use Rattle.cell_runtime.specs.Prints.{IsPrintInt};
 
 use crate::Item;
 use crate::assembly::{
-    add, addi, address, back, bge, bne, divu, ecall, forward, minus_one, remu, ret, sb, set, small, sub,
+    add, addi, address, back, bge, bne, divu, ecall, forward, minus_one, remu, ret, sb, set, small,
+    sub,
 };
 use crate::environment::{STANDARD_OUTPUT, WRITE};
 use rv_isa::Register;
