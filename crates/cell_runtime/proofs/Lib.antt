@@ -12,6 +12,7 @@ pub mod TakingCells
 pub mod Taking
 pub mod HoldingTokens
 pub mod Holding
+pub mod Starting
 pub mod DropRows
 pub mod DropStates
 pub mod DropMoves

@@ -3,9 +3,10 @@ use Rattle.std.proofs.Common.{◌≡◌, ℕ, List, ◌∷◌, sym, ap, ◌∙�
 use Rattle.rv_isa.specs.declared.register.Register.{Register}
 use Rattle.rv_isa.specs.declared.immediate.Immediate.{Immediate}
 use Rattle.rv_isa.specs.declared.immediate.BranchOffset.{BranchOffset}
+use Rattle.rv_isa.specs.declared.immediate.JumpOffset.{JumpOffset}
 use Rattle.rv_isa.specs.declared.instr.Instr.{Instr}
-use Rattle.rv_isa.specs.declared.instr.Instr.TheVariants.{Jalr, Beq, Bne, Bge, Lw, Lbu, Sb, Sw, Addi, Add, Sub, Divu, Remu}
-use Rattle.rv_isa.proofs.Same.{same_register, same_immediate, same_branch_offset}
+use Rattle.rv_isa.specs.declared.instr.Instr.TheVariants.{Jal, Jalr, Beq, Bne, Bge, Lw, Lbu, Sb, Sw, Addi, Add, Sub, Divu, Remu}
+use Rattle.rv_isa.proofs.Same.{same_register, same_immediate, same_branch_offset, same_jump_offset}
 use Rattle.rv_isa.specs.Standing.{Code}
 use Rattle.cell_runtime.specs.declared.item.Item.{Item}
 use Rattle.cell_runtime.specs.declared.item.Item.TheVariants.{Plain, Address}
@@ -44,6 +45,9 @@ same_addi = same_immediate_format Addi _ _ _ _ _ _
 
 pub same_jalr : {a a' b b' : Register} {n n' : Immediate} → a.number ≡ a'.number → b.number ≡ b'.number → n.word ≡ n'.word → Jalr a b n ≡ Jalr a' b' n'
 same_jalr = same_immediate_format Jalr _ _ _ _ _ _
+
+pub same_jal : {a a' : Register} {o o' : JumpOffset} → a.number ≡ a'.number → o.word ≡ o'.word → Jal a o ≡ Jal a' o'
+same_jal {a} {a'} {o} {o'} e f = ap (λ x. Jal x o) (same_register a a' e) ∙ ap (Jal a') (same_jump_offset o o' f)
 
 pub same_lw : {a a' b b' : Register} {n n' : Immediate} → a.number ≡ a'.number → b.number ≡ b'.number → n.word ≡ n'.word → Lw a b n ≡ Lw a' b' n'
 same_lw = same_immediate_format Lw _ _ _ _ _ _

@@ -5,5 +5,6 @@ pub mod Prints
 pub mod Stops
 pub mod Takes
 pub mod Tokens
+pub mod Layouts
 pub mod Starts
 pub mod Drops

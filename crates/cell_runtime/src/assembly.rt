@@ -4,7 +4,7 @@ ghost use Rattle.std.specs.Prelude.{◌≡◌, ◌-◌, ◌*◌, ◌+◌, ◌^�
 ghost use Rattle.cell_runtime.specs.Items.{IsSet, IsWayBack};
 
 use crate::Item;
-use rv_isa::{BranchOffset, Immediate, Instr, Register};
+use rv_isa::{BranchOffset, Immediate, Instr, JumpOffset, Register};
 
 /// A number from 0 to 2047 as an immediate.
 pub fn small(number: u32) -> Immediate
@@ -129,6 +129,12 @@ pub fn ecall() -> Item
     ensures { result ≡ Item.Plain Instr.Ecall }
 {
     Item::Plain(Instr::Ecall)
+}
+
+pub fn jal(rd: Register, offset: JumpOffset) -> Item
+    ensures { result ≡ Item.Plain (Instr.Jal rd offset) }
+{
+    Item::Plain(Instr::Jal { rd, offset })
 }
 
 pub fn jalr(rd: Register, rs1: Register, imm: Immediate) -> Item

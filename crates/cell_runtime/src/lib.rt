@@ -7,14 +7,18 @@ mod assembly;
 mod drop;
 mod environment;
 mod item;
+mod layout;
+mod places;
 mod print_int;
 mod print_text;
 mod read_byte;
 mod routine;
+mod start;
 mod stop;
 mod take;
 mod tokens;
 
 pub use item::Item;
+pub use layout::Layout;
 pub use routine::Routine;
 pub use stop::Ending;

@@ -5,11 +5,9 @@ ghost use Rattle.cell_runtime.specs.Takes.{IsTakeOfPools};
 
 use crate::assembly::{addi, beq, ecall, forward, lw, ret, set, small, sw};
 use crate::environment::EXIT;
+use crate::layout::CELL_BYTES;
 use crate::{Ending, Item};
 use rv_isa::Register;
-
-/// Bytes of a cell.
-const CELL_BYTES: u32 = 32;
 
 /// Gives a cell in `a0`: the first one of the chain in `s0`, else the first one that was never used, else the newest held
 /// token, whose slot loses it. Where there is none it exits.
