@@ -16,7 +16,8 @@ use Rattle.cell_heap.proofs.Frames.{cell-inside, HasBody-same}
 use Rattle.cell_heap.proofs.Leaving.{IsLeft, IsLeft-counted, IsLeft-opened, IsLeft-was_counted, IsLeft-was_waiting}
 use Rattle.cell_heap.proofs.Waits.{AreCells, AreCells-counted, AreCells-lower, AreCells-wait, AreCells-waiting, AreCells-opened, AreFields, AreFields-body, AreFields-first, IsWaitChain-below, SameWords-first}
 use Rattle.cell_heap.proofs.Choosing.{chosen-none, chosen-set, chosen-clear, half-below, mask-none}
-use Rattle.cell_runtime.specs.declared.routine.Routine.TheVariants.{Drop}
+use Rattle.rv_isa.specs.declared.routine.Routine.TheVariants.{Drop}
+use Rattle.rv_isa.specs.declared.placed.Symbol.TheVariants.{Routine}
 use Rattle.cell_runtime.specs.Registers.{KeptBy}
 use Rattle.cell_runtime.proofs.DropRows.{drop_code, row_odd, row_lower, row_wait, row_scanned, row_reference, row_skip, row_done, row_open}
 use Rattle.cell_runtime.proofs.DropStates.{IsQuiet, IsQuiet-then, count-stored, kept-5, kept-8, kept-10, kept-11, kept-12, kept-13, IsWithin, IsScanning, first-use, field-use, Comes, Comes-from}

@@ -17,10 +17,10 @@ use Rattle.cell_heap.specs.Pool.{Pool, end_of, IsCell}
 use Rattle.cell_heap.specs.View.{Link, View}
 use Rattle.cell_heap.specs.Memory.{word, IsSlot, IsHeldChain, Memory}
 use Rattle.cell_heap.proofs.Frames.{IsHeld-cell}
-use Rattle.cell_runtime.specs.declared.routine.Routine.TheVariants.{Hold, Unhold}
+use Rattle.rv_isa.specs.declared.placed.Symbol.TheVariants.{Hold, Unhold}
 use Rattle.cell_runtime.specs.Registers.{KeptBy}
 use Rattle.cell_runtime.specs.Calls.{HasWayBack, Returns, KeepsOutside}
-use Rattle.cell_runtime.specs.Items.{Makes}
+use Rattle.cell_runtime.specs.Lines.{Makes}
 use Rattle.cell_runtime.specs.Tokens.{Held, no_token, newest, AfterHold, IsHold, IsHoldOfPools, Unheld, AfterUnhold, IsUnhold, IsUnholdOfPools}
 use Rattle.cell_runtime.proofs.Operands.{x0, x1, x5, x9, x10, imm_0, imm_4, forward_8, forward_16}
 use Rattle.cell_runtime.proofs.Spelling.{plain, plain_makes}

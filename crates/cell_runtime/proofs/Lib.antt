@@ -1,5 +1,5 @@
 pub mod Operands
-pub mod SameItems
+pub mod SameLines
 pub mod Spelling
 pub mod Calling
 pub mod PrintingText

@@ -21,11 +21,13 @@ use Rattle.rv_isa.proofs.Standing.{Stands-leads, next-is}
 use Rattle.rv_isa.proofs.Memory.{bytes_at-more, bytes_at-one, bytes_at-add, bytes_at-with_number_apart, byte-same, byte-apart}
 use Rattle.rv_isa.proofs.Bytes.{bytes_at-same}
 use Rattle.rv_isa.proofs.Instructions.{leads-lui, leads-addi, leads-add, leads-sub, leads-sb, leads-bge_taken, leads-bge_not_taken, leads-write, value-put_other}
-use Rattle.cell_runtime.specs.declared.routine.Routine.TheVariants.{PrintInt}
-use Rattle.cell_runtime.specs.declared.item.Item.TheVariants.{Address}
+use Rattle.rv_isa.specs.declared.routine.Routine.TheVariants.{PrintInt}
+use Rattle.rv_isa.specs.declared.placed.Symbol.TheVariants.{Routine}
+use Rattle.rv_isa.specs.declared.placed.Native.TheVariants.{Address}
+use Rattle.rv_isa.specs.declared.placed.Section.TheVariants.{Data}
 use Rattle.cell_runtime.specs.Registers.{KeptBy}
 use Rattle.cell_runtime.specs.Calls.{HasWayBack, Returns, KeepsOutside}
-use Rattle.cell_runtime.specs.Items.{Makes}
+use Rattle.cell_runtime.specs.Lines.{Makes}
 use Rattle.cell_runtime.specs.Prints.{IsPrintInt, BeforePrintInt, AfterPrintInt, int_piece, int_count, buffer_bytes}
 use Rattle.cell_runtime.proofs.Operands.{x0, x1, x5, x6, x7, x10, x11, x12, x17, imm_0, imm_1, imm_10, imm_45, imm_64, imm_minus_1, forward_8, forward_16}
 use Rattle.cell_runtime.proofs.Spelling.{plain, address_makes}
@@ -353,7 +355,7 @@ module _ (code : Code) (buffer end size c0 c1 : ℕ) (end_is : end ≡ buffer + 
         returns = record {
           leads = subst (λ n. Leads n s u) count_is (Leads-then (Leads-then front.leads wrote.leads) put_leads);
           back = way_kept;
-          registers = λ x out. kept_put from count x out.1.1.1.0 out.1.1.1.1.0 out.1.1.1.1.1.0 out.1.1.1.1.1.1.0 ∙ registers_kept x out.0 out.1.0 out.1.1.0 out.1.1.1.1.0 out.1.1.1.1.1.0;
+          registers = λ x out. kept_put from count x out.1.1.1.0 out.1.1.1.1.0 out.1.1.1.1.1.0 out.1.1.1.1.1.1.1.0 ∙ registers_kept x out.0 out.1.0 out.1.1.0 out.1.1.1.1.0 out.1.1.1.1.1.0;
           parts = wrote.parts ∙ front.parts;
         };
         trace = ap (λ trace. trace ++ output piece ∷ []) (wrote.trace ∙ front.trace);
@@ -426,5 +428,5 @@ does : (memory : ℕ) (code : Code) (at : ℕ) (u : UpperImmediate) (l : Immedia
 does memory code at u l sum has s here before =
     by_sign code u l memory sum s here.stands (subst (λ a. Has code a (Lui x5 u ∷ Addi x5 x5 l ∷ print_int_code)) (sym here.pc_is) has) before (halves (value s.registers 10))
 
-pub print_int_makes : Makes (Address x5 11 ∷ plain print_int_code) 24 IsPrintInt
+pub print_int_makes : Makes (Address x5 Data 11 ∷ plain print_int_code) 24 IsPrintInt
 print_int_makes = address_makes x5 11 print_int_code does

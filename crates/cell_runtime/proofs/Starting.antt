@@ -18,11 +18,12 @@ use Rattle.cell_heap.specs.Pool.{Pool, end_of, IsCell, IsUsable}
 use Rattle.cell_heap.specs.View.{View, HasBorder}
 use Rattle.cell_heap.specs.Memory.{Shows, Memory}
 use Rattle.cell_runtime.specs.declared.layout.Layout.{Layout}
-use Rattle.cell_runtime.specs.declared.item.Item.{Item}
-use Rattle.cell_runtime.specs.declared.item.Item.TheVariants.{Address}
-use Rattle.cell_runtime.specs.declared.routine.Routine.TheVariants.{Start}
+use Rattle.rv_isa.specs.declared.placed.Native.{Native}
+use Rattle.rv_isa.specs.declared.placed.Native.TheVariants.{Address}
+use Rattle.rv_isa.specs.declared.placed.Section.TheVariants.{Data}
+use Rattle.rv_isa.specs.declared.placed.Symbol.TheVariants.{Start}
 use Rattle.cell_runtime.specs.Registers.{KeptBy}
-use Rattle.cell_runtime.specs.Items.{Spells, words_of, Makes}
+use Rattle.cell_runtime.specs.Lines.{Spells, words_of, Makes}
 use Rattle.cell_runtime.specs.Starts.{all_free, first_view, AfterStart, IsStart, IsStartOf}
 use Rattle.cell_runtime.proofs.Operands.{x0, x1, x2, x8, x9, x18, x19, imm_0}
 use Rattle.cell_runtime.proofs.Spelling.{plain, plain_is}
@@ -78,8 +79,8 @@ to_main = record { word = 408; in_range = (lit< tt, lit< tt, refl) }
 abbrev pub start_code : List Instr
 start_code = Addi x8 x0 imm_0 ∷ Addi x9 x0 imm_0 ∷ Jal x1 to_main ∷ []
 
-abbrev pub start_items : Layout → List Item
-start_items layout = Address x2 layout.stack_end ∷ Address x18 layout.cells ∷ Address x19 layout.cells_end ∷ plain start_code
+abbrev pub start_items : Layout → List Native
+start_items layout = Address x2 Data layout.stack_end ∷ Address x18 Data layout.cells ∷ Address x19 Data layout.cells_end ∷ plain start_code
 
 module _ (code : Code) (s : Machine) (stands : Stands code s) (a b c : UpperImmediate) (d e f : Immediate)
     (has : Has code s.pc (Lui x2 a ∷ Addi x2 x2 d ∷ Lui x18 b ∷ Addi x18 x18 e ∷ Lui x19 c ∷ Addi x19 x19 f ∷ start_code)) where
@@ -131,10 +132,10 @@ module _ (code : Code) (s : Machine) (stands : Stands code s) (a b c : UpperImme
 
 -- what the items stand for
 module _ (layout : Layout) (memory : ℕ) (is : List Instr) (code : Code) (at : ℕ) (spells : Spells memory (start_items layout) is) (has : Has code at is) where
-  second : Spells memory (Address x18 layout.cells ∷ Address x19 layout.cells_end ∷ plain start_code) spells.2
+  second : Spells memory (Address x18 Data layout.cells ∷ Address x19 Data layout.cells_end ∷ plain start_code) spells.2
   second = spells.5
 
-  third : Spells memory (Address x19 layout.cells_end ∷ plain start_code) second.2
+  third : Spells memory (Address x19 Data layout.cells_end ∷ plain start_code) second.2
   third = second.5
 
   is_whole : is ≡ Lui x2 spells.0 ∷ Addi x2 x2 spells.1 ∷ Lui x18 second.0 ∷ Addi x18 x18 second.1 ∷ Lui x19 third.0 ∷ Addi x19 x19 third.1 ∷ start_code
@@ -154,4 +155,4 @@ module _ (layout : Layout) (memory : ℕ) (is : List Instr) (code : Code) (at : 
       pool (memory + layout.stack_end) spells.3 (second.3 ∙ sym first) (third.3 ∙ sym end) usable low)
 
 pub start_makes : (layout : Layout) → Makes (start_items layout) 9 (IsStartOf layout)
-start_makes layout = record { size = refl; code = does layout }
+start_makes layout = record { size = refl; labels = λ before. refl; code = does layout }

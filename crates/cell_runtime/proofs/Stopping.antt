@@ -14,10 +14,10 @@ use Rattle.rv_isa.proofs.Standing.{Stands-leads, next-is}
 use Rattle.rv_isa.proofs.Instructions.{leads-addi, value-put_other}
 use Rattle.cell_runtime.specs.declared.stop.Ending.{Ending}
 use Rattle.cell_runtime.specs.declared.stop.Ending.TheVariants.{Ended, HeapFull, StackFull}
-use Rattle.cell_runtime.specs.declared.routine.Routine.TheVariants.{Stop}
+use Rattle.rv_isa.specs.declared.placed.Symbol.TheVariants.{Stop}
 use Rattle.cell_runtime.specs.Registers.{KeptBy}
 use Rattle.cell_runtime.specs.Calls.{Exits}
-use Rattle.cell_runtime.specs.Items.{Makes}
+use Rattle.cell_runtime.specs.Lines.{Makes}
 use Rattle.cell_runtime.specs.Stops.{number_of, IsStop}
 use Rattle.cell_runtime.proofs.Operands.{x0, x10, x17, imm_93}
 use Rattle.cell_runtime.proofs.Spelling.{plain, plain_makes}

@@ -19,10 +19,11 @@ use Rattle.cell_heap.specs.Pool.{Pool, end_of, IsCell}
 use Rattle.cell_heap.specs.View.{Link, View}
 use Rattle.cell_heap.specs.Memory.{word, IsChain, IsHeldChain, Memory}
 use Rattle.cell_heap.proofs.Frames.{shown-cell}
-use Rattle.cell_runtime.specs.declared.routine.Routine.TheVariants.{Take}
+use Rattle.rv_isa.specs.declared.routine.Routine.TheVariants.{Take}
+use Rattle.rv_isa.specs.declared.placed.Symbol.TheVariants.{Routine}
 use Rattle.cell_runtime.specs.Registers.{KeptBy}
 use Rattle.cell_runtime.specs.Calls.{HasWayBack, Returns, Exits}
-use Rattle.cell_runtime.specs.Items.{Makes}
+use Rattle.cell_runtime.specs.Lines.{Makes}
 use Rattle.cell_runtime.specs.Takes.{Taken, from_chain, at_border, from_held, IsFull, AfterTake, IsTake, IsTakeOfPools}
 use Rattle.cell_runtime.proofs.Operands.{x0, x1, x5, x8, x9, x10, x18, x19, imm_0, imm_4, imm_32, imm_101, forward_16, forward_24}
 use Rattle.cell_runtime.proofs.Spelling.{plain, plain_makes}
@@ -91,8 +92,8 @@ module _ (code : Code) (pool : Pool) (view : View) (s : Machine) (stands : Stand
         trace = refl;
       })
     where
-      kept : (next cell x : ℕ) → KeptBy Take x → value (put 8 next (put 10 cell s.registers)) x ≡ value s.registers x
-      kept next cell x out = let a : x ≢ 8 = out.0 in let b : x ≢ 10 = out.1.1.0 in grind (arith, nat_tests)
+      kept : (next cell x : ℕ) → KeptBy (Routine Take) x → value (put 8 next (put 10 cell s.registers)) x ≡ value s.registers x
+      kept next cell x out = let a : x ≢ 8 = out.0 in let b : x ≢ 10 = out.1.1.1.1.0 in grind (arith, nat_tests)
 
   module _ (none : view.frees ≡ []) where
     no_chain : value s.registers 8 ≡ 0
@@ -146,8 +147,8 @@ module _ (code : Code) (pool : Pool) (view : View) (s : Machine) (stands : Stand
           trace = refl;
         })
       where
-        kept : (next cell x : ℕ) → KeptBy Take x → value (put 18 next (put 10 cell s.registers)) x ≡ value s.registers x
-        kept next cell x out = let a : x ≢ 18 = out.1.1.1.0 in let b : x ≢ 10 = out.1.1.0 in grind (arith, nat_tests)
+        kept : (next cell x : ℕ) → KeptBy (Routine Take) x → value (put 18 next (put 10 cell s.registers)) x ≡ value s.registers x
+        kept next cell x out = let a : x ≢ 18 = out.1.1.0 in let b : x ≢ 10 = out.1.1.1.1.0 in grind (arith, nat_tests)
 
         rises : (border first cells : ℕ) → first % 32 ≡ 0 → border % 32 ≡ 0 → border < first + 32 * cells → first + 32 * cells < 2 ^ 32 → (border + 32) % 2 ^ 32 ≡ border + 32
         rises border first cells a b before below = omega arith
@@ -216,11 +217,11 @@ module _ (code : Code) (pool : Pool) (view : View) (s : Machine) (stands : Stand
             trace = refl;
           })
         where
-          kept : (next slot cell x : ℕ) → KeptBy Take x → value (put 9 next (put 5 slot (put 10 cell s.registers))) x ≡ value s.registers x
+          kept : (next slot cell x : ℕ) → KeptBy (Routine Take) x → value (put 9 next (put 5 slot (put 10 cell s.registers))) x ≡ value s.registers x
           kept next slot cell x out =
               let a : x ≢ 9 = out.1.0 in
-              let b : x ≢ 10 = out.1.1.0 in
-              let c : x ≢ 5 = out.1.1.1.1.0 in
+              let b : x ≢ 10 = out.1.1.1.1.0 in
+              let c : x ≢ 5 = out.1.1.1.0 in
               grind (arith, nat_tests)
 
           ends : (cell first cells : ℕ) → cell % 32 ≡ 0 → first % 32 ≡ 0 → cell < first + 32 * cells → cell + 32 ≤ first + 32 * cells

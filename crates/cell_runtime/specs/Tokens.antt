@@ -6,7 +6,7 @@ use Rattle.cell_heap.specs.Cells.{token, occurs}
 use Rattle.cell_heap.specs.Pool.{Pool}
 use Rattle.cell_heap.specs.View.{Link, View}
 use Rattle.cell_heap.specs.Memory.{word, IsSlot, Memory}
-use Rattle.cell_runtime.specs.declared.routine.Routine.TheVariants.{Hold, Unhold}
+use Rattle.rv_isa.specs.declared.placed.Symbol.TheVariants.{Hold, Unhold}
 use Rattle.cell_runtime.specs.Calls.{IsAt, HasWayBack, Returns, KeepsOutside}
 
 -- ---- hold

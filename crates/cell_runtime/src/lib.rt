@@ -6,19 +6,16 @@
 mod assembly;
 mod drop;
 mod environment;
-mod item;
 mod layout;
-mod places;
 mod print_int;
 mod print_text;
 mod read_byte;
-mod routine;
 mod start;
 mod stop;
 mod take;
+mod runtime;
 mod tokens;
 
-pub use item::Item;
 pub use layout::Layout;
-pub use routine::Routine;
 pub use stop::Ending;
+pub use runtime::text;

@@ -1,17 +1,18 @@
 //! The start of an image.
 
-ghost use Rattle.cell_runtime.specs.Items.{Makes};
+ghost use Rattle.cell_runtime.specs.Lines.{Makes};
 ghost use Rattle.cell_runtime.specs.Starts.{IsStartOf};
 
 use crate::assembly::{address, jal, set};
 use crate::layout::Layout;
-use crate::places::{MAIN_AT, START_BYTES};
-use crate::{Item};
-use rv_isa::{JumpOffset, Register};
+use rv_isa::{JumpOffset, Native, Register};
+
+/// Instructions of the runtime.
+pub const TEXT_WORDS: u32 = 110;
 
 /// Sets the stack, the bounds of the cells, an empty chain of free cells and an empty chain of held tokens, and calls
 /// `main`, which stands behind the runtime. So `main` returns to the stop behind the start.
-pub fn start(layout: Layout) -> [Item; 6]
+pub fn start(layout: Layout) -> [Native; 6]
     ensures { Makes result 9 (IsStartOf layout) }
 {
     [
@@ -20,6 +21,6 @@ pub fn start(layout: Layout) -> [Item; 6]
         address(Register::S3, layout.cells_end),
         set(Register::S0, 0),
         set(Register::S1, 0),
-        jal(Register::RA, JumpOffset::new(MAIN_AT + 4 - START_BYTES)),
+        jal(Register::RA, JumpOffset::new(4 * (TEXT_WORDS - 8))),
     ]
 }

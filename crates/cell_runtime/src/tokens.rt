@@ -1,14 +1,13 @@
 //! The chain of held tokens.
 
-ghost use Rattle.cell_runtime.specs.Items.{Makes};
+ghost use Rattle.cell_runtime.specs.Lines.{Makes};
 ghost use Rattle.cell_runtime.specs.Tokens.{IsHoldOfPools, IsUnholdOfPools};
 
-use crate::Item;
 use crate::assembly::{addi, beq, forward, lw, ret, small, sw};
-use rv_isa::Register;
+use rv_isa::{Native, Register};
 
 /// Puts the token in the slot whose address is in `a0` on the chain; where the slot holds none, does nothing.
-pub fn hold() -> [Item; 6]
+pub fn hold() -> [Native; 6]
     ensures { Makes result 6 (λ memory. IsHoldOfPools) }
 {
     [
@@ -23,7 +22,7 @@ pub fn hold() -> [Item; 6]
 
 /// Takes the token in the slot whose address is in `a0`, which is the newest one, off the chain; where the slot holds
 /// none, as where the token was taken back, does nothing.
-pub fn unhold() -> [Item; 4]
+pub fn unhold() -> [Native; 4]
     ensures { Makes result 4 (λ memory. IsUnholdOfPools) }
 {
     [

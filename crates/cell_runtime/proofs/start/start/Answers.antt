@@ -1,5 +1,5 @@
 use Rattle.std.proofs.Common.{refl}
-use Rattle.cell_runtime.proofs.SameItems.{made, then_set, then_plain, then_address_of, same_jal}
+use Rattle.cell_runtime.proofs.SameLines.{made, then_set, then_plain, then_address_of, same_jal}
 use Rattle.cell_runtime.proofs.Starting.{start_makes}
 use Rattle.cell_runtime.proofs.start.start.Goals as goal
 

@@ -1,5 +1,5 @@
 use Rattle.std.proofs.Common.{refl}
-use Rattle.cell_runtime.proofs.SameItems.{made, then_plain, then_back, same_addi, same_beq, same_lw, same_sw}
+use Rattle.cell_runtime.proofs.SameLines.{made, then_plain, then_back, same_addi, same_beq, same_lw, same_sw}
 use Rattle.cell_runtime.proofs.Holding.{hold_makes}
 use Rattle.cell_runtime.proofs.tokens.hold.Goals as goal
 

@@ -1,5 +1,5 @@
 use Rattle.std.proofs.Common.{refl}
-use Rattle.cell_runtime.proofs.SameItems.{made, then_plain, then_back, same_beq, same_lw}
+use Rattle.cell_runtime.proofs.SameLines.{made, then_plain, then_back, same_beq, same_lw}
 use Rattle.cell_runtime.proofs.Holding.{unhold_makes}
 use Rattle.cell_runtime.proofs.tokens.unhold.Goals as goal
 
