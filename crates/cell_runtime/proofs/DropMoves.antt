@@ -1,5 +1,5 @@
 -- The rows of the routine that gives up a reference, from state to state.
-use Rattle.std.proofs.Common.{◌≡◌, ◌≢◌, ℕ, zero, suc, ◌+◌, ◌*◌, ◌/◌, ◌%◌, ◌^◌, ◌<◌, ◌≤◌, ◌⊎◌, inl, inr, List, [], ◌∷◌, length, refl, sym, ap, ◌∙◌, subst, arith}
+use Rattle.std.proofs.Common.{◌≡◌, ◌≢◌, ℕ, suc, ◌+◌, ◌*◌, ◌/◌, ◌%◌, ◌^◌, ◌<◌, ◌≤◌, inl, inr, List, [], ◌∷◌, length, refl, sym, ap, ◌∙◌, arith}
 use Rattle.std.proofs.lemmas.Bool.{cases_eq}
 use Rattle.rv_isa.specs.Bytes.{with_number}
 use Rattle.rv_isa.specs.Machine.{Machine, value, put}
@@ -8,17 +8,13 @@ use Rattle.rv_isa.specs.Execution.{Leads}
 use Rattle.rv_isa.specs.Standing.{Code, Has, Stands}
 use Rattle.rv_isa.proofs.Standing.{Stands-leads}
 use Rattle.rv_isa.proofs.Runs.{Leads-then}
-use Rattle.rv_isa.proofs.Memory.{word-apart}
-use Rattle.cell_heap.specs.Cells.{Body, Heap, free, waiting, counted, changed, chosen, references}
+use Rattle.cell_heap.specs.Cells.{Body, Heap, free, waiting, counted, changed, chosen}
 use Rattle.cell_heap.specs.Pool.{Pool, end_of, IsCell}
-use Rattle.cell_heap.specs.Memory.{word, HasBody}
-use Rattle.cell_heap.proofs.Frames.{cell-inside, HasBody-same}
-use Rattle.cell_heap.proofs.Leaving.{IsLeft, IsLeft-counted, IsLeft-opened, IsLeft-was_counted, IsLeft-was_waiting}
-use Rattle.cell_heap.proofs.Waits.{AreCells, AreCells-counted, AreCells-lower, AreCells-wait, AreCells-waiting, AreCells-opened, AreFields, AreFields-body, AreFields-first, IsWaitChain-below, SameWords-first}
+use Rattle.cell_heap.specs.Memory.{word}
+use Rattle.cell_heap.proofs.Frames.{cell-inside}
+use Rattle.cell_heap.proofs.Leaving.{IsLeft-counted, IsLeft-opened, IsLeft-was_counted, IsLeft-was_waiting}
+use Rattle.cell_heap.proofs.Waits.{AreCells-counted, AreCells-lower, AreCells-wait, AreCells-waiting, AreCells-opened, AreFields-body, AreFields-first, IsWaitChain-below, SameWords-first}
 use Rattle.cell_heap.proofs.Choosing.{chosen-none, chosen-set, chosen-clear, half-below, mask-none}
-use Rattle.rv_isa.specs.declared.routine.Routine.TheVariants.{Drop}
-use Rattle.rv_isa.specs.declared.placed.Symbol.TheVariants.{Routine}
-use Rattle.cell_runtime.specs.Registers.{KeptBy}
 use Rattle.cell_runtime.proofs.DropRows.{drop_code, row_odd, row_lower, row_wait, row_scanned, row_reference, row_skip, row_done, row_open}
 use Rattle.cell_runtime.proofs.DropStates.{IsQuiet, IsQuiet-then, count-stored, kept-5, kept-8, kept-10, kept-11, kept-12, kept-13, IsWithin, IsScanning, first-use, field-use, Comes, Comes-from}
 

@@ -1,7 +1,6 @@
 -- The routine that gives up a reference: its instructions, and what each straight row of them does.
-use Rattle.std.proofs.Common.{◌≡◌, ◌≢◌, ℕ, zero, suc, ◌+◌, ◌-◌, ◌*◌, ◌/◌, ◌%◌, ◌^◌, ◌<◌, ◌≤◌, List, [], ◌∷◌, length, Some, true, bit_and, nat_eq, refl, sym, ap, ◌∙◌, subst, lit<, lit≤, arith}
+use Rattle.std.proofs.Common.{◌≡◌, ◌≢◌, ℕ, suc, ◌+◌, ◌-◌, ◌/◌, ◌%◌, ◌^◌, ◌<◌, ◌≤◌, List, [], ◌∷◌, true, bit_and, refl, sym, ap, ◌∙◌, lit<, lit≤, arith}
 use Rattle.std.proofs.lemmas.Nat.{and_mask}
-use Rattle.std.specs.List.{slice_get}
 use Rattle.rv_isa.specs.declared.register.Register.{Register}
 use Rattle.rv_isa.specs.declared.immediate.Immediate.{Immediate}
 use Rattle.rv_isa.specs.declared.immediate.BranchOffset.{BranchOffset}
@@ -9,7 +8,7 @@ use Rattle.rv_isa.specs.declared.immediate.ShiftAmount.{ShiftAmount}
 use Rattle.rv_isa.specs.declared.instr.Instr.{Instr}
 use Rattle.rv_isa.specs.declared.instr.Instr.TheVariants.{Jalr, Beq, Bne, Lw, Sw, Addi, Andi, Srli}
 use Rattle.rv_isa.specs.Arithmetic.{sum_word, shift_right_logical}
-use Rattle.rv_isa.specs.Bytes.{number_at, with_number}
+use Rattle.rv_isa.specs.Bytes.{with_number}
 use Rattle.rv_isa.specs.Machine.{Machine, value, put, can_load, can_store}
 use Rattle.rv_isa.specs.Environment.{stepped}
 use Rattle.rv_isa.specs.Execution.{Leads}
@@ -17,7 +16,6 @@ use Rattle.rv_isa.specs.Standing.{Code, Has, Stands}
 use Rattle.rv_isa.proofs.Standing.{Has-get}
 use Rattle.rv_isa.proofs.Instructions.{leads-sets, leads-addi, leads-lw, leads-sw, leads-beq_taken, leads-beq_not_taken, leads-bne_taken, leads-bne_not_taken}
 use Rattle.cell_heap.specs.Memory.{word}
-use Rattle.cell_runtime.specs.Calls.{HasWayBack}
 use Rattle.cell_runtime.proofs.Operands.{x0, x1, x5, x8, x10, x11, x12, imm_0, imm_1, imm_4, imm_minus_1, forward_8}
 use Rattle.cell_runtime.proofs.Calling.{leads-back, then_one}
 

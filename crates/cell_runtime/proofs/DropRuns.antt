@@ -1,13 +1,13 @@
 -- The routine that gives up a reference, executed: it takes the turns of a drop without a stack.
-use Rattle.std.proofs.Common.{◌≡◌, ◌≢◌, ℕ, zero, suc, ◌+◌, ◌*◌, ◌%◌, ◌^◌, ◌<◌, ◌≤◌, List, [], ◌∷◌, length, refl, sym, ap, ◌∙◌, subst, lit<, arith}
+use Rattle.std.proofs.Common.{◌≡◌, ◌≢◌, ℕ, suc, ◌+◌, ◌*◌, ◌%◌, ◌^◌, ◌≤◌, List, [], ◌∷◌, length, refl, sym, ◌∙◌, subst, lit<, arith}
 use Rattle.rv_isa.specs.Machine.{Machine, value, put}
 use Rattle.rv_isa.specs.Execution.{Leads}
 use Rattle.rv_isa.specs.Standing.{Code, Has, Stands}
 use Rattle.rv_isa.proofs.Standing.{Has-get, Stands-leads}
-use Rattle.cell_heap.specs.Cells.{Body, Heap, free, waiting, counted, changed, chosen, references}
+use Rattle.cell_heap.specs.Cells.{Body, Heap, waiting, chosen}
 use Rattle.cell_heap.specs.Pool.{Pool, places}
 use Rattle.cell_heap.specs.View.{View}
-use Rattle.cell_heap.specs.Memory.{HasBody, IsHeldChain}
+use Rattle.cell_heap.specs.Memory.{IsHeldChain}
 use Rattle.cell_heap.proofs.Turns.{Turns, ended, passed, lower, waits_now, opened, Done}
 use Rattle.cell_heap.proofs.Waits.{AreCells-waiting}
 use Rattle.cell_heap.proofs.Counting.{IsListed}

@@ -1,5 +1,5 @@
 -- The states of the routine that gives up a reference: what memory holds within it, and what it leaves alone.
-use Rattle.std.proofs.Common.{◌≡◌, ◌≢◌, ℕ, ◌+◌, ◌%◌, ◌^◌, ◌<◌, ◌≤◌, ◌⊎◌, inl, inr, List, [], ◌∷◌, length, true, refl, sym, ap, ◌∙◌, arith}
+use Rattle.std.proofs.Common.{◌≡◌, ℕ, ◌+◌, ◌^◌, ◌<◌, ◌≤◌, ◌⊎◌, inl, inr, List, [], ◌∷◌, length, ◌∙◌, arith}
 use Rattle.rv_isa.specs.Bytes.{with_number}
 use Rattle.rv_isa.specs.Machine.{Machine, value, put}
 use Rattle.rv_isa.specs.Execution.{Leads}
@@ -7,9 +7,9 @@ use Rattle.rv_isa.specs.Standing.{Code, Stands}
 use Rattle.rv_isa.proofs.Runs.{Leads-then}
 use Rattle.rv_isa.proofs.Bytes.{with_number-below, with_number-above}
 use Rattle.rv_isa.proofs.Instructions.{value-put_other}
-use Rattle.cell_heap.specs.Cells.{Body, Heap, waiting, counted}
+use Rattle.cell_heap.specs.Cells.{Body, Heap, counted}
 use Rattle.cell_heap.specs.Pool.{Pool, IsCell}
-use Rattle.cell_heap.specs.Memory.{word, IsNoCount}
+use Rattle.cell_heap.specs.Memory.{IsNoCount}
 use Rattle.cell_heap.proofs.Frames.{cell-inside}
 use Rattle.cell_heap.proofs.Leaving.{IsLeft}
 use Rattle.cell_heap.proofs.Waits.{AreCells, AreFields}

@@ -1,27 +1,27 @@
 -- The hold and the unhold of a token, executed.
-use Rattle.std.proofs.Common.{◌≡◌, ◌≢◌, ℕ, ◌+◌, ◌*◌, ◌%◌, ◌^◌, ◌<◌, ◌≤◌, ◌⊎◌, inl, inr, List, [], ◌∷◌, map, Some, true, refl, sym, ap, ◌∙◌, subst, arith}
+use Rattle.std.proofs.Common.{◌≡◌, ◌≢◌, ℕ, ◌+◌, ◌*◌, ◌%◌, ◌<◌, ◌≤◌, ◌⊎◌, inl, inr, List, [], ◌∷◌, map, Some, refl, sym, ap, ◌∙◌, subst, arith}
 use Rattle.std.proofs.lemmas.Bool.Decides.{nat_tests}
 use Rattle.rv_isa.specs.declared.instr.Instr.{Instr}
 use Rattle.rv_isa.specs.declared.instr.Instr.TheVariants.{Beq, Addi, Lw, Sw, Jalr}
 use Rattle.rv_isa.specs.Arithmetic.{sum_word}
 use Rattle.rv_isa.specs.Bytes.{with_number}
-use Rattle.rv_isa.specs.Machine.{Machine, value, put, can_load, can_store}
+use Rattle.rv_isa.specs.Machine.{Machine, value, put}
 use Rattle.rv_isa.specs.Environment.{stepped}
 use Rattle.rv_isa.specs.Execution.{Leads}
 use Rattle.rv_isa.specs.Standing.{Code, Has, Stands}
 use Rattle.rv_isa.proofs.Bytes.{with_number-below, with_number-above}
-use Rattle.rv_isa.proofs.Standing.{Stands-leads, next-is}
+use Rattle.rv_isa.proofs.Standing.{next-is}
 use Rattle.rv_isa.proofs.Instructions.{leads-addi, leads-lw, leads-sw, leads-beq_taken, leads-beq_not_taken}
 use Rattle.cell_heap.specs.Cells.{token, occurs}
-use Rattle.cell_heap.specs.Pool.{Pool, end_of, IsCell}
+use Rattle.cell_heap.specs.Pool.{Pool, end_of}
 use Rattle.cell_heap.specs.View.{Link, View}
 use Rattle.cell_heap.specs.Memory.{word, IsSlot, IsHeldChain, Memory}
 use Rattle.cell_heap.proofs.Frames.{IsHeld-cell}
 use Rattle.rv_isa.specs.declared.placed.Symbol.TheVariants.{Hold, Unhold}
 use Rattle.cell_runtime.specs.Registers.{KeptBy}
-use Rattle.cell_runtime.specs.Calls.{HasWayBack, Returns, KeepsOutside}
+use Rattle.cell_runtime.specs.Calls.{HasWayBack}
 use Rattle.cell_runtime.specs.Lines.{Makes}
-use Rattle.cell_runtime.specs.Tokens.{Held, no_token, newest, AfterHold, IsHold, IsHoldOfPools, Unheld, AfterUnhold, IsUnhold, IsUnholdOfPools}
+use Rattle.cell_runtime.specs.Tokens.{Held, no_token, newest, AfterHold, IsHoldOfPools, Unheld, AfterUnhold, IsUnholdOfPools}
 use Rattle.cell_runtime.proofs.Operands.{x0, x1, x5, x9, x10, imm_0, imm_4, forward_8, forward_16}
 use Rattle.cell_runtime.proofs.Spelling.{plain, plain_makes}
 use Rattle.cell_runtime.proofs.Calling.{leads-back, then_one}
@@ -59,19 +59,21 @@ module _ (code : Code) (pool : Pool) (view : View) (s : Machine) (stands : Stand
         pc = s.pc + 4 + 4 + 4 + 4 + 4;
         executed = s.executed + 1 + 1;
       } in
-      let u = stepped (value s.registers 1) t in
-      (u, record {
-        returns = record {
-          leads = leads-back t stands b has.1.1.1.1.1.0 refl way.aligned way.in_range;
-          back = refl;
-          registers = kept 0;
-          parts = refl;
-        };
-        cells = memory_with pool view s u memory refl refl refl refl refl view.held memory.held;
-        memory = λ x away. refl;
-        left = refl;
-        trace = refl;
-      })
+      let u = stepped (value s.registers 1) t in (
+        u,
+        record {
+          returns = record {
+            leads = leads-back t stands b has.1.1.1.1.1.0 refl way.aligned way.in_range;
+            back = refl;
+            registers = kept 0;
+            parts = refl;
+          };
+          cells = memory_with pool view s u memory refl refl refl refl refl view.held memory.held;
+          memory = λ x away. refl;
+          left = refl;
+          trace = refl;
+        },
+      )
     where
       kept : (v x : ℕ) → KeptBy Hold x → value (put 5 v s.registers) x ≡ value s.registers x
       kept v x out = let a : x ≢ 5 = out.1.0 in grind (arith, nat_tests)
@@ -103,19 +105,21 @@ module _ (code : Code) (pool : Pool) (view : View) (s : Machine) (stands : Stand
         memory = linked cell (value s.registers 9) slot s.memory;
         executed = s.executed + 1 + 1 + 1 + 1 + 1;
       } in
-      let u = stepped (value s.registers 1) t in
-      (u, record {
-        returns = record {
-          leads = leads-back t stands e has.1.1.1.1.1.0 refl way.aligned way.in_range;
-          back = refl;
-          registers = kept cell;
-          parts = refl;
-        };
-        cells = memory_held pool view s u memory cell slot fields is_token is_slot holds cells_apart slots_apart next_fits refl refl refl refl refl refl;
-        memory = outside cell (value s.registers 9) slot;
-        left = refl;
-        trace = refl;
-      })
+      let u = stepped (value s.registers 1) t in (
+        u,
+        record {
+          returns = record {
+            leads = leads-back t stands e has.1.1.1.1.1.0 refl way.aligned way.in_range;
+            back = refl;
+            registers = kept cell;
+            parts = refl;
+          };
+          cells = memory_held pool view s u memory cell slot fields is_token is_slot holds cells_apart slots_apart next_fits refl refl refl refl refl refl;
+          memory = outside cell (value s.registers 9) slot;
+          left = refl;
+          trace = refl;
+        },
+      )
     where
       kept : (cell x : ℕ) → KeptBy Hold x → value (put 9 cell (put 5 cell s.registers)) x ≡ value s.registers x
       kept cell x out = let a : x ≢ 9 = out.0 in let b : x ≢ 5 = out.1.0 in grind (arith, nat_tests)
@@ -140,19 +144,21 @@ module _ (code : Code) (pool : Pool) (view : View) (s : Machine) (stands : Stand
       let a = looks stands has.0 has.1.0 is_slot none in
       let b = then_one stands a (λ on. leads-beq_taken on {next = s.pc + 4 + 4 + 4} has.1.0 refl (omega arith) (stands.aligned (s.pc + 4 + 4 + 4) _ has.1.1.1.0)) in
       let t = record s { registers = put 5 0 s.registers; pc = s.pc + 4 + 4 + 4; executed = s.executed + 1 + 1 } in
-      let u = stepped (value s.registers 1) t in
-      (u, record {
-        returns = record {
-          leads = leads-back t stands b has.1.1.1.0 refl way.aligned way.in_range;
-          back = refl;
-          registers = kept 0;
-          parts = refl;
-        };
-        cells = memory_with pool view s u memory refl refl refl refl refl view.held memory.held;
-        memory = refl;
-        left = refl;
-        trace = refl;
-      })
+      let u = stepped (value s.registers 1) t in (
+        u,
+        record {
+          returns = record {
+            leads = leads-back t stands b has.1.1.1.0 refl way.aligned way.in_range;
+            back = refl;
+            registers = kept 0;
+            parts = refl;
+          };
+          cells = memory_with pool view s u memory refl refl refl refl refl view.held memory.held;
+          memory = refl;
+          left = refl;
+          trace = refl;
+        },
+      )
     where
       kept : (v x : ℕ) → KeptBy Unhold x → value (put 5 v s.registers) x ≡ value s.registers x
       kept v x out = let a : x ≢ 5 = out.1.0 in grind (arith, nat_tests)
@@ -179,19 +185,21 @@ module _ (code : Code) (pool : Pool) (view : View) (s : Machine) (stands : Stand
         pc = s.pc + 4 + 4 + 4;
         executed = s.executed + 1 + 1 + 1;
       } in
-      let u = stepped (value s.registers 1) t in
-      (u, record {
-        returns = record {
-          leads = leads-back t stands c has.1.1.1.0 refl way.aligned way.in_range;
-          back = refl;
-          registers = kept (word s.memory link.cell) link.cell;
-          parts = refl;
-        };
-        cells = memory_with pool view s u memory refl refl refl refl refl links chain.4;
-        memory = refl;
-        left = refl;
-        trace = refl;
-      })
+      let u = stepped (value s.registers 1) t in (
+        u,
+        record {
+          returns = record {
+            leads = leads-back t stands c has.1.1.1.0 refl way.aligned way.in_range;
+            back = refl;
+            registers = kept (word s.memory link.cell) link.cell;
+            parts = refl;
+          };
+          cells = memory_with pool view s u memory refl refl refl refl refl links chain.4;
+          memory = refl;
+          left = refl;
+          trace = refl;
+        },
+      )
     where
       kept : (next cell x : ℕ) → KeptBy Unhold x → value (put 9 next (put 5 cell s.registers)) x ≡ value s.registers x
       kept next cell x out = let a : x ≢ 9 = out.0 in let b : x ≢ 5 = out.1.0 in grind (arith, nat_tests)

@@ -1,15 +1,14 @@
 -- What the hold of a token makes of what memory shows.
-use Rattle.std.proofs.Common.{◌≡◌, ◌≢◌, ◌≤◌, ◌<◌, ℕ, ◌+◌, ◌%◌, ◌^◌, ◌⊎◌, inl, inr, List, [], ◌∷◌, map, length, refl, sym, ap, ◌∙◌, subst, lit<, arith}
-use Rattle.kk_base.specs.Memory.{Part}
+use Rattle.std.proofs.Common.{◌≡◌, ◌≢◌, ◌≤◌, ◌<◌, ℕ, ◌+◌, ◌^◌, ◌⊎◌, inl, inr, List, [], ◌∷◌, map, length, refl, sym, ap, ◌∙◌, subst, arith}
 use Rattle.rv_isa.specs.Bytes.{with_number, Apart}
 use Rattle.rv_isa.specs.Machine.{Machine, value}
 use Rattle.rv_isa.proofs.Memory.{word-same, word-apart}
-use Rattle.cell_heap.specs.Cells.{Body, Cell, no_cell, free, token, waiting, counted, Heap, changed, occurs}
-use Rattle.cell_heap.specs.Pool.{Pool, end_of, IsCell, IsUsable}
+use Rattle.cell_heap.specs.Cells.{Cell, free, token, Heap, changed, occurs}
+use Rattle.cell_heap.specs.Pool.{Pool, IsCell, IsUsable}
 use Rattle.cell_heap.specs.View.{Link, View, HasBorder}
 use Rattle.cell_heap.specs.Memory.{word, HasWords, IsShown, IsChain, IsSlot, IsToken, IsHeld, IsHeldChain, Memory}
 use Rattle.cell_heap.proofs.Sums.{occurs-other}
-use Rattle.cell_heap.proofs.Frames.{changed-by, shows-at, shown-cell, SameWords, SameBut, SameBut-store, HasWords-same, IsShown-changed, IsChain-changed, IsHeldChain-changed, IsHeld-cell, slot-apart}
+use Rattle.cell_heap.proofs.Frames.{changed-by, shows-at, shown-cell, SameBut, HasWords-same, IsShown-changed, IsChain-changed, IsHeldChain-changed, IsHeld-cell, slot-apart}
 
 -- the memory in which a token names the next one and its slot
 abbrev pub linked : ℕ → ℕ → ℕ → (ℕ → ℕ) → ℕ → ℕ
@@ -70,9 +69,14 @@ module _ (pool : Pool) (view : View) (s t : Machine) (memory : Memory pool view 
   shows : IsCell pool cell × (length fields ≤ 6) × HasWords t.memory (cell + 8) fields
   shows =
       let old = shows-at memory.shown cell (token fields) is_token in
-      let few = old.1 in
-      (token_cell, old.1, HasWords-same s.memory t.memory (cell + 8) (cell + 32) fields record { same = λ x low high.
-          ap (λ m. word m x) stored ∙ linked-apart cell (value s.registers 9) slot s.memory next_fits (omega (arith, is_slot.below)) x (inr low) } (omega arith) old.2)
+      let few = old.1 in (
+        token_cell,
+        old.1,
+        HasWords-same s.memory t.memory (cell + 8) (cell + 32) fields record {
+          same = λ x low high.
+              ap (λ m. word m x) stored ∙ linked-apart cell (value s.registers 9) slot s.memory next_fits (omega (arith, is_slot.below)) x (inr low);
+        } (omega arith) old.2,
+      )
 
   same_heap : changed cell (token fields) view.heap ≡ view.heap
   same_heap = changed-none cell (token fields) view.heap is_token

@@ -1,5 +1,5 @@
 -- The routine that prints bytes, executed.
-use Rattle.std.proofs.Common.{◌≡◌, ◌≢◌, ℕ, zero, suc, ◌+◌, ◌^◌, ◌<◌, List, [], ◌∷◌, ◌++◌, refl, sym, ap, ◌∙◌, subst, append-nil, true, lit<, arith}
+use Rattle.std.proofs.Common.{◌≡◌, ◌≢◌, ℕ, zero, suc, ◌+◌, List, [], ◌∷◌, ◌++◌, refl, sym, ap, ◌∙◌, subst, append-nil, true, arith}
 use Rattle.std.proofs.lemmas.Bool.Decides.{nat_tests}
 use Rattle.kk_base.specs.Trace.{output}
 use Rattle.rv_isa.specs.declared.instr.Instr.{Instr}
@@ -13,11 +13,10 @@ use Rattle.rv_isa.proofs.Runs.{Leads-then}
 use Rattle.rv_isa.proofs.Memory.{bytes_at-none, bytes_at-more}
 use Rattle.rv_isa.specs.Standing.{Code, Has, Stands}
 use Rattle.rv_isa.proofs.Standing.{Stands-leads, next-is}
-use Rattle.rv_isa.proofs.Instructions.{leads-addi, leads-write, leads-write_none, value-put_other}
+use Rattle.rv_isa.proofs.Instructions.{leads-addi, leads-write, leads-write_none}
 use Rattle.rv_isa.specs.declared.routine.Routine.TheVariants.{PrintText}
 use Rattle.rv_isa.specs.declared.placed.Symbol.TheVariants.{Routine}
 use Rattle.cell_runtime.specs.Registers.{KeptBy}
-use Rattle.cell_runtime.specs.Calls.{HasWayBack, Returns}
 use Rattle.cell_runtime.specs.Lines.{Makes}
 use Rattle.cell_runtime.specs.Prints.{IsPrintText, BeforePrintText, AfterPrintText, put_of}
 use Rattle.cell_runtime.proofs.Operands.{x0, x1, x10, x11, x12, x17, imm_0, imm_1, imm_64}

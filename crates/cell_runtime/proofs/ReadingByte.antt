@@ -1,5 +1,5 @@
 -- The routine that reads a byte, executed.
-use Rattle.std.proofs.Common.{◌≡◌, ◌≢◌, ℕ, ◌+◌, ◌-◌, ◌%◌, ◌^◌, ◌<◌, ◌≤◌, ◌⊎◌, inl, inr, List, [], ◌∷◌, ◌++◌, true, refl, sym, ap, ◌∙◌, subst, arith}
+use Rattle.std.proofs.Common.{◌≡◌, ◌≢◌, ℕ, ◌+◌, ◌-◌, ◌^◌, ◌<◌, ◌≤◌, ◌⊎◌, inl, inr, List, [], ◌∷◌, ◌++◌, refl, sym, ◌∙◌, subst, arith}
 use Rattle.std.proofs.lemmas.Bool.Decides.{nat_tests}
 use Rattle.kk_base.specs.Trace.{input, input_end}
 use Rattle.rv_isa.specs.declared.immediate.Immediate.{Immediate}
@@ -8,20 +8,18 @@ use Rattle.rv_isa.specs.declared.instr.Instr.{Instr}
 use Rattle.rv_isa.specs.declared.instr.Instr.TheVariants.{Lui, Addi, Ecall, Bne, Lbu, Jalr}
 use Rattle.rv_isa.specs.Arithmetic.{sum_word}
 use Rattle.rv_isa.specs.Bytes.{with_bytes}
-use Rattle.rv_isa.specs.Machine.{Machine, value, put, can_load}
+use Rattle.rv_isa.specs.Machine.{Machine, value, put}
 use Rattle.rv_isa.specs.Environment.{stepped}
 use Rattle.rv_isa.specs.Execution.{Leads}
 use Rattle.rv_isa.proofs.Memory.{with_byte-same, with_byte-apart}
 use Rattle.rv_isa.specs.Standing.{Code, Has, Stands}
-use Rattle.rv_isa.proofs.Standing.{Stands-leads, next-is}
+use Rattle.rv_isa.proofs.Standing.{next-is}
 use Rattle.rv_isa.proofs.Instructions.{leads-lui, leads-addi, leads-bne_taken, leads-bne_not_taken, leads-lbu, leads-read_byte, leads-read_end, value-put_other}
 use Rattle.rv_isa.specs.declared.routine.Routine.TheVariants.{ReadByte}
 use Rattle.rv_isa.specs.declared.placed.Symbol.TheVariants.{Routine}
-use Rattle.rv_isa.specs.declared.placed.Native.{Native}
 use Rattle.rv_isa.specs.declared.placed.Native.TheVariants.{Address}
 use Rattle.rv_isa.specs.declared.placed.Section.TheVariants.{Data}
 use Rattle.cell_runtime.specs.Registers.{KeptBy}
-use Rattle.cell_runtime.specs.Calls.{HasWayBack, Returns, KeepsOutside}
 use Rattle.cell_runtime.specs.Lines.{Makes}
 use Rattle.cell_runtime.specs.Prints.{IsReadByte, BeforeReadByte, TakesNext, AfterReadByte}
 use Rattle.cell_runtime.proofs.Operands.{x0, x1, x10, x11, x12, x17, imm_0, imm_1, imm_63, imm_minus_1, forward_8}

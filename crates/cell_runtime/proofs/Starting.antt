@@ -1,5 +1,5 @@
 -- The start, executed.
-use Rattle.std.proofs.Common.{◌≡◌, ◌≢◌, ℕ, ◌+◌, ◌-◌, ◌*◌, ◌%◌, ◌^◌, ◌<◌, ◌≤◌, ◌↔◌, List, [], ◌∷◌, true, false, Bool, ◌&&◌, if◌then◌else◌, nat_eq, nat_le, nat_lt, refl, sym, ap, ◌∙◌, subst, lit<, arith}
+use Rattle.std.proofs.Common.{◌≡◌, ◌≢◌, ℕ, ◌+◌, ◌%◌, ◌^◌, ◌<◌, List, [], ◌∷◌, true, false, Bool, ◌&&◌, if◌then◌else◌, nat_eq, nat_le, nat_lt, refl, sym, ap, ◌∙◌, subst, lit<, arith}
 use Rattle.std.proofs.lemmas.Bool.Decides.{nat_tests}
 use Rattle.rv_isa.specs.declared.immediate.Immediate.{Immediate}
 use Rattle.rv_isa.specs.declared.immediate.UpperImmediate.{UpperImmediate}
@@ -8,14 +8,12 @@ use Rattle.rv_isa.specs.declared.instr.Instr.{Instr}
 use Rattle.rv_isa.specs.declared.instr.Instr.TheVariants.{Lui, Addi, Jal}
 use Rattle.rv_isa.specs.Arithmetic.{sum_word}
 use Rattle.rv_isa.specs.Machine.{Machine, value, put}
-use Rattle.rv_isa.specs.Environment.{stepped}
-use Rattle.rv_isa.specs.Execution.{Leads}
 use Rattle.rv_isa.specs.Standing.{Code, Has, Stands}
-use Rattle.rv_isa.proofs.Standing.{Stands-leads, next-is}
+use Rattle.rv_isa.proofs.Standing.{next-is}
 use Rattle.rv_isa.proofs.Instructions.{leads-lui, leads-addi, leads-jal}
-use Rattle.cell_heap.specs.Cells.{Body, Cell, no_cell, free, token, waiting, counted, occurs}
+use Rattle.cell_heap.specs.Cells.{Cell, no_cell, free, waiting}
 use Rattle.cell_heap.specs.Pool.{Pool, end_of, IsCell, IsUsable}
-use Rattle.cell_heap.specs.View.{View, HasBorder}
+use Rattle.cell_heap.specs.View.{HasBorder}
 use Rattle.cell_heap.specs.Memory.{Shows, Memory}
 use Rattle.cell_runtime.specs.declared.layout.Layout.{Layout}
 use Rattle.rv_isa.specs.declared.placed.Native.{Native}
@@ -23,8 +21,8 @@ use Rattle.rv_isa.specs.declared.placed.Native.TheVariants.{Address}
 use Rattle.rv_isa.specs.declared.placed.Section.TheVariants.{Data}
 use Rattle.rv_isa.specs.declared.placed.Symbol.TheVariants.{Start}
 use Rattle.cell_runtime.specs.Registers.{KeptBy}
-use Rattle.cell_runtime.specs.Lines.{Spells, words_of, Makes}
-use Rattle.cell_runtime.specs.Starts.{all_free, first_view, AfterStart, IsStart, IsStartOf}
+use Rattle.cell_runtime.specs.Lines.{Spells, Makes}
+use Rattle.cell_runtime.specs.Starts.{all_free, first_view, AfterStart, IsStartOf}
 use Rattle.cell_runtime.proofs.Operands.{x0, x1, x2, x8, x9, x18, x19, imm_0}
 use Rattle.cell_runtime.proofs.Spelling.{plain, plain_is}
 use Rattle.cell_runtime.proofs.Calling.{then_one}
@@ -103,19 +101,21 @@ module _ (code : Code) (s : Machine) (stands : Stands code s) (a b c : UpperImme
         registers = put 1 (s.pc + 36) (put 9 0 (put 8 0 (put 19 (end_of pool) (put 19 c.word (put 18 pool.first (put 18 b.word (put 2 stack_end (put 2 a.word s.registers))))))));
         pc = s.pc + 440;
         executed = s.executed + 1 + 1 + 1 + 1 + 1 + 1 + 1 + 1 + 1;
-      } in
-      (t, record {
-        leads = v;
-        goes_to = refl;
-        way_back = refl;
-        stack = refl;
-        cells = first_memory pool t usable refl refl refl refl;
-        registers = kept (s.pc + 36) (end_of pool) c.word pool.first b.word stack_end a.word;
-        parts = refl;
-        memory = refl;
-        left = refl;
-        trace = refl;
-      })
+      } in (
+        t,
+        record {
+          leads = v;
+          goes_to = refl;
+          way_back = refl;
+          stack = refl;
+          cells = first_memory pool t usable refl refl refl refl;
+          registers = kept (s.pc + 36) (end_of pool) c.word pool.first b.word stack_end a.word;
+          parts = refl;
+          memory = refl;
+          left = refl;
+          trace = refl;
+        },
+      )
     where
       whole-words : (at : ℕ) → at % 4 ≡ 0 → (at + 440) % 4 ≡ 0
       whole-words at aligned = omega arith

@@ -1,5 +1,5 @@
 -- The routine that ends the run, executed.
-use Rattle.std.proofs.Common.{◌≡◌, ◌≢◌, ℕ, ◌+◌, ◌%◌, ◌<◌, List, [], ◌∷◌, refl, sym, ap, ◌∙◌, subst, arith}
+use Rattle.std.proofs.Common.{◌≡◌, ◌≢◌, ℕ, ◌+◌, ◌%◌, ◌<◌, List, [], ◌∷◌, refl, sym, subst, arith}
 use Rattle.std.proofs.lemmas.Bool.Decides.{nat_tests}
 use Rattle.rv_isa.specs.declared.immediate.Immediate.{Immediate}
 use Rattle.rv_isa.specs.declared.instr.Instr.{Instr}
@@ -7,11 +7,10 @@ use Rattle.rv_isa.specs.declared.instr.Instr.TheVariants.{Addi, Ecall}
 use Rattle.rv_isa.specs.Arithmetic.{sum_word}
 use Rattle.rv_isa.specs.Machine.{Machine, value, put}
 use Rattle.rv_isa.specs.Environment.{stepped}
-use Rattle.rv_isa.specs.Execution.{Leads}
 use Rattle.rv_isa.proofs.Runs.{Leads-then}
 use Rattle.rv_isa.specs.Standing.{Code, Has, Stands}
 use Rattle.rv_isa.proofs.Standing.{Stands-leads, next-is}
-use Rattle.rv_isa.proofs.Instructions.{leads-addi, value-put_other}
+use Rattle.rv_isa.proofs.Instructions.{leads-addi}
 use Rattle.cell_runtime.specs.declared.stop.Ending.{Ending}
 use Rattle.cell_runtime.specs.declared.stop.Ending.TheVariants.{Ended, HeapFull, StackFull}
 use Rattle.rv_isa.specs.declared.placed.Symbol.TheVariants.{Stop}

@@ -1,5 +1,5 @@
 -- The routine that gives up a reference.
-use Rattle.std.specs.Prelude.{◌≡◌, ℕ, ◌+◌, ◌*◌, ◌<◌, ◌≤◌, ◌⊎◌, List, [], ◌∷◌}
+use Rattle.std.specs.Prelude.{◌≡◌, ℕ, ◌+◌, ◌*◌, ◌≤◌, [], ◌∷◌}
 use Rattle.rv_isa.specs.Machine.{Machine, value}
 use Rattle.rv_isa.specs.Standing.{Code}
 use Rattle.cell_heap.specs.Pool.{Pool, places}

@@ -1,5 +1,5 @@
 -- The routines that put a token on the held chain and take it off again. x10 holds the address of the token's slot.
-use Rattle.std.specs.Prelude.{◌≡◌, ◌≢◌, ℕ, List, [], ◌∷◌, map}
+use Rattle.std.specs.Prelude.{◌≡◌, ℕ, List, ◌∷◌, map}
 use Rattle.rv_isa.specs.Machine.{Machine, value}
 use Rattle.rv_isa.specs.Standing.{Code}
 use Rattle.cell_heap.specs.Cells.{token, occurs}

@@ -10,12 +10,12 @@ mod layout;
 mod print_int;
 mod print_text;
 mod read_byte;
+mod runtime;
 mod start;
 mod stop;
 mod take;
-mod runtime;
 mod tokens;
 
 pub use layout::Layout;
-pub use stop::Ending;
 pub use runtime::text;
+pub use stop::Ending;

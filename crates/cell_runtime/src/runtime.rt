@@ -36,7 +36,11 @@ pub fn text(alloc: Global, cells: u32, depth: u32, frame_bytes: u32) -> Result<P
     add(&mut lines, Symbol::Hold, &hold())?;
     add(&mut lines, Symbol::Unhold, &unhold())?;
     add(&mut lines, Symbol::Routine(Routine::PrintInt), &print_int())?;
-    add(&mut lines, Symbol::Routine(Routine::PrintText), &print_text())?;
+    add(
+        &mut lines,
+        Symbol::Routine(Routine::PrintText),
+        &print_text(),
+    )?;
     add(&mut lines, Symbol::Routine(Routine::ReadByte), &read_byte())?;
     Ok(Placed {
         natives: lines,

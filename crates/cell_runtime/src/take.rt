@@ -3,10 +3,10 @@
 ghost use Rattle.cell_runtime.specs.Lines.{Makes};
 ghost use Rattle.cell_runtime.specs.Takes.{IsTakeOfPools};
 
+use crate::Ending;
 use crate::assembly::{addi, beq, ecall, forward, lw, ret, set, small, sw};
 use crate::environment::EXIT;
 use crate::layout::CELL_BYTES;
-use crate::Ending;
 use rv_isa::{Native, Register};
 
 /// Gives a cell in `a0`: the first one of the chain in `s0`, else the first one that was never used, else the newest held
