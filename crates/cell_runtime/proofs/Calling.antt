@@ -1,12 +1,10 @@
 -- The ways in and out of a routine.
-use Rattle.std.proofs.Common.{◌≡◌, ◌≢◌, ℕ, zero, suc, ◌+◌, ◌%◌, ◌^◌, ◌<◌, ◌≤◌, Some, nat_eq, add_assoc, refl, sym, ap, ◌∙◌, subst, arith}
-use Rattle.std.proofs.lemmas.Bool.Decides.{nat_tests}
-use Rattle.rv_isa.specs.declared.instr.Instr.{Instr}
+use Rattle.std.proofs.Common.{◌≡◌, ◌≢◌, ℕ, suc, ◌+◌, ◌%◌, ◌^◌, ◌<◌, Some, add_assoc, refl, ap, ◌∙◌, arith}
 use Rattle.rv_isa.specs.declared.instr.Instr.TheVariants.{Jalr, Ecall}
 use Rattle.rv_isa.specs.Arithmetic.{sum_word}
-use Rattle.rv_isa.specs.Machine.{Machine, After, Ending, going, exited, value, put}
+use Rattle.rv_isa.specs.Machine.{Machine, going, exited, value}
 use Rattle.rv_isa.specs.Environment.{stepped}
-use Rattle.rv_isa.specs.Execution.{run, step, Leads}
+use Rattle.rv_isa.specs.Execution.{run, Leads}
 use Rattle.rv_isa.proofs.Runs.{Leads-then, Leads-ended}
 use Rattle.rv_isa.specs.Standing.{Code, Stands}
 use Rattle.rv_isa.proofs.Standing.{Stands-leads}

@@ -15,10 +15,11 @@ use Rattle.cell_heap.proofs.Leaving.{IsLeft-same}
 use Rattle.cell_heap.proofs.Borders.{IsPlaced, IsPlaced-shown, IsPlaced-listed, Turns-border}
 use Rattle.cell_heap.proofs.Held.{IsHeldChain-kept}
 use Rattle.cell_heap.proofs.OneEnd.{IsSettled, turns, Turns-end, Turns-give_up}
-use Rattle.cell_runtime.specs.declared.routine.Routine.TheVariants.{Drop}
+use Rattle.rv_isa.specs.declared.routine.Routine.TheVariants.{Drop}
+use Rattle.rv_isa.specs.declared.placed.Symbol.TheVariants.{Routine}
 use Rattle.cell_runtime.specs.Registers.{KeptBy}
 use Rattle.cell_runtime.specs.Calls.{IsAt}
-use Rattle.cell_runtime.specs.Items.{Makes}
+use Rattle.cell_runtime.specs.Lines.{Makes}
 use Rattle.cell_runtime.specs.Drops.{IsDrop, BeforeDrop, AfterDrop}
 use Rattle.cell_runtime.proofs.Spelling.{plain, plain_makes}
 use Rattle.cell_runtime.proofs.DropRows.{drop_code, row_start}
@@ -26,13 +27,13 @@ use Rattle.cell_runtime.proofs.DropStates.{IsQuiet, kept-12, kept-13, IsWithin, 
 use Rattle.cell_runtime.proofs.DropMoves.{scan-none, scan-some, give-odd, give-lower, give-wait, pop-none, pop-open}
 
 -- the routine keeps the registers of the held chain and of the border
-kept_9 : KeptBy Drop 9
+kept_9 : KeptBy (Routine Drop) 9
 kept_9 = (λ e. absurd (omega arith), (λ e. absurd (omega arith), (λ e. absurd (omega arith), (λ e. absurd (omega arith), (λ e. absurd (omega arith), (λ e. absurd (omega arith), tt))))))
 
-kept_18 : KeptBy Drop 18
+kept_18 : KeptBy (Routine Drop) 18
 kept_18 = (λ e. absurd (omega arith), (λ e. absurd (omega arith), (λ e. absurd (omega arith), (λ e. absurd (omega arith), (λ e. absurd (omega arith), (λ e. absurd (omega arith), tt))))))
 
-kept_19 : KeptBy Drop 19
+kept_19 : KeptBy (Routine Drop) 19
 kept_19 = (λ e. absurd (omega arith), (λ e. absurd (omega arith), (λ e. absurd (omega arith), (λ e. absurd (omega arith), (λ e. absurd (omega arith), (λ e. absurd (omega arith), tt))))))
 
 -- what the rows cost
@@ -194,5 +195,5 @@ does code at has pool roots reference view s here before =
     let taken = done code at has pool roots reference view s here before in
     after code at has pool roots reference view s here before taken.0 taken.1 taken.2 taken.3 taken.4
 
-pub drop_makes : Makes (plain drop_code) (λ memory. IsDrop)
+pub drop_makes : Makes (plain drop_code) 28 (λ memory. IsDrop)
 drop_makes = plain_makes drop_code (λ memory. does)

@@ -13,14 +13,15 @@ use Rattle.cell_heap.specs.Memory.{IsNoCount}
 use Rattle.cell_heap.proofs.Frames.{cell-inside}
 use Rattle.cell_heap.proofs.Leaving.{IsLeft}
 use Rattle.cell_heap.proofs.Waits.{AreCells, AreFields}
-use Rattle.cell_runtime.specs.declared.routine.Routine.TheVariants.{Drop}
+use Rattle.rv_isa.specs.declared.routine.Routine.TheVariants.{Drop}
+use Rattle.rv_isa.specs.declared.placed.Symbol.TheVariants.{Routine}
 use Rattle.cell_runtime.specs.Registers.{KeptBy}
 use Rattle.cell_runtime.specs.Calls.{HasWayBack}
 use Rattle.cell_runtime.proofs.DropRows.{MayUse}
 
 -- from one machine to a later one only registers that the routine spoils and counts of the first heap have changed
 pub record IsQuiet (first : Heap) (s t : Machine) : Type 0 where
-  pub registers : (x : ℕ) → KeptBy Drop x → value t.registers x ≡ value s.registers x
+  pub registers : (x : ℕ) → KeptBy (Routine Drop) x → value t.registers x ≡ value s.registers x
   pub parts : t.parts ≡ s.parts
   pub trace : t.trace ≡ s.trace
   pub left : t.left ≡ s.left
@@ -45,7 +46,7 @@ count-stored first at before n body memory is x none = by-side (none at before b
 
 -- ---- registers that are set
 
-module _ (registers : ℕ → ℕ) (x : ℕ) (kept : KeptBy Drop x) where
+module _ (registers : ℕ → ℕ) (x : ℕ) (kept : KeptBy (Routine Drop) x) where
   pub kept-5 : (v : ℕ) → value (put 5 v registers) x ≡ value registers x
   kept-5 v = value-put_other 5 v registers x kept.1.0
 

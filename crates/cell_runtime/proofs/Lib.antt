@@ -1,5 +1,5 @@
 pub mod Operands
-pub mod SameItems
+pub mod SameLines
 pub mod Spelling
 pub mod Calling
 pub mod PrintingText
@@ -10,6 +10,9 @@ pub mod PrintingDigits
 pub mod PrintingInt
 pub mod TakingCells
 pub mod Taking
+pub mod HoldingTokens
+pub mod Holding
+pub mod Starting
 pub mod DropRows
 pub mod DropStates
 pub mod DropMoves

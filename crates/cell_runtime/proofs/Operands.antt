@@ -1,5 +1,5 @@
 -- The registers, immediates and distances of the routines.
-use Rattle.std.proofs.Common.{ℕ, ◌+◌, ◌-◌, ◌*◌, ◌^◌, lit<, refl}
+use Rattle.std.proofs.Common.{◌-◌, ◌^◌, lit<, refl}
 use Rattle.rv_isa.specs.declared.register.Register.{Register}
 use Rattle.rv_isa.specs.declared.immediate.Immediate.{Immediate}
 use Rattle.rv_isa.specs.declared.immediate.BranchOffset.{BranchOffset}

@@ -1,5 +1,5 @@
 -- The loop that stores the digits of a number, the last one first.
-use Rattle.std.proofs.Common.{◌≡◌, ◌≢◌, ℕ, zero, suc, ◌+◌, ◌-◌, ◌*◌, ◌/◌, ◌%◌, ◌^◌, ◌<◌, ◌≤◌, ◌⊎◌, inl, inr, List, [], ◌∷◌, ◌++◌, length, true, nat_eq, refl, sym, ap, ◌∙◌, subst, lit<, arith, length-append}
+use Rattle.std.proofs.Common.{◌≡◌, ◌≢◌, ℕ, suc, ◌+◌, ◌-◌, ◌*◌, ◌/◌, ◌%◌, ◌^◌, ◌<◌, ◌≤◌, ◌⊎◌, inl, inr, List, [], ◌∷◌, ◌++◌, length, true, refl, sym, ap, ◌∙◌, subst, arith, length-append}
 use Rattle.std.proofs.lemmas.Bool.Decides.{nat_tests}
 use Rattle.std.proofs.lemmas.Fmt.{decimal_by_steps}
 use Rattle.std.specs.Fmt.{decimal}
@@ -14,7 +14,7 @@ use Rattle.rv_isa.specs.Standing.{Code, Has, Stands}
 use Rattle.rv_isa.proofs.Runs.{Leads-then}
 use Rattle.rv_isa.proofs.Standing.{Stands-leads, next-is}
 use Rattle.rv_isa.proofs.Memory.{bytes_at-one, bytes_at-add, byte-same, byte-apart}
-use Rattle.rv_isa.proofs.Instructions.{leads-addi, leads-sb, leads-divu, leads-remu, leads-bne_taken, leads-bne_not_taken, value-put_other}
+use Rattle.rv_isa.proofs.Instructions.{leads-addi, leads-sb, leads-divu, leads-remu, leads-bne_taken, leads-bne_not_taken}
 use Rattle.cell_runtime.proofs.Operands.{x0, x5, x6, x7, x11, imm_0, imm_48, imm_minus_1, back_20}
 use Rattle.cell_runtime.proofs.Calling.{then_one}
 

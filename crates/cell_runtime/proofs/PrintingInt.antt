@@ -1,11 +1,10 @@
 -- The routine that prints a number, executed: its front, the digits, the sign, and the put.
-use Rattle.std.proofs.Common.{◌≡◌, ◌≢◌, ℕ, zero, suc, ◌+◌, ◌-◌, ◌*◌, ◌/◌, ◌%◌, ◌^◌, ◌<◌, ◌≤◌, ◌⊎◌, inl, inr, ℤ, pos, negsuc, List, [], ◌∷◌, ◌++◌, length, true, false, nat_eq, nat_lt, if◌then◌else◌, int_lt, refl, sym, ap, ◌∙◌, subst, lit<, arith, length-append, append-nil}
+use Rattle.std.proofs.Common.{◌≡◌, ◌≢◌, ℕ, zero, suc, ◌+◌, ◌-◌, ◌*◌, ◌^◌, ◌<◌, ◌≤◌, ◌⊎◌, inl, inr, pos, negsuc, List, [], ◌∷◌, ◌++◌, length, true, false, nat_eq, nat_lt, if◌then◌else◌, int_lt, refl, sym, ap, ◌∙◌, subst, lit<, arith, append-nil}
 use Rattle.std.proofs.lemmas.Int.{ints}
 use Rattle.std.proofs.lemmas.Bool.Decides.{nat_tests}
 use Rattle.std.proofs.lemmas.Fmt.{length-decimal-le, decimal_nonempty}
 use Rattle.std.specs.Fmt.{decimal, signed_decimal}
 use Rattle.kk_base.specs.Trace.{output}
-use Rattle.kk_base.specs.Memory.{Part}
 use Rattle.rv_isa.specs.declared.immediate.Immediate.{Immediate}
 use Rattle.rv_isa.specs.declared.immediate.UpperImmediate.{UpperImmediate}
 use Rattle.rv_isa.specs.declared.instr.Instr.{Instr}
@@ -16,16 +15,14 @@ use Rattle.rv_isa.specs.Machine.{Machine, value, put, can_load, can_store}
 use Rattle.rv_isa.specs.Environment.{stepped}
 use Rattle.rv_isa.specs.Execution.{Leads}
 use Rattle.rv_isa.specs.Standing.{Code, Has, Stands}
-use Rattle.rv_isa.proofs.Runs.{Leads-none, Leads-then}
+use Rattle.rv_isa.proofs.Runs.{Leads-then}
 use Rattle.rv_isa.proofs.Standing.{Stands-leads, next-is}
 use Rattle.rv_isa.proofs.Memory.{bytes_at-more, bytes_at-one, bytes_at-add, bytes_at-with_number_apart, byte-same, byte-apart}
-use Rattle.rv_isa.proofs.Bytes.{bytes_at-same}
-use Rattle.rv_isa.proofs.Instructions.{leads-lui, leads-addi, leads-add, leads-sub, leads-sb, leads-bge_taken, leads-bge_not_taken, leads-write, value-put_other}
-use Rattle.cell_runtime.specs.declared.routine.Routine.TheVariants.{PrintInt}
-use Rattle.cell_runtime.specs.declared.item.Item.TheVariants.{Address}
-use Rattle.cell_runtime.specs.Registers.{KeptBy}
-use Rattle.cell_runtime.specs.Calls.{HasWayBack, Returns, KeepsOutside}
-use Rattle.cell_runtime.specs.Items.{Makes}
+use Rattle.rv_isa.proofs.Instructions.{leads-lui, leads-addi, leads-add, leads-sub, leads-sb, leads-bge_taken, leads-bge_not_taken, leads-write}
+use Rattle.rv_isa.specs.declared.placed.Native.TheVariants.{Address}
+use Rattle.rv_isa.specs.declared.placed.Section.TheVariants.{Data}
+use Rattle.cell_runtime.specs.Calls.{HasWayBack}
+use Rattle.cell_runtime.specs.Lines.{Makes}
 use Rattle.cell_runtime.specs.Prints.{IsPrintInt, BeforePrintInt, AfterPrintInt, int_piece, int_count, buffer_bytes}
 use Rattle.cell_runtime.proofs.Operands.{x0, x1, x5, x6, x7, x10, x11, x12, x17, imm_0, imm_1, imm_10, imm_45, imm_64, imm_minus_1, forward_8, forward_16}
 use Rattle.cell_runtime.proofs.Spelling.{plain, address_makes}
@@ -104,18 +101,20 @@ module _ (code : Code) (at : ℕ) (has : Has code at sign_code) where
   no_sign count p n digits s t stands wrote number low =
       let holds : int_lt (signed (value t.registers 10)) (signed 0) ≡ false = ap (λ v. int_lt (signed v) (signed 0)) number ∙ not_negative n low in
       let below = stands.below (at + 4 + 4 + 4 + 4) _ has.1.1.1.1.0 in
-      let to : sum_word t.pc 16 ≡ at + 4 + 4 + 4 + 4 = ap (λ p. sum_word p 16) wrote.pc_is ∙ (let e : sum_word at 16 ≡ at + 4 + 4 + 4 + 4 = omega arith in e) in
-      (stepped (at + 4 + 4 + 4 + 4) t, record {
-        leads = then_one stands wrote.leads (λ on. leads-bge_taken on (ap code wrote.pc_is ∙ has.0) holds to (stands.aligned (at + 4 + 4 + 4 + 4) _ has.1.1.1.1.0));
-        pc_is = refl;
-        place = wrote.place;
-        bytes = wrote.bytes;
-        outside = wrote.outside;
-        registers = wrote.registers;
-        parts = wrote.parts;
-        left = wrote.left;
-        trace = wrote.trace;
-      })
+      let to : sum_word t.pc 16 ≡ at + 4 + 4 + 4 + 4 = ap (λ p. sum_word p 16) wrote.pc_is ∙ (let e : sum_word at 16 ≡ at + 4 + 4 + 4 + 4 = omega arith in e) in (
+        stepped (at + 4 + 4 + 4 + 4) t,
+        record {
+          leads = then_one stands wrote.leads (λ on. leads-bge_taken on (ap code wrote.pc_is ∙ has.0) holds to (stands.aligned (at + 4 + 4 + 4 + 4) _ has.1.1.1.1.0));
+          pc_is = refl;
+          place = wrote.place;
+          bytes = wrote.bytes;
+          outside = wrote.outside;
+          registers = wrote.registers;
+          parts = wrote.parts;
+          left = wrote.left;
+          trace = wrote.trace;
+        },
+      )
 
   -- `-` before those of a negative number
   module _ (count p low n q : ℕ) (digits : List ℕ) (s t : Machine) (stands : Stands code s) (wrote : Wrote count at digits p s t)
@@ -138,18 +137,20 @@ module _ (code : Code) (at : ℕ) (has : Has code at sign_code) where
 
     with_sign : (u : Machine) × Wrote (count + 4) (at + 4 + 4 + 4 + 4) (45 ∷ digits) p s u
     with_sign =
-        let where_is = wrote.place in
-        (signed_at q (at + 4 + 4 + 4 + 4) t, record {
-          leads = signs;
-          pc_is = refl;
-          place = omega arith;
-          bytes = bytes_at-more _ q (length digits) ∙ ap (λ b. b ∷ bytes_at (with_number q 1 45 t.memory) (suc q) (length digits)) (byte-same q 45 t.memory) ∙ ap (λ rest. 45 ∷ rest) behind_sign;
-          outside = λ x away. byte-apart q 45 t.memory x (apart x (value t.registers 5) (length digits) place where_is away) ∙ wrote.outside x (further x (value t.registers 5) place away);
-          registers = λ x a b c. kept x a c ∙ wrote.registers x a b c;
-          parts = wrote.parts;
-          left = wrote.left;
-          trace = wrote.trace;
-        })
+        let where_is = wrote.place in (
+          signed_at q (at + 4 + 4 + 4 + 4) t,
+          record {
+            leads = signs;
+            pc_is = refl;
+            place = omega arith;
+            bytes = bytes_at-more _ q (length digits) ∙ ap (λ b. b ∷ bytes_at (with_number q 1 45 t.memory) (suc q) (length digits)) (byte-same q 45 t.memory) ∙ ap (λ rest. 45 ∷ rest) behind_sign;
+            outside = λ x away. byte-apart q 45 t.memory x (apart x (value t.registers 5) (length digits) place where_is away) ∙ wrote.outside x (further x (value t.registers 5) place away);
+            registers = λ x a b c. kept x a c ∙ wrote.registers x a b c;
+            parts = wrote.parts;
+            left = wrote.left;
+            trace = wrote.trace;
+          },
+        )
       where
         apart : (x from size : ℕ) → from ≡ suc q → from + size ≡ p → (x < q) ⊎ (p ≤ x) → x ≢ q
         apart x from size is sum (inl low) = omega arith
@@ -225,23 +226,25 @@ module _ (code : Code) (u : UpperImmediate) (l : Immediate) (buffer end : ℕ) (
       let below = stands.below (s.pc + 4 + 4 + 4 + 4 + 4 + 4 + 4 + 4) _ has.1.1.1.1.1.1.1.1.0 in
       let aligned = stands.aligned (s.pc + 4 + 4 + 4 + 4 + 4 + 4 + 4 + 4) _ has.1.1.1.1.1.1.1.1.0 in
       let to : sum_word (s.pc + 4 + 4 + 4 + 4 + 4 + 4) 8 ≡ s.pc + 4 + 4 + 4 + 4 + 4 + 4 + 4 + 4 = omega arith in
-      let leads = then_one stands to_test (λ on. leads-bge_taken on has.1.1.1.1.1.1.0 (not_negative (value s.registers 10) low) to aligned) in
-      (record s {
-        registers = fronted u.word end s.registers;
-        pc = s.pc + 4 + 4 + 4 + 4 + 4 + 4 + 4 + 4;
-        memory = with_number end 1 10 s.memory;
-        executed = s.executed + 1 + 1 + 1 + 1 + 1 + 1 + 1;
-      }, record {
-        leads = leads;
-        at_digits = record { stands = Stands-leads leads stands; pc_is = refl; number = refl; ten = refl; place = refl; below = below_end; room = room };
-        line = line_there;
-        outside = λ x other. byte-apart end 10 s.memory x other;
-        stop = refl;
-        registers = kept_low u.word;
-        parts = refl;
-        left = refl;
-        trace = refl;
-      })
+      let leads = then_one stands to_test (λ on. leads-bge_taken on has.1.1.1.1.1.1.0 (not_negative (value s.registers 10) low) to aligned) in (
+        record s {
+          registers = fronted u.word end s.registers;
+          pc = s.pc + 4 + 4 + 4 + 4 + 4 + 4 + 4 + 4;
+          memory = with_number end 1 10 s.memory;
+          executed = s.executed + 1 + 1 + 1 + 1 + 1 + 1 + 1;
+        },
+        record {
+          leads = leads;
+          at_digits = record { stands = Stands-leads leads stands; pc_is = refl; number = refl; ten = refl; place = refl; below = below_end; room = room };
+          line = line_there;
+          outside = λ x other. byte-apart end 10 s.memory x other;
+          stop = refl;
+          registers = kept_low u.word;
+          parts = refl;
+          left = refl;
+          trace = refl;
+        },
+      )
 
   -- of a negative number, whose size is what is missing to 2^32
   front_high : 2 ^ 31 ≤ value s.registers 10 → (h : Machine) × Front code (s.pc + 4 + 4 + 4 + 4 + 4 + 4 + 4 + 4) (2 ^ 32 - value s.registers 10) end buffer 8 s h
@@ -249,23 +252,25 @@ module _ (code : Code) (u : UpperImmediate) (l : Immediate) (buffer end : ℕ) (
       let word = before.word in
       let size_is : difference_word 0 (value s.registers 10) ≡ 2 ^ 32 - value s.registers 10 = omega arith in
       let tested = then_one stands to_test (λ on. leads-bge_not_taken on has.1.1.1.1.1.1.0 (negative (value s.registers 10) high word) (next-is stands (s.pc + 4 + 4 + 4 + 4 + 4 + 4) _ has.1.1.1.1.1.1.1.0)) in
-      let leads = then_one stands tested (λ on. leads-sub on {v = 2 ^ 32 - value s.registers 10} has.1.1.1.1.1.1.1.0 size_is (next-is stands (s.pc + 4 + 4 + 4 + 4 + 4 + 4 + 4) _ has.1.1.1.1.1.1.1.1.0)) in
-      (record s {
-        registers = put 7 (2 ^ 32 - value s.registers 10) (fronted u.word end s.registers);
-        pc = s.pc + 4 + 4 + 4 + 4 + 4 + 4 + 4 + 4;
-        memory = with_number end 1 10 s.memory;
-        executed = s.executed + 1 + 1 + 1 + 1 + 1 + 1 + 1 + 1;
-      }, record {
-        leads = leads;
-        at_digits = record { stands = Stands-leads leads stands; pc_is = refl; number = refl; ten = refl; place = refl; below = below_end; room = room };
-        line = line_there;
-        outside = λ x other. byte-apart end 10 s.memory x other;
-        stop = refl;
-        registers = kept u.word (2 ^ 32 - value s.registers 10);
-        parts = refl;
-        left = refl;
-        trace = refl;
-      })
+      let leads = then_one stands tested (λ on. leads-sub on {v = 2 ^ 32 - value s.registers 10} has.1.1.1.1.1.1.1.0 size_is (next-is stands (s.pc + 4 + 4 + 4 + 4 + 4 + 4 + 4) _ has.1.1.1.1.1.1.1.1.0)) in (
+        record s {
+          registers = put 7 (2 ^ 32 - value s.registers 10) (fronted u.word end s.registers);
+          pc = s.pc + 4 + 4 + 4 + 4 + 4 + 4 + 4 + 4;
+          memory = with_number end 1 10 s.memory;
+          executed = s.executed + 1 + 1 + 1 + 1 + 1 + 1 + 1 + 1;
+        },
+        record {
+          leads = leads;
+          at_digits = record { stands = Stands-leads leads stands; pc_is = refl; number = refl; ten = refl; place = refl; below = below_end; room = room };
+          line = line_there;
+          outside = λ x other. byte-apart end 10 s.memory x other;
+          stop = refl;
+          registers = kept u.word (2 ^ 32 - value s.registers 10);
+          parts = refl;
+          left = refl;
+          trace = refl;
+        },
+      )
 
 -- ---- the whole
 
@@ -348,18 +353,20 @@ module _ (code : Code) (buffer end size c0 c1 : ℕ) (end_is : end ≡ buffer + 
       let from = value t.registers 5 in
       let count = length digits + value s.registers 11 in
       let piece = int_piece (value s.registers 10) (value s.registers 11) in
-      let u = stepped (value t.registers 1) (told from count piece t) in
-      (u, record {
-        returns = record {
-          leads = subst (λ n. Leads n s u) count_is (Leads-then (Leads-then front.leads wrote.leads) put_leads);
-          back = way_kept;
-          registers = λ x out. kept_put from count x out.1.1.1.0 out.1.1.1.1.0 out.1.1.1.1.1.0 out.1.1.1.1.1.1.0 ∙ registers_kept x out.0 out.1.0 out.1.1.0 out.1.1.1.1.0 out.1.1.1.1.1.0;
-          parts = wrote.parts ∙ front.parts;
-        };
-        trace = ap (λ trace. trace ++ output piece ∷ []) (wrote.trace ∙ front.trace);
-        left = wrote.left ∙ front.left;
-        memory = memory_kept;
-      })
+      let u = stepped (value t.registers 1) (told from count piece t) in (
+        u,
+        record {
+          returns = record {
+            leads = subst (λ n. Leads n s u) count_is (Leads-then (Leads-then front.leads wrote.leads) put_leads);
+            back = way_kept;
+            registers = λ x out. kept_put from count x out.1.1.1.0 out.1.1.1.1.0 out.1.1.1.1.1.0 out.1.1.1.1.1.1.1.0 ∙ registers_kept x out.0 out.1.0 out.1.1.0 out.1.1.1.1.0 out.1.1.1.1.1.0;
+            parts = wrote.parts ∙ front.parts;
+          };
+          trace = ap (λ trace. trace ++ output piece ∷ []) (wrote.trace ∙ front.trace);
+          left = wrote.left ∙ front.left;
+          memory = memory_kept;
+        },
+      )
 
 module _ (code : Code) (u : UpperImmediate) (l : Immediate) (buffer : ℕ) (sum : sum_word u.word l.word ≡ buffer + 11) (s : Machine) (stands : Stands code s)
     (has : Has code s.pc (Lui x5 u ∷ Addi x5 x5 l ∷ print_int_code)) (before : BeforePrintInt buffer s) where
@@ -426,5 +433,5 @@ does : (memory : ℕ) (code : Code) (at : ℕ) (u : UpperImmediate) (l : Immedia
 does memory code at u l sum has s here before =
     by_sign code u l memory sum s here.stands (subst (λ a. Has code a (Lui x5 u ∷ Addi x5 x5 l ∷ print_int_code)) (sym here.pc_is) has) before (halves (value s.registers 10))
 
-pub print_int_makes : Makes (Address x5 11 ∷ plain print_int_code) IsPrintInt
+pub print_int_makes : Makes (Address x5 Data 11 ∷ plain print_int_code) 24 IsPrintInt
 print_int_makes = address_makes x5 11 print_int_code does

@@ -1,5 +1,5 @@
 -- The routine that prints bytes, executed.
-use Rattle.std.proofs.Common.{◌≡◌, ◌≢◌, ℕ, zero, suc, ◌+◌, ◌^◌, ◌<◌, List, [], ◌∷◌, ◌++◌, refl, sym, ap, ◌∙◌, subst, append-nil, true, lit<, arith}
+use Rattle.std.proofs.Common.{◌≡◌, ◌≢◌, ℕ, zero, suc, ◌+◌, List, [], ◌∷◌, ◌++◌, refl, sym, ap, ◌∙◌, subst, append-nil, true, arith}
 use Rattle.std.proofs.lemmas.Bool.Decides.{nat_tests}
 use Rattle.kk_base.specs.Trace.{output}
 use Rattle.rv_isa.specs.declared.instr.Instr.{Instr}
@@ -13,11 +13,11 @@ use Rattle.rv_isa.proofs.Runs.{Leads-then}
 use Rattle.rv_isa.proofs.Memory.{bytes_at-none, bytes_at-more}
 use Rattle.rv_isa.specs.Standing.{Code, Has, Stands}
 use Rattle.rv_isa.proofs.Standing.{Stands-leads, next-is}
-use Rattle.rv_isa.proofs.Instructions.{leads-addi, leads-write, leads-write_none, value-put_other}
-use Rattle.cell_runtime.specs.declared.routine.Routine.TheVariants.{PrintText}
+use Rattle.rv_isa.proofs.Instructions.{leads-addi, leads-write, leads-write_none}
+use Rattle.rv_isa.specs.declared.routine.Routine.TheVariants.{PrintText}
+use Rattle.rv_isa.specs.declared.placed.Symbol.TheVariants.{Routine}
 use Rattle.cell_runtime.specs.Registers.{KeptBy}
-use Rattle.cell_runtime.specs.Calls.{HasWayBack, Returns}
-use Rattle.cell_runtime.specs.Items.{Makes}
+use Rattle.cell_runtime.specs.Lines.{Makes}
 use Rattle.cell_runtime.specs.Prints.{IsPrintText, BeforePrintText, AfterPrintText, put_of}
 use Rattle.cell_runtime.proofs.Operands.{x0, x1, x10, x11, x12, x17, imm_0, imm_1, imm_64}
 use Rattle.cell_runtime.proofs.Spelling.{plain, plain_makes}
@@ -61,12 +61,12 @@ module _ (code : Code) (s : Machine) (stands : Stands code s) (has : Has code s.
   called : Stands code (asking s)
   called = Stands-leads to_call stands
 
-  kept : (count x : ℕ) → KeptBy PrintText x → value (told count s).registers x ≡ value s.registers x
+  kept : (count x : ℕ) → KeptBy (Routine PrintText) x → value (told count s).registers x ≡ value s.registers x
   kept count x out =
-      let a : x ≢ 10 = out.0 in
-      let b : x ≢ 11 = out.1.0 in
-      let c : x ≢ 12 = out.1.1.0 in
-      let d : x ≢ 17 = out.1.1.1.0 in
+      let a : x ≢ 10 = out.1.0 in
+      let b : x ≢ 11 = out.1.1.0 in
+      let c : x ≢ 12 = out.1.1.1.0 in
+      let d : x ≢ 17 = out.1.1.1.1.1.0 in
       grind (arith, nat_tests)
 
   back_from : (t : Machine) → Leads 5 s t → t.pc ≡ s.pc + 4 + 4 + 4 + 4 + 4 → value t.registers 1 ≡ value s.registers 1 → Leads 6 s (stepped (value s.registers 1) t)
@@ -107,5 +107,5 @@ does : (code : Code) (at : ℕ) → Has code at print_text_code → IsPrintText 
 does code at has s here before =
     by_count code s here.stands (subst (λ a. Has code a print_text_code) (sym here.pc_is) has) before (value s.registers 11) refl
 
-pub print_text_makes : Makes (plain print_text_code) (λ memory. IsPrintText)
+pub print_text_makes : Makes (plain print_text_code) 6 (λ memory. IsPrintText)
 print_text_makes = plain_makes print_text_code (λ memory. does)

@@ -1,5 +1,5 @@
 -- The routine that reads a byte, executed.
-use Rattle.std.proofs.Common.{◌≡◌, ◌≢◌, ℕ, ◌+◌, ◌-◌, ◌%◌, ◌^◌, ◌<◌, ◌≤◌, ◌⊎◌, inl, inr, List, [], ◌∷◌, ◌++◌, true, refl, sym, ap, ◌∙◌, subst, arith}
+use Rattle.std.proofs.Common.{◌≡◌, ◌≢◌, ℕ, ◌+◌, ◌-◌, ◌^◌, ◌<◌, ◌≤◌, ◌⊎◌, inl, inr, List, [], ◌∷◌, ◌++◌, refl, sym, ◌∙◌, subst, arith}
 use Rattle.std.proofs.lemmas.Bool.Decides.{nat_tests}
 use Rattle.kk_base.specs.Trace.{input, input_end}
 use Rattle.rv_isa.specs.declared.immediate.Immediate.{Immediate}
@@ -8,19 +8,19 @@ use Rattle.rv_isa.specs.declared.instr.Instr.{Instr}
 use Rattle.rv_isa.specs.declared.instr.Instr.TheVariants.{Lui, Addi, Ecall, Bne, Lbu, Jalr}
 use Rattle.rv_isa.specs.Arithmetic.{sum_word}
 use Rattle.rv_isa.specs.Bytes.{with_bytes}
-use Rattle.rv_isa.specs.Machine.{Machine, value, put, can_load}
+use Rattle.rv_isa.specs.Machine.{Machine, value, put}
 use Rattle.rv_isa.specs.Environment.{stepped}
 use Rattle.rv_isa.specs.Execution.{Leads}
 use Rattle.rv_isa.proofs.Memory.{with_byte-same, with_byte-apart}
 use Rattle.rv_isa.specs.Standing.{Code, Has, Stands}
-use Rattle.rv_isa.proofs.Standing.{Stands-leads, next-is}
+use Rattle.rv_isa.proofs.Standing.{next-is}
 use Rattle.rv_isa.proofs.Instructions.{leads-lui, leads-addi, leads-bne_taken, leads-bne_not_taken, leads-lbu, leads-read_byte, leads-read_end, value-put_other}
-use Rattle.cell_runtime.specs.declared.routine.Routine.TheVariants.{ReadByte}
-use Rattle.cell_runtime.specs.declared.item.Item.{Item}
-use Rattle.cell_runtime.specs.declared.item.Item.TheVariants.{Address}
+use Rattle.rv_isa.specs.declared.routine.Routine.TheVariants.{ReadByte}
+use Rattle.rv_isa.specs.declared.placed.Symbol.TheVariants.{Routine}
+use Rattle.rv_isa.specs.declared.placed.Native.TheVariants.{Address}
+use Rattle.rv_isa.specs.declared.placed.Section.TheVariants.{Data}
 use Rattle.cell_runtime.specs.Registers.{KeptBy}
-use Rattle.cell_runtime.specs.Calls.{HasWayBack, Returns, KeepsOutside}
-use Rattle.cell_runtime.specs.Items.{Makes}
+use Rattle.cell_runtime.specs.Lines.{Makes}
 use Rattle.cell_runtime.specs.Prints.{IsReadByte, BeforeReadByte, TakesNext, AfterReadByte}
 use Rattle.cell_runtime.proofs.Operands.{x0, x1, x10, x11, x12, x17, imm_0, imm_1, imm_63, imm_minus_1, forward_8}
 use Rattle.cell_runtime.proofs.Spelling.{plain, address_makes}
@@ -51,19 +51,19 @@ module _ (code : Code) (buffer : ℕ) (u : UpperImmediate) (l : Immediate) (sum 
   not_there x (inl low) = omega arith
   not_there x (inr high) = omega arith
 
-  kept : (x : ℕ) → KeptBy ReadByte x → value (asked u.word buffer s.registers) x ≡ value s.registers x
+  kept : (x : ℕ) → KeptBy (Routine ReadByte) x → value (asked u.word buffer s.registers) x ≡ value s.registers x
   kept x out =
-      let a : x ≢ 10 = out.0 in
-      let b : x ≢ 11 = out.1.0 in
-      let c : x ≢ 12 = out.1.1.0 in
-      let d : x ≢ 17 = out.1.1.1.0 in
+      let a : x ≢ 10 = out.1.0 in
+      let b : x ≢ 11 = out.1.1.0 in
+      let c : x ≢ 12 = out.1.1.1.0 in
+      let d : x ≢ 17 = out.1.1.1.1.1.0 in
       grind (arith, nat_tests)
 
-  kept_twice : (v w x : ℕ) → KeptBy ReadByte x → value (put 10 v (put 10 w (asked u.word buffer s.registers))) x ≡ value s.registers x
-  kept_twice v w x out = value-put_other 10 v (put 10 w (asked u.word buffer s.registers)) x out.0 ∙ value-put_other 10 w (asked u.word buffer s.registers) x out.0 ∙ kept x out
+  kept_twice : (v w x : ℕ) → KeptBy (Routine ReadByte) x → value (put 10 v (put 10 w (asked u.word buffer s.registers))) x ≡ value s.registers x
+  kept_twice v w x out = value-put_other 10 v (put 10 w (asked u.word buffer s.registers)) x out.1.0 ∙ value-put_other 10 w (asked u.word buffer s.registers) x out.1.0 ∙ kept x out
 
-  kept_thrice : (v w y x : ℕ) → KeptBy ReadByte x → value (put 10 v (put 10 w (put 10 y (asked u.word buffer s.registers)))) x ≡ value s.registers x
-  kept_thrice v w y x out = value-put_other 10 v (put 10 w (put 10 y (asked u.word buffer s.registers))) x out.0 ∙ kept_twice w y x out
+  kept_thrice : (v w y x : ℕ) → KeptBy (Routine ReadByte) x → value (put 10 v (put 10 w (put 10 y (asked u.word buffer s.registers)))) x ≡ value s.registers x
+  kept_thrice v w y x out = value-put_other 10 v (put 10 w (put 10 y (asked u.word buffer s.registers))) x out.1.0 ∙ kept_twice w y x out
 
   -- from behind the call, where x10 has its word, to the jump back
   module _ (before : BeforeReadByte buffer s) where
@@ -140,5 +140,5 @@ does memory code at u l sum has s here before =
     let start : memory + 0 ≡ memory = omega arith in
     by_left code memory u l (sum ∙ start) s here.stands (subst (λ a. Has code a (Lui x11 u ∷ Addi x11 x11 l ∷ read_byte_code)) (sym here.pc_is) has) before s.left refl
 
-pub read_byte_makes : Makes (Address x11 0 ∷ plain read_byte_code) IsReadByte
+pub read_byte_makes : Makes (Address x11 Data 0 ∷ plain read_byte_code) 10 IsReadByte
 read_byte_makes = address_makes x11 0 read_byte_code does

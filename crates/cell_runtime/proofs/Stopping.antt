@@ -1,5 +1,5 @@
 -- The routine that ends the run, executed.
-use Rattle.std.proofs.Common.{◌≡◌, ◌≢◌, ℕ, ◌+◌, ◌%◌, ◌<◌, List, [], ◌∷◌, refl, sym, ap, ◌∙◌, subst, arith}
+use Rattle.std.proofs.Common.{◌≡◌, ◌≢◌, ℕ, ◌+◌, ◌%◌, ◌<◌, List, [], ◌∷◌, refl, sym, subst, arith}
 use Rattle.std.proofs.lemmas.Bool.Decides.{nat_tests}
 use Rattle.rv_isa.specs.declared.immediate.Immediate.{Immediate}
 use Rattle.rv_isa.specs.declared.instr.Instr.{Instr}
@@ -7,17 +7,16 @@ use Rattle.rv_isa.specs.declared.instr.Instr.TheVariants.{Addi, Ecall}
 use Rattle.rv_isa.specs.Arithmetic.{sum_word}
 use Rattle.rv_isa.specs.Machine.{Machine, value, put}
 use Rattle.rv_isa.specs.Environment.{stepped}
-use Rattle.rv_isa.specs.Execution.{Leads}
 use Rattle.rv_isa.proofs.Runs.{Leads-then}
 use Rattle.rv_isa.specs.Standing.{Code, Has, Stands}
 use Rattle.rv_isa.proofs.Standing.{Stands-leads, next-is}
-use Rattle.rv_isa.proofs.Instructions.{leads-addi, value-put_other}
+use Rattle.rv_isa.proofs.Instructions.{leads-addi}
 use Rattle.cell_runtime.specs.declared.stop.Ending.{Ending}
 use Rattle.cell_runtime.specs.declared.stop.Ending.TheVariants.{Ended, HeapFull, StackFull}
-use Rattle.cell_runtime.specs.declared.routine.Routine.TheVariants.{Stop}
+use Rattle.rv_isa.specs.declared.placed.Symbol.TheVariants.{Stop}
 use Rattle.cell_runtime.specs.Registers.{KeptBy}
 use Rattle.cell_runtime.specs.Calls.{Exits}
-use Rattle.cell_runtime.specs.Items.{Makes}
+use Rattle.cell_runtime.specs.Lines.{Makes}
 use Rattle.cell_runtime.specs.Stops.{number_of, IsStop}
 use Rattle.cell_runtime.proofs.Operands.{x0, x10, x17, imm_93}
 use Rattle.cell_runtime.proofs.Spelling.{plain, plain_makes}
@@ -58,6 +57,6 @@ module _ (code : Code) (imm : Immediate) (number : ℕ) (number_is : imm.word �
         registers = kept s;
       }
 
-pub stop_makes : (ending : Ending) (imm : Immediate) → imm.word ≡ number_of ending → Makes (plain (stop_code imm)) (λ memory. IsStop ending)
+pub stop_makes : (ending : Ending) (imm : Immediate) → imm.word ≡ number_of ending → Makes (plain (stop_code imm)) 3 (λ memory. IsStop ending)
 stop_makes ending imm number_is = plain_makes (stop_code imm) (λ memory code at has s here.
     stop_exits code imm (number_of ending) number_is (number-below ending) s here.stands (subst (λ a. Has code a (stop_code imm)) (sym here.pc_is) has))

@@ -1,12 +1,12 @@
 -- The request for a cell, executed.
-use Rattle.std.proofs.Common.{◌≡◌, ◌≢◌, ℕ, ◌+◌, ◌*◌, ◌%◌, ◌^◌, ◌<◌, ◌≤◌, ◌⊎◌, inl, inr, List, [], ◌∷◌, Option, Some, None, true, refl, sym, ap, ◌∙◌, subst, lit<, arith}
+use Rattle.std.proofs.Common.{◌≡◌, ◌≢◌, ℕ, ◌+◌, ◌*◌, ◌%◌, ◌^◌, ◌<◌, ◌≤◌, ◌⊎◌, inl, inr, List, [], ◌∷◌, Some, None, refl, sym, subst, lit<, arith}
 use Rattle.std.proofs.lemmas.Bool.{cases_lt}
 use Rattle.std.proofs.lemmas.Bool.Decides.{nat_tests}
 use Rattle.rv_isa.specs.declared.instr.Instr.{Instr}
 use Rattle.rv_isa.specs.declared.instr.Instr.TheVariants.{Beq, Addi, Lw, Sw, Jalr}
 use Rattle.rv_isa.specs.Arithmetic.{sum_word}
-use Rattle.rv_isa.specs.Bytes.{number_at, with_number}
-use Rattle.rv_isa.specs.Machine.{Machine, value, put, can_load, can_store}
+use Rattle.rv_isa.specs.Bytes.{with_number}
+use Rattle.rv_isa.specs.Machine.{Machine, value, put}
 use Rattle.rv_isa.specs.Environment.{stepped}
 use Rattle.rv_isa.specs.Execution.{Leads}
 use Rattle.rv_isa.specs.Standing.{Code, Has, Stands}
@@ -15,20 +15,21 @@ use Rattle.rv_isa.proofs.Memory.{word-same}
 use Rattle.rv_isa.proofs.Standing.{Stands-leads, next-is}
 use Rattle.rv_isa.proofs.Instructions.{leads-addi, leads-lw, leads-sw, leads-beq_taken, leads-beq_not_taken}
 use Rattle.cell_heap.specs.Cells.{token, changed, free}
-use Rattle.cell_heap.specs.Pool.{Pool, end_of, IsCell}
+use Rattle.cell_heap.specs.Pool.{Pool, end_of}
 use Rattle.cell_heap.specs.View.{Link, View}
 use Rattle.cell_heap.specs.Memory.{word, IsChain, IsHeldChain, Memory}
 use Rattle.cell_heap.proofs.Frames.{shown-cell}
-use Rattle.cell_runtime.specs.declared.routine.Routine.TheVariants.{Take}
+use Rattle.rv_isa.specs.declared.routine.Routine.TheVariants.{Take}
+use Rattle.rv_isa.specs.declared.placed.Symbol.TheVariants.{Routine}
 use Rattle.cell_runtime.specs.Registers.{KeptBy}
-use Rattle.cell_runtime.specs.Calls.{HasWayBack, Returns, Exits}
-use Rattle.cell_runtime.specs.Items.{Makes}
-use Rattle.cell_runtime.specs.Takes.{Taken, from_chain, at_border, from_held, IsFull, AfterTake, IsTake, IsTakeOfPools}
+use Rattle.cell_runtime.specs.Calls.{HasWayBack, Exits}
+use Rattle.cell_runtime.specs.Lines.{Makes}
+use Rattle.cell_runtime.specs.Takes.{from_chain, at_border, from_held, IsFull, AfterTake, IsTakeOfPools}
 use Rattle.cell_runtime.proofs.Operands.{x0, x1, x5, x8, x9, x10, x18, x19, imm_0, imm_4, imm_32, imm_101, forward_16, forward_24}
 use Rattle.cell_runtime.proofs.Spelling.{plain, plain_makes}
 use Rattle.cell_runtime.proofs.Calling.{leads-back, then_one, exits-after}
 use Rattle.cell_runtime.proofs.Stopping.{stop_code, stop_exits}
-use Rattle.cell_runtime.proofs.TakingCells.{first_is, first_free, memory_chained, fresh_free, memory_fresh, newest_is, newest_held, newest_cell, memory_taken_back}
+use Rattle.cell_runtime.proofs.TakingCells.{first_is, first_free, memory_chained, memory_fresh, newest_is, newest_held, newest_cell, memory_taken_back}
 
 abbrev pub held_code : List Instr
 held_code =
@@ -71,28 +72,30 @@ module _ (code : Code) (pool : Pool) (view : View) (s : Machine) (stands : Stand
         pc = s.pc + 4 + 4 + 4;
         executed = s.executed + 1 + 1 + 1;
       } in
-      let u = stepped (value s.registers 1) t in
-      (u, record {
-        cell = cell;
-        then_view = record view { heap = changed cell (token []) view.heap; frees = frees };
-        slot = None;
-        count = 4;
-        taken = from_chain first;
-        returns = record {
-          leads = leads-back t stands c has.1.1.1.0 refl way.aligned way.in_range;
-          back = refl;
-          registers = kept (word s.memory cell) cell;
-          parts = refl;
-        };
-        gives = refl;
-        cells = memory_chained pool view s u memory refl refl refl refl cell frees first refl refl;
-        memory = refl;
-        left = refl;
-        trace = refl;
-      })
+      let u = stepped (value s.registers 1) t in (
+        u,
+        record {
+          cell = cell;
+          then_view = record view { heap = changed cell (token []) view.heap; frees = frees };
+          slot = None;
+          count = 4;
+          taken = from_chain first;
+          returns = record {
+            leads = leads-back t stands c has.1.1.1.0 refl way.aligned way.in_range;
+            back = refl;
+            registers = kept (word s.memory cell) cell;
+            parts = refl;
+          };
+          gives = refl;
+          cells = memory_chained pool view s u memory refl refl refl refl cell frees first refl refl;
+          memory = refl;
+          left = refl;
+          trace = refl;
+        },
+      )
     where
-      kept : (next cell x : ℕ) → KeptBy Take x → value (put 8 next (put 10 cell s.registers)) x ≡ value s.registers x
-      kept next cell x out = let a : x ≢ 8 = out.0 in let b : x ≢ 10 = out.1.1.0 in grind (arith, nat_tests)
+      kept : (next cell x : ℕ) → KeptBy (Routine Take) x → value (put 8 next (put 10 cell s.registers)) x ≡ value s.registers x
+      kept next cell x out = let a : x ≢ 8 = out.0 in let b : x ≢ 10 = out.1.1.1.1.0 in grind (arith, nat_tests)
 
   module _ (none : view.frees ≡ []) where
     no_chain : value s.registers 8 ≡ 0
@@ -126,28 +129,30 @@ module _ (code : Code) (pool : Pool) (view : View) (s : Machine) (stands : Stand
           pc = s.pc + 4 + 4 + 4 + 4 + 4 + 4 + 4;
           executed = s.executed + 1 + 1 + 1 + 1;
         } in
-        let u = stepped (value s.registers 1) t in
-        (u, record {
-          cell = view.border;
-          then_view = record view { heap = changed view.border (token []) view.heap; border = view.border + 32 };
-          slot = None;
-          count = 5;
-          taken = at_border none before;
-          returns = record {
-            leads = leads-back t stands c has_border.1.1.1.0 refl way.aligned way.in_range;
-            back = refl;
-            registers = kept (view.border + 32) view.border;
-            parts = refl;
-          };
-          gives = refl;
-          cells = memory_fresh pool view s u memory refl refl refl refl none before refl refl;
-          memory = refl;
-          left = refl;
-          trace = refl;
-        })
+        let u = stepped (value s.registers 1) t in (
+          u,
+          record {
+            cell = view.border;
+            then_view = record view { heap = changed view.border (token []) view.heap; border = view.border + 32 };
+            slot = None;
+            count = 5;
+            taken = at_border none before;
+            returns = record {
+              leads = leads-back t stands c has_border.1.1.1.0 refl way.aligned way.in_range;
+              back = refl;
+              registers = kept (view.border + 32) view.border;
+              parts = refl;
+            };
+            gives = refl;
+            cells = memory_fresh pool view s u memory refl refl refl refl none before refl refl;
+            memory = refl;
+            left = refl;
+            trace = refl;
+          },
+        )
       where
-        kept : (next cell x : ℕ) → KeptBy Take x → value (put 18 next (put 10 cell s.registers)) x ≡ value s.registers x
-        kept next cell x out = let a : x ≢ 18 = out.1.1.1.0 in let b : x ≢ 10 = out.1.1.0 in grind (arith, nat_tests)
+        kept : (next cell x : ℕ) → KeptBy (Routine Take) x → value (put 18 next (put 10 cell s.registers)) x ≡ value s.registers x
+        kept next cell x out = let a : x ≢ 18 = out.1.1.0 in let b : x ≢ 10 = out.1.1.1.1.0 in grind (arith, nat_tests)
 
         rises : (border first cells : ℕ) → first % 32 ≡ 0 → border % 32 ≡ 0 → border < first + 32 * cells → first + 32 * cells < 2 ^ 32 → (border + 32) % 2 ^ 32 ≡ border + 32
         rises border first cells a b before below = omega arith
@@ -196,31 +201,33 @@ module _ (code : Code) (pool : Pool) (view : View) (s : Machine) (stands : Stand
             memory = with_number link.slot 4 0 s.memory;
             executed = s.executed + 1 + 1 + 1 + 1 + 1 + 1 + 1;
           } in
-          let u = stepped (value s.registers 1) t in
-          (u, record {
-            cell = link.cell;
-            then_view = record view { held = links };
-            slot = Some link.slot;
-            count = 8;
-            taken = from_held none used newest;
-            returns = record {
-              leads = leads-back t stands e has_held.1.1.1.1.1.0 refl way.aligned way.in_range;
-              back = refl;
-              registers = kept (word s.memory link.cell) link.slot link.cell;
-              parts = refl;
-            };
-            gives = refl;
-            cells = memory_taken_back pool view s u memory link links newest refl refl refl refl refl refl;
-            memory = (word-same link.slot 0 s.memory (lit< tt), λ x away. apart link.slot x away);
-            left = refl;
-            trace = refl;
-          })
+          let u = stepped (value s.registers 1) t in (
+            u,
+            record {
+              cell = link.cell;
+              then_view = record view { held = links };
+              slot = Some link.slot;
+              count = 8;
+              taken = from_held none used newest;
+              returns = record {
+                leads = leads-back t stands e has_held.1.1.1.1.1.0 refl way.aligned way.in_range;
+                back = refl;
+                registers = kept (word s.memory link.cell) link.slot link.cell;
+                parts = refl;
+              };
+              gives = refl;
+              cells = memory_taken_back pool view s u memory link links newest refl refl refl refl refl refl;
+              memory = (word-same link.slot 0 s.memory (lit< tt), λ x away. apart link.slot x away);
+              left = refl;
+              trace = refl;
+            },
+          )
         where
-          kept : (next slot cell x : ℕ) → KeptBy Take x → value (put 9 next (put 5 slot (put 10 cell s.registers))) x ≡ value s.registers x
+          kept : (next slot cell x : ℕ) → KeptBy (Routine Take) x → value (put 9 next (put 5 slot (put 10 cell s.registers))) x ≡ value s.registers x
           kept next slot cell x out =
               let a : x ≢ 9 = out.1.0 in
-              let b : x ≢ 10 = out.1.1.0 in
-              let c : x ≢ 5 = out.1.1.1.1.0 in
+              let b : x ≢ 10 = out.1.1.1.1.0 in
+              let c : x ≢ 5 = out.1.1.1.0 in
               grind (arith, nat_tests)
 
           ends : (cell first cells : ℕ) → cell % 32 ≡ 0 → first % 32 ≡ 0 → cell < first + 32 * cells → cell + 32 ≤ first + 32 * cells
@@ -238,9 +245,10 @@ module _ (code : Code) (pool : Pool) (view : View) (s : Machine) (stands : Stand
           let has_stop = has_held.1.1.1.1.1.1 in
           let below = stands.below (s.pc + 4 + 4 + 4 + 4 + 4 + 4 + 4 + 4 + 4 + 4 + 4 + 4 + 4 + 4) _ has_stop.0 in
           let leads = then_one stands to_held (λ on. leads-beq_taken on {next = s.pc + 4 + 4 + 4 + 4 + 4 + 4 + 4 + 4 + 4 + 4 + 4 + 4 + 4 + 4} has_held.0 no_held (omega arith) (stands.aligned (s.pc + 4 + 4 + 4 + 4 + 4 + 4 + 4 + 4 + 4 + 4 + 4 + 4 + 4 + 4) _ has_stop.0)) in
-          let t = record s { pc = s.pc + 4 + 4 + 4 + 4 + 4 + 4 + 4 + 4 + 4 + 4 + 4 + 4 + 4 + 4; executed = s.executed + 1 + 1 + 1 } in
-          (record { chain = none; border = used; held = no_token },
-           exits-after {t = t} leads refl refl refl refl (omega arith) (stop_exits code imm_101 101 refl (omega arith) t (Stands-leads leads stands) has_stop))
+          let t = record s { pc = s.pc + 4 + 4 + 4 + 4 + 4 + 4 + 4 + 4 + 4 + 4 + 4 + 4 + 4 + 4; executed = s.executed + 1 + 1 + 1 } in (
+            record { chain = none; border = used; held = no_token },
+            exits-after {t = t} leads refl refl refl refl (omega arith) (stop_exits code imm_101 101 refl (omega arith) t (Stands-leads leads stands) has_stop),
+          )
 
       by_held : (links : List Link) → view.held ≡ links → Served
       by_held [] no_token = inr (full no_token)
@@ -258,5 +266,5 @@ does : (code : Code) (at : ℕ) → Has code at take_code → IsTakeOfPools code
 does code at has pool view s here way memory =
     by_chain code pool view s here.stands (subst (λ a. Has code a take_code) (sym here.pc_is) has) way memory view.frees refl
 
-pub take_makes : Makes (plain take_code) (λ memory. IsTakeOfPools)
+pub take_makes : Makes (plain take_code) 17 (λ memory. IsTakeOfPools)
 take_makes = plain_makes take_code (λ memory. does)

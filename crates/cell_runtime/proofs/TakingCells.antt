@@ -1,6 +1,5 @@
 -- What a request for a cell makes of what a reader sees.
-use Rattle.std.proofs.Common.{◌≡◌, ◌≢◌, ◌≤◌, ◌<◌, ℕ, ◌+◌, ◌%◌, ◌⊎◌, ◌↔◌, inl, inr, List, [], ◌∷◌, map, length, nat_eq, refl, sym, ap, ◌∙◌, subst, lit≤, arith}
-use Rattle.std.proofs.lemmas.Bool.Decides.{nat_tests}
+use Rattle.std.proofs.Common.{◌≡◌, ◌≢◌, ◌<◌, ℕ, ◌+◌, ◌%◌, inl, inr, List, [], ◌∷◌, map, refl, sym, ap, ◌∙◌, subst, lit≤, arith}
 use Rattle.kk_base.specs.Memory.{Part}
 use Rattle.std.proofs.lemmas.Bool.{cases_lt}
 use Rattle.rv_isa.specs.Bytes.{with_number, Apart}
@@ -10,7 +9,7 @@ use Rattle.cell_heap.specs.Cells.{Body, Cell, no_cell, free, token, waiting, cou
 use Rattle.cell_heap.specs.Pool.{Pool, end_of, IsCell, IsUsable}
 use Rattle.cell_heap.specs.View.{Link, View, HasBorder}
 use Rattle.cell_heap.specs.Memory.{word, IsShown, IsChain, IsToken, IsSlot, IsHeld, IsHeldChain, Memory}
-use Rattle.cell_heap.proofs.Sums.{occurs-first, occurs-other, occurs-by, occurs-none}
+use Rattle.cell_heap.proofs.Sums.{occurs-first, occurs-other, occurs-by}
 use Rattle.cell_heap.proofs.Frames.{changed-by, changed-same, changed-other, SameBut, shown-cell, IsShown-changed, IsChain-changed, IsHeldChain-changed, SameInside, SameInside-store, SameSlots, IsShown-outside, IsChain-outside, IsHeldChain-outside, IsHeld-cell}
 
 -- a cell that is no token is none of the held ones
@@ -138,9 +137,10 @@ module _ (pool : Pool) (view : View) (s t : Machine) (memory : Memory pool view 
               let differ : at ≢ view.border = given-differs view view.border at still in
               let was_free = sym (changed-other view.border (token []) view.heap at differ) ∙ still in
               let was = border.chained at was_free in
-              let is_cell = shown-cell memory.shown at free was_free free-some in
-              (λ some. absurd (some (ap (occurs at) none)),
-               λ low listed. was.1 (below_old at is_cell.aligned aligned low differ) (ap (occurs at) none));
+              let is_cell = shown-cell memory.shown at free was_free free-some in (
+                λ some. absurd (some (ap (occurs at) none)),
+                λ low listed. was.1 (below_old at is_cell.aligned aligned low differ) (ap (occurs at) none),
+              );
         }
       where
         below_old : (at : ℕ) → at % 32 ≡ 0 → view.border % 32 ≡ 0 → at < view.border + 32 → at ≢ view.border → at < view.border
@@ -167,8 +167,8 @@ module _ (pool : Pool) (parts : List Part) (memory : ℕ → ℕ) (heap : Heap) 
   held_slot slot from [] some chain = absurd (some refl)
   held_slot slot from (link ∷ links) some chain =
       elim (occurs-by slot link.slot (map (λ link. link.slot) links) some) [
-        inl e ↦ subst (IsSlot pool parts) (sym e) chain.1.is_slot
-      | inr later ↦ held_slot slot (word memory link.cell) links later chain.4
+        | inl e ↦ subst (IsSlot pool parts) (sym e) chain.1.is_slot
+        | inr later ↦ held_slot slot (word memory link.cell) links later chain.4
       ]
 
 words-apart : (a b : ℕ) → a % 4 ≡ 0 → b % 4 ≡ 0 → a ≢ b → Apart a 4 b 4
@@ -183,10 +183,12 @@ module _ (pool : Pool) (view : View) (s t : Machine) (memory : Memory pool view 
   inside = rw stored (SameInside-store pool s.memory link.slot 0 held_at.1.is_slot.apart)
 
   slots : SameSlots s.memory t.memory links
-  slots = record { same = λ slot some.
-      let there = held_slot pool s.parts s.memory view.heap slot (word s.memory link.cell) links some held_at.4 in
-      let differ : link.slot ≢ slot = λ e. some (ap (λ x. occurs x (map (λ link. link.slot) links)) (sym e) ∙ held_at.3) in
-      ap (λ m. word m slot) stored ∙ word-apart link.slot 0 s.memory slot (words-apart link.slot slot held_at.1.is_slot.aligned there.aligned differ) }
+  slots = record {
+    same = λ slot some.
+        let there = held_slot pool s.parts s.memory view.heap slot (word s.memory link.cell) links some held_at.4 in
+        let differ : link.slot ≢ slot = λ e. some (ap (λ x. occurs x (map (λ link. link.slot) links)) (sym e) ∙ held_at.3) in
+        ap (λ m. word m slot) stored ∙ word-apart link.slot 0 s.memory slot (words-apart link.slot slot held_at.1.is_slot.aligned there.aligned differ);
+  }
 
   pub memory_taken_back : value t.registers 8 ≡ value s.registers 8 → value t.registers 9 ≡ word s.memory link.cell → value t.registers 18 ≡ value s.registers 18 → value t.registers 19 ≡ value s.registers 19
       → Memory pool (record view { held = links }) t

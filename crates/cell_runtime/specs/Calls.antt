@@ -3,8 +3,8 @@ use Rattle.std.specs.Prelude.{◌≡◌, ℕ, ◌+◌, ◌%◌, ◌^◌, ◌<◌
 use Rattle.rv_isa.specs.Machine.{Machine, exited, value}
 use Rattle.rv_isa.specs.Execution.{run, Leads}
 use Rattle.rv_isa.specs.Standing.{Code, Stands}
-use Rattle.cell_runtime.specs.declared.routine.Routine.{Routine}
-use Rattle.cell_runtime.specs.declared.routine.Routine.TheVariants.{Stop}
+use Rattle.rv_isa.specs.declared.placed.Symbol.{Symbol}
+use Rattle.rv_isa.specs.declared.placed.Symbol.TheVariants.{Stop}
 use Rattle.cell_runtime.specs.Registers.{KeptBy}
 
 -- the code stands in the machine, which is at an address of it
@@ -17,12 +17,12 @@ pub record HasWayBack (s : Machine) : Type 0 where
   pub aligned : value s.registers 1 % 4 ≡ 0
   pub in_range : value s.registers 1 < 2 ^ 32
 
--- from one machine the routine comes to another by so many instructions: it is back, and keeps the registers that the table says, the parts
+-- from one machine the routine at a symbol comes to another by so many instructions: it is back, and keeps the registers that the table says, the parts
 -- of memory and what is left of the input
-pub record Returns (routine : Routine) (count : ℕ) (s t : Machine) : Type 0 where
+pub record Returns (symbol : Symbol) (count : ℕ) (s t : Machine) : Type 0 where
   pub leads : Leads count s t
   pub back : t.pc ≡ value s.registers 1
-  pub registers : (x : ℕ) → KeptBy routine x → value t.registers x ≡ value s.registers x
+  pub registers : (x : ℕ) → KeptBy symbol x → value t.registers x ≡ value s.registers x
   pub parts : t.parts ≡ s.parts
 
 -- memory is as before but at these addresses, `count` of them

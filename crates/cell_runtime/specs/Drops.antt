@@ -7,7 +7,8 @@ use Rattle.cell_heap.specs.View.{View}
 use Rattle.cell_heap.specs.Memory.{Memory, IsNoCount}
 use Rattle.cell_heap.specs.GivingUp.{GivesUp}
 use Rattle.cell_heap.specs.Counts.{HasCounts, IsAcyclic}
-use Rattle.cell_runtime.specs.declared.routine.Routine.TheVariants.{Drop}
+use Rattle.rv_isa.specs.declared.routine.Routine.TheVariants.{Drop}
+use Rattle.rv_isa.specs.declared.placed.Symbol.TheVariants.{Routine}
 use Rattle.cell_runtime.specs.Calls.{IsAt, HasWayBack, Returns}
 
 -- x10 holds the reference. Counts are right with it and with `roots`, the references from elsewhere that stay, and no cell can be reached from
@@ -30,7 +31,7 @@ pub record AfterDrop (pool : Pool) (reference : ℕ) (view : View) (s t : Machin
   pub border : after.border ≡ view.border
   pub held : after.held ≡ view.held
   pub memory : Memory pool after t
-  pub returns : Returns Drop count s t
+  pub returns : Returns (Routine Drop) count s t
   pub bounded : count ≤ 8 * gave + 52 * freed + 5
   pub trace : t.trace ≡ s.trace
   pub left : t.left ≡ s.left

@@ -6,7 +6,8 @@ use Rattle.rv_isa.specs.Arithmetic.{signed}
 use Rattle.rv_isa.specs.Bytes.{bytes_at}
 use Rattle.rv_isa.specs.Machine.{Machine, value, can_load, can_store}
 use Rattle.rv_isa.specs.Standing.{Code}
-use Rattle.cell_runtime.specs.declared.routine.Routine.TheVariants.{PrintInt, PrintText, ReadByte}
+use Rattle.rv_isa.specs.declared.routine.Routine.TheVariants.{PrintInt, PrintText, ReadByte}
+use Rattle.rv_isa.specs.declared.placed.Symbol.TheVariants.{Routine}
 use Rattle.cell_runtime.specs.Calls.{IsAt, HasWayBack, Returns, KeepsOutside}
 
 -- the event of a print: its piece is put at once, and no bytes are not put
@@ -40,7 +41,7 @@ pub record BeforePrintInt (buffer : ℕ) (s : Machine) : Type 0 where
   pub loaded : can_load s.parts buffer buffer_bytes ≡ true
 
 pub record AfterPrintInt (buffer : ℕ) (s t : Machine) : Type 0 where
-  pub returns : Returns PrintInt (int_count (signed (value s.registers 10))) s t
+  pub returns : Returns (Routine PrintInt) (int_count (signed (value s.registers 10))) s t
   pub trace : t.trace ≡ s.trace ++ output (int_piece (value s.registers 10) (value s.registers 11)) ∷ []
   pub left : t.left ≡ s.left
   pub memory : KeepsOutside buffer buffer_bytes s t
@@ -59,7 +60,7 @@ pub record BeforePrintText (s : Machine) : Type 0 where
   pub loaded : can_load s.parts (value s.registers 10) (value s.registers 11) ≡ true
 
 pub record AfterPrintText (s t : Machine) : Type 0 where
-  pub returns : Returns PrintText 6 s t
+  pub returns : Returns (Routine PrintText) 6 s t
   pub trace : t.trace ≡ s.trace ++ put_of (bytes_at s.memory (value s.registers 10) (value s.registers 11))
   pub left : t.left ≡ s.left
   pub memory : t.memory ≡ s.memory
@@ -79,9 +80,9 @@ pub record BeforeReadByte (buffer : ℕ) (s : Machine) : Type 0 where
 -- by what is left of the input: its next byte comes to x10; at its end x10 is -1
 abbrev pub TakesNext : List ℕ → Machine → Machine → Type 0
 TakesNext [] s t =
-    Returns ReadByte 9 s t × (value t.registers 10 ≡ 2 ^ 32 - 1) × (t.trace ≡ s.trace ++ input_end ∷ []) × (t.left ≡ [])
+    Returns (Routine ReadByte) 9 s t × (value t.registers 10 ≡ 2 ^ 32 - 1) × (t.trace ≡ s.trace ++ input_end ∷ []) × (t.left ≡ [])
 TakesNext (byte ∷ rest) s t =
-    Returns ReadByte 10 s t × (value t.registers 10 ≡ byte) × (t.trace ≡ s.trace ++ input byte ∷ []) × (t.left ≡ rest)
+    Returns (Routine ReadByte) 10 s t × (value t.registers 10 ≡ byte) × (t.trace ≡ s.trace ++ input byte ∷ []) × (t.left ≡ rest)
 
 pub record AfterReadByte (buffer : ℕ) (s t : Machine) : Type 0 where
   pub takes : TakesNext s.left s t

@@ -1,51 +1,34 @@
--- The registers of each routine, by number. Every register that a routine neither gives nor spoils, it keeps.
+-- The registers that the routines change, by number. Every other register is kept.
 use Rattle.std.specs.Prelude.{◌≢◌, ℕ, List, [], ◌∷◌, ◌++◌}
-use Rattle.cell_runtime.specs.declared.routine.Routine.{Routine}
-use Rattle.cell_runtime.specs.declared.routine.Routine.TheVariants.{Start, Take, Drop, Hold, Unhold, PrintInt, PrintText, ReadByte, Stop}
+use Rattle.rv_isa.specs.declared.routine.Routine.{Routine}
+use Rattle.rv_isa.specs.declared.routine.Routine.TheVariants.{Take, Drop, PrintInt, PrintText, ReadByte}
+use Rattle.rv_isa.specs.declared.placed.Symbol.{Symbol}
+use Rattle.rv_isa.specs.declared.placed.Symbol.TheVariants as symbol
+use Rattle.rv_isa.specs.Routines.{spoilt_by}
 
--- x1 is the way back, x2 the newest frame, x8 the chain of cells given back, x9 the held chain, x18 and x19 the bounds of the cells never used
+-- of the registers that no value has: x8 is the chain of cells given back, x9 the held chain, x18 and x19 are the bounds of the cells never used
+abbrev pub own_of : Routine → List ℕ
+own_of Take = 8 ∷ 9 ∷ 18 ∷ []
+own_of Drop = 8 ∷ []
+own_of PrintInt = []
+own_of PrintText = []
+own_of ReadByte = []
 
--- those whose words it reads
-abbrev pub read_by : Routine → List ℕ
-read_by Start = []
-read_by Take = 1 ∷ 8 ∷ 9 ∷ 18 ∷ 19 ∷ []
-read_by Drop = 1 ∷ 8 ∷ 10 ∷ []
-read_by Hold = 1 ∷ 9 ∷ 10 ∷ []
-read_by Unhold = 1 ∷ 9 ∷ 10 ∷ []
-read_by PrintInt = 1 ∷ 10 ∷ 11 ∷ []
-read_by PrintText = 1 ∷ 10 ∷ 11 ∷ []
-read_by ReadByte = 1 ∷ []
-read_by Stop = []
-
--- those in which it leaves a word that its contract says
-abbrev pub given_by : Routine → List ℕ
-given_by Start = 1 ∷ 2 ∷ 8 ∷ 9 ∷ 18 ∷ 19 ∷ []
-given_by Take = 8 ∷ 9 ∷ 10 ∷ 18 ∷ []
-given_by Drop = 8 ∷ []
-given_by Hold = 9 ∷ []
-given_by Unhold = 9 ∷ []
-given_by PrintInt = []
-given_by PrintText = []
-given_by ReadByte = 10 ∷ []
-given_by Stop = []
-
--- those in which it leaves any word
-abbrev pub spoilt_by : Routine → List ℕ
-spoilt_by Start = []
-spoilt_by Take = 5 ∷ []
-spoilt_by Drop = 5 ∷ 10 ∷ 11 ∷ 12 ∷ 13 ∷ []
-spoilt_by Hold = 5 ∷ []
-spoilt_by Unhold = 5 ∷ []
-spoilt_by PrintInt = 5 ∷ 6 ∷ 7 ∷ 10 ∷ 11 ∷ 12 ∷ 17 ∷ []
-spoilt_by PrintText = 10 ∷ 11 ∷ 12 ∷ 17 ∷ []
-spoilt_by ReadByte = 11 ∷ 12 ∷ 17 ∷ []
-spoilt_by Stop = 10 ∷ 17 ∷ []
+-- what stands at a symbol of the runtime changes these
+abbrev pub changed_by : Symbol → List ℕ
+changed_by symbol.Start = 1 ∷ 2 ∷ 8 ∷ 9 ∷ 18 ∷ 19 ∷ []
+changed_by (symbol.Routine routine) = own_of routine ++ spoilt_by routine
+changed_by symbol.Hold = 9 ∷ 5 ∷ []
+changed_by symbol.Unhold = 9 ∷ 5 ∷ []
+changed_by symbol.Stop = 10 ∷ 17 ∷ []
+changed_by symbol.StackFull = 10 ∷ 17 ∷ []
+changed_by (symbol.Function function) = []
+changed_by (symbol.Local label) = []
 
 -- a register is none of these
 abbrev pub IsOutside : ℕ → List ℕ → Type 0
 IsOutside x [] = Unit {0}
 IsOutside x (y ∷ ys) = (x ≢ y) × IsOutside x ys
 
--- the routine keeps it
-abbrev pub KeptBy : Routine → ℕ → Type 0
-KeptBy routine x = IsOutside x (given_by routine ++ spoilt_by routine)
+abbrev pub KeptBy : Symbol → ℕ → Type 0
+KeptBy symbol x = IsOutside x (changed_by symbol)

@@ -1,5 +1,5 @@
 -- The start of an image.
-use Rattle.std.specs.Prelude.{◌≡◌, ℕ, ◌+◌, ◌%◌, ◌^◌, ◌<◌, [], ◌&&◌, if◌then◌else◌, nat_eq, nat_le, nat_lt}
+use Rattle.std.specs.Prelude.{◌≡◌, ℕ, ◌+◌, ◌*◌, ◌%◌, ◌^◌, ◌<◌, [], ◌&&◌, if◌then◌else◌, nat_eq, nat_le, nat_lt}
 use Rattle.rv_isa.specs.Machine.{Machine, value}
 use Rattle.rv_isa.specs.Execution.{Leads}
 use Rattle.rv_isa.specs.Standing.{Code}
@@ -7,7 +7,9 @@ use Rattle.cell_heap.specs.Cells.{no_cell, free, Heap}
 use Rattle.cell_heap.specs.Pool.{Pool, end_of, IsUsable}
 use Rattle.cell_heap.specs.View.{View}
 use Rattle.cell_heap.specs.Memory.{Memory}
-use Rattle.cell_runtime.specs.declared.routine.Routine.TheVariants.{Start}
+use Rattle.cell_runtime.specs.declared.start.TheConstants.{TEXT_WORDS}
+use Rattle.cell_runtime.specs.declared.layout.Layout.{Layout}
+use Rattle.rv_isa.specs.declared.placed.Symbol.TheVariants.{Start}
 use Rattle.cell_runtime.specs.Registers.{KeptBy}
 use Rattle.cell_runtime.specs.Calls.{IsAt}
 
@@ -34,5 +36,10 @@ pub record AfterStart (pool : Pool) (stack_end main at : ℕ) (s t : Machine) : 
 
 abbrev pub IsStart : Pool → ℕ → ℕ → Code → ℕ → Type 0
 IsStart pool stack_end main code at =
-    (s : Machine) → IsAt code at s → IsUsable pool s.parts → stack_end < 2 ^ 32
-    → (t : Machine) × AfterStart pool stack_end main at s t
+    (s : Machine) → IsAt code at s → IsUsable pool s.parts → main < 2 ^ 32 → (t : Machine) × AfterStart pool stack_end main at s t
+
+-- `main` stands behind the runtime, and the cells and the stack where the layout says
+abbrev pub IsStartOf : Layout → ℕ → Code → ℕ → Type 0
+IsStartOf layout memory code at =
+    (pool : Pool) → pool.first ≡ memory + layout.cells → end_of pool ≡ memory + layout.cells_end
+    → IsStart pool (memory + layout.stack_end) (at + 4 * TEXT_WORDS) code at

@@ -6,7 +6,8 @@ use Rattle.cell_heap.specs.Cells.{token, changed}
 use Rattle.cell_heap.specs.Pool.{Pool, end_of}
 use Rattle.cell_heap.specs.View.{Link, View}
 use Rattle.cell_heap.specs.Memory.{word, Memory}
-use Rattle.cell_runtime.specs.declared.routine.Routine.TheVariants.{Take}
+use Rattle.rv_isa.specs.declared.routine.Routine.TheVariants.{Take}
+use Rattle.rv_isa.specs.declared.placed.Symbol.TheVariants.{Routine}
 use Rattle.cell_runtime.specs.Calls.{IsAt, HasWayBack, Returns, KeepsOutside, Exits}
 
 -- A request is served by the first cell of the chain; where the chain is empty, by the first cell that was never used; where there is none, by
@@ -36,7 +37,7 @@ pub record AfterTake (pool : Pool) (view : View) (s t : Machine) : Type 0 where
   pub slot : Option ℕ
   pub count : ℕ
   pub taken : Taken pool view cell then_view slot count
-  pub returns : Returns Take count s t
+  pub returns : Returns (Routine Take) count s t
   pub gives : value t.registers 10 ≡ cell
   pub cells : Memory pool then_view t
   pub memory : EmptiesSlot slot s t

@@ -1,12 +1,12 @@
 -- The routines that put a token on the held chain and take it off again. x10 holds the address of the token's slot.
-use Rattle.std.specs.Prelude.{◌≡◌, ◌≢◌, ℕ, List, [], ◌∷◌, map}
+use Rattle.std.specs.Prelude.{◌≡◌, ℕ, List, ◌∷◌, map}
 use Rattle.rv_isa.specs.Machine.{Machine, value}
 use Rattle.rv_isa.specs.Standing.{Code}
 use Rattle.cell_heap.specs.Cells.{token, occurs}
 use Rattle.cell_heap.specs.Pool.{Pool}
 use Rattle.cell_heap.specs.View.{Link, View}
 use Rattle.cell_heap.specs.Memory.{word, IsSlot, Memory}
-use Rattle.cell_runtime.specs.declared.routine.Routine.TheVariants.{Hold, Unhold}
+use Rattle.rv_isa.specs.declared.placed.Symbol.TheVariants.{Hold, Unhold}
 use Rattle.cell_runtime.specs.Calls.{IsAt, HasWayBack, Returns, KeepsOutside}
 
 -- ---- hold
@@ -52,3 +52,10 @@ IsUnhold pool code at =
     (view : View) (held : List Link) (count : ℕ) (s : Machine) → IsAt code at s → HasWayBack s → Memory pool view s
     → IsSlot pool s.parts (value s.registers 10) → Unheld view s.memory (value s.registers 10) held count
     → (t : Machine) × AfterUnhold pool view held count s t
+
+-- the code of neither depends on where the cells are
+abbrev pub IsHoldOfPools : Code → ℕ → Type 0
+IsHoldOfPools code at = (pool : Pool) → IsHold pool code at
+
+abbrev pub IsUnholdOfPools : Code → ℕ → Type 0
+IsUnholdOfPools code at = (pool : Pool) → IsUnhold pool code at

@@ -1,10 +1,9 @@
-//! Items by the names of their instructions.
+//! Lines of the text by the names of their instructions.
 
 ghost use Rattle.std.specs.Prelude.{◌≡◌, ◌-◌, ◌*◌, ◌+◌, ◌^◌, ◌<◌};
-ghost use Rattle.cell_runtime.specs.Items.{IsSet, IsWayBack};
+ghost use Rattle.cell_runtime.specs.Lines.{IsSet, IsWayBack};
 
-use crate::Item;
-use rv_isa::{BranchOffset, Immediate, Instr, Register};
+use rv_isa::{BranchOffset, Immediate, Instr, JumpOffset, Native, Register, Section};
 
 /// A number from 0 to 2047 as an immediate.
 pub fn small(number: u32) -> Immediate
@@ -38,107 +37,117 @@ pub fn back(instructions: u32) -> BranchOffset
     BranchOffset::new(0u32.wrapping_sub(4 * instructions))
 }
 
-pub fn address(rd: Register, offset: u32) -> Item
-    ensures { result ≡ Item.Address rd offset }
+pub fn address(rd: Register, offset: u32) -> Native
+    ensures { result ≡ Native.Address rd Section.Data offset }
 {
-    Item::Address { rd, offset }
+    Native::Address {
+        rd,
+        section: Section::Data,
+        offset,
+    }
 }
 
-pub fn addi(rd: Register, rs1: Register, imm: Immediate) -> Item
-    ensures { result ≡ Item.Plain (Instr.Addi rd rs1 imm) }
+pub fn addi(rd: Register, rs1: Register, imm: Immediate) -> Native
+    ensures { result ≡ Native.Instruction (Instr.Addi rd rs1 imm) }
 {
-    Item::Plain(Instr::Addi { rd, rs1, imm })
+    Native::Instruction(Instr::Addi { rd, rs1, imm })
 }
 
 /// `rd = number`, for a number from 0 to 2047.
-pub fn set(rd: Register, number: u32) -> Item
+pub fn set(rd: Register, number: u32) -> Native
     requires { number < 2048 }
     ensures { IsSet rd number result }
 {
     addi(rd, Register::ZERO, small(number))
 }
 
-pub fn add(rd: Register, rs1: Register, rs2: Register) -> Item
-    ensures { result ≡ Item.Plain (Instr.Add rd rs1 rs2) }
+pub fn add(rd: Register, rs1: Register, rs2: Register) -> Native
+    ensures { result ≡ Native.Instruction (Instr.Add rd rs1 rs2) }
 {
-    Item::Plain(Instr::Add { rd, rs1, rs2 })
+    Native::Instruction(Instr::Add { rd, rs1, rs2 })
 }
 
-pub fn sub(rd: Register, rs1: Register, rs2: Register) -> Item
-    ensures { result ≡ Item.Plain (Instr.Sub rd rs1 rs2) }
+pub fn sub(rd: Register, rs1: Register, rs2: Register) -> Native
+    ensures { result ≡ Native.Instruction (Instr.Sub rd rs1 rs2) }
 {
-    Item::Plain(Instr::Sub { rd, rs1, rs2 })
+    Native::Instruction(Instr::Sub { rd, rs1, rs2 })
 }
 
-pub fn divu(rd: Register, rs1: Register, rs2: Register) -> Item
-    ensures { result ≡ Item.Plain (Instr.Divu rd rs1 rs2) }
+pub fn divu(rd: Register, rs1: Register, rs2: Register) -> Native
+    ensures { result ≡ Native.Instruction (Instr.Divu rd rs1 rs2) }
 {
-    Item::Plain(Instr::Divu { rd, rs1, rs2 })
+    Native::Instruction(Instr::Divu { rd, rs1, rs2 })
 }
 
-pub fn remu(rd: Register, rs1: Register, rs2: Register) -> Item
-    ensures { result ≡ Item.Plain (Instr.Remu rd rs1 rs2) }
+pub fn remu(rd: Register, rs1: Register, rs2: Register) -> Native
+    ensures { result ≡ Native.Instruction (Instr.Remu rd rs1 rs2) }
 {
-    Item::Plain(Instr::Remu { rd, rs1, rs2 })
+    Native::Instruction(Instr::Remu { rd, rs1, rs2 })
 }
 
-pub fn lbu(rd: Register, rs1: Register, imm: Immediate) -> Item
-    ensures { result ≡ Item.Plain (Instr.Lbu rd rs1 imm) }
+pub fn lbu(rd: Register, rs1: Register, imm: Immediate) -> Native
+    ensures { result ≡ Native.Instruction (Instr.Lbu rd rs1 imm) }
 {
-    Item::Plain(Instr::Lbu { rd, rs1, imm })
+    Native::Instruction(Instr::Lbu { rd, rs1, imm })
 }
 
-pub fn lw(rd: Register, rs1: Register, imm: Immediate) -> Item
-    ensures { result ≡ Item.Plain (Instr.Lw rd rs1 imm) }
+pub fn lw(rd: Register, rs1: Register, imm: Immediate) -> Native
+    ensures { result ≡ Native.Instruction (Instr.Lw rd rs1 imm) }
 {
-    Item::Plain(Instr::Lw { rd, rs1, imm })
+    Native::Instruction(Instr::Lw { rd, rs1, imm })
 }
 
-pub fn sb(rs2: Register, imm: Immediate, rs1: Register) -> Item
-    ensures { result ≡ Item.Plain (Instr.Sb rs1 rs2 imm) }
+pub fn sb(rs2: Register, imm: Immediate, rs1: Register) -> Native
+    ensures { result ≡ Native.Instruction (Instr.Sb rs1 rs2 imm) }
 {
-    Item::Plain(Instr::Sb { rs1, rs2, imm })
+    Native::Instruction(Instr::Sb { rs1, rs2, imm })
 }
 
-pub fn sw(rs2: Register, imm: Immediate, rs1: Register) -> Item
-    ensures { result ≡ Item.Plain (Instr.Sw rs1 rs2 imm) }
+pub fn sw(rs2: Register, imm: Immediate, rs1: Register) -> Native
+    ensures { result ≡ Native.Instruction (Instr.Sw rs1 rs2 imm) }
 {
-    Item::Plain(Instr::Sw { rs1, rs2, imm })
+    Native::Instruction(Instr::Sw { rs1, rs2, imm })
 }
 
-pub fn beq(rs1: Register, rs2: Register, offset: BranchOffset) -> Item
-    ensures { result ≡ Item.Plain (Instr.Beq rs1 rs2 offset) }
+pub fn beq(rs1: Register, rs2: Register, offset: BranchOffset) -> Native
+    ensures { result ≡ Native.Instruction (Instr.Beq rs1 rs2 offset) }
 {
-    Item::Plain(Instr::Beq { rs1, rs2, offset })
+    Native::Instruction(Instr::Beq { rs1, rs2, offset })
 }
 
-pub fn bne(rs1: Register, rs2: Register, offset: BranchOffset) -> Item
-    ensures { result ≡ Item.Plain (Instr.Bne rs1 rs2 offset) }
+pub fn bne(rs1: Register, rs2: Register, offset: BranchOffset) -> Native
+    ensures { result ≡ Native.Instruction (Instr.Bne rs1 rs2 offset) }
 {
-    Item::Plain(Instr::Bne { rs1, rs2, offset })
+    Native::Instruction(Instr::Bne { rs1, rs2, offset })
 }
 
-pub fn bge(rs1: Register, rs2: Register, offset: BranchOffset) -> Item
-    ensures { result ≡ Item.Plain (Instr.Bge rs1 rs2 offset) }
+pub fn bge(rs1: Register, rs2: Register, offset: BranchOffset) -> Native
+    ensures { result ≡ Native.Instruction (Instr.Bge rs1 rs2 offset) }
 {
-    Item::Plain(Instr::Bge { rs1, rs2, offset })
+    Native::Instruction(Instr::Bge { rs1, rs2, offset })
 }
 
 /// A call of the environment.
-pub fn ecall() -> Item
-    ensures { result ≡ Item.Plain Instr.Ecall }
+pub fn ecall() -> Native
+    ensures { result ≡ Native.Instruction Instr.Ecall }
 {
-    Item::Plain(Instr::Ecall)
+    Native::Instruction(Instr::Ecall)
 }
 
-pub fn jalr(rd: Register, rs1: Register, imm: Immediate) -> Item
-    ensures { result ≡ Item.Plain (Instr.Jalr rd rs1 imm) }
+pub fn jal(rd: Register, offset: JumpOffset) -> Native
+    ensures { result ≡ Native.Instruction (Instr.Jal rd offset) }
 {
-    Item::Plain(Instr::Jalr { rd, rs1, imm })
+    Native::Instruction(Instr::Jal { rd, offset })
+}
+
+pub fn jalr(rd: Register, rs1: Register, imm: Immediate) -> Native
+    ensures { result ≡ Native.Instruction (Instr.Jalr rd rs1 imm) }
+{
+    Native::Instruction(Instr::Jalr { rd, rs1, imm })
 }
 
 /// The way back, to the address in `ra`.
-pub fn ret() -> Item
+pub fn ret() -> Native
     ensures { IsWayBack result }
 {
     jalr(Register::ZERO, Register::RA, small(0))

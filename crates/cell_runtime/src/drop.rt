@@ -2,22 +2,21 @@
 
 ghost use Rattle.std.specs.Prelude.{◌≡◌};
 ghost use Rattle.cell_runtime.specs.Drops.{IsDrop};
-ghost use Rattle.cell_runtime.specs.Items.{Makes};
+ghost use Rattle.cell_runtime.specs.Lines.{Makes};
 
-use crate::Item;
 use crate::assembly::{addi, back, beq, bne, forward, lw, minus_one, ret, set, small, sw};
-use rv_isa::{Immediate, Instr, Register, ShiftAmount};
+use rv_isa::{Immediate, Instr, Native, Register, ShiftAmount};
 
-fn andi(rd: Register, rs1: Register, imm: Immediate) -> Item
-    ensures { result ≡ Item.Plain (Instr.Andi rd rs1 imm) }
+fn andi(rd: Register, rs1: Register, imm: Immediate) -> Native
+    ensures { result ≡ Native.Instruction (Instr.Andi rd rs1 imm) }
 {
-    Item::Plain(Instr::Andi { rd, rs1, imm })
+    Native::Instruction(Instr::Andi { rd, rs1, imm })
 }
 
-fn srli(rd: Register, rs1: Register, shamt: ShiftAmount) -> Item
-    ensures { result ≡ Item.Plain (Instr.Srli rd rs1 shamt) }
+fn srli(rd: Register, rs1: Register, shamt: ShiftAmount) -> Native
+    ensures { result ≡ Native.Instruction (Instr.Srli rd rs1 shamt) }
 {
-    Item::Plain(Instr::Srli { rd, rs1, shamt })
+    Native::Instruction(Instr::Srli { rd, rs1, shamt })
 }
 
 /// Gives up the reference in `a0`, and all that it was the last to hold.
@@ -25,8 +24,8 @@ fn srli(rd: Register, rs1: Register, shamt: ShiftAmount) -> Item
 /// A cell whose count reaches zero waits, in a chain through its own first word, until its references are given up; it
 /// stands on the chain of free cells before that. So no stack is used. `a1` and `a2` are the address of the next field
 /// of an opened cell and the mask of the fields from there on, `a3` is the chain of waiting cells.
-pub fn give_up() -> [Item; 28]
-    ensures { Makes result (λ memory. IsDrop) }
+pub fn give_up() -> [Native; 28]
+    ensures { Makes result 28 (λ memory. IsDrop) }
 {
     [
         set(Register::A3, 0),

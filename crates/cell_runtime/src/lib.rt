@@ -6,14 +6,16 @@
 mod assembly;
 mod drop;
 mod environment;
-mod item;
+mod layout;
 mod print_int;
 mod print_text;
 mod read_byte;
-mod routine;
+mod runtime;
+mod start;
 mod stop;
 mod take;
+mod tokens;
 
-pub use item::Item;
-pub use routine::Routine;
+pub use layout::Layout;
+pub use runtime::text;
 pub use stop::Ending;

@@ -1,15 +1,14 @@
 //! The print of a number.
 
-ghost use Rattle.cell_runtime.specs.Items.{Makes};
+ghost use Rattle.cell_runtime.specs.Lines.{Makes};
 ghost use Rattle.cell_runtime.specs.Prints.{IsPrintInt};
 
-use crate::Item;
 use crate::assembly::{
     add, addi, address, back, bge, bne, divu, ecall, forward, minus_one, remu, ret, sb, set, small,
     sub,
 };
 use crate::environment::{STANDARD_OUTPUT, WRITE};
-use rv_isa::Register;
+use rv_isa::{Native, Register};
 
 /// The greatest number of bytes of a number: a sign and ten digits. The buffer has one more, for the line end.
 const INT_BYTES: u32 = 11;
@@ -18,8 +17,8 @@ const INT_BYTES: u32 = 11;
 /// is 0, at once.
 ///
 /// The line end always stands in the buffer's last byte; the digits are stored before it, the last one first.
-pub fn print_int() -> [Item; 23]
-    ensures { Makes result IsPrintInt }
+pub fn print_int() -> [Native; 23]
+    ensures { Makes result 24 IsPrintInt }
 {
     [
         address(Register::T0, INT_BYTES),

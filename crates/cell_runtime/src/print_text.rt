@@ -1,16 +1,15 @@
 //! The print of bytes.
 
-ghost use Rattle.cell_runtime.specs.Items.{Makes};
+ghost use Rattle.cell_runtime.specs.Lines.{Makes};
 ghost use Rattle.cell_runtime.specs.Prints.{IsPrintText};
 
-use crate::Item;
 use crate::assembly::{addi, ecall, ret, set, small};
 use crate::environment::{STANDARD_OUTPUT, WRITE};
-use rv_isa::Register;
+use rv_isa::{Native, Register};
 
 /// Puts the bytes from the address in `a0` on, as many as `a1` says, at once.
-pub fn print_text() -> [Item; 6]
-    ensures { Makes result (λ memory. IsPrintText) }
+pub fn print_text() -> [Native; 6]
+    ensures { Makes result 6 (λ memory. IsPrintText) }
 {
     [
         addi(Register::A2, Register::A1, small(0)),

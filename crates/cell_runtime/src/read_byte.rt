@@ -1,16 +1,15 @@
 //! The read of a byte.
 
-ghost use Rattle.cell_runtime.specs.Items.{Makes};
+ghost use Rattle.cell_runtime.specs.Lines.{Makes};
 ghost use Rattle.cell_runtime.specs.Prints.{IsReadByte};
 
-use crate::Item;
 use crate::assembly::{addi, address, bne, ecall, forward, lbu, minus_one, ret, set, small};
 use crate::environment::{READ, STANDARD_INPUT};
-use rv_isa::Register;
+use rv_isa::{Native, Register};
 
 /// Takes the next byte of the input: `a0` is the byte, or -1 at the input's end.
-pub fn read_byte() -> [Item; 9]
-    ensures { Makes result IsReadByte }
+pub fn read_byte() -> [Native; 9]
+    ensures { Makes result 10 IsReadByte }
 {
     [
         address(Register::A1, 0),

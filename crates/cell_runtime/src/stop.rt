@@ -1,13 +1,12 @@
 //! The ends of a run.
 
 ghost use Rattle.std.specs.Prelude.{◌≡◌, ◌<◌};
-ghost use Rattle.cell_runtime.specs.Items.{Makes};
+ghost use Rattle.cell_runtime.specs.Lines.{Makes};
 ghost use Rattle.cell_runtime.specs.Stops.{number_of, IsStop};
 
-use crate::Item;
 use crate::assembly::{ecall, set};
 use crate::environment::EXIT;
-use rv_isa::Register;
+use rv_isa::{Native, Register};
 
 /// How a run ends.
 #[derive(Clone, Copy, PartialEq, Eq, Debug)]
@@ -35,8 +34,8 @@ impl Ending {
 }
 
 /// Exits.
-pub fn stop(ending: Ending) -> [Item; 3]
-    ensures { Makes result (λ memory. IsStop ending) }
+pub fn stop(ending: Ending) -> [Native; 3]
+    ensures { Makes result 3 (λ memory. IsStop ending) }
 {
     [
         set(Register::A0, ending.number()),

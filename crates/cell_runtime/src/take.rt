@@ -1,20 +1,18 @@
 //! The request for a cell.
 
-ghost use Rattle.cell_runtime.specs.Items.{Makes};
+ghost use Rattle.cell_runtime.specs.Lines.{Makes};
 ghost use Rattle.cell_runtime.specs.Takes.{IsTakeOfPools};
 
+use crate::Ending;
 use crate::assembly::{addi, beq, ecall, forward, lw, ret, set, small, sw};
 use crate::environment::EXIT;
-use crate::{Ending, Item};
-use rv_isa::Register;
-
-/// Bytes of a cell.
-const CELL_BYTES: u32 = 32;
+use crate::layout::CELL_BYTES;
+use rv_isa::{Native, Register};
 
 /// Gives a cell in `a0`: the first one of the chain in `s0`, else the first one that was never used, else the newest held
 /// token, whose slot loses it. Where there is none it exits.
-pub fn take() -> [Item; 17]
-    ensures { Makes result (λ memory. IsTakeOfPools) }
+pub fn take() -> [Native; 17]
+    ensures { Makes result 17 (λ memory. IsTakeOfPools) }
 {
     [
         beq(Register::S0, Register::ZERO, forward(4)),

@@ -3,20 +3,31 @@
 
 mod act;
 mod arithmetic;
+mod asm;
 mod code;
 mod decoding;
 mod encoding;
 mod immediate;
 mod instr;
 mod meaning;
+mod placed;
 mod register;
+mod routine;
 #[cfg(test)]
 mod tests;
 
 pub use act::{Act, Effect};
+pub use asm::{
+    Action, Asm, AsmFunction, Condition, ImmediateOperation, Operation, RegisterOperation,
+    ShiftOperation, Statement,
+};
 pub use decoding::decode;
 pub use encoding::encode;
 pub use immediate::{BranchOffset, Immediate, JumpOffset, ShiftAmount, UpperImmediate};
 pub use instr::{Instr, Operands};
 pub use meaning::effect;
+pub use placed::{
+    DataSection, Item, Listed, Native, Operand, Place, Placed, PlacedFunction, Section, Symbol, Way,
+};
 pub use register::Register;
+pub use routine::Routine;

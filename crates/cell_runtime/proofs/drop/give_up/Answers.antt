@@ -4,7 +4,7 @@ use Rattle.rv_isa.specs.declared.immediate.Immediate.{Immediate}
 use Rattle.rv_isa.specs.declared.immediate.ShiftAmount.{ShiftAmount}
 use Rattle.rv_isa.specs.declared.instr.Instr.TheVariants.{Andi, Srli}
 use Rattle.rv_isa.proofs.Same.{same_register, same_shamt}
-use Rattle.cell_runtime.proofs.SameItems.{made, then_set, then_plain, then_back, same_immediate_format, same_addi, same_lw, same_sw, same_beq, same_bne}
+use Rattle.cell_runtime.proofs.SameLines.{made, then_set, then_plain, then_back, same_immediate_format, same_addi, same_lw, same_sw, same_beq, same_bne}
 use Rattle.cell_runtime.proofs.DropRuns.{drop_makes}
 use Rattle.cell_runtime.proofs.drop.give_up.Goals as goal
 

@@ -1,5 +1,5 @@
 use Rattle.std.proofs.Common.{refl, arith}
-use Rattle.cell_runtime.proofs.SameItems.{made, then_address_of, then_set, then_plain, then_back, same_addi, same_add, same_sub, same_sb, same_bge, same_bne, same_remu, same_divu}
+use Rattle.cell_runtime.proofs.SameLines.{made, then_address_of, then_set, then_plain, then_back, same_addi, same_add, same_sub, same_sb, same_bge, same_bne, same_remu, same_divu}
 use Rattle.cell_runtime.proofs.PrintingInt.{print_int_makes}
 use Rattle.cell_runtime.proofs.print_int.print_int.Goals as goal
 

@@ -1,5 +1,5 @@
 use Rattle.std.proofs.Common.{refl}
-use Rattle.cell_runtime.proofs.SameItems.{made, then_set, then_plain, then_back, same_addi}
+use Rattle.cell_runtime.proofs.SameLines.{made, then_set, then_plain, then_back, same_addi}
 use Rattle.cell_runtime.proofs.PrintingText.{print_text_makes}
 use Rattle.cell_runtime.proofs.print_text.print_text.Goals as goal
 

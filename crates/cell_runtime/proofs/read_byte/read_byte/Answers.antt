@@ -1,5 +1,5 @@
 use Rattle.std.proofs.Common.{refl}
-use Rattle.cell_runtime.proofs.SameItems.{made, then_address_of, then_set, then_plain, then_back, same_addi, same_bne, same_lbu}
+use Rattle.cell_runtime.proofs.SameLines.{made, then_address_of, then_set, then_plain, then_back, same_addi, same_bne, same_lbu}
 use Rattle.cell_runtime.proofs.ReadingByte.{read_byte_makes}
 use Rattle.cell_runtime.proofs.read_byte.read_byte.Goals as goal
 

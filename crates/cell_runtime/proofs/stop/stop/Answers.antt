@@ -1,5 +1,5 @@
 use Rattle.std.proofs.Common.{◌∙◌, refl}
-use Rattle.cell_runtime.proofs.SameItems.{made, then_set, then_plain}
+use Rattle.cell_runtime.proofs.SameLines.{made, then_set, then_plain}
 use Rattle.cell_runtime.proofs.Stopping.{stop_makes}
 use Rattle.cell_runtime.proofs.stop.stop.Goals as goal
 

@@ -1,5 +1,5 @@
 use Rattle.std.proofs.Common.{refl, sym}
-use Rattle.cell_runtime.proofs.SameItems.{made, then_set, then_plain, then_back, same_addi, same_beq, same_lw, same_sw}
+use Rattle.cell_runtime.proofs.SameLines.{made, then_set, then_plain, then_back, same_addi, same_beq, same_lw, same_sw}
 use Rattle.cell_runtime.proofs.Taking.{take_makes}
 use Rattle.cell_runtime.proofs.take.take.Goals as goal
 

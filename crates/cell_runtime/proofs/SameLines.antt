@@ -1,27 +1,29 @@
 -- Items of equal numbers are equal.
-use Rattle.std.proofs.Common.{◌≡◌, ℕ, List, ◌∷◌, sym, ap, ◌∙◌, subst, refl}
+use Rattle.std.proofs.Common.{◌≡◌, ℕ, List, ◌∷◌, sym, ap, ◌∙◌, subst}
 use Rattle.rv_isa.specs.declared.register.Register.{Register}
 use Rattle.rv_isa.specs.declared.immediate.Immediate.{Immediate}
 use Rattle.rv_isa.specs.declared.immediate.BranchOffset.{BranchOffset}
+use Rattle.rv_isa.specs.declared.immediate.JumpOffset.{JumpOffset}
 use Rattle.rv_isa.specs.declared.instr.Instr.{Instr}
-use Rattle.rv_isa.specs.declared.instr.Instr.TheVariants.{Jalr, Beq, Bne, Bge, Lw, Lbu, Sb, Sw, Addi, Add, Sub, Divu, Remu}
-use Rattle.rv_isa.proofs.Same.{same_register, same_immediate, same_branch_offset}
+use Rattle.rv_isa.specs.declared.instr.Instr.TheVariants.{Jal, Jalr, Beq, Bne, Bge, Lw, Lbu, Sb, Sw, Addi, Add, Sub, Divu, Remu}
+use Rattle.rv_isa.proofs.Same.{same_register, same_immediate, same_branch_offset, same_jump_offset}
 use Rattle.rv_isa.specs.Standing.{Code}
-use Rattle.cell_runtime.specs.declared.item.Item.{Item}
-use Rattle.cell_runtime.specs.declared.item.Item.TheVariants.{Plain, Address}
-use Rattle.cell_runtime.specs.Items.{Makes, IsSet, IsWayBack}
+use Rattle.rv_isa.specs.declared.placed.Native.{Native}
+use Rattle.rv_isa.specs.declared.placed.Native.TheVariants.{Instruction, Address}
+use Rattle.rv_isa.specs.declared.placed.Section.TheVariants.{Data}
+use Rattle.cell_runtime.specs.Lines.{Makes, IsSet, IsWayBack}
 
 -- what the same items make
-pub made : {K : ℕ → Code → ℕ → Type 0} {items others : List Item} → items ≡ others → Makes others K → Makes items K
-made {K} e makes = subst (λ items. Makes items K) (sym e) makes
+pub made : {K : ℕ → Code → ℕ → Type 0} {words : ℕ} {items others : List Native} → items ≡ others → Makes others words K → Makes items words K
+made {K} {words} e makes = subst (λ items. Makes items words K) (sym e) makes
 
 -- a list, one item after the other
-pub then_item : {i j : Instr} {is js : List Item} → i ≡ j → is ≡ js → Plain i ∷ is ≡ Plain j ∷ js
-then_item {j = j} {is = is} e rest = ap (λ i. Plain i ∷ is) e ∙ ap (λ is. Plain j ∷ is) rest
+pub then_line : {i j : Instr} {is js : List Native} → i ≡ j → is ≡ js → Instruction i ∷ is ≡ Instruction j ∷ js
+then_line {j = j} {is = is} e rest = ap (λ i. Instruction i ∷ is) e ∙ ap (λ is. Instruction j ∷ is) rest
 
-pub then_address : {rd rd' : Register} {n n' : ℕ} {is js : List Item} → rd.number ≡ rd'.number → n ≡ n' → is ≡ js → Address rd n ∷ is ≡ Address rd' n' ∷ js
+pub then_address : {rd rd' : Register} {n n' : ℕ} {is js : List Native} → rd.number ≡ rd'.number → n ≡ n' → is ≡ js → Address rd Data n ∷ is ≡ Address rd' Data n' ∷ js
 then_address {rd} {rd'} {n} {n'} {is} {js} e same rest =
-    ap (λ r. Address r n ∷ is) (same_register rd rd' e) ∙ ap (λ m. Address rd' m ∷ is) same ∙ ap (λ is. Address rd' n' ∷ is) rest
+    ap (λ r. Address r Data n ∷ is) (same_register rd rd' e) ∙ ap (λ m. Address rd' Data m ∷ is) same ∙ ap (λ is. Address rd' Data n' ∷ is) rest
 
 -- an instruction of a format: registers and an immediate, a distance or no more
 module _ (make : Register → Register → Immediate → Instr) where
@@ -44,6 +46,9 @@ same_addi = same_immediate_format Addi _ _ _ _ _ _
 
 pub same_jalr : {a a' b b' : Register} {n n' : Immediate} → a.number ≡ a'.number → b.number ≡ b'.number → n.word ≡ n'.word → Jalr a b n ≡ Jalr a' b' n'
 same_jalr = same_immediate_format Jalr _ _ _ _ _ _
+
+pub same_jal : {a a' : Register} {o o' : JumpOffset} → a.number ≡ a'.number → o.word ≡ o'.word → Jal a o ≡ Jal a' o'
+same_jal {a} {a'} {o} {o'} e f = ap (λ x. Jal x o) (same_register a a' e) ∙ ap (Jal a') (same_jump_offset o o' f)
 
 pub same_lw : {a a' b b' : Register} {n n' : Immediate} → a.number ≡ a'.number → b.number ≡ b'.number → n.word ≡ n'.word → Lw a b n ≡ Lw a' b' n'
 same_lw = same_immediate_format Lw _ _ _ _ _ _
@@ -79,18 +84,18 @@ pub same_remu : {a a' b b' c c' : Register} → a.number ≡ a'.number → b.num
 same_remu = same_register_format Remu _ _ _ _ _ _
 
 -- items as functions give them
-pub then_plain : {a : Item} {i j : Instr} {is js : List Item} → a ≡ Plain i → i ≡ j → is ≡ js → a ∷ is ≡ Plain j ∷ js
-then_plain {is = is} given e rest = ap (λ item. item ∷ is) given ∙ then_item e rest
+pub then_plain : {a : Native} {i j : Instr} {is js : List Native} → a ≡ Instruction i → i ≡ j → is ≡ js → a ∷ is ≡ Instruction j ∷ js
+then_plain {is = is} given e rest = ap (λ item. item ∷ is) given ∙ then_line e rest
 
-pub then_address_of : {a : Item} {rd rd' : Register} {n n' : ℕ} {is js : List Item} → a ≡ Address rd n → rd.number ≡ rd'.number → n ≡ n' → is ≡ js → a ∷ is ≡ Address rd' n' ∷ js
+pub then_address_of : {a : Native} {rd rd' : Register} {n n' : ℕ} {is js : List Native} → a ≡ Address rd Data n → rd.number ≡ rd'.number → n ≡ n' → is ≡ js → a ∷ is ≡ Address rd' Data n' ∷ js
 then_address_of {is = is} given e same rest = ap (λ item. item ∷ is) given ∙ then_address e same rest
 
-pub then_set : {a : Item} {rd rd' zero : Register} {imm : Immediate} {n : ℕ} {is js : List Item} → IsSet rd n a → rd.number ≡ rd'.number → zero.number ≡ 0 → imm.word ≡ n → is ≡ js → a ∷ is ≡ Plain (Addi rd' zero imm) ∷ js
+pub then_set : {a : Native} {rd rd' zero : Register} {imm : Immediate} {n : ℕ} {is js : List Native} → IsSet rd n a → rd.number ≡ rd'.number → zero.number ≡ 0 → imm.word ≡ n → is ≡ js → a ∷ is ≡ Instruction (Addi rd' zero imm) ∷ js
 then_set {is = is} given e zero same rest =
-    ap (λ item. item ∷ is) given.item_is
-    ∙ then_item (same_immediate_format Addi _ _ _ _ _ _ e (given.zero_is ∙ sym zero) (given.immediate_is ∙ sym same)) rest
+    ap (λ item. item ∷ is) given.line_is
+    ∙ then_line (same_immediate_format Addi _ _ _ _ _ _ e (given.zero_is ∙ sym zero) (given.immediate_is ∙ sym same)) rest
 
-pub then_back : {a : Item} {zero way : Register} {imm : Immediate} {is js : List Item} → IsWayBack a → zero.number ≡ 0 → way.number ≡ 1 → imm.word ≡ 0 → is ≡ js → a ∷ is ≡ Plain (Jalr zero way imm) ∷ js
+pub then_back : {a : Native} {zero way : Register} {imm : Immediate} {is js : List Native} → IsWayBack a → zero.number ≡ 0 → way.number ≡ 1 → imm.word ≡ 0 → is ≡ js → a ∷ is ≡ Instruction (Jalr zero way imm) ∷ js
 then_back {is = is} given zero way same rest =
-    ap (λ item. item ∷ is) given.item_is
-    ∙ then_item (same_immediate_format Jalr _ _ _ _ _ _ (given.zero_is ∙ sym zero) (given.way_is ∙ sym way) (given.immediate_is ∙ sym same)) rest
+    ap (λ item. item ∷ is) given.line_is
+    ∙ then_line (same_immediate_format Jalr _ _ _ _ _ _ (given.zero_is ∙ sym zero) (given.way_is ∙ sym way) (given.immediate_is ∙ sym same)) rest

@@ -1,0 +1,4 @@
+pub mod Listings
+pub mod Conditions
+pub mod Valid
+pub mod Views
