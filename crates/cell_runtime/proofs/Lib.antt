@@ -17,3 +17,4 @@ pub mod DropRows
 pub mod DropStates
 pub mod DropMoves
 pub mod DropRuns
+pub mod DropAfter
