@@ -38,7 +38,7 @@ pub record HasFrees (pool : Pool) (border : ℕ) (frees : List ℕ) (heap : Heap
   pub chained : (at : ℕ) → heap at ≡ free → (occurs at frees ≢ 0) ↔ (at < border)
 
 -- a cell that is not free and does not become free
-HasFrees-changed : {pool : Pool} {border : ℕ} {frees : List ℕ} {heap : Heap} (at : ℕ) (cell : Cell) → heap at ≢ free → cell ≢ free → HasFrees pool border frees heap → HasFrees pool border frees (changed at cell heap)
+pub HasFrees-changed : {pool : Pool} {border : ℕ} {frees : List ℕ} {heap : Heap} (at : ℕ) (cell : Cell) → heap at ≢ free → cell ≢ free → HasFrees pool border frees heap → HasFrees pool border frees (changed at cell heap)
 HasFrees-changed {pool} {border} {frees} {heap} at cell was now has = record {
   fresh = λ x is_cell high. changed-by (λ c. c ≡ free) x at cell heap
       (λ e. absurd (was (subst (λ y. heap y ≡ free) e (has.fresh x is_cell high))))

@@ -89,7 +89,7 @@ module _ (places : List ℕ) (a_cell a_reference : ℕ) where
 
 -- ---- it exists
 
-abbrev Given : List ℕ → Heap → Type 0
+abbrev pub Given : List ℕ → Heap → Type 0
 Given refs heap = (gave freed : ℕ) × (end : Heap) × GivesUp refs heap gave freed end
 
 module _ (places : List ℕ) (heap : Heap) (listed : IsListed places heap) where

@@ -102,6 +102,10 @@ IsLeft-listed {places} {start} {heap} left listed = record {
   even = λ at some. listed.even at (Becomes-none (start at) (heap at) (left.each at) some);
 }
 
+-- what is a cell was one
+pub IsLeft-placed : {start heap : Heap} → IsLeft start heap → (at : ℕ) → heap at ≢ no_cell → start at ≢ no_cell
+IsLeft-placed {start} {heap} left at some = Becomes-none (start at) (heap at) (left.each at) some
+
 -- a cell that is not counted is as it was
 pub IsLeft-kept : {start heap : Heap} → IsLeft start heap → (at : ℕ) (cell : Cell) → ((count : ℕ) (body : Body) → cell ≢ counted count body) → start at ≡ cell → heap at ≡ cell
 IsLeft-kept {start} {heap} left at cell other is = by-cell cell other (subst (λ c. Becomes c (heap at)) is (left.each at))

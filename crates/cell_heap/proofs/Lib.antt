@@ -1,4 +1,5 @@
 mod Examples
+mod ExampleView
 pub mod Sums
 pub mod Frames
 pub mod Counting
@@ -10,3 +11,7 @@ pub mod Waits
 pub mod Choosing
 pub mod Borders
 pub mod Held
+pub mod Owning
+pub mod Counted
+pub mod FreeCells
+pub mod Sound

@@ -4,3 +4,4 @@ pub mod View
 pub mod Memory
 pub mod GivingUp
 pub mod Counts
+pub mod Sound

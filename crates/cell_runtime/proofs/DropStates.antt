@@ -1,11 +1,11 @@
 -- The states of the routine that gives up a reference: what memory holds within it, and what it leaves alone.
-use Rattle.std.proofs.Common.{◌≡◌, ℕ, ◌+◌, ◌^◌, ◌<◌, ◌≤◌, ◌⊎◌, inl, inr, List, [], ◌∷◌, length, ◌∙◌, arith}
-use Rattle.rv_isa.specs.Bytes.{with_number}
+use Rattle.std.proofs.Common.{◌≡◌, ℕ, ◌+◌, ◌^◌, ◌<◌, ◌≤◌, ◌⊎◌, inl, inr, List, [], ◌∷◌, length, sym, ◌∙◌, arith}
+use Rattle.rv_isa.specs.Bytes.{Apart, with_number}
 use Rattle.rv_isa.specs.Machine.{Machine, value, put}
 use Rattle.rv_isa.specs.Execution.{Leads}
 use Rattle.rv_isa.specs.Standing.{Code, Stands}
 use Rattle.rv_isa.proofs.Runs.{Leads-then}
-use Rattle.rv_isa.proofs.Bytes.{with_number-below, with_number-above}
+use Rattle.rv_isa.proofs.Memory.{number_at-one, number_at-apart}
 use Rattle.rv_isa.proofs.Instructions.{value-put_other}
 use Rattle.cell_heap.specs.Cells.{Body, Heap, counted}
 use Rattle.cell_heap.specs.Pool.{Pool, IsCell}
@@ -38,11 +38,12 @@ IsQuiet-then one two = record {
 
 -- a store of a count changes no other byte
 pub count-stored : (first : Heap) (at before n : ℕ) (body : Body) (memory : ℕ → ℕ) → first at ≡ counted before body → (x : ℕ) → IsNoCount first x → with_number at 4 n memory x ≡ memory x
-count-stored first at before n body memory is x none = by-side (none at before body is)
+count-stored first at before n body memory is x none =
+    sym (number_at-one (with_number at 4 n memory) x) ∙ number_at-apart at 4 n memory x 1 (λ some. apart (none at before body is)) ∙ number_at-one memory x
   where
-    by-side : (x < at) ⊎ (at + 4 ≤ x) → with_number at 4 n memory x ≡ memory x
-    by-side (inl below) = with_number-below at 4 n memory x below
-    by-side (inr above) = with_number-above at 4 n memory x above
+    apart : (x < at) ⊎ (at + 4 ≤ x) → Apart at 4 x 1
+    apart (inl below) = inl (omega arith)
+    apart (inr above) = inr above
 
 -- ---- registers that are set
 
