@@ -5,7 +5,6 @@
 
 mod assembly;
 mod drop;
-mod environment;
 mod layout;
 mod print_int;
 mod print_text;
