@@ -18,3 +18,6 @@ mod tokens;
 pub use layout::Layout;
 pub use runtime::text;
 pub use stop::Ending;
+
+#[cfg(test)]
+mod tests;
