@@ -1,3 +1,4 @@
+mod Examples
 pub mod Operands
 pub mod SameLines
 pub mod Spelling

@@ -1,4 +1,4 @@
-mod Examples
+pub mod Examples
 mod ExampleRuns
 mod MachineExamples
 pub mod Acts
@@ -9,6 +9,8 @@ pub mod Fits
 pub mod Instructions
 pub mod Memory
 pub mod Parts
+pub mod ImageAgreements
+pub mod ProcessorMachines
 pub mod Products
 pub mod Reading
 pub mod Runs

@@ -4,7 +4,7 @@ use Rattle.std.specs.List.{slice_get}
 use Rattle.rv_isa.specs.declared.instr.Instr.{Instr}
 use Rattle.rv_isa.specs.Read.{read}
 use Rattle.rv_isa.specs.Bytes.{Apart, number_at}
-use Rattle.rv_isa.specs.Machine.{Machine, can_fetch, can_store}
+use Rattle.rv_isa.specs.Processor.{Processor, can_fetch, can_store}
 
 -- the instruction at each address, where there is one
 abbrev pub Code : Type 0
@@ -22,7 +22,7 @@ code_of start is at =
 
 -- the code stands in the machine: at addresses of words, each instruction as the machine reads it, where it may be fetched, and where no store
 -- of at least one byte reaches it. So it stands after every step too
-pub record Stands (code : Code) (s : Machine) : Type 0 where
+pub record Stands (code : Code) (s : Processor) : Type 0 where
   pub aligned : (at : ℕ) (i : Instr) → code at ≡ Some i → at % 4 ≡ 0
   pub below : (at : ℕ) (i : Instr) → code at ≡ Some i → at < 2 ^ 32
   pub fetched : (at : ℕ) (i : Instr) → code at ≡ Some i → can_fetch s.parts at 4 ≡ true

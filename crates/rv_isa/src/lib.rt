@@ -1,12 +1,14 @@
-//! The instructions of RV32IM: their words and what each does.
+//! The instructions of RV32IM: their words and what each does; and the numbers of the environment that they run in.
 #![tactic(auto)]
 
 mod act;
+mod agreement;
 mod arithmetic;
 mod asm;
 mod code;
 mod decoding;
 mod encoding;
+pub mod environment;
 mod immediate;
 mod instr;
 mod meaning;
@@ -17,6 +19,7 @@ mod routine;
 mod tests;
 
 pub use act::{Act, Effect};
+pub use agreement::{AgreedImage, agreed_image_agrees};
 pub use asm::{
     Action, Asm, AsmFunction, Condition, ImmediateOperation, Operation, RegisterOperation,
     ShiftOperation, Statement,

@@ -1,7 +1,8 @@
--- The parts of a machine's memory, with the bytes that they hold.
-use Rattle.std.specs.Prelude.{◌≡◌, ℕ, ◌-◌, ◌⊎◌, List, [], ◌∷◌, ◌++◌, length, replicate, map, Bool, true, false, ◌&&◌}
+-- The parts of a machine's memory, with the bytes that they hold. Private functions alone cite these.
+use Rattle.std.specs.Prelude.{◌≡◌, ℕ, ◌-◌, List, [], ◌∷◌, ◌++◌, length, replicate, map, Bool, true, false, ◌&&◌}
 use Rattle.kk_base.specs.Memory.{Part, covers}
-use Rattle.rv_isa.specs.Machine.{can_fetch, can_load, can_store, lies_in_part}
+use Rattle.rv_isa.specs.Processor.{can_fetch, can_load, can_store, lies_in_part}
+use Rattle.rv_isa.specs.Meaning.{IsWidth}
 use Rattle.rv_isa.specs.declared.act.Act.{Act}
 use Rattle.rv_isa.specs.declared.act.Act.TheVariants as act
 use Rattle.rv_sim.specs.declared.area.Access.{Access}
@@ -9,8 +10,8 @@ use Rattle.rv_sim.specs.declared.area.Access.TheVariants.{Fetch, Load, Store, In
 use Rattle.rv_sim.specs.declared.area.Area.{Area}
 
 -- an area as a part: its bytes are all that it holds
-abbrev pub part_of : Area → Part
-part_of area = record {
+abbrev pub part_of_area : Area → Part
+part_of_area area = record {
   start = area.start;
   size = length area.bytes.items;
   readable = area.readable;
@@ -19,8 +20,8 @@ part_of area = record {
   bytes = area.bytes.items;
 }
 
-abbrev pub parts_of : List Area → List Part
-parts_of areas = map part_of areas
+abbrev pub parts_of_areas : List Area → List Part
+parts_of_areas areas = map part_of_area areas
 
 -- a part with zeros behind the bytes that it is loaded with
 abbrev pub filled : Part → Part
@@ -35,7 +36,7 @@ permits Inspect part = true
 
 -- it may be made in an area, to the addresses from `at`, `count` of them
 abbrev pub allows : Access → ℕ → ℕ → Area → Bool
-allows access at count area = permits access (part_of area) && covers (part_of area) at count
+allows access at count area = permits access (part_of_area area) && covers (part_of_area area) at count
 
 -- it may be made to these addresses
 abbrev pub can : Access → List Part → ℕ → ℕ → Bool
@@ -50,10 +51,7 @@ AreApart [] = Unit {0}
 AreApart (part ∷ parts) =
     ((at : ℕ) → covers part at 1 ≡ true → lies_in_part parts at 1 ≡ false) × AreApart parts
 
--- the numbers of bytes that loads and stores move
-abbrev pub IsWidth : ℕ → Type 0
-IsWidth width = (width ≡ 1) ⊎ ((width ≡ 2) ⊎ (width ≡ 4))
-
+-- an act moves as many bytes as loads and stores do
 abbrev pub MovesWidth : Act → Type 0
 MovesWidth (act.Load at width signed) = IsWidth width
 MovesWidth (act.Store at width value) = IsWidth width
