@@ -1,6 +1,6 @@
 -- What follows of a drop: the heap that it leaves is one from which the next one begins, and credit pays its instructions.
 use Rattle.std.proofs.Common.{◌≡◌, ◌≤◌, ℕ, ◌+◌, ◌*◌, [], ◌∷◌, arith}
-use Rattle.rv_isa.specs.Machine.{Machine}
+use Rattle.rv_isa.specs.Processor.{Processor}
 use Rattle.cell_heap.specs.Pool.{Pool, places}
 use Rattle.cell_heap.specs.View.{View}
 use Rattle.cell_heap.specs.Counts.{credit}
@@ -10,7 +10,7 @@ use Rattle.cell_heap.proofs.GivingUp.{GivesUp-paid}
 use Rattle.cell_heap.proofs.Sound.{sound-listed, sound-kept}
 use Rattle.cell_runtime.specs.Drops.{BeforeDrop, AfterDrop}
 
-module _ {pool : Pool} {roots : ℕ → ℕ} {reference : ℕ} {view : View} {s t : Machine} (before : BeforeDrop pool roots reference view s) (after : AfterDrop pool reference view s t) where
+module _ {pool : Pool} {roots : ℕ → ℕ} {reference : ℕ} {view : View} {s t : Processor} (before : BeforeDrop pool roots reference view s) (after : AfterDrop pool reference view s t) where
   pub before-sound : IsSound pool roots (reference ∷ []) view.heap
   before-sound = record {
     aligned = before.memory.usable.aligned;
