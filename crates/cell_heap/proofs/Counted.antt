@@ -2,7 +2,7 @@
 use Rattle.std.proofs.Common.{◌≡◌, ◌≢◌, ◌≤◌, ◌<◌, ℕ, zero, suc, ◌+◌, ◌*◌, ◌%◌, inl, inr, List, [], ◌∷◌, ◌++◌, length, refl, sym, ap, arith}
 use Rattle.std.proofs.lemmas.Bool.{cases_eq}
 use Rattle.cell_heap.specs.Cells.{occurs}
-use Rattle.cell_heap.specs.Pool.{cells_from}
+use Rattle.rv_isa.specs.FreeCells.{cells_from}
 use Rattle.cell_heap.specs.Counts.{total}
 use Rattle.cell_heap.proofs.Sums.{occurs-same, occurs-other, occurs-by, occurs-none, total-none}
 

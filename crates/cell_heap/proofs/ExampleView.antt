@@ -3,7 +3,7 @@ use Rattle.std.proofs.Common.{◌≡◌, ◌≢◌, ◌≤◌, ◌<◌, ◌↔�
 use Rattle.std.proofs.lemmas.Bool.Decides.{nat_tests}
 use Rattle.kk_base.specs.Memory.{Part}
 use Rattle.rv_isa.specs.Bytes.{number_at, with_number, bytes_at, with_bytes}
-use Rattle.rv_isa.specs.Machine.{Machine}
+use Rattle.rv_isa.specs.Processor.{Processor}
 use Rattle.cell_heap.specs.Cells.{Body, Cell, no_cell, free, token, waiting, counted, Heap, changed, owned, occurs}
 use Rattle.cell_heap.specs.Pool.{Pool, IsCell, IsUsable, places}
 use Rattle.cell_heap.specs.View.{View, HasBorder}
@@ -35,7 +35,7 @@ view = record { heap = heap; frees = 96 ∷ []; border = 160; held = record { ce
 abbrev part : Part
 part = record { start = 64; size = 192; readable = true; writable = true; executable = true; bytes = [] }
 
-abbrev machine : Machine
+abbrev machine : Processor
 machine = record {
   registers = λ x. if nat_eq x 8 then 96 else if nat_eq x 9 then 128 else if nat_eq x 18 then 160 else if nat_eq x 19 then 192 else 0;
   pc = 0;

@@ -1,10 +1,10 @@
 -- What a change of memory leaves of what cells show: a change of one cell's words, and one outside of all cells.
-use Rattle.std.proofs.Common.{◌≡◌, ◌≢◌, ◌≤◌, ℕ, ◌+◌, ◌*◌, ◌%◌, ◌⊎◌, inl, inr, List, [], ◌∷◌, map, length, Bool, true, false, nat_eq, if◌then◌else◌, refl, sym, ◌∙◌, subst, arith}
+use Rattle.std.proofs.Common.{◌≡◌, ◌≢◌, ◌≤◌, ◌<◌, ℕ, ◌+◌, ◌*◌, ◌%◌, ◌⊎◌, inl, inr, List, [], ◌∷◌, map, length, Bool, true, false, nat_eq, if◌then◌else◌, refl, sym, ◌∙◌, subst, arith}
 use Rattle.std.proofs.lemmas.Bool.{cases_lt}
 use Rattle.std.proofs.lemmas.Bool.Decides.{nat_tests}
 use Rattle.kk_base.specs.Memory.{Part}
 use Rattle.rv_isa.specs.Bytes.{with_number, Apart}
-use Rattle.rv_isa.proofs.Memory.{word-apart}
+use Rattle.rv_isa.proofs.Memory.{word-apart, number_at-one, number_at-apart}
 use Rattle.cell_heap.proofs.Sums.{occurs-none, occurs-first, occurs-later}
 use Rattle.cell_heap.specs.Cells.{Body, Cell, no_cell, free, token, waiting, counted, Heap, changed, occurs}
 use Rattle.cell_heap.specs.Pool.{Pool, end_of, IsCell}
@@ -240,3 +240,12 @@ SameInside-store pool memory to n apart =
     apart-word : (x : ℕ) → pool.first ≤ x → x + 4 ≤ end_of pool → (to + 4 ≤ pool.first) ⊎ (end_of pool ≤ to) → Apart to 4 x 4
     apart-word x low high (inl before) = inr (omega arith)
     apart-word x low high (inr behind) = inl (omega arith)
+
+-- and no byte outside of the word
+pub byte-stored_apart : (memory : ℕ → ℕ) (to n x : ℕ) → (x < to) ⊎ (to + 4 ≤ x) → with_number to 4 n memory x ≡ memory x
+byte-stored_apart memory to n x apart =
+    sym (number_at-one (with_number to 4 n memory) x) ∙ number_at-apart to 4 n memory x 1 (λ some. apart-byte apart) ∙ number_at-one memory x
+  where
+    apart-byte : (x < to) ⊎ (to + 4 ≤ x) → Apart to 4 x 1
+    apart-byte (inl below) = inl (omega arith)
+    apart-byte (inr above) = inr above

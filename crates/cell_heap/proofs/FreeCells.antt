@@ -1,12 +1,17 @@
 -- The free cells of a view, as a list: those of the chain, and those from the border on.
-use Rattle.std.proofs.Common.{◌≡◌, ◌≢◌, ◌≤◌, ℕ, ◌+◌, ◌-◌, ◌*◌, ◌/◌, ◌%◌, inl, inr, List, [], ◌∷◌, ◌++◌, length, refl, sym, ap, ◌∙◌, arith, length-append}
-use Rattle.std.proofs.lemmas.Bool.{cases_eq, cases_lt}
+use Rattle.std.proofs.Common.{◌≡◌, ◌≢◌, ◌≤◌, ℕ, zero, suc, ◌+◌, ◌-◌, ◌*◌, ◌/◌, ◌%◌, inl, inr, List, [], ◌∷◌, ◌++◌, length, take, true, false, ◌&&◌, nat_eq, refl, sym, ap, ◌∙◌, arith, length-append}
+use Rattle.std.proofs.lemmas.Bool.{cases_eq, cases_lt, or_cases, or_left, or_right, and_parts}
+use Rattle.std.proofs.lemmas.Bool.Decides.{nat_tests}
 use Rattle.cell_heap.specs.Cells.{free, Heap, occurs}
-use Rattle.cell_heap.specs.Pool.{Pool, end_of, IsCell, cells_from}
+use Rattle.cell_heap.specs.Pool.{Pool, end_of, IsCell, IsUsable}
+use Rattle.rv_isa.specs.FreeCells.{chain as image_chain, border as image_border, border_size, cells_from, free_list}
+use Rattle.rv_isa.specs.Processor.{Processor, value, can_load, lies_in_part}
+use Rattle.kk_base.specs.Memory.{Part, covers}
 use Rattle.cell_heap.specs.View.{View, HasBorder}
-use Rattle.cell_heap.specs.Memory.{word, IsShown, IsChain}
+use Rattle.cell_heap.specs.Memory.{word, IsShown, IsChain, Memory}
+use Rattle.cell_heap.specs.FreeCells.{ListsFree}
 use Rattle.cell_heap.proofs.Sums.{occurs-by, occurs-other, occurs-same, occurs-append, occurs-below, occurs-cells}
-use Rattle.cell_heap.proofs.Frames.{shown-cell, free-some}
+use Rattle.cell_heap.proofs.Frames.{shown-cell, free-some, cell-inside}
 use Rattle.cell_heap.proofs.Waits.{IsChain-apart}
 use Rattle.cell_heap.proofs.Counted.{cells_from-member, length-cells_from, length-total, total-at_most}
 
@@ -104,3 +109,58 @@ module _ (pool : Pool) (memory : ℕ → ℕ) (view : View) (from : ℕ) (aligne
       let behind = has.behind in
       let whole = has.aligned in
       omega arith
+
+-- ---- the free cells of an image
+
+lies-loaded : (parts : List Part) (at count : ℕ) → can_load parts at count ≡ true → lies_in_part parts at count ≡ true
+lies-loaded [] at count loads = loads
+lies-loaded (part ∷ parts) at count loads =
+    elim (or_cases (part.readable && covers part at count) (can_load parts at count) loads) [
+      | inl first ↦ or_left (covers part at count) (lies_in_part parts at count) (and_parts part.readable (covers part at count) first).1
+      | inr later ↦ or_right (covers part at count) (lies_in_part parts at count) (lies-loaded parts at count later)
+    ]
+
+-- the chain of an image is the view's
+chain-is : (pool : Pool) (parts : List Part) (memory : ℕ → ℕ) (heap : Heap) → IsUsable pool parts → IsShown pool memory heap → (count at : ℕ) (frees : List ℕ) → IsChain memory heap at frees → length frees ≤ count → image_chain parts memory count at ≡ frees
+chain-is pool parts memory heap usable shown zero at [] is few = refl
+chain-is pool parts memory heap usable shown zero at (first ∷ frees) is few = absurd (omega arith)
+chain-is pool parts memory heap usable shown (suc count) at [] is few = let test : nat_eq at 0 ≡ true = grind (arith, nat_tests) in rw test refl
+chain-is pool parts memory heap usable shown (suc count) at (first ∷ frees) is few =
+    let cell = shown-cell shown first free is.1 free-some in
+    let some : at ≢ 0 = λ e. let behind = cell.behind in let above = usable.some in let here = is.0 in omega arith in
+    let test : nat_eq at 0 ≡ false = grind (arith, nat_tests) in
+    let inside = cell-inside pool first usable.aligned cell in
+    let lies : lies_in_part parts at 4 ≡ true = ap (λ a. lies_in_part parts a 4) is.0 ∙ lies-loaded parts first 4 (usable.loads first cell.behind (omega arith)) in
+    let rest = chain-is pool parts memory heap usable shown count (word memory first) frees is.3 (omega arith) in
+    rw (test, lies) (ap (λ a. a ∷ image_chain parts memory count (word memory a)) is.0 ∙ ap (λ cells. first ∷ cells) rest)
+
+take-all : (n : ℕ) (xs : List ℕ) → length xs ≤ n → take n xs ≡ xs
+take-all zero [] few = refl
+take-all (suc n) [] few = refl
+take-all zero (x ∷ xs) few = absurd (omega arith)
+take-all (suc n) (x ∷ xs) few = ap (λ ys. x ∷ ys) (take-all n xs (omega arith))
+
+border-size : (low high : ℕ) → low % 32 ≡ 0 → high % 32 ≡ 0 → low ≤ high → border_size low high ≡ (high - low) / 32
+border-size low high low_whole high_whole within = grind (arith, nat_tests)
+
+-- where memory has the cells of a view, the free cells of the image are the view's
+pub free_list-is : {pool : Pool} {view : View} {s : Processor} → Memory pool view s → free_list pool.cells s ≡ view.frees ++ cells_from view.border (fresh_cells pool view.border)
+free_list-is {pool} {view} {s} memory =
+    let aligned = memory.usable.aligned in
+    let has = memory.has_border in
+    let few = listed-few pool s.memory view (value s.registers 8) aligned memory.shown memory.chain has in
+    let sum = length-append view.frees (cells_from view.border (fresh_cells pool view.border)) in
+    let chain_is = chain-is pool s.parts s.memory view.heap memory.usable memory.shown pool.cells (value s.registers 8) view.frees memory.chain (omega arith) in
+    let high : end_of pool % 32 ≡ 0 = omega arith in
+    let size : border_size (value s.registers 18) (value s.registers 19) ≡ fresh_cells pool view.border = ap (λ n. border_size n (value s.registers 19)) memory.border ∙ ap (border_size view.border) memory.end ∙ border-size view.border (end_of pool) has.aligned high has.within in
+    let border_is : image_border s ≡ cells_from view.border (fresh_cells pool view.border) = ap (λ n. cells_from n (border_size (value s.registers 18) (value s.registers 19))) memory.border ∙ ap (cells_from view.border) size in
+    ap (λ cells. take pool.cells (cells ++ image_border s)) chain_is ∙ ap (λ cells. take pool.cells (view.frees ++ cells)) border_is ∙ take-all pool.cells (view.frees ++ cells_from view.border (fresh_cells pool view.border)) few
+
+pub free_list-lists : (pool : Pool) (view : View) (s : Processor) → Memory pool view s → ListsFree view.heap (free_list pool.cells s)
+free_list-lists pool view s memory =
+    let is = free_list-is memory in
+    let aligned = memory.usable.aligned in
+    record {
+      once = λ at free_at. ap (occurs at) is ∙ free-listed pool s.memory view (value s.registers 8) aligned memory.shown memory.chain memory.has_border at free_at;
+      no_other = λ at other. ap (occurs at) is ∙ other-unlisted pool s.memory view (value s.registers 8) aligned memory.shown memory.chain memory.has_border at other;
+    }

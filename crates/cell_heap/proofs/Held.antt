@@ -2,7 +2,7 @@
 use Rattle.std.proofs.Common.{◌≡◌, ◌≢◌, ◌≤◌, ◌<◌, ℕ, ◌+◌, ◌%◌, ◌⊎◌, inl, inr, List, [], ◌∷◌, refl, sym, ap, ◌∙◌, subst, arith}
 use Rattle.std.proofs.lemmas.Bool.{cases_lt}
 use Rattle.kk_base.specs.Memory.{Part}
-use Rattle.rv_isa.proofs.Bytes.{number_at-same}
+use Rattle.rv_isa.proofs.Memory.{number_at-same}
 use Rattle.cell_heap.specs.Cells.{Body, Cell, no_cell, free, token, waiting, counted, Heap}
 use Rattle.cell_heap.specs.Pool.{Pool, IsCell}
 use Rattle.cell_heap.specs.View.{Link}

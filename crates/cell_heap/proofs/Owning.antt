@@ -4,7 +4,7 @@ use Rattle.std.proofs.Common.{◌≡◌, ◌≢◌, ◌≤◌, ◌<◌, ℕ, suc
 use mathlib.Core.Path.{fun_ext}
 use Rattle.kk_base.specs.Memory.{Part}
 use Rattle.rv_isa.specs.Bytes.{with_number}
-use Rattle.rv_isa.specs.Machine.{Machine, value}
+use Rattle.rv_isa.specs.Processor.{Processor, value}
 use Rattle.rv_isa.proofs.Memory.{word-same, word-apart}
 use Rattle.cell_heap.specs.Cells.{Body, Cell, no_cell, free, token, waiting, counted, Heap, changed, occurs}
 use Rattle.cell_heap.specs.Pool.{Pool, IsUsable}
@@ -15,7 +15,7 @@ use Rattle.cell_heap.proofs.Waits.{IsChain-apart, IsChain-below, SameWords-first
 use Rattle.cell_heap.proofs.Borders.{HasFrees-changed, HasFrees-freed}
 
 -- the registers of the chains and the border, and the parts, are the same
-pub record SameRoots (s t : Machine) : Type 0 where
+pub record SameRoots (s t : Processor) : Type 0 where
   pub parts : t.parts ≡ s.parts
   pub chain : value t.registers 8 ≡ value s.registers 8
   pub held : value t.registers 9 ≡ value s.registers 9
@@ -57,7 +57,7 @@ changed-nothing : (at : ℕ) (cell : Cell) (heap : Heap) → heap at ≡ cell �
 changed-nothing at cell heap is =
     fun_ext (λ x. changed-by (λ c. c ≡ heap x) x at cell heap (λ e. sym (ap heap e ∙ is)) (λ differ. refl))
 
-module _ {pool : Pool} {view : View} {s t : Machine} (memory : Memory pool view s) (same : SameRoots s t) where
+module _ {pool : Pool} {view : View} {s t : Processor} (memory : Memory pool view s) (same : SameRoots s t) where
   -- ---- a cell of the code's own becomes another one
 
   -- words of it alone have changed, if any, and memory shows the new state
@@ -178,7 +178,7 @@ module _ {pool : Pool} {view : View} {s t : Machine} (memory : Memory pool view 
 -- ---- release
 
 -- a cell of the code's own is freed: its first word is the chain's head, and x8 is its address
-pub own_free : {pool : Pool} {view : View} {s t : Machine} → Memory pool view s → (at : ℕ) → IsOwn view at → t.parts ≡ s.parts → t.memory ≡ with_number at 4 (value s.registers 8) s.memory
+pub own_free : {pool : Pool} {view : View} {s t : Processor} → Memory pool view s → (at : ℕ) → IsOwn view at → t.parts ≡ s.parts → t.memory ≡ with_number at 4 (value s.registers 8) s.memory
     → value t.registers 8 ≡ at → value t.registers 9 ≡ value s.registers 9 → value t.registers 18 ≡ value s.registers 18 → value t.registers 19 ≡ value s.registers 19
     → Memory pool (record view { heap = changed at free view.heap; frees = at ∷ view.frees }) t
 own_free {pool} {view} {s} {t} memory at own parts stored chain held border end =

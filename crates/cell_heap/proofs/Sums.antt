@@ -3,7 +3,7 @@ use Rattle.std.proofs.Common.{◌≡◌, ◌≢◌, ◌≤◌, ◌<◌, ℕ, zer
 use Rattle.std.proofs.lemmas.Bool.{cases_eq}
 use Rattle.std.proofs.lemmas.Bool.Decides.{nat_tests}
 use Rattle.cell_heap.specs.Cells.{occurs}
-use Rattle.cell_heap.specs.Pool.{cells_from}
+use Rattle.rv_isa.specs.FreeCells.{cells_from}
 use Rattle.cell_heap.specs.Counts.{total}
 
 -- ---- members

@@ -5,3 +5,4 @@ pub mod Memory
 pub mod GivingUp
 pub mod Counts
 pub mod Sound
+pub mod FreeCells

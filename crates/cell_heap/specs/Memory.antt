@@ -10,7 +10,7 @@
 use Rattle.std.specs.Prelude.{◌≡◌, ◌≢◌, ℕ, ◌+◌, ◌*◌, ◌%◌, ◌^◌, ◌<◌, ◌≤◌, ◌⊎◌, List, [], ◌∷◌, map, length, true}
 use Rattle.kk_base.specs.Memory.{Part}
 use Rattle.rv_isa.specs.Bytes.{number_at}
-use Rattle.rv_isa.specs.Machine.{Machine, value, can_load, can_store}
+use Rattle.rv_isa.specs.Processor.{Processor, value, can_load, can_store}
 use Rattle.cell_heap.specs.Cells.{Body, Cell, no_cell, free, token, waiting, counted, Heap, occurs}
 use Rattle.cell_heap.specs.Pool.{Pool, end_of, IsCell, IsUsable}
 use Rattle.cell_heap.specs.View.{Link, View, HasBorder}
@@ -77,7 +77,7 @@ IsHeldChain pool parts memory heap at (link ∷ links) =
     × IsHeldChain pool parts memory heap (word memory link.cell) links
 
 -- the machine's memory and registers have the cells of the view, as at each moment outside of the runtime's routines
-pub record Memory (pool : Pool) (view : View) (s : Machine) : Type 0 where
+pub record Memory (pool : Pool) (view : View) (s : Processor) : Type 0 where
   pub usable : IsUsable pool s.parts
   pub shown : IsShown pool s.memory view.heap
   pub settled : (at : ℕ) (body : Body) → view.heap at ≢ waiting body

@@ -1,7 +1,8 @@
 -- The place of a program's cells in memory: 32 bytes each, one behind the other, at multiples of 32.
-use Rattle.std.specs.Prelude.{◌≡◌, ℕ, zero, suc, ◌+◌, ◌*◌, ◌%◌, ◌^◌, ◌<◌, ◌≤◌, List, [], ◌∷◌, true}
+use Rattle.std.specs.Prelude.{◌≡◌, ℕ, ◌+◌, ◌*◌, ◌%◌, ◌^◌, ◌<◌, ◌≤◌, List, true}
 use Rattle.kk_base.specs.Memory.{Part}
-use Rattle.rv_isa.specs.Machine.{can_load, can_store}
+use Rattle.rv_isa.specs.FreeCells.{cells_from}
+use Rattle.rv_isa.specs.Processor.{can_load, can_store}
 
 -- the address of the first cell, and how many there are
 pub record Pool : Type 0 where
@@ -16,11 +17,6 @@ pub record IsCell (pool : Pool) (at : ℕ) : Type 0 where
   pub behind : pool.first ≤ at
   pub before : at < end_of pool
   pub aligned : at % 32 ≡ 0
-
--- the addresses of so many cells, one behind the other
-abbrev pub cells_from : ℕ → ℕ → List ℕ
-cells_from at zero = []
-cells_from at (suc count) = at ∷ cells_from (at + 32) count
 
 -- all cells of the pool
 abbrev pub places : Pool → List ℕ

@@ -1,4 +1,4 @@
-//! Laws of the giving up of references. Each is a function that does nothing; what its contract says is proved.
+//! Laws of cells. Each is a function that does nothing; what its contract says is proved.
 
 ghost use Rattle.std.specs.Prelude.{◌≡◌, ℕ, ◌+◌, ◌*◌, List, [], length};
 ghost use Rattle.cell_heap.specs.Cells.{Heap, occurs};
@@ -6,6 +6,11 @@ ghost use Rattle.cell_heap.specs.Pool.{Pool, places};
 ghost use Rattle.cell_heap.specs.GivingUp.{GivesUp};
 ghost use Rattle.cell_heap.specs.Counts.{credit};
 ghost use Rattle.cell_heap.specs.Sound.{IsSound};
+ghost use Rattle.cell_heap.specs.View.{View};
+ghost use Rattle.cell_heap.specs.Memory.{Memory};
+ghost use Rattle.cell_heap.specs.FreeCells.{ListsFree};
+ghost use Rattle.rv_isa.specs.FreeCells.{free_list};
+ghost use Rattle.rv_isa.specs.Processor.{Processor};
 
 /// References of a sound heap can all be given up.
 pub fn giving_up_comes_to_an_end()
@@ -26,4 +31,9 @@ pub fn giving_up_has_one_end()
 /// what was saved before and not after, and that of the first references, is exactly their cost.
 pub fn giving_up_is_paid()
     ensures { (pool : Pool) (roots : ℕ → ℕ) (given : List ℕ) (heap end : Heap) (gave freed a_cell a_reference : ℕ) → IsSound pool roots given heap → GivesUp given heap gave freed end → credit a_cell a_reference (places pool) end + a_cell * freed + a_reference * gave ≡ credit a_cell a_reference (places pool) heap + a_reference * length given }
+{}
+
+/// Where memory has the cells of a view, the free cells of the image are exactly the view's free cells, each once.
+pub fn free_cells_are_listed()
+    ensures { (pool : Pool) (view : View) (s : Processor) → Memory pool view s → ListsFree view.heap (free_list pool.cells s) }
 {}

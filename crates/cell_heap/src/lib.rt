@@ -4,6 +4,6 @@
 mod laws;
 
 pub use laws::{
-    giving_up_comes_to_an_end, giving_up_has_one_end, giving_up_is_paid,
+    free_cells_are_listed, giving_up_comes_to_an_end, giving_up_has_one_end, giving_up_is_paid,
     giving_up_keeps_heaps_sound,
 };

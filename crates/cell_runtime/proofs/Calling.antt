@@ -2,7 +2,7 @@
 use Rattle.std.proofs.Common.{◌≡◌, ◌≢◌, ℕ, suc, ◌+◌, ◌%◌, ◌^◌, ◌<◌, Some, add_assoc, refl, ap, ◌∙◌, arith}
 use Rattle.rv_isa.specs.declared.instr.Instr.TheVariants.{Jalr, Ecall}
 use Rattle.rv_isa.specs.Arithmetic.{sum_word}
-use Rattle.rv_isa.specs.Machine.{Machine, going, exited, value}
+use Rattle.rv_isa.specs.Processor.{Processor, going, exited, value}
 use Rattle.rv_isa.specs.Environment.{stepped}
 use Rattle.rv_isa.specs.Execution.{run, Leads}
 use Rattle.rv_isa.proofs.Runs.{Leads-then, Leads-ended}
@@ -13,7 +13,7 @@ use Rattle.cell_runtime.specs.Calls.{Exits}
 use Rattle.cell_runtime.proofs.Operands.{x0, x1, imm_0}
 
 -- a jump to the way back
-pub leads-back : {code : Code} {s : Machine} {n w : ℕ} (t : Machine) → Stands code s → Leads n s t → code t.pc ≡ Some (Jalr x0 x1 imm_0) → value t.registers 1 ≡ w → w % 4 ≡ 0 → w < 2 ^ 32
+pub leads-back : {code : Code} {s : Processor} {n w : ℕ} (t : Processor) → Stands code s → Leads n s t → code t.pc ≡ Some (Jalr x0 x1 imm_0) → value t.registers 1 ≡ w → w % 4 ≡ 0 → w < 2 ^ 32
     → Leads (n + 1) s (stepped w t)
 leads-back {w = w} t stands leads here way aligned below =
     let to : sum_word (value t.registers 1) 0 ≡ w = omega arith in
@@ -23,18 +23,18 @@ exited-ended : (n : ℕ) → exited n ≢ going
 exited-ended n e = cc
 
 -- an exit
-pub ends-exit : {code : Code} {s : Machine} {n number : ℕ} (t : Machine) → Stands code s → Leads n s t → code t.pc ≡ Some Ecall → value t.registers 17 ≡ 93 → value t.registers 10 % 256 ≡ number
-    → (more : ℕ) → run (n + 1 + more) s ≡ record { machine = stepped (sum_word t.pc 4) t; ending = exited number }
+pub ends-exit : {code : Code} {s : Processor} {n number : ℕ} (t : Processor) → Stands code s → Leads n s t → code t.pc ≡ Some Ecall → value t.registers 17 ≡ 93 → value t.registers 10 % 256 ≡ number
+    → (more : ℕ) → run (n + 1 + more) s ≡ record { processor = stepped (sum_word t.pc 4) t; ending = exited number }
 ends-exit {s = s} {n} {number} t stands leads here call number_is more =
     let sum : n + 1 + more ≡ n + suc more = omega arith in
     ap (λ k. run k s) sum ∙ Leads-ended leads (step-exit (Stands-leads leads stands) here call number_is refl) (exited-ended number) more
 
 -- one instruction more
-pub then_one : {code : Code} {s t u : Machine} {n : ℕ} → Stands code s → Leads n s t → (Stands code t → Leads 1 t u) → Leads (n + 1) s u
+pub then_one : {code : Code} {s t u : Processor} {n : ℕ} → Stands code s → Leads n s t → (Stands code t → Leads 1 t u) → Leads (n + 1) s u
 then_one stands leads more = Leads-then leads (more (Stands-leads leads stands))
 
 -- an exit that comes after some instructions that change nothing but the address and the count
-pub exits-after : {number n k : ℕ} {s t : Machine} → Leads n s t → t.registers ≡ s.registers → t.memory ≡ s.memory → t.parts ≡ s.parts → t.trace ≡ s.trace → t.executed ≡ s.executed + n → Exits number k t → Exits number (n + k) s
+pub exits-after : {number n k : ℕ} {s t : Processor} → Leads n s t → t.registers ≡ s.registers → t.memory ≡ s.memory → t.parts ≡ s.parts → t.trace ≡ s.trace → t.executed ≡ s.executed + n → Exits number k t → Exits number (n + k) s
 exits-after {n = n} {k = k} {s = s} leads registers memory parts trace executed exits = record {
   last = exits.last;
   ends = λ more. ap (λ count. run count s) (add_assoc n k more) ∙ leads.by (k + more) ∙ exits.ends more;

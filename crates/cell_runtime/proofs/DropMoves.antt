@@ -2,7 +2,7 @@
 use Rattle.std.proofs.Common.{◌≡◌, ◌≢◌, ℕ, suc, ◌+◌, ◌*◌, ◌/◌, ◌%◌, ◌^◌, ◌<◌, ◌≤◌, inl, inr, List, [], ◌∷◌, length, refl, sym, ap, ◌∙◌, arith}
 use Rattle.std.proofs.lemmas.Bool.{cases_eq}
 use Rattle.rv_isa.specs.Bytes.{with_number}
-use Rattle.rv_isa.specs.Machine.{Machine, value, put}
+use Rattle.rv_isa.specs.Processor.{Processor, value, put}
 use Rattle.rv_isa.specs.Environment.{stepped}
 use Rattle.rv_isa.specs.Execution.{Leads}
 use Rattle.rv_isa.specs.Standing.{Code, Has, Stands}
@@ -21,8 +21,8 @@ use Rattle.cell_runtime.proofs.DropStates.{IsQuiet, IsQuiet-then, count-stored, 
 -- ---- what the next fields come to
 
 -- no field is left, or one is about to be given up
-pub record IsScanned (code : Code) (pool : Pool) (first heap : Heap) (waits frees : List ℕ) (goal most : ℕ) (s : Machine) : Type 0 where
-  pub last : Machine
+pub record IsScanned (code : Code) (pool : Pool) (first heap : Heap) (waits frees : List ℕ) (goal most : ℕ) (s : Processor) : Type 0 where
+  pub last : Processor
   pub count : ℕ
   pub leads : Leads count s last
   pub few : count ≤ most
@@ -31,7 +31,7 @@ pub record IsScanned (code : Code) (pool : Pool) (first heap : Heap) (waits free
   pub pc_is : last.pc ≡ goal
   pub within : IsWithin code pool first heap waits frees last
 
-pub record IsChosen (code : Code) (pool : Pool) (first heap : Heap) (waits frees : List ℕ) (x : ℕ) (rest xs : List ℕ) (goal : ℕ) (s : Machine) : Type 0 where
+pub record IsChosen (code : Code) (pool : Pool) (first heap : Heap) (waits frees : List ℕ) (x : ℕ) (rest xs : List ℕ) (goal : ℕ) (s : Processor) : Type 0 where
   pub mask : ℕ
   pub left : List ℕ
   pub scanned : IsScanned code pool first heap waits frees goal (7 * length xs) s
@@ -43,7 +43,7 @@ pub record IsChosen (code : Code) (pool : Pool) (first heap : Heap) (waits frees
 mask-clear : (mask : ℕ) → (mask % 2 ≡ 1 → ⊥) → mask % 2 ≡ 0
 mask-clear mask other = grind arith
 
-IsScanned-from : {code : Code} {pool : Pool} {first heap : Heap} {waits frees : List ℕ} {goal most k n : ℕ} {s t : Machine} → Leads k s t → IsQuiet first s t → value t.registers 1 ≡ value s.registers 1 → k + most ≤ n
+IsScanned-from : {code : Code} {pool : Pool} {first heap : Heap} {waits frees : List ℕ} {goal most k n : ℕ} {s t : Processor} → Leads k s t → IsQuiet first s t → value t.registers 1 ≡ value s.registers 1 → k + most ≤ n
     → IsScanned code pool first heap waits frees goal most t → IsScanned code pool first heap waits frees goal n s
 IsScanned-from {most = most} {k} {n} leads quiet way fits scanned =
     let few = scanned.few in
@@ -58,7 +58,7 @@ IsScanned-from {most = most} {k} {n} leads quiet way fits scanned =
       within = scanned.within;
     }
 
-IsChosen-from : {code : Code} {pool : Pool} {first heap : Heap} {waits frees : List ℕ} {x goal : ℕ} {rest xs : List ℕ} {s t : Machine} → Leads 7 s t → IsQuiet first s t → value t.registers 1 ≡ value s.registers 1 → (y : ℕ)
+IsChosen-from : {code : Code} {pool : Pool} {first heap : Heap} {waits frees : List ℕ} {x goal : ℕ} {rest xs : List ℕ} {s t : Processor} → Leads 7 s t → IsQuiet first s t → value t.registers 1 ≡ value s.registers 1 → (y : ℕ)
     → IsChosen code pool first heap waits frees x rest xs goal t → IsChosen code pool first heap waits frees x rest (y ∷ xs) goal s
 unfolding IsScanned-from
 IsChosen-from leads quiet way y later =
@@ -107,14 +107,14 @@ mask_of : (tag mask : ℕ) → tag < 256 → (tag + 256 * mask) / 256 ≡ mask
 mask_of tag mask below = omega arith
 
 -- the machine behind a field, which is y, with its bit in x5
-abbrev behind_field : ℕ → ℕ → ℕ → ℕ → ℕ → Machine → Machine
+abbrev behind_field : ℕ → ℕ → ℕ → ℕ → ℕ → Processor → Processor
 behind_field mask y bit pc executed s = record s {
   registers = put 12 (mask / 2) (put 11 (value s.registers 11 + 4) (put 10 y (put 5 bit s.registers)));
   pc = pc;
   executed = executed;
 }
 
-module _ (first : Heap) (mask y bit pc executed : ℕ) (s : Machine) where
+module _ (first : Heap) (mask y bit pc executed : ℕ) (s : Processor) where
   quiet_field : IsQuiet first s (behind_field mask y bit pc executed s)
   quiet_field = record {
     registers = λ x kept.
@@ -147,7 +147,7 @@ module _ (code : Code) (at : ℕ) (has : Has code at drop_code) (fits : at + 112
   -- ---- fields
 
   module _ (heap : Heap) (waits frees : List ℕ) where
-    scan-now : (mask n : ℕ) (xs : List ℕ) (s : Machine) → mask ≡ 0 → s.pc ≡ at + 32 → IsWithin code pool first heap waits frees s → IsScanning pool mask xs s → 1 ≤ n → IsScanned code pool first heap waits frees (at + 72) n s
+    scan-now : (mask n : ℕ) (xs : List ℕ) (s : Processor) → mask ≡ 0 → s.pc ≡ at + 32 → IsWithin code pool first heap waits frees s → IsScanning pool mask xs s → 1 ≤ n → IsScanned code pool first heap waits frees (at + 72) n s
     scan-now mask n xs s none here within scanning some =
         let leads = row_scanned code at has fits at_whole s within.stands here (scanning.mask_is ∙ none) in
         record {
@@ -167,7 +167,7 @@ module _ (code : Code) (at : ℕ) (has : Has code at drop_code) (fits : at + 112
         }
 
     -- no reference is among the fields that are left
-    pub scan-none : (xs : List ℕ) (mask : ℕ) (s : Machine) → s.pc ≡ at + 32 → IsWithin code pool first heap waits frees s → IsScanning pool mask xs s → [] ≡ chosen mask xs
+    pub scan-none : (xs : List ℕ) (mask : ℕ) (s : Processor) → s.pc ≡ at + 32 → IsWithin code pool first heap waits frees s → IsScanning pool mask xs s → [] ≡ chosen mask xs
         → IsScanned code pool first heap waits frees (at + 72) (7 * length xs + 1) s
     scan-none [] mask s here within scanning none =
         scan-now mask 1 [] s (mask-none mask scanning.below) here within scanning (omega arith)
@@ -189,7 +189,7 @@ module _ (code : Code) (at : ℕ) (has : Has code at drop_code) (fits : at + 112
         ]
 
     -- the next reference among them
-    pub scan-some : (x : ℕ) (rest xs : List ℕ) (mask : ℕ) (s : Machine) → s.pc ≡ at + 32 → IsWithin code pool first heap waits frees s → IsScanning pool mask xs s → x ∷ rest ≡ chosen mask xs
+    pub scan-some : (x : ℕ) (rest xs : List ℕ) (mask : ℕ) (s : Processor) → s.pc ≡ at + 32 → IsWithin code pool first heap waits frees s → IsScanning pool mask xs s → x ∷ rest ≡ chosen mask xs
         → IsChosen code pool first heap waits frees x rest xs (at + 8) s
     scan-some x rest [] mask s here within scanning some = absurd (nil-cons x rest (sym some))
     scan-some x rest (y ∷ ys) mask s here within scanning given =
@@ -232,10 +232,10 @@ module _ (code : Code) (at : ℕ) (has : Has code at drop_code) (fits : at + 112
 
   -- ---- a reference is given up
 
-  module _ (heap end : Heap) (waits frees left_free : List ℕ) (x mask most : ℕ) (left : List ℕ) (s : Machine) (here : s.pc ≡ at + 8) (within : IsWithin code pool first heap waits frees s)
+  module _ (heap end : Heap) (waits frees left_free : List ℕ) (x mask most : ℕ) (left : List ℕ) (s : Processor) (here : s.pc ≡ at + 8) (within : IsWithin code pool first heap waits frees s)
       (x_is : value s.registers 10 ≡ x) (scanning : IsScanning pool mask left s) where
     pub give-odd : x % 2 ≡ 1
-        → ((t : Machine) → t.pc ≡ at + 32 → IsWithin code pool first heap waits frees t → IsScanning pool mask left t → Comes pool first end left_free most t)
+        → ((t : Processor) → t.pc ≡ at + 32 → IsWithin code pool first heap waits frees t → IsScanning pool mask left t → Comes pool first end left_free most t)
         → Comes pool first end left_free (8 + most) s
     give-odd odd goes_on =
         let leads = row_odd code at has fits at_whole s x within.stands here x_is odd in
@@ -251,7 +251,7 @@ module _ (code : Code) (at : ℕ) (has : Has code at drop_code) (fits : at + 112
         Comes-from leads quiet refl (omega arith) (goes_on t refl there scans)
 
     pub give-lower : (n : ℕ) (body : Body) → x % 2 ≡ 0 → heap x ≡ counted (suc (suc n)) body
-        → ((t : Machine) → t.pc ≡ at + 32 → IsWithin code pool first (changed x (counted (suc n) body) heap) waits frees t → IsScanning pool mask left t → Comes pool first end left_free most t)
+        → ((t : Processor) → t.pc ≡ at + 32 → IsWithin code pool first (changed x (counted (suc n) body) heap) waits frees t → IsScanning pool mask left t → Comes pool first end left_free most t)
         → Comes pool first end left_free (8 + most) s
     give-lower n body even is goes_on =
         let shows = AreCells-counted within.cells x (suc (suc n)) body is in
@@ -285,7 +285,7 @@ module _ (code : Code) (at : ℕ) (has : Has code at drop_code) (fits : at + 112
         Comes-from leads quiet refl (two_less most) (goes_on t refl there scans)
 
     pub give-wait : (body : Body) → x % 2 ≡ 0 → heap x ≡ counted 1 body
-        → ((t : Machine) → t.pc ≡ at + 32 → IsWithin code pool first (changed x (waiting body) heap) (x ∷ waits) frees t → IsScanning pool mask left t → Comes pool first end left_free most t)
+        → ((t : Processor) → t.pc ≡ at + 32 → IsWithin code pool first (changed x (waiting body) heap) (x ∷ waits) frees t → IsScanning pool mask left t → Comes pool first end left_free most t)
         → Comes pool first end left_free (8 + most) s
     give-wait body even is goes_on =
         let shows = AreCells-counted within.cells x 1 body is in
@@ -322,7 +322,7 @@ module _ (code : Code) (at : ℕ) (has : Has code at drop_code) (fits : at + 112
   -- ---- waiting cells
 
   -- none waits
-  pub pop-none : (heap : Heap) (frees : List ℕ) (s : Machine) → s.pc ≡ at + 72 → IsWithin code pool first heap [] frees s → Comes pool first heap frees 2 s
+  pub pop-none : (heap : Heap) (frees : List ℕ) (s : Processor) → s.pc ≡ at + 72 → IsWithin code pool first heap [] frees s → Comes pool first heap frees 2 s
   pop-none heap frees s here within =
       let leads = row_done code at has fits at_whole s within.stands here within.cells.wait_chain within.way_back.aligned within.way_back.in_range in
       record {
@@ -336,8 +336,8 @@ module _ (code : Code) (at : ℕ) (has : Has code at drop_code) (fits : at + 112
       }
 
   -- the first one is freed, and its fields are the next ones
-  pub pop-open : (heap end : Heap) (waits frees left_free : List ℕ) (x most : ℕ) (body : Body) (s : Machine) → s.pc ≡ at + 72 → ((y : ℕ) (other : Body) → first y ≢ waiting other) → IsWithin code pool first heap (x ∷ waits) frees s → heap x ≡ waiting body
-      → ((t : Machine) → t.pc ≡ at + 32 → IsWithin code pool first (changed x free heap) waits (x ∷ frees) t → IsScanning pool body.mask body.fields t → Comes pool first end left_free most t)
+  pub pop-open : (heap end : Heap) (waits frees left_free : List ℕ) (x most : ℕ) (body : Body) (s : Processor) → s.pc ≡ at + 72 → ((y : ℕ) (other : Body) → first y ≢ waiting other) → IsWithin code pool first heap (x ∷ waits) frees s → heap x ≡ waiting body
+      → ((t : Processor) → t.pc ≡ at + 32 → IsWithin code pool first (changed x free heap) waits (x ∷ frees) t → IsScanning pool body.mask body.fields t → Comes pool first end left_free most t)
       → Comes pool first end left_free (9 + most) s
   pop-open heap end waits frees left_free x most body s here settled within is goes_on =
       let shows = AreCells-waiting within.cells body is in

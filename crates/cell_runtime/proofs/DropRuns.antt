@@ -1,6 +1,6 @@
 -- The routine that gives up a reference, executed: it takes the turns of a drop without a stack.
 use Rattle.std.proofs.Common.{◌≡◌, ◌≢◌, ℕ, suc, ◌+◌, ◌*◌, ◌%◌, ◌^◌, ◌≤◌, List, [], ◌∷◌, length, refl, sym, ◌∙◌, subst, lit<, arith}
-use Rattle.rv_isa.specs.Machine.{Machine, value, put}
+use Rattle.rv_isa.specs.Processor.{Processor, value, put}
 use Rattle.rv_isa.specs.Execution.{Leads}
 use Rattle.rv_isa.specs.Standing.{Code, Has, Stands}
 use Rattle.rv_isa.proofs.Standing.{Has-get, Stands-leads}
@@ -42,7 +42,7 @@ cost fields gave freed = 7 * fields + 8 * gave + 52 * freed + 3
 
 module _ (code : Code) (at : ℕ) (has : Has code at drop_code) (fits : at + 112 ≤ 2 ^ 32) (at_whole : at % 4 ≡ 0) (pool : Pool) (first : Heap) (settled : (y : ℕ) (other : Body) → first y ≢ waiting other) where
   pub from-next : {refs waits frees left_free : List ℕ} {heap end : Heap} {gave freed : ℕ} → Turns refs waits frees heap gave freed left_free end
-      → (mask : ℕ) (xs : List ℕ) (s : Machine) → refs ≡ chosen mask xs → s.pc ≡ at + 32 → IsWithin code pool first heap waits frees s → IsScanning pool mask xs s
+      → (mask : ℕ) (xs : List ℕ) (s : Processor) → refs ≡ chosen mask xs → s.pc ≡ at + 32 → IsWithin code pool first heap waits frees s → IsScanning pool mask xs s
       → Comes pool first end left_free (cost (length xs) gave freed) s
   from-next (ended {frees = frees} {heap = heap}) mask xs s refs_are here within scanning =
       let scanned = scan-none code at has fits at_whole pool first heap [] frees xs mask s here within scanning refs_are in
@@ -80,7 +80,7 @@ module _ (code : Code) (at : ℕ) (has : Has code at drop_code) (fits : at + 112
   gives-more fields gave freed = omega arith
 
   pub from-give : {x : ℕ} {rest waits frees left_free : List ℕ} {heap end : Heap} {gave freed : ℕ} → Turns (x ∷ rest) waits frees heap gave freed left_free end
-      → (mask : ℕ) (xs : List ℕ) (s : Machine) → rest ≡ chosen mask xs → s.pc ≡ at + 8 → value s.registers 10 ≡ x → IsWithin code pool first heap waits frees s → IsScanning pool mask xs s
+      → (mask : ℕ) (xs : List ℕ) (s : Processor) → rest ≡ chosen mask xs → s.pc ≡ at + 8 → value s.registers 10 ≡ x → IsWithin code pool first heap waits frees s → IsScanning pool mask xs s
       → Comes pool first end left_free (cost (length xs) gave freed) s
   from-give (passed {x = x} {waits = waits} {frees = frees} {left = left} {heap = heap} {end = end} {gave = gave} {freed = freed} odd turns) mask xs s rest_is here x_is within scanning =
       Comes-weaker (gives-more (length xs) gave freed)
@@ -98,16 +98,16 @@ module _ (code : Code) (at : ℕ) (has : Has code at drop_code) (fits : at + 112
 -- ---- the whole routine
 
 module _ (code : Code) (at : ℕ) (has : Has code at drop_code) where
-  code-whole : (s : Machine) → Stands code s → at % 4 ≡ 0
+  code-whole : (s : Processor) → Stands code s → at % 4 ≡ 0
   code-whole s stands = stands.aligned at _ has.0
 
-  code-fits : (s : Machine) → Stands code s → at + 112 ≤ 2 ^ 32
+  code-fits : (s : Processor) → Stands code s → at + 112 ≤ 2 ^ 32
   code-fits s stands =
       let last = stands.below (at + 108) _ (Has-get code at drop_code 27 _ has refl) in
       let whole = code-whole s stands in
       omega arith
 
-  module _ (pool : Pool) (roots : ℕ → ℕ) (reference : ℕ) (view : View) (s : Machine) (here : IsAt code at s) (before : BeforeDrop pool roots reference view s) where
+  module _ (pool : Pool) (roots : ℕ → ℕ) (reference : ℕ) (view : View) (s : Processor) (here : IsAt code at s) (before : BeforeDrop pool roots reference view s) where
     settled : IsSettled view.heap
     settled = record { none = before.memory.settled }
 
@@ -117,7 +117,7 @@ module _ (code : Code) (at : ℕ) (has : Has code at drop_code) where
     listed : IsListed (places pool) view.heap
     listed = IsPlaced-listed before.memory.usable.aligned placed
 
-    started : Machine
+    started : Processor
     started = record s { registers = put 12 0 (put 13 0 s.registers); pc = at + 8; executed = s.executed + 1 + 1 }
 
     starts : Leads 2 s started
@@ -156,7 +156,7 @@ module _ (code : Code) (at : ℕ) (has : Has code at drop_code) where
         Comes-from starts starts-quiet refl (omega arith)
         (from-give code at has (code-fits s here.stands) (code-whole s here.stands) pool view.heap before.memory.settled taken 0 [] started refl refl before.reference_is starts-within starts-scanning)
 
-    after : (gave freed : ℕ) (left : List ℕ) (end : Heap) → Turns (reference ∷ []) [] view.frees view.heap gave freed left end → (t : Machine) × AfterDrop pool reference view s t
+    after : (gave freed : ℕ) (left : List ℕ) (end : Heap) → Turns (reference ∷ []) [] view.frees view.heap gave freed left end → (t : Processor) × AfterDrop pool reference view s t
     after gave freed left end taken =
         let came = comes gave freed left end taken in
         let ends = Turns-end (reference ∷ []) view.frees view.heap listed before.acyclic settled before.counts taken in

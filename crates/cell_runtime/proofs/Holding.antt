@@ -5,18 +5,17 @@ use Rattle.rv_isa.specs.declared.instr.Instr.{Instr}
 use Rattle.rv_isa.specs.declared.instr.Instr.TheVariants.{Beq, Addi, Lw, Sw, Jalr}
 use Rattle.rv_isa.specs.Arithmetic.{sum_word}
 use Rattle.rv_isa.specs.Bytes.{with_number}
-use Rattle.rv_isa.specs.Machine.{Machine, value, put}
+use Rattle.rv_isa.specs.Processor.{Processor, value, put}
 use Rattle.rv_isa.specs.Environment.{stepped}
 use Rattle.rv_isa.specs.Execution.{Leads}
 use Rattle.rv_isa.specs.Standing.{Code, Has, Stands}
-use Rattle.rv_isa.proofs.Bytes.{with_number-below, with_number-above}
 use Rattle.rv_isa.proofs.Standing.{next-is}
 use Rattle.rv_isa.proofs.Instructions.{leads-addi, leads-lw, leads-sw, leads-beq_taken, leads-beq_not_taken}
 use Rattle.cell_heap.specs.Cells.{token, occurs}
 use Rattle.cell_heap.specs.Pool.{Pool, end_of}
 use Rattle.cell_heap.specs.View.{Link, View}
 use Rattle.cell_heap.specs.Memory.{word, IsSlot, IsHeldChain, Memory}
-use Rattle.cell_heap.proofs.Frames.{IsHeld-cell}
+use Rattle.cell_heap.proofs.Frames.{IsHeld-cell, byte-stored_apart}
 use Rattle.rv_isa.specs.declared.placed.Symbol.TheVariants.{Hold, Unhold}
 use Rattle.cell_runtime.specs.Registers.{KeptBy}
 use Rattle.cell_runtime.specs.Calls.{HasWayBack}
@@ -35,7 +34,7 @@ abbrev pub unhold_code : List Instr
 unhold_code = Lw x5 x10 imm_0 ∷ Beq x5 x0 forward_8 ∷ Lw x9 x5 imm_0 ∷ Jalr x0 x1 imm_0 ∷ []
 
 -- the word of the slot is in x5
-looks : {code : Code} {pool : Pool} {s : Machine} {i : Instr} {v : ℕ} → Stands code s → code s.pc ≡ Some (Lw x5 x10 imm_0) → code (s.pc + 4) ≡ Some i → IsSlot pool s.parts (value s.registers 10) → word s.memory (value s.registers 10) ≡ v
+looks : {code : Code} {pool : Pool} {s : Processor} {i : Instr} {v : ℕ} → Stands code s → code s.pc ≡ Some (Lw x5 x10 imm_0) → code (s.pc + 4) ≡ Some i → IsSlot pool s.parts (value s.registers 10) → word s.memory (value s.registers 10) ≡ v
     → Leads 1 s (record (stepped (s.pc + 4) s) { registers = put 5 v s.registers })
 looks {s = s} {i = i} stands here there is_slot holds =
     let below = is_slot.below in
@@ -45,11 +44,11 @@ looks {s = s} {i = i} stands here there is_slot holds =
 -- ---- hold
 
 -- where the token at a cell names the newest one and its slot
-abbrev held_at : ℕ → Machine → Machine
+abbrev held_at : ℕ → Processor → Processor
 held_at cell s = record s { memory = linked cell (value s.registers 9) (value s.registers 10) s.memory }
 
-module _ (code : Code) (pool : Pool) (view : View) (s : Machine) (stands : Stands code s) (has : Has code s.pc hold_code) (way : HasWayBack s) (memory : Memory pool view s) (is_slot : IsSlot pool s.parts (value s.registers 10)) where
-  hold_none : word s.memory (value s.registers 10) ≡ 0 → (t : Machine) × AfterHold pool view view.held 3 0 0 s t
+module _ (code : Code) (pool : Pool) (view : View) (s : Processor) (stands : Stands code s) (has : Has code s.pc hold_code) (way : HasWayBack s) (memory : Memory pool view s) (is_slot : IsSlot pool s.parts (value s.registers 10)) where
+  hold_none : word s.memory (value s.registers 10) ≡ 0 → (t : Processor) × AfterHold pool view view.held 3 0 0 s t
   hold_none none =
       let below = stands.below (s.pc + 4 + 4 + 4 + 4 + 4) _ has.1.1.1.1.1.0 in
       let a = looks stands has.0 has.1.0 is_slot none in
@@ -79,7 +78,7 @@ module _ (code : Code) (pool : Pool) (view : View) (s : Machine) (stands : Stand
       kept v x out = let a : x ≢ 5 = out.1.0 in grind (arith, nat_tests)
 
   hold_newest : (cell : ℕ) (fields : List ℕ) → word s.memory (value s.registers 10) ≡ cell → view.heap cell ≡ token fields → occurs cell (map (λ link. link.cell) view.held) ≡ 0 → occurs (value s.registers 10) (map (λ link. link.slot) view.held) ≡ 0
-      → (t : Machine) × AfterHold pool view (record { cell = cell; slot = value s.registers 10 } ∷ view.held) 6 cell 8 s t
+      → (t : Processor) × AfterHold pool view (record { cell = cell; slot = value s.registers 10 } ∷ view.held) 6 cell 8 s t
   hold_newest cell fields holds is_token cells_apart slots_apart =
       let slot = value s.registers 10 in
       let next_fits = newest_below pool view s memory in
@@ -128,17 +127,17 @@ module _ (code : Code) (pool : Pool) (view : View) (s : Machine) (stands : Stand
       ends cell first cells a b before = omega arith
 
       outside : (cell next slot x : ℕ) → (x < cell) ⊎ (cell + 8 ≤ x) → linked cell next slot s.memory x ≡ s.memory x
-      outside cell next slot x (inl low) = with_number-below (cell + 4) 4 slot (with_number cell 4 next s.memory) x (omega arith) ∙ with_number-below cell 4 next s.memory x low
-      outside cell next slot x (inr high) = with_number-above (cell + 4) 4 slot (with_number cell 4 next s.memory) x (omega arith) ∙ with_number-above cell 4 next s.memory x (omega arith)
+      outside cell next slot x (inl low) = byte-stored_apart (with_number cell 4 next s.memory) (cell + 4) slot x (inl (omega arith)) ∙ byte-stored_apart s.memory cell next x (inl low)
+      outside cell next slot x (inr high) = byte-stored_apart (with_number cell 4 next s.memory) (cell + 4) slot x (inr (omega arith)) ∙ byte-stored_apart s.memory cell next x (inr (omega arith))
 
-  holds_by : (held : List Link) (count address bytes : ℕ) → Held view s.memory (value s.registers 10) held count address bytes → (t : Machine) × AfterHold pool view held count address bytes s t
+  holds_by : (held : List Link) (count address bytes : ℕ) → Held view s.memory (value s.registers 10) held count address bytes → (t : Processor) × AfterHold pool view held count address bytes s t
   holds_by held count address bytes (no_token none) = hold_none none
   holds_by held count address bytes (newest {cell} {fields} holds is_token cells_apart slots_apart) = hold_newest cell fields holds is_token cells_apart slots_apart
 
 -- ---- unhold
 
-module _ (code : Code) (pool : Pool) (view : View) (s : Machine) (stands : Stands code s) (has : Has code s.pc unhold_code) (way : HasWayBack s) (memory : Memory pool view s) (is_slot : IsSlot pool s.parts (value s.registers 10)) where
-  unhold_none : word s.memory (value s.registers 10) ≡ 0 → (t : Machine) × AfterUnhold pool view view.held 3 s t
+module _ (code : Code) (pool : Pool) (view : View) (s : Processor) (stands : Stands code s) (has : Has code s.pc unhold_code) (way : HasWayBack s) (memory : Memory pool view s) (is_slot : IsSlot pool s.parts (value s.registers 10)) where
+  unhold_none : word s.memory (value s.registers 10) ≡ 0 → (t : Processor) × AfterUnhold pool view view.held 3 s t
   unhold_none none =
       let below = stands.below (s.pc + 4 + 4 + 4) _ has.1.1.1.0 in
       let a = looks stands has.0 has.1.0 is_slot none in
@@ -163,7 +162,7 @@ module _ (code : Code) (pool : Pool) (view : View) (s : Machine) (stands : Stand
       kept : (v x : ℕ) → KeptBy Unhold x → value (put 5 v s.registers) x ≡ value s.registers x
       kept v x out = let a : x ≢ 5 = out.1.0 in grind (arith, nat_tests)
 
-  unhold_newest : (link : Link) (links : List Link) → view.held ≡ link ∷ links → link.slot ≡ value s.registers 10 → (t : Machine) × AfterUnhold pool view links 4 s t
+  unhold_newest : (link : Link) (links : List Link) → view.held ≡ link ∷ links → link.slot ≡ value s.registers 10 → (t : Processor) × AfterUnhold pool view links 4 s t
   unhold_newest link links first slot_is =
       let chain = subst (IsHeldChain pool s.parts s.memory view.heap (value s.registers 9)) first memory.held in
       let holds = ap (word s.memory) (sym slot_is) ∙ chain.1.is_in_slot in
@@ -207,7 +206,7 @@ module _ (code : Code) (pool : Pool) (view : View) (s : Machine) (stands : Stand
       ends : (cell first cells : ℕ) → cell % 32 ≡ 0 → first % 32 ≡ 0 → cell < first + 32 * cells → cell + 4 ≤ first + 32 * cells
       ends cell first cells a b before = omega arith
 
-  unholds_by : (held : List Link) (count : ℕ) → Unheld view s.memory (value s.registers 10) held count → (t : Machine) × AfterUnhold pool view held count s t
+  unholds_by : (held : List Link) (count : ℕ) → Unheld view s.memory (value s.registers 10) held count → (t : Processor) × AfterUnhold pool view held count s t
   unholds_by held count (no_token none) = unhold_none none
   unholds_by held count (newest {link} {links} first slot_is) = unhold_newest link links first slot_is
 

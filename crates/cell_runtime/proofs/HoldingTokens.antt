@@ -1,7 +1,7 @@
 -- What the hold of a token makes of what memory shows.
 use Rattle.std.proofs.Common.{◌≡◌, ◌≢◌, ◌≤◌, ◌<◌, ℕ, ◌+◌, ◌^◌, ◌⊎◌, inl, inr, List, [], ◌∷◌, map, length, refl, sym, ap, ◌∙◌, subst, arith}
 use Rattle.rv_isa.specs.Bytes.{with_number, Apart}
-use Rattle.rv_isa.specs.Machine.{Machine, value}
+use Rattle.rv_isa.specs.Processor.{Processor, value}
 use Rattle.rv_isa.proofs.Memory.{word-same, word-apart}
 use Rattle.cell_heap.specs.Cells.{Cell, free, token, Heap, changed, occurs}
 use Rattle.cell_heap.specs.Pool.{Pool, IsCell, IsUsable}
@@ -57,7 +57,7 @@ border_kept pool view held border = record {
   chained = border.chained;
 }
 
-module _ (pool : Pool) (view : View) (s t : Machine) (memory : Memory pool view s) (cell slot : ℕ) (fields : List ℕ) (is_token : view.heap cell ≡ token fields)
+module _ (pool : Pool) (view : View) (s t : Processor) (memory : Memory pool view s) (cell slot : ℕ) (fields : List ℕ) (is_token : view.heap cell ≡ token fields)
     (is_slot : IsSlot pool s.parts slot) (holds : word s.memory slot ≡ cell) (cells_apart : occurs cell (map (λ link. link.cell) view.held) ≡ 0) (slots_apart : occurs slot (map (λ link. link.slot) view.held) ≡ 0)
     (next_fits : value s.registers 9 < 2 ^ 32) (stored : t.memory ≡ linked cell (value s.registers 9) slot s.memory) (parts : t.parts ≡ s.parts) where
   pub token_cell : IsCell pool cell
@@ -118,7 +118,7 @@ module _ (pool : Pool) (view : View) (s t : Machine) (memory : Memory pool view 
 
 -- ---- no change of memory
 
-module _ (pool : Pool) (view : View) (s t : Machine) (memory : Memory pool view s) (same : t.memory ≡ s.memory) (parts : t.parts ≡ s.parts)
+module _ (pool : Pool) (view : View) (s t : Processor) (memory : Memory pool view s) (same : t.memory ≡ s.memory) (parts : t.parts ≡ s.parts)
     (first : value t.registers 8 ≡ value s.registers 8) (border : value t.registers 18 ≡ value s.registers 18) (end : value t.registers 19 ≡ value s.registers 19) where
   pub memory_with : (held : List Link) → IsHeldChain pool s.parts s.memory view.heap (value t.registers 9) held → Memory pool (record view { held = held }) t
   memory_with held chain = record {
@@ -133,7 +133,7 @@ module _ (pool : Pool) (view : View) (s t : Machine) (memory : Memory pool view 
   }
 
 -- the newest held token is at a word
-newest-below : (pool : Pool) (view : View) (s : Machine) → Memory pool view s → (links : List Link) → IsHeldChain pool s.parts s.memory view.heap (value s.registers 9) links → value s.registers 9 < 2 ^ 32
+newest-below : (pool : Pool) (view : View) (s : Processor) → Memory pool view s → (links : List Link) → IsHeldChain pool s.parts s.memory view.heap (value s.registers 9) links → value s.registers 9 < 2 ^ 32
 newest-below pool view s memory [] none = let is = none in omega arith
 newest-below pool view s memory (link ∷ links) chain =
     let is = chain.0 in
@@ -142,5 +142,5 @@ newest-below pool view s memory (link ∷ links) chain =
     let below = memory.usable.below in
     omega arith
 
-pub newest_below : (pool : Pool) (view : View) (s : Machine) → Memory pool view s → value s.registers 9 < 2 ^ 32
+pub newest_below : (pool : Pool) (view : View) (s : Processor) → Memory pool view s → value s.registers 9 < 2 ^ 32
 newest_below pool view s memory = newest-below pool view s memory view.held memory.held

@@ -1,3 +1,4 @@
+mod Examples
 pub mod Operands
 pub mod SameLines
 pub mod Spelling
@@ -17,3 +18,4 @@ pub mod DropRows
 pub mod DropStates
 pub mod DropMoves
 pub mod DropRuns
+pub mod DropAfter

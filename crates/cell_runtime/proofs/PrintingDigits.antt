@@ -8,7 +8,7 @@ use Rattle.rv_isa.specs.declared.instr.Instr.{Instr}
 use Rattle.rv_isa.specs.declared.instr.Instr.TheVariants.{Addi, Bne, Divu, Remu, Sb}
 use Rattle.rv_isa.specs.Arithmetic.{sum_word, quotient_unsigned, remainder_unsigned}
 use Rattle.rv_isa.specs.Bytes.{bytes_at, with_number}
-use Rattle.rv_isa.specs.Machine.{Machine, value, put, can_store}
+use Rattle.rv_isa.specs.Processor.{Processor, value, put, can_store}
 use Rattle.rv_isa.specs.Execution.{Leads}
 use Rattle.rv_isa.specs.Standing.{Code, Has, Stands}
 use Rattle.rv_isa.proofs.Runs.{Leads-then}
@@ -27,7 +27,7 @@ pub record MayStore (parts : List Part) (low top : ℕ) : Type 0 where
   pub byte : (x : ℕ) → low ≤ x → x < top → can_store parts x 1 ≡ true
 
 -- at the loop's first instruction, with the number n in x7; the next digit comes before p
-pub record AtDigits (code : Code) (at n p low : ℕ) (s : Machine) : Type 0 where
+pub record AtDigits (code : Code) (at n p low : ℕ) (s : Processor) : Type 0 where
   pub stands : Stands code s
   pub pc_is : s.pc ≡ at
   pub number : value s.registers 7 ≡ n
@@ -37,7 +37,7 @@ pub record AtDigits (code : Code) (at n p low : ℕ) (s : Machine) : Type 0 wher
   pub room : MayStore s.parts low p
 
 -- so many instructions lead to the machine, which has gone on at an address: the digits end before p, and begin at the address in x5
-pub record Wrote (count next : ℕ) (digits : List ℕ) (p : ℕ) (s t : Machine) : Type 0 where
+pub record Wrote (count next : ℕ) (digits : List ℕ) (p : ℕ) (s t : Processor) : Type 0 where
   pub leads : Leads count s t
   pub pc_is : t.pc ≡ next
   pub place : value t.registers 5 + length digits ≡ p
@@ -49,7 +49,7 @@ pub record Wrote (count next : ℕ) (digits : List ℕ) (p : ℕ) (s t : Machine
   pub trace : t.trace ≡ s.trace
 
 -- a turn has stored the last digit at q
-abbrev turned : ℕ → ℕ → ℕ → Machine → Machine
+abbrev turned : ℕ → ℕ → ℕ → Processor → Processor
 turned n q next s = record s {
   registers = put 5 q (put 11 (48 + n % 10) (put 7 (n / 10) (put 11 (n % 10) s.registers)));
   pc = next;
@@ -61,7 +61,7 @@ less-ten : (n : ℕ) → n % 10 < 10
 less-ten n = omega arith
 
 module _ (code : Code) (at low : ℕ) (after : Instr) (later : List Instr) (has : Has code at (digits_code (after ∷ later))) where
-  module _ (n q : ℕ) (s : Machine) (here : AtDigits code at n (suc q) low s) (above : low ≤ q) where
+  module _ (n q : ℕ) (s : Processor) (here : AtDigits code at n (suc q) low s) (above : low ≤ q) where
     stored : Leads 5 s (record (turned n q (at + 4 + 4 + 4 + 4 + 4) s) { executed = s.executed + 1 + 1 + 1 + 1 + 1 })
     stored =
         let stands = here.stands in
@@ -112,7 +112,7 @@ module _ (code : Code) (at low : ℕ) (after : Instr) (later : List Instr) (has 
 
   -- what is to be shown of a number and its digits
   abbrev Writes : ℕ → List ℕ → Type 0
-  Writes n digits = (s : Machine) (p : ℕ) → AtDigits code at n p low s → low + length digits ≤ p → (t : Machine) × Wrote (6 * length digits) (at + 4 + 4 + 4 + 4 + 4 + 4) digits p s t
+  Writes n digits = (s : Processor) (p : ℕ) → AtDigits code at n p low s → low + length digits ≤ p → (t : Processor) × Wrote (6 * length digits) (at + 4 + 4 + 4 + 4 + 4 + 4) digits p s t
 
   one_digit : (n : ℕ) → n < 10 → Writes n ((48 + n) ∷ [])
   one_digit n small s p here room =

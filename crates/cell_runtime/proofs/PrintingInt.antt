@@ -11,7 +11,7 @@ use Rattle.rv_isa.specs.declared.instr.Instr.{Instr}
 use Rattle.rv_isa.specs.declared.instr.Instr.TheVariants.{Lui, Addi, Add, Sub, Sb, Bge, Ecall, Jalr}
 use Rattle.rv_isa.specs.Arithmetic.{signed, sum_word, difference_word}
 use Rattle.rv_isa.specs.Bytes.{bytes_at, with_number}
-use Rattle.rv_isa.specs.Machine.{Machine, value, put, can_load, can_store}
+use Rattle.rv_isa.specs.Processor.{Processor, value, put, can_load, can_store}
 use Rattle.rv_isa.specs.Environment.{stepped}
 use Rattle.rv_isa.specs.Execution.{Leads}
 use Rattle.rv_isa.specs.Standing.{Code, Has, Stands}
@@ -62,7 +62,7 @@ negative n high below = ap (λ z. int_lt z (signed 0)) (signed_high n high below
 -- ---- the put
 
 -- behind the put of the bytes of a piece
-abbrev told : ℕ → ℕ → List ℕ → Machine → Machine
+abbrev told : ℕ → ℕ → List ℕ → Processor → Processor
 told from count piece s = record s {
   registers = put 10 count (put 17 64 (put 10 1 (put 11 from (put 12 count s.registers))));
   pc = s.pc + 4 + 4 + 4 + 4 + 4;
@@ -71,7 +71,7 @@ told from count piece s = record s {
 }
 
 module _ (code : Code) (at from count : ℕ) (has : Has code at put_code) where
-  puts : (piece : List ℕ) (s : Machine) → Stands code s → s.pc ≡ at → value s.registers 5 ≡ from → value s.registers 12 ≡ from + count → from + count < 2 ^ 32 → count ≢ 0
+  puts : (piece : List ℕ) (s : Processor) → Stands code s → s.pc ≡ at → value s.registers 5 ≡ from → value s.registers 12 ≡ from + count → from + count < 2 ^ 32 → count ≢ 0
       → can_load s.parts from count ≡ true → bytes_at s.memory from count ≡ piece → HasWayBack s → Leads 6 s (stepped (value s.registers 1) (told from count piece s))
   puts piece s stands pc_is from_is end_is below some allowed bytes way =
       let size_is : difference_word (value s.registers 12) (value s.registers 5) ≡ count = rw (end_is, from_is) (omega arith) in
@@ -86,7 +86,7 @@ module _ (code : Code) (at from count : ℕ) (has : Has code at put_code) where
 -- ---- the sign
 
 -- `-` stands at q, before the digits
-abbrev signed_at : ℕ → ℕ → Machine → Machine
+abbrev signed_at : ℕ → ℕ → Processor → Processor
 signed_at q next t = record t {
   registers = put 5 q (put 11 45 t.registers);
   pc = next;
@@ -96,8 +96,8 @@ signed_at q next t = record t {
 
 module _ (code : Code) (at : ℕ) (has : Has code at sign_code) where
   -- none before the digits of a number that is not negative
-  no_sign : (count p n : ℕ) (digits : List ℕ) (s t : Machine) → Stands code s → Wrote count at digits p s t → value t.registers 10 ≡ n → n < 2 ^ 31
-      → (u : Machine) × Wrote (count + 1) (at + 4 + 4 + 4 + 4) digits p s u
+  no_sign : (count p n : ℕ) (digits : List ℕ) (s t : Processor) → Stands code s → Wrote count at digits p s t → value t.registers 10 ≡ n → n < 2 ^ 31
+      → (u : Processor) × Wrote (count + 1) (at + 4 + 4 + 4 + 4) digits p s u
   no_sign count p n digits s t stands wrote number low =
       let holds : int_lt (signed (value t.registers 10)) (signed 0) ≡ false = ap (λ v. int_lt (signed v) (signed 0)) number ∙ not_negative n low in
       let below = stands.below (at + 4 + 4 + 4 + 4) _ has.1.1.1.1.0 in
@@ -117,7 +117,7 @@ module _ (code : Code) (at : ℕ) (has : Has code at sign_code) where
       )
 
   -- `-` before those of a negative number
-  module _ (count p low n q : ℕ) (digits : List ℕ) (s t : Machine) (stands : Stands code s) (wrote : Wrote count at digits p s t)
+  module _ (count p low n q : ℕ) (digits : List ℕ) (s t : Processor) (stands : Stands code s) (wrote : Wrote count at digits p s t)
       (number : value t.registers 10 ≡ n) (high : 2 ^ 31 ≤ n) (fits : n < 2 ^ 32) (place : value t.registers 5 ≡ suc q) (below : suc q < 2 ^ 32) (may : can_store t.parts q 1 ≡ true) where
     signs : Leads (count + 4) s (signed_at q (at + 4 + 4 + 4 + 4) t)
     signs =
@@ -135,7 +135,7 @@ module _ (code : Code) (at : ℕ) (has : Has code at sign_code) where
         bytes_at-with_number_apart q 1 45 t.memory (suc q) (length digits) (inr (omega arith))
         ∙ ap (λ a. bytes_at t.memory a (length digits)) (sym place) ∙ wrote.bytes
 
-    with_sign : (u : Machine) × Wrote (count + 4) (at + 4 + 4 + 4 + 4) (45 ∷ digits) p s u
+    with_sign : (u : Processor) × Wrote (count + 4) (at + 4 + 4 + 4 + 4) (45 ∷ digits) p s u
     with_sign =
         let where_is = wrote.place in (
           signed_at q (at + 4 + 4 + 4 + 4) t,
@@ -171,7 +171,7 @@ fronted upper end registers =
     put 7 (value registers 10) (put 6 10 (put 12 (end + value registers 11) (put 5 end (put 5 upper registers))))
 
 -- at the digits' loop, with the size of the number in x7: so many instructions have stored the line end, and x12 is where the piece stops
-record Front (code : Code) (at size end buffer count : ℕ) (s h : Machine) : Type 0 where
+record Front (code : Code) (at size end buffer count : ℕ) (s h : Processor) : Type 0 where
   leads : Leads count s h
   at_digits : AtDigits code at size end buffer h
   line : h.memory end ≡ 10
@@ -182,7 +182,7 @@ record Front (code : Code) (at size end buffer count : ℕ) (s h : Machine) : Ty
   left : h.left ≡ s.left
   trace : h.trace ≡ s.trace
 
-module _ (code : Code) (u : UpperImmediate) (l : Immediate) (buffer end : ℕ) (end_is : end ≡ buffer + 11) (sum : sum_word u.word l.word ≡ end) (s : Machine) (stands : Stands code s)
+module _ (code : Code) (u : UpperImmediate) (l : Immediate) (buffer end : ℕ) (end_is : end ≡ buffer + 11) (sum : sum_word u.word l.word ≡ end) (s : Processor) (stands : Stands code s)
     (has : Has code s.pc (Lui x5 u ∷ Addi x5 x5 l ∷ print_int_code)) (before : BeforePrintInt buffer s) where
   stores : (x : ℕ) → buffer ≤ x → x < buffer + buffer_bytes → can_store s.parts x 1 ≡ true
   stores x low high = can-within (λ part. part.writable) s.parts buffer buffer_bytes x 1 (lit< tt) low (omega arith) before.stored
@@ -221,7 +221,7 @@ module _ (code : Code) (u : UpperImmediate) (l : Immediate) (buffer end : ℕ) (
   below_end = let in_range = before.in_range in omega arith
 
   -- of a number that is not negative
-  front_low : value s.registers 10 < 2 ^ 31 → (h : Machine) × Front code (s.pc + 4 + 4 + 4 + 4 + 4 + 4 + 4 + 4) (value s.registers 10) end buffer 7 s h
+  front_low : value s.registers 10 < 2 ^ 31 → (h : Processor) × Front code (s.pc + 4 + 4 + 4 + 4 + 4 + 4 + 4 + 4) (value s.registers 10) end buffer 7 s h
   front_low low =
       let below = stands.below (s.pc + 4 + 4 + 4 + 4 + 4 + 4 + 4 + 4) _ has.1.1.1.1.1.1.1.1.0 in
       let aligned = stands.aligned (s.pc + 4 + 4 + 4 + 4 + 4 + 4 + 4 + 4) _ has.1.1.1.1.1.1.1.1.0 in
@@ -247,7 +247,7 @@ module _ (code : Code) (u : UpperImmediate) (l : Immediate) (buffer end : ℕ) (
       )
 
   -- of a negative number, whose size is what is missing to 2^32
-  front_high : 2 ^ 31 ≤ value s.registers 10 → (h : Machine) × Front code (s.pc + 4 + 4 + 4 + 4 + 4 + 4 + 4 + 4) (2 ^ 32 - value s.registers 10) end buffer 8 s h
+  front_high : 2 ^ 31 ≤ value s.registers 10 → (h : Processor) × Front code (s.pc + 4 + 4 + 4 + 4 + 4 + 4 + 4 + 4) (2 ^ 32 - value s.registers 10) end buffer 8 s h
   front_high high =
       let word = before.word in
       let size_is : difference_word 0 (value s.registers 10) ≡ 2 ^ 32 - value s.registers 10 = omega arith in
@@ -288,7 +288,7 @@ piece_there memory from end (suc zero) digits few place bytes line =
 piece_there memory from end (suc (suc n)) digits few place bytes line = absurd (omega arith)
 
 -- so many digits and a sign have at most 11 bytes
-module _ (code : Code) (buffer end size c0 c1 : ℕ) (end_is : end ≡ buffer + 11) (s h t : Machine) (stands : Stands code s) (before : BeforePrintInt buffer s)
+module _ (code : Code) (buffer end size c0 c1 : ℕ) (end_is : end ≡ buffer + 11) (s h t : Processor) (stands : Stands code s) (before : BeforePrintInt buffer s)
     (at digits_at : ℕ) (has : Has code at put_code) (front : Front code digits_at size end buffer c0 s h)
     (digits : List ℕ) (wrote : Wrote c1 at digits end h t) (short : length digits ≤ 11) (some : 0 < length digits)
     (spelt : digits ≡ signed_decimal (signed (value s.registers 10))) (count_is : c0 + c1 + 6 ≡ int_count (signed (value s.registers 10))) where
@@ -348,7 +348,7 @@ module _ (code : Code) (buffer end size c0 c1 : ℕ) (end_is : end ≡ buffer + 
       puts code at (value t.registers 5) (length digits + value s.registers 11) has (int_piece (value s.registers 10) (value s.registers 11)) t
       (Stands-leads (Leads-then front.leads wrote.leads) stands) wrote.pc_is refl stops (omega arith) (omega arith) may_load piece_is way_back
 
-  finishes : (u : Machine) × AfterPrintInt buffer s u
+  finishes : (u : Processor) × AfterPrintInt buffer s u
   finishes =
       let from = value t.registers 5 in
       let count = length digits + value s.registers 11 in
@@ -368,7 +368,7 @@ module _ (code : Code) (buffer end size c0 c1 : ℕ) (end_is : end ≡ buffer + 
         },
       )
 
-module _ (code : Code) (u : UpperImmediate) (l : Immediate) (buffer : ℕ) (sum : sum_word u.word l.word ≡ buffer + 11) (s : Machine) (stands : Stands code s)
+module _ (code : Code) (u : UpperImmediate) (l : Immediate) (buffer : ℕ) (sum : sum_word u.word l.word ≡ buffer + 11) (s : Processor) (stands : Stands code s)
     (has : Has code s.pc (Lui x5 u ∷ Addi x5 x5 l ∷ print_int_code)) (before : BeforePrintInt buffer s) where
   abbrev digits_place : ℕ
   digits_place = s.pc + 4 + 4 + 4 + 4 + 4 + 4 + 4 + 4
@@ -382,7 +382,7 @@ module _ (code : Code) (u : UpperImmediate) (l : Immediate) (buffer : ℕ) (sum 
   has_sign : Has code sign_at sign_code
   has_sign = has_digits.1.1.1.1.1.1
 
-  print_low : value s.registers 10 < 2 ^ 31 → (t : Machine) × AfterPrintInt buffer s t
+  print_low : value s.registers 10 < 2 ^ 31 → (t : Processor) × AfterPrintInt buffer s t
   print_low low =
       let n = value s.registers 10 in
       let short = length-decimal-le 10 n (lit< tt) (omega arith) (omega arith) in
@@ -397,7 +397,7 @@ module _ (code : Code) (u : UpperImmediate) (l : Immediate) (buffer : ℕ) (sum 
       finishes code buffer (buffer + 11) n 7 (6 * length (decimal n) + 1) refl s h signed_is.0 stands before (sign_at + 4 + 4 + 4 + 4) digits_place has_sign.1.1.1.1 front.1 (decimal n) signed_is.1 (omega arith) some
       (ap signed_decimal (sym (signed_low n low))) (counts ∙ ap int_count (sym (signed_low n low)))
 
-  print_high : 2 ^ 31 ≤ value s.registers 10 → (t : Machine) × AfterPrintInt buffer s t
+  print_high : 2 ^ 31 ≤ value s.registers 10 → (t : Processor) × AfterPrintInt buffer s t
   print_high high =
       let n = value s.registers 10 in
       let fits = before.word in
@@ -422,7 +422,7 @@ module _ (code : Code) (u : UpperImmediate) (l : Immediate) (buffer : ℕ) (sum 
       finishes code buffer (buffer + 11) (2 ^ 32 - n) 8 (6 * length (decimal (suc k)) + 4) refl s h signed_is.0 stands before (sign_at + 4 + 4 + 4 + 4) digits_place has_sign.1.1.1.1 front.1 (45 ∷ decimal (suc k)) signed_is.1 (omega arith) (omega arith)
       (ap signed_decimal (sym (signed_high n high fits))) (counts ∙ ap int_count (sym (signed_high n high fits)))
 
-  by_sign : (value s.registers 10 < 2 ^ 31) ⊎ (2 ^ 31 ≤ value s.registers 10) → (t : Machine) × AfterPrintInt buffer s t
+  by_sign : (value s.registers 10 < 2 ^ 31) ⊎ (2 ^ 31 ≤ value s.registers 10) → (t : Processor) × AfterPrintInt buffer s t
   by_sign (inl low) = print_low low
   by_sign (inr high) = print_high high
 

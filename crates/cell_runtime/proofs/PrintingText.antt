@@ -6,7 +6,7 @@ use Rattle.rv_isa.specs.declared.instr.Instr.{Instr}
 use Rattle.rv_isa.specs.declared.instr.Instr.TheVariants.{Jalr, Addi, Ecall}
 use Rattle.rv_isa.specs.Arithmetic.{sum_word}
 use Rattle.rv_isa.specs.Bytes.{bytes_at}
-use Rattle.rv_isa.specs.Machine.{Machine, value, put, can_load}
+use Rattle.rv_isa.specs.Processor.{Processor, value, put, can_load}
 use Rattle.rv_isa.specs.Environment.{stepped}
 use Rattle.rv_isa.specs.Execution.{Leads}
 use Rattle.rv_isa.proofs.Runs.{Leads-then}
@@ -31,7 +31,7 @@ print_text_code =
 abbrev asked : (ℕ → ℕ) → ℕ → ℕ
 asked registers = put 17 64 (put 10 1 (put 11 (value registers 10) (put 12 (value registers 11) registers)))
 
-abbrev asking : Machine → Machine
+abbrev asking : Processor → Processor
 asking s = record s {
   registers = asked s.registers;
   pc = s.pc + 4 + 4 + 4 + 4;
@@ -39,14 +39,14 @@ asking s = record s {
 }
 
 -- behind it, where so many bytes were put
-abbrev told : ℕ → Machine → Machine
+abbrev told : ℕ → Processor → Processor
 told count s = record s {
   registers = put 10 count (asked s.registers);
   pc = s.pc + 4 + 4 + 4 + 4 + 4;
   executed = s.executed + 1 + 1 + 1 + 1 + 1;
 }
 
-module _ (code : Code) (s : Machine) (stands : Stands code s) (has : Has code s.pc print_text_code) (before : BeforePrintText s) where
+module _ (code : Code) (s : Processor) (stands : Stands code s) (has : Has code s.pc print_text_code) (before : BeforePrintText s) where
   to_call : Leads 4 s (asking s)
   to_call =
       let address = before.address in
@@ -69,12 +69,12 @@ module _ (code : Code) (s : Machine) (stands : Stands code s) (has : Has code s.
       let d : x ≢ 17 = out.1.1.1.1.1.0 in
       grind (arith, nat_tests)
 
-  back_from : (t : Machine) → Leads 5 s t → t.pc ≡ s.pc + 4 + 4 + 4 + 4 + 4 → value t.registers 1 ≡ value s.registers 1 → Leads 6 s (stepped (value s.registers 1) t)
+  back_from : (t : Processor) → Leads 5 s t → t.pc ≡ s.pc + 4 + 4 + 4 + 4 + 4 → value t.registers 1 ≡ value s.registers 1 → Leads 6 s (stepped (value s.registers 1) t)
   back_from t leads at way =
       leads-back t stands leads (ap code at ∙ has.1.1.1.1.1.0) way before.way_back.aligned before.way_back.in_range
 
   -- by the number of bytes
-  by_count : (count : ℕ) → value s.registers 11 ≡ count → (t : Machine) × AfterPrintText s t
+  by_count : (count : ℕ) → value s.registers 11 ≡ count → (t : Processor) × AfterPrintText s t
   by_count zero none =
       let allowed : can_load s.parts (value s.registers 10) 0 ≡ true = subst (λ n. can_load s.parts (value s.registers 10) n ≡ true) none before.loaded in
       let put = Leads-then to_call (leads-write_none called {next = s.pc + 4 + 4 + 4 + 4 + 4} has.1.1.1.1.0 refl refl none allowed (next-is stands (s.pc + 4 + 4 + 4 + 4) _ has.1.1.1.1.1.0)) in

@@ -8,7 +8,7 @@ use Rattle.rv_isa.specs.declared.instr.Instr.{Instr}
 use Rattle.rv_isa.specs.declared.instr.Instr.TheVariants.{Lui, Addi, Ecall, Bne, Lbu, Jalr}
 use Rattle.rv_isa.specs.Arithmetic.{sum_word}
 use Rattle.rv_isa.specs.Bytes.{with_bytes}
-use Rattle.rv_isa.specs.Machine.{Machine, value, put}
+use Rattle.rv_isa.specs.Processor.{Processor, value, put}
 use Rattle.rv_isa.specs.Environment.{stepped}
 use Rattle.rv_isa.specs.Execution.{Leads}
 use Rattle.rv_isa.proofs.Memory.{with_byte-same, with_byte-apart}
@@ -35,7 +35,7 @@ read_byte_code =
 abbrev asked : ℕ → ℕ → (ℕ → ℕ) → ℕ → ℕ
 asked upper buffer registers = put 17 63 (put 10 0 (put 12 1 (put 11 buffer (put 11 upper registers))))
 
-module _ (code : Code) (buffer : ℕ) (u : UpperImmediate) (l : Immediate) (sum : sum_word u.word l.word ≡ buffer) (s : Machine) (stands : Stands code s) (has : Has code s.pc (Lui x11 u ∷ Addi x11 x11 l ∷ read_byte_code)) where
+module _ (code : Code) (buffer : ℕ) (u : UpperImmediate) (l : Immediate) (sum : sum_word u.word l.word ≡ buffer) (s : Processor) (stands : Stands code s) (has : Has code s.pc (Lui x11 u ∷ Addi x11 x11 l ∷ read_byte_code)) where
   asking : Leads 5 s (record s { registers = asked u.word buffer s.registers; pc = s.pc + 4 + 4 + 4 + 4 + 4; executed = s.executed + 1 + 1 + 1 + 1 + 1 })
   asking =
       let a = leads-lui stands {v = u.word} has.0 refl (next-is stands s.pc _ has.1.0) in
@@ -67,7 +67,7 @@ module _ (code : Code) (buffer : ℕ) (u : UpperImmediate) (l : Immediate) (sum 
 
   -- from behind the call, where x10 has its word, to the jump back
   module _ (before : BeforeReadByte buffer s) where
-    at_end : s.left ≡ [] → (t : Machine) × AfterReadByte buffer s t
+    at_end : s.left ≡ [] → (t : Processor) × AfterReadByte buffer s t
     at_end none =
         let asked_end = then_one stands asking (λ here. leads-read_end here {next = s.pc + 4 + 4 + 4 + 4 + 4 + 4} has.1.1.1.1.1.0 refl refl (λ e. cc) before.stored none (next-is stands (s.pc + 4 + 4 + 4 + 4 + 4) _ has.1.1.1.1.1.1.0)) in
         let less = then_one stands asked_end (λ here. leads-addi here {v = 2 ^ 32 - 1} behind.0 refl (next-is stands (s.pc + 4 + 4 + 4 + 4 + 4 + 4) _ behind.1.0)) in
@@ -97,7 +97,7 @@ module _ (code : Code) (buffer : ℕ) (u : UpperImmediate) (l : Immediate) (sum 
           },
         )
 
-    takes_byte : (byte : ℕ) (rest : List ℕ) → s.left ≡ byte ∷ rest → (t : Machine) × AfterReadByte buffer s t
+    takes_byte : (byte : ℕ) (rest : List ℕ) → s.left ≡ byte ∷ rest → (t : Processor) × AfterReadByte buffer s t
     takes_byte byte rest some =
         let allowed = before.loaded in
         let below = before.in_range in
@@ -131,7 +131,7 @@ module _ (code : Code) (buffer : ℕ) (u : UpperImmediate) (l : Immediate) (sum 
           },
         )
 
-    by_left : (left : List ℕ) → s.left ≡ left → (t : Machine) × AfterReadByte buffer s t
+    by_left : (left : List ℕ) → s.left ≡ left → (t : Processor) × AfterReadByte buffer s t
     by_left [] none = at_end none
     by_left (byte ∷ rest) some = takes_byte byte rest some
 

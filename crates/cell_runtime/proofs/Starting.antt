@@ -7,7 +7,7 @@ use Rattle.rv_isa.specs.declared.immediate.JumpOffset.{JumpOffset}
 use Rattle.rv_isa.specs.declared.instr.Instr.{Instr}
 use Rattle.rv_isa.specs.declared.instr.Instr.TheVariants.{Lui, Addi, Jal}
 use Rattle.rv_isa.specs.Arithmetic.{sum_word}
-use Rattle.rv_isa.specs.Machine.{Machine, value, put}
+use Rattle.rv_isa.specs.Processor.{Processor, value, put}
 use Rattle.rv_isa.specs.Standing.{Code, Has, Stands}
 use Rattle.rv_isa.proofs.Standing.{next-is}
 use Rattle.rv_isa.proofs.Instructions.{leads-lui, leads-addi, leads-jal}
@@ -57,7 +57,7 @@ first_border pool aligned = record {
       (λ some. absurd (some refl), λ low listed. absurd (omega arith));
 }
 
-first_memory : (pool : Pool) (t : Machine) → IsUsable pool t.parts → value t.registers 8 ≡ 0 → value t.registers 9 ≡ 0 → value t.registers 18 ≡ pool.first → value t.registers 19 ≡ end_of pool → Memory pool (first_view pool) t
+first_memory : (pool : Pool) (t : Processor) → IsUsable pool t.parts → value t.registers 8 ≡ 0 → value t.registers 9 ≡ 0 → value t.registers 18 ≡ pool.first → value t.registers 19 ≡ end_of pool → Memory pool (first_view pool) t
 first_memory pool t usable chain held border end = record {
   usable = usable;
   shown = record { cell = λ at. free-by (Shows pool t.memory at) pool at (λ is. is) (λ not. not) };
@@ -80,10 +80,10 @@ start_code = Addi x8 x0 imm_0 ∷ Addi x9 x0 imm_0 ∷ Jal x1 to_main ∷ []
 abbrev pub start_items : Layout → List Native
 start_items layout = Address x2 Data layout.stack_end ∷ Address x18 Data layout.cells ∷ Address x19 Data layout.cells_end ∷ plain start_code
 
-module _ (code : Code) (s : Machine) (stands : Stands code s) (a b c : UpperImmediate) (d e f : Immediate)
+module _ (code : Code) (s : Processor) (stands : Stands code s) (a b c : UpperImmediate) (d e f : Immediate)
     (has : Has code s.pc (Lui x2 a ∷ Addi x2 x2 d ∷ Lui x18 b ∷ Addi x18 x18 e ∷ Lui x19 c ∷ Addi x19 x19 f ∷ start_code)) where
   starts : (pool : Pool) (stack_end : ℕ) → sum_word a.word d.word ≡ stack_end → sum_word b.word e.word ≡ pool.first → sum_word c.word f.word ≡ end_of pool
-      → IsUsable pool s.parts → s.pc + 440 < 2 ^ 32 → (t : Machine) × AfterStart pool stack_end (s.pc + 440) s.pc s t
+      → IsUsable pool s.parts → s.pc + 440 < 2 ^ 32 → (t : Processor) × AfterStart pool stack_end (s.pc + 440) s.pc s t
   starts pool stack_end stack first end usable below =
       let main_aligned = whole-words s.pc (stands.aligned s.pc _ has.0) in
       let to : sum_word (s.pc + 4 + 4 + 4 + 4 + 4 + 4 + 4 + 4) 408 ≡ s.pc + 440 = omega arith in
@@ -149,7 +149,7 @@ module _ (layout : Layout) (memory : ℕ) (is : List Instr) (code : Code) (at : 
   does pool first end s here usable below =
       let pc_is = here.pc_is in
       let low : s.pc + 440 < 2 ^ 32 = omega arith in
-      subst (λ a. (t : Machine) × AfterStart pool (memory + layout.stack_end) (a + 440) a s t) pc_is
+      subst (λ a. (t : Processor) × AfterStart pool (memory + layout.stack_end) (a + 440) a s t) pc_is
       (starts code s here.stands spells.0 second.0 third.0 spells.1 second.1 third.1
       (subst (Has code s.pc) is_whole (subst (λ a. Has code a is) (sym pc_is) has))
       pool (memory + layout.stack_end) spells.3 (second.3 ∙ sym first) (third.3 ∙ sym end) usable low)

@@ -5,7 +5,7 @@ use Rattle.rv_isa.specs.declared.immediate.Immediate.{Immediate}
 use Rattle.rv_isa.specs.declared.instr.Instr.{Instr}
 use Rattle.rv_isa.specs.declared.instr.Instr.TheVariants.{Addi, Ecall}
 use Rattle.rv_isa.specs.Arithmetic.{sum_word}
-use Rattle.rv_isa.specs.Machine.{Machine, value, put}
+use Rattle.rv_isa.specs.Processor.{Processor, value, put}
 use Rattle.rv_isa.specs.Environment.{stepped}
 use Rattle.rv_isa.proofs.Runs.{Leads-then}
 use Rattle.rv_isa.specs.Standing.{Code, Has, Stands}
@@ -25,7 +25,7 @@ use Rattle.cell_runtime.proofs.Calling.{ends-exit}
 abbrev pub stop_code : Immediate → List Instr
 stop_code number = Addi x10 x0 number ∷ Addi x17 x0 imm_93 ∷ Ecall ∷ []
 
-abbrev asking : ℕ → Machine → Machine
+abbrev asking : ℕ → Processor → Processor
 asking number s = record s {
   registers = put 17 93 (put 10 number s.registers);
   pc = s.pc + 4 + 4;
@@ -38,10 +38,10 @@ number-below HeapFull = omega arith
 number-below StackFull = omega arith
 
 module _ (code : Code) (imm : Immediate) (number : ℕ) (number_is : imm.word ≡ number) (below : number < 256) where
-  kept : (s : Machine) (x : ℕ) → KeptBy Stop x → value (asking number s).registers x ≡ value s.registers x
+  kept : (s : Processor) (x : ℕ) → KeptBy Stop x → value (asking number s).registers x ≡ value s.registers x
   kept s x out = let a : x ≢ 10 = out.0 in let b : x ≢ 17 = out.1.0 in grind (arith, nat_tests)
 
-  pub stop_exits : (s : Machine) → Stands code s → Has code s.pc (stop_code imm) → Exits number 3 s
+  pub stop_exits : (s : Processor) → Stands code s → Has code s.pc (stop_code imm) → Exits number 3 s
   stop_exits s stands has =
       let set : sum_word 0 imm.word ≡ number = omega arith in
       let first = leads-addi stands {v = number} has.0 set (next-is stands s.pc _ has.1.0) in

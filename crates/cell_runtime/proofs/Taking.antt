@@ -6,11 +6,10 @@ use Rattle.rv_isa.specs.declared.instr.Instr.{Instr}
 use Rattle.rv_isa.specs.declared.instr.Instr.TheVariants.{Beq, Addi, Lw, Sw, Jalr}
 use Rattle.rv_isa.specs.Arithmetic.{sum_word}
 use Rattle.rv_isa.specs.Bytes.{with_number}
-use Rattle.rv_isa.specs.Machine.{Machine, value, put}
+use Rattle.rv_isa.specs.Processor.{Processor, value, put}
 use Rattle.rv_isa.specs.Environment.{stepped}
 use Rattle.rv_isa.specs.Execution.{Leads}
 use Rattle.rv_isa.specs.Standing.{Code, Has, Stands}
-use Rattle.rv_isa.proofs.Bytes.{with_number-below, with_number-above}
 use Rattle.rv_isa.proofs.Memory.{word-same}
 use Rattle.rv_isa.proofs.Standing.{Stands-leads, next-is}
 use Rattle.rv_isa.proofs.Instructions.{leads-addi, leads-lw, leads-sw, leads-beq_taken, leads-beq_not_taken}
@@ -18,7 +17,7 @@ use Rattle.cell_heap.specs.Cells.{token, changed, free}
 use Rattle.cell_heap.specs.Pool.{Pool, end_of}
 use Rattle.cell_heap.specs.View.{Link, View}
 use Rattle.cell_heap.specs.Memory.{word, IsChain, IsHeldChain, Memory}
-use Rattle.cell_heap.proofs.Frames.{shown-cell}
+use Rattle.cell_heap.proofs.Frames.{shown-cell, byte-stored_apart}
 use Rattle.rv_isa.specs.declared.routine.Routine.TheVariants.{Take}
 use Rattle.rv_isa.specs.declared.placed.Symbol.TheVariants.{Routine}
 use Rattle.cell_runtime.specs.Registers.{KeptBy}
@@ -42,16 +41,16 @@ abbrev pub take_code : List Instr
 take_code = Beq x8 x0 forward_16 ∷ Addi x10 x8 imm_0 ∷ Lw x8 x8 imm_0 ∷ Jalr x0 x1 imm_0 ∷ border_code
 
 -- where a slot has lost its token
-abbrev emptied : Machine → ℕ → Machine
+abbrev emptied : Processor → ℕ → Processor
 emptied s slot = record s { memory = with_number slot 4 0 s.memory }
 
-module _ (code : Code) (pool : Pool) (view : View) (s : Machine) (stands : Stands code s) (has : Has code s.pc take_code) (way : HasWayBack s) (memory : Memory pool view s) where
+module _ (code : Code) (pool : Pool) (view : View) (s : Processor) (stands : Stands code s) (has : Has code s.pc take_code) (way : HasWayBack s) (memory : Memory pool view s) where
   abbrev Served : Type 0
-  Served = ((t : Machine) × AfterTake pool view s t) ⊎ (IsFull pool view × Exits 101 6 s)
+  Served = ((t : Processor) × AfterTake pool view s t) ⊎ (IsFull pool view × Exits 101 6 s)
 
   -- ---- from the chain
 
-  chained : (cell : ℕ) (frees : List ℕ) → view.frees ≡ cell ∷ frees → (t : Machine) × AfterTake pool view s t
+  chained : (cell : ℕ) (frees : List ℕ) → view.frees ≡ cell ∷ frees → (t : Processor) × AfterTake pool view s t
   chained cell frees first =
       let is = first_is pool view s s memory refl refl refl refl cell frees first in
       let is_free = first_free pool view s s memory refl refl refl refl cell frees first in
@@ -112,7 +111,7 @@ module _ (code : Code) (pool : Pool) (view : View) (s : Machine) (stands : Stand
 
     -- ---- at the border
 
-    fresh : view.border < end_of pool → (t : Machine) × AfterTake pool view s t
+    fresh : view.border < end_of pool → (t : Processor) × AfterTake pool view s t
     fresh before =
         let border_is = memory.border in
         let end_is = memory.end in
@@ -173,7 +172,7 @@ module _ (code : Code) (pool : Pool) (view : View) (s : Machine) (stands : Stand
 
       -- ---- from the held chain
 
-      back : (link : Link) (links : List Link) → view.held ≡ link ∷ links → (t : Machine) × AfterTake pool view s t
+      back : (link : Link) (links : List Link) → view.held ≡ link ∷ links → (t : Processor) × AfterTake pool view s t
       back link links newest =
           let held = newest_held pool view s (emptied s link.slot) memory link links newest refl refl in
           let is = newest_is pool view s (emptied s link.slot) memory link links newest refl refl in
@@ -234,8 +233,8 @@ module _ (code : Code) (pool : Pool) (view : View) (s : Machine) (stands : Stand
           ends cell first cells a b before = omega arith
 
           apart : (slot x : ℕ) → (x < slot) ⊎ (slot + 4 ≤ x) → with_number slot 4 0 s.memory x ≡ s.memory x
-          apart slot x (inl low) = with_number-below slot 4 0 s.memory x low
-          apart slot x (inr high) = with_number-above slot 4 0 s.memory x high
+          apart slot x (inl low) = byte-stored_apart s.memory slot 0 x (inl low)
+          apart slot x (inr high) = byte-stored_apart s.memory slot 0 x (inr high)
 
       -- ---- from none
 

@@ -3,7 +3,7 @@ use Rattle.std.proofs.Common.{◌≡◌, ◌≢◌, ◌<◌, ℕ, ◌+◌, ◌%�
 use Rattle.kk_base.specs.Memory.{Part}
 use Rattle.std.proofs.lemmas.Bool.{cases_lt}
 use Rattle.rv_isa.specs.Bytes.{with_number, Apart}
-use Rattle.rv_isa.specs.Machine.{Machine, value}
+use Rattle.rv_isa.specs.Processor.{Processor, value}
 use Rattle.rv_isa.proofs.Memory.{word-apart}
 use Rattle.cell_heap.specs.Cells.{Body, Cell, no_cell, free, token, waiting, counted, Heap, changed, occurs}
 use Rattle.cell_heap.specs.Pool.{Pool, end_of, IsCell, IsUsable}
@@ -34,7 +34,7 @@ token-not-free : token [] ≢ free
 token-not-free e = cc
 
 -- a free cell is given: what a reader sees then, but for the chain and the border
-module _ (pool : Pool) (view : View) (s t : Machine) (memory : Memory pool view s) (cell : ℕ) (is_free : view.heap cell ≡ free) (same : t.memory ≡ s.memory) (parts : t.parts ≡ s.parts) where
+module _ (pool : Pool) (view : View) (s t : Processor) (memory : Memory pool view s) (cell : ℕ) (is_free : view.heap cell ≡ free) (same : t.memory ≡ s.memory) (parts : t.parts ≡ s.parts) where
   abbrev heap : Heap
   heap = changed cell (token []) view.heap
 
@@ -66,7 +66,7 @@ given-differs : (view : View) (cell at : ℕ) → changed cell (token []) view.h
 given-differs view cell at still e =
     token-not-free (sym (changed-same cell (token []) view.heap) ∙ ap (changed cell (token []) view.heap) (sym e) ∙ still)
 
-module _ (pool : Pool) (view : View) (s t : Machine) (memory : Memory pool view s) (same : t.memory ≡ s.memory) (parts : t.parts ≡ s.parts) (held : value t.registers 9 ≡ value s.registers 9) (end : value t.registers 19 ≡ value s.registers 19) where
+module _ (pool : Pool) (view : View) (s t : Processor) (memory : Memory pool view s) (same : t.memory ≡ s.memory) (parts : t.parts ≡ s.parts) (held : value t.registers 9 ≡ value s.registers 9) (end : value t.registers 19 ≡ value s.registers 19) where
   -- the first cell of the chain
   module _ (cell : ℕ) (frees : List ℕ) (first : view.frees ≡ cell ∷ frees) where
     chain_at : IsChain s.memory view.heap (value s.registers 8) (cell ∷ frees)
@@ -174,7 +174,7 @@ module _ (pool : Pool) (parts : List Part) (memory : ℕ → ℕ) (heap : Heap) 
 words-apart : (a b : ℕ) → a % 4 ≡ 0 → b % 4 ≡ 0 → a ≢ b → Apart a 4 b 4
 words-apart a b p q differ = elim (cases_lt a b) [ inl low ↦ inr (omega arith) | inr high ↦ inl (omega arith) ]
 
-module _ (pool : Pool) (view : View) (s t : Machine) (memory : Memory pool view s) (link : Link) (links : List Link) (newest : view.held ≡ link ∷ links)
+module _ (pool : Pool) (view : View) (s t : Processor) (memory : Memory pool view s) (link : Link) (links : List Link) (newest : view.held ≡ link ∷ links)
     (stored : t.memory ≡ with_number link.slot 4 0 s.memory) (parts : t.parts ≡ s.parts) where
   held_at : IsHeldChain pool s.parts s.memory view.heap (value s.registers 9) (link ∷ links)
   held_at = subst (IsHeldChain pool s.parts s.memory view.heap (value s.registers 9)) newest memory.held

@@ -1,6 +1,6 @@
 -- The routine that gives up a reference.
 use Rattle.std.specs.Prelude.{◌≡◌, ℕ, ◌+◌, ◌*◌, ◌≤◌, [], ◌∷◌}
-use Rattle.rv_isa.specs.Machine.{Machine, value}
+use Rattle.rv_isa.specs.Processor.{Processor, value}
 use Rattle.rv_isa.specs.Standing.{Code}
 use Rattle.cell_heap.specs.Pool.{Pool, places}
 use Rattle.cell_heap.specs.View.{View}
@@ -13,7 +13,7 @@ use Rattle.cell_runtime.specs.Calls.{IsAt, HasWayBack, Returns}
 
 -- x10 holds the reference. Counts are right with it and with `roots`, the references from elsewhere that stay, and no cell can be reached from
 -- itself
-pub record BeforeDrop (pool : Pool) (roots : ℕ → ℕ) (reference : ℕ) (view : View) (s : Machine) : Type 0 where
+pub record BeforeDrop (pool : Pool) (roots : ℕ → ℕ) (reference : ℕ) (view : View) (s : Processor) : Type 0 where
   pub way_back : HasWayBack s
   pub reference_is : value s.registers 10 ≡ reference
   pub memory : Memory pool view s
@@ -22,7 +22,7 @@ pub record BeforeDrop (pool : Pool) (roots : ℕ → ℕ) (reference : ℕ) (vie
 
 -- the reference is given up, with all that it was the last to hold, and that alone: border, held tokens and every other byte of memory stay. That
 -- takes 8 instructions at most for each reference that is given up, 52 for each cell that is freed, and 5
-pub record AfterDrop (pool : Pool) (reference : ℕ) (view : View) (s t : Machine) : Type 0 where
+pub record AfterDrop (pool : Pool) (reference : ℕ) (view : View) (s t : Processor) : Type 0 where
   pub gave : ℕ
   pub freed : ℕ
   pub count : ℕ
@@ -39,4 +39,4 @@ pub record AfterDrop (pool : Pool) (reference : ℕ) (view : View) (s t : Machin
 
 abbrev pub IsDrop : Code → ℕ → Type 0
 IsDrop code at =
-    (pool : Pool) (roots : ℕ → ℕ) (reference : ℕ) (view : View) (s : Machine) → IsAt code at s → BeforeDrop pool roots reference view s → (t : Machine) × AfterDrop pool reference view s t
+    (pool : Pool) (roots : ℕ → ℕ) (reference : ℕ) (view : View) (s : Processor) → IsAt code at s → BeforeDrop pool roots reference view s → (t : Processor) × AfterDrop pool reference view s t

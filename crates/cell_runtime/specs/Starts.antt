@@ -1,6 +1,6 @@
 -- The start of an image.
 use Rattle.std.specs.Prelude.{◌≡◌, ℕ, ◌+◌, ◌*◌, ◌%◌, ◌^◌, ◌<◌, [], ◌&&◌, if◌then◌else◌, nat_eq, nat_le, nat_lt}
-use Rattle.rv_isa.specs.Machine.{Machine, value}
+use Rattle.rv_isa.specs.Processor.{Processor, value}
 use Rattle.rv_isa.specs.Execution.{Leads}
 use Rattle.rv_isa.specs.Standing.{Code}
 use Rattle.cell_heap.specs.Cells.{no_cell, free, Heap}
@@ -22,7 +22,7 @@ abbrev pub first_view : Pool → View
 first_view pool = record { heap = all_free pool; frees = []; border = pool.first; held = [] }
 
 -- nine instructions, however many cells there are, lead to `main`: x1 is the way back to the stop behind them, and x2 the end of the stack
-pub record AfterStart (pool : Pool) (stack_end main at : ℕ) (s t : Machine) : Type 0 where
+pub record AfterStart (pool : Pool) (stack_end main at : ℕ) (s t : Processor) : Type 0 where
   pub leads : Leads 9 s t
   pub goes_to : t.pc ≡ main
   pub way_back : value t.registers 1 ≡ at + 36
@@ -36,7 +36,7 @@ pub record AfterStart (pool : Pool) (stack_end main at : ℕ) (s t : Machine) : 
 
 abbrev pub IsStart : Pool → ℕ → ℕ → Code → ℕ → Type 0
 IsStart pool stack_end main code at =
-    (s : Machine) → IsAt code at s → IsUsable pool s.parts → main < 2 ^ 32 → (t : Machine) × AfterStart pool stack_end main at s t
+    (s : Processor) → IsAt code at s → IsUsable pool s.parts → main < 2 ^ 32 → (t : Processor) × AfterStart pool stack_end main at s t
 
 -- `main` stands behind the runtime, and the cells and the stack where the layout says
 abbrev pub IsStartOf : Layout → ℕ → Code → ℕ → Type 0

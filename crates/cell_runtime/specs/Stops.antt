@@ -1,6 +1,6 @@
 -- The routine that ends the run: an exit with one of three numbers.
 use Rattle.std.specs.Prelude.{ℕ}
-use Rattle.rv_isa.specs.Machine.{Machine}
+use Rattle.rv_isa.specs.Processor.{Processor}
 use Rattle.rv_isa.specs.Standing.{Code}
 use Rattle.cell_runtime.specs.declared.stop.Ending.{Ending}
 use Rattle.cell_runtime.specs.declared.stop.Ending.TheVariants.{Ended, HeapFull, StackFull}
@@ -13,4 +13,4 @@ number_of HeapFull = 101
 number_of StackFull = 102
 
 abbrev pub IsStop : Ending → Code → ℕ → Type 0
-IsStop ending code at = (s : Machine) → IsAt code at s → Exits (number_of ending) 3 s
+IsStop ending code at = (s : Processor) → IsAt code at s → Exits (number_of ending) 3 s

@@ -1,6 +1,6 @@
 -- The request for a cell.
 use Rattle.std.specs.Prelude.{◌≡◌, ℕ, ◌+◌, ◌<◌, ◌≤◌, ◌⊎◌, List, [], ◌∷◌, Option, Some, None}
-use Rattle.rv_isa.specs.Machine.{Machine, value}
+use Rattle.rv_isa.specs.Processor.{Processor, value}
 use Rattle.rv_isa.specs.Standing.{Code}
 use Rattle.cell_heap.specs.Cells.{token, changed}
 use Rattle.cell_heap.specs.Pool.{Pool, end_of}
@@ -27,11 +27,11 @@ pub record IsFull (pool : Pool) (view : View) : Type 0 where
   pub held : view.held ≡ []
 
 -- memory is as before; a slot that lost its token has 0
-abbrev pub EmptiesSlot : Option ℕ → Machine → Machine → Type 0
+abbrev pub EmptiesSlot : Option ℕ → Processor → Processor → Type 0
 EmptiesSlot None s t = t.memory ≡ s.memory
 EmptiesSlot (Some slot) s t = (word t.memory slot ≡ 0) × KeepsOutside slot 4 s t
 
-pub record AfterTake (pool : Pool) (view : View) (s t : Machine) : Type 0 where
+pub record AfterTake (pool : Pool) (view : View) (s t : Processor) : Type 0 where
   pub cell : ℕ
   pub then_view : View
   pub slot : Option ℕ
@@ -46,8 +46,8 @@ pub record AfterTake (pool : Pool) (view : View) (s t : Machine) : Type 0 where
 
 abbrev pub IsTake : Pool → Code → ℕ → Type 0
 IsTake pool code at =
-    (view : View) (s : Machine) → IsAt code at s → HasWayBack s → Memory pool view s
-    → ((t : Machine) × AfterTake pool view s t) ⊎ (IsFull pool view × Exits 101 6 s)
+    (view : View) (s : Processor) → IsAt code at s → HasWayBack s → Memory pool view s
+    → ((t : Processor) × AfterTake pool view s t) ⊎ (IsFull pool view × Exits 101 6 s)
 
 -- the code of a take does not depend on where the cells are
 abbrev pub IsTakeOfPools : Code → ℕ → Type 0

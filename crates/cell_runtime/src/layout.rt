@@ -3,8 +3,7 @@
 ghost use Rattle.std.specs.Prelude.{◌≡◌, ◌+◌, ◌*◌, ◌<◌, ◌≤◌};
 ghost use Rattle.cell_runtime.specs.Layouts.{layout_of};
 
-/// Bytes of a cell.
-pub const CELL_BYTES: u32 = 32;
+use rv_isa::environment::CELL_SIZE;
 
 /// Bytes before the cells: the buffer, and what is missing to a multiple of a cell's.
 const BYTES_BEFORE_CELLS: u32 = 32;
@@ -38,7 +37,7 @@ impl Layout {
         requires frame { frame_bytes ≤ 4096 }
         ensures { result ≡ layout_of cells depth frame_bytes }
     {
-        let cells_end = BYTES_BEFORE_CELLS + CELL_BYTES * cells;
+        let cells_end = BYTES_BEFORE_CELLS + CELL_SIZE * cells;
         let stack = (cells_end + WORD_BYTES).div_ceil(PAGE_BYTES) * PAGE_BYTES;
         Layout {
             cells: BYTES_BEFORE_CELLS,

@@ -5,7 +5,6 @@
 
 mod assembly;
 mod drop;
-mod environment;
 mod layout;
 mod print_int;
 mod print_text;
@@ -19,3 +18,6 @@ mod tokens;
 pub use layout::Layout;
 pub use runtime::text;
 pub use stop::Ending;
+
+#[cfg(test)]
+mod tests;

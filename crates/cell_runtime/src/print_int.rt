@@ -7,7 +7,7 @@ use crate::assembly::{
     add, addi, address, back, bge, bne, divu, ecall, forward, minus_one, remu, ret, sb, set, small,
     sub,
 };
-use crate::environment::{STANDARD_OUTPUT, WRITE};
+use rv_isa::environment::{STANDARD_OUTPUT, WRITE};
 use rv_isa::{Native, Register};
 
 /// The greatest number of bytes of a number: a sign and ten digits. The buffer has one more, for the line end.

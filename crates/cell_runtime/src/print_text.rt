@@ -4,7 +4,7 @@ ghost use Rattle.cell_runtime.specs.Lines.{Makes};
 ghost use Rattle.cell_runtime.specs.Prints.{IsPrintText};
 
 use crate::assembly::{addi, ecall, ret, set, small};
-use crate::environment::{STANDARD_OUTPUT, WRITE};
+use rv_isa::environment::{STANDARD_OUTPUT, WRITE};
 use rv_isa::{Native, Register};
 
 /// Puts the bytes from the address in `a0` on, as many as `a1` says, at once.

@@ -4,7 +4,7 @@ ghost use Rattle.cell_runtime.specs.Lines.{Makes};
 ghost use Rattle.cell_runtime.specs.Prints.{IsReadByte};
 
 use crate::assembly::{addi, address, bne, ecall, forward, lbu, minus_one, ret, set, small};
-use crate::environment::{READ, STANDARD_INPUT};
+use rv_isa::environment::{READ, STANDARD_INPUT};
 use rv_isa::{Native, Register};
 
 /// Takes the next byte of the input: `a0` is the byte, or -1 at the input's end.

@@ -5,7 +5,7 @@ ghost use Rattle.cell_runtime.specs.Lines.{Makes};
 ghost use Rattle.cell_runtime.specs.Stops.{number_of, IsStop};
 
 use crate::assembly::{ecall, set};
-use crate::environment::EXIT;
+use rv_isa::environment::EXIT;
 use rv_isa::{Native, Register};
 
 /// How a run ends.

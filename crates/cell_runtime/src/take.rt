@@ -5,8 +5,7 @@ ghost use Rattle.cell_runtime.specs.Takes.{IsTakeOfPools};
 
 use crate::Ending;
 use crate::assembly::{addi, beq, ecall, forward, lw, ret, set, small, sw};
-use crate::environment::EXIT;
-use crate::layout::CELL_BYTES;
+use rv_isa::environment::{CELL_SIZE, EXIT};
 use rv_isa::{Native, Register};
 
 /// Gives a cell in `a0`: the first one of the chain in `s0`, else the first one that was never used, else the newest held
@@ -22,7 +21,7 @@ pub fn take() -> [Native; 17]
         // The chain is empty: the border rises by a cell.
         beq(Register::S2, Register::S3, forward(4)),
         addi(Register::A0, Register::S2, small(0)),
-        addi(Register::S2, Register::S2, small(CELL_BYTES)),
+        addi(Register::S2, Register::S2, small(CELL_SIZE)),
         ret(),
         // All cells were used.
         beq(Register::S1, Register::ZERO, forward(6)),
