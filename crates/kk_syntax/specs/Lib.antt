@@ -1,9 +1,2 @@
-pub mod Arithmetic
 pub mod Places
-pub mod Programs
-pub mod Shapes
-pub mod SourceAfter
-pub mod State
-pub mod Step
 pub mod TokenList
-pub mod Trees

@@ -1,3 +1,0 @@
-pub mod ArithmeticExamples
-pub mod ArithmeticWords
-pub mod SourceExamples
