@@ -1,2 +1,9 @@
+pub mod Patterns
 pub mod Places
+pub mod PositionsOf
+pub mod Programs
+pub mod Shapes
+pub mod Surface
 pub mod TokenList
+pub mod Trees
+pub mod Types

@@ -7,6 +7,7 @@ mod literal;
 mod operator;
 mod positions;
 mod program;
+mod shape;
 mod token;
 mod tree;
 mod typed;
@@ -19,6 +20,7 @@ pub use positions::{Ownership, Positions};
 pub use program::{
     Binder, Constructor, Expr, Form, Fun, Pat, Program, Row, Statement, Ty, TypeDecl,
 };
+pub use shape::nodes;
 pub use token::{Keyword, LocatedToken, Symbol, Token, Tokens};
 pub use tree::{
     ConstructorDeclaration, Declaration, Effect, FunctionDeclaration, Identifier, Parameter,
