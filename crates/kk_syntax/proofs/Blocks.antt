@@ -1,10 +1,9 @@
 -- The nodes of a block are those of its statements and of its last expression.
 use Rattle.std.proofs.Common.{◌≡◌, ◌+◌, List, [], ◌∷◌, map, ap, sym, ◌∙◌, arith}
-use Rattle.kk_syntax.specs.declared.program.Expr.{Expr}
 use Rattle.kk_syntax.specs.declared.program.Expr.TheVariants.{Block, rolls-Block}
 use Rattle.kk_syntax.specs.declared.program.Expr.TheFolds.{fold-roll-Expr}
 use Rattle.kk_syntax.specs.Trees.{Tree, RowTree, StatementTree, block_of, expr_step, row_step, statement_step, expr_tree, statement_tree}
-use Rattle.kk_syntax.specs.Shapes.{nodes_of, nodes_of_statements, nodes_of_binder}
+use Rattle.kk_syntax.specs.Shapes.{nodes_of, nodes_of_statements}
 
 pub nodes_of_block : (ss : List StatementTree) (last : Tree) → nodes_of (block_of ss last) ≡ nodes_of_statements ss + nodes_of last
 nodes_of_block [] last = omega arith

@@ -1,5 +1,5 @@
 -- A resolved program as mathematics.
-use Rattle.std.specs.Prelude.{ℕ, List, [], map, slice_index_or, length}
+use Rattle.std.specs.Prelude.{ℕ, List, [], map, slice_index_or}
 use Rattle.kk_syntax.specs.declared.program.TypeDecl.{TypeDecl}
 use Rattle.kk_syntax.specs.declared.program.Constructor.{Constructor}
 use Rattle.kk_syntax.specs.declared.program.Fun.{Fun}

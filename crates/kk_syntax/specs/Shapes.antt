@@ -1,5 +1,5 @@
 -- The shape of a body: its free variables, its nodes, and its tail positions.
-use Rattle.std.specs.Prelude.{ℕ, ◌+◌, max, Bool, true, false, not, ◌==◌, List, [], ◌∷◌, ◌++◌, filter, map}
+use Rattle.std.specs.Prelude.{ℕ, ◌+◌, max, Bool, not, ◌==◌, List, [], ◌∷◌, ◌++◌, filter}
 use Rattle.std.specs.List.{list_any}
 use Rattle.kk_syntax.specs.declared.program.Binder.{Binder}
 use Rattle.kk_syntax.specs.declared.program.Binder.TheVariants as OfBinder

@@ -19,8 +19,6 @@ use Rattle.kk_syntax.specs.declared.tree.SurfaceExpr.TheOpen as OfExpr
 use Rattle.kk_syntax.specs.declared.tree.SurfaceExpr.TheFolds.{fold-SurfaceExpr, fold-SurfaceRow, fold-SurfaceStatement}
 use Rattle.kk_syntax.specs.declared.tree.Parameter.{Parameter}
 use Rattle.kk_syntax.specs.declared.tree.ConstructorDeclaration.{ConstructorDeclaration}
-use Rattle.kk_syntax.specs.declared.tree.TypeDeclaration.{TypeDeclaration}
-use Rattle.kk_syntax.specs.declared.tree.FunctionDeclaration.{FunctionDeclaration}
 use Rattle.kk_syntax.specs.declared.tree.Declaration.{Declaration}
 use Rattle.kk_syntax.specs.declared.tree.Declaration.TheVariants as OfDeclaration
 use Rattle.kk_syntax.specs.declared.tree.Tree.{Tree}

@@ -15,11 +15,8 @@ pub fn nodes(expr: &Expr) -> u64
     ensures { result ≡ min (nodes_of (expr_tree expr.now)) (2 ^ 64 - 1) }
 {
     match expr {
-        Expr::Number(_)
-        | Expr::Unit
-        | Expr::Variable(_)
-        | Expr::ReadByte
-        | Expr::PrintText(_, _) => 1,
+        Expr::Number(_) | Expr::Unit | Expr::Variable(_) | Expr::ReadByte | Expr::PrintText(_, _) =>
+            1,
         Expr::Apply(_, arguments) => nodes_of_each(arguments).saturating_add(1),
         Expr::If(condition, positive, negative) => nodes(condition)
             .saturating_add(nodes(positive))
