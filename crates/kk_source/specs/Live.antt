@@ -1,5 +1,5 @@
 -- The places that are live: those that can be reached, through fields, from what the machine still holds.
-use Rattle.std.specs.Prelude.{◌≡◌, ◌⊎◌, ℕ, zero, suc, ◌+◌, ◌==◌, ◌||◌, Bool, true, false, if◌then◌else◌, List, [], ◌∷◌, ◌++◌, map, length, Option, Some, None}
+use Rattle.std.specs.Prelude.{◌≡◌, ◌⊎◌, ℕ, zero, suc, ◌+◌, ◌==◌, ◌||◌, Bool, true, false, if◌then◌else◌, List, [], ◌∷◌, ◌++◌, map, length, Option, Some, None, slice_get}
 use Rattle.std.specs.List.{list_any}
 use Rattle.kk_syntax.specs.Trees.{Tree, Trees, Rows}
 use Rattle.kk_syntax.specs.Shapes.{free, free_all, free_rows, without}
@@ -30,10 +30,12 @@ held_by_all [] = []
 held_by_all (frame ∷ older) = held frame ++ held_by_all older
 
 -- the fields of the cell at a place; none where there is no cell
+abbrev pub fields_in : Option Cell → List Value
+fields_in None = []
+fields_in (Some cell) = cell.fields
+
 abbrev pub fields_at : Store → ℕ → List Value
-fields_at [] at = []
-fields_at (cell ∷ store) zero = cell.fields
-fields_at (cell ∷ store) (suc at) = fields_at store at
+fields_at store at = fields_in (slice_get store at)
 
 -- a place is among values
 abbrev pub Among : List Value → ℕ → Type 0
