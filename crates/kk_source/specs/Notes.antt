@@ -1,5 +1,5 @@
 -- What a step tells: what the world sees, and two numbers that it does not see.
-use Rattle.std.specs.Prelude.{ℕ, Option, Some, None}
+use Rattle.std.specs.Prelude.{ℕ, List, [], ◌∷◌}
 use Rattle.kk_base.specs.Trace.{Event}
 
 -- seen: an event.
@@ -10,8 +10,8 @@ pub data Note : Type 0 where
   built : (live : ℕ) → Note
   called : (frames : ℕ) → Note
 
--- the event of a note, if it is seen
-abbrev pub event_of : Note → Option Event
-event_of (seen event) = Some event
-event_of (built live) = None
-event_of (called frames) = None
+-- what the world sees of a note
+abbrev pub events_of : Note → List Event
+events_of (seen event) = event ∷ []
+events_of (built live) = []
+events_of (called frames) = []

@@ -1,8 +1,8 @@
 -- What a run of a program has come to after a number of steps.
 use Rattle.std.specs.Prelude.{ℕ, List, [], ◌∷◌, Option, Some, None}
 use Rattle.kk_base.specs.Trace.{Event, output, input as taken, input_end}
-use Rattle.kk_base.specs.Machines.{Machine, until, trace, ending_after}
-use Rattle.kk_source.specs.Notes.{Note, seen, built, called}
+use Rattle.kk_base.specs.Machines.{Machine, until, mapped, trace, ending_after}
+use Rattle.kk_source.specs.Notes.{Note, seen, built, called, events_of}
 use Rattle.kk_source.specs.State.{Setting, End, end_at, State, start}
 use Rattle.kk_source.specs.Step.{Action, goes, puts, takes, builds, calls, step_of}
 
@@ -15,29 +15,20 @@ performed (takes to) [] = (seen input_end ∷ [], record { machine = to None; in
 performed (builds found to) input = (built found ∷ [], record { machine = to; input = input })
 performed (calls found to) input = (called found ∷ [], record { machine = to; input = input })
 
-abbrev pub noted_step : Setting → State → List Note × State
-noted_step setting s = performed (step_of setting s.machine) s.input
-
--- the events among notes
-abbrev pub events_of : List Note → List Event
-events_of [] = []
-events_of (seen event ∷ later) = event ∷ events_of later
-events_of (built live ∷ later) = events_of later
-events_of (called frames ∷ later) = events_of later
-
-abbrev pub step : Setting → State → List Event × State
-step setting s = (events_of (noted_step setting s).0, (noted_step setting s).1)
+abbrev pub step : Setting → State → List Note × State
+step setting s = performed (step_of setting s.machine) s.input
 
 -- how a state has ended, if it has
 abbrev pub ending_of : State → Option End
 ending_of s = end_at s.machine.control
 
--- the store machine as a machine that tells all, and as the world sees it: it steps until it is at its end
-abbrev pub noted_machine : Setting → Machine State Note End
-noted_machine setting = until ending_of (noted_step setting)
+-- the store machine as a machine that tells all: it steps until it is at its end
+abbrev pub store_machine : Setting → Machine State Note End
+store_machine setting = until ending_of (step setting)
 
+-- the store machine as the world sees it
 abbrev pub source_machine : Setting → Machine State Event End
-source_machine setting = until ending_of (step setting)
+source_machine setting = mapped events_of (λ end. end) (store_machine setting)
 
 -- the store machine at its start, with its whole input left
 abbrev pub first_state : Setting → List ℕ → State
