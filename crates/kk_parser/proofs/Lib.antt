@@ -2,6 +2,7 @@ pub mod Apart
 pub mod Begins
 pub mod Blocks
 pub mod Complete
+pub mod EachList
 pub mod Functional
 pub mod Laws
 pub mod Local

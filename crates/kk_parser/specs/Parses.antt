@@ -11,12 +11,12 @@ use Rattle.kk_parser.specs.Phrases.{program, rule}
 use Rattle.kk_parser.specs.Spells.{Marked, tokens_of, Spells}
 
 -- marked tokens that are a program with these functions
-abbrev pub IsProgram : List FunctionTree → List Marked → Type 0
-IsProgram functions ts = (m : ℕ) × Spells (rule program) 0 functions m ts []
+abbrev pub SpellsProgram : List FunctionTree → List Marked → Type 0
+SpellsProgram functions ts = (m : ℕ) × Spells (rule program) 0 functions m ts []
 
 -- marked tokens that begin a program
 abbrev pub BeginsProgram : List Marked → Type 0
-BeginsProgram front = (functions : List FunctionTree) × (rest : List Marked) × IsProgram functions (front ++ rest)
+BeginsProgram front = (functions : List FunctionTree) × (rest : List Marked) × SpellsProgram functions (front ++ rest)
 
 -- no more than so many levels are open at each token
 abbrev pub AtMost : ℕ → List Marked → Type 0
@@ -28,11 +28,11 @@ pub record HasTree (tokens : List LocatedToken) (functions : List FunctionTree) 
   pub marked : List Marked
   pub tokens_are : tokens_of marked ≡ tokens
   pub shallow : AtMost 200 marked
-  pub program : IsProgram functions marked
+  pub program : SpellsProgram functions marked
 
 -- behind these tokens some program goes on with the first of `rest`; where there is none, some program ends
 abbrev pub GoesOn : List LocatedToken → List LocatedToken → Type 0
-GoesOn before [] = (functions : List FunctionTree) × (ts : List Marked) × IsProgram functions ts × (tokens_of ts ≡ before)
+GoesOn before [] = (functions : List FunctionTree) × (ts : List Marked) × SpellsProgram functions ts × (tokens_of ts ≡ before)
 GoesOn before (t ∷ rest) = (front : List Marked) × BeginsProgram front × (tokens_of front ≡ before ++ t ∷ [])
 
 -- The first of `rest` behind these tokens, or the end, is the first that is unexpected: the tokens before it begin a
@@ -56,28 +56,38 @@ pub record IsTooDeep (before rest : List LocatedToken) : Type 0 where
   pub opens : opener.levels ≡ 201
 
 -- where the first of some tokens stands, or where the text ends
-abbrev pub place_of : List LocatedToken → Span → Span
-place_of [] end = end
-place_of (t ∷ ts) end = t.span
+abbrev pub next_place : List LocatedToken → Span → Span
+next_place [] end = end
+next_place (t ∷ ts) end = t.span
 
--- the number of the tokens before a place, as far as a u32 goes, and the place's line and column
+-- the number of the tokens before a place, and the place's line and column
 abbrev pub Tells : List LocatedToken → Span → ℕ → ℕ → ℕ → Type 0
-Tells before place index line column = (index ≡ min (length before) (2 ^ 32 - 1)) × (line ≡ place.line) × (column ≡ place.column)
+Tells before place index line column = (index ≡ length before) × (line ≡ place.line) × (column ≡ place.column)
 
 -- the error tells the first place at which the tokens are no program, and why
-abbrev pub Refuses : List LocatedToken → Span → ParseError → Type 0
-Refuses tokens end (Unexpected index line column) = (before rest : List LocatedToken) × (before ++ rest ≡ tokens) × IsUnexpected before rest × Tells before (place_of rest end) index line column
-Refuses tokens end (TooDeep index line column) = (before rest : List LocatedToken) × (before ++ rest ≡ tokens) × IsTooDeep before rest × Tells before (place_of rest end) index line column
-Refuses tokens end NoMemory = Unit {0}
+abbrev pub RefusesTokens : List LocatedToken → Span → ParseError → Type 0
+RefusesTokens tokens end (Unexpected index line column) = (before rest : List LocatedToken) × (before ++ rest ≡ tokens) × IsUnexpected before rest × Tells before (next_place rest end) index line column
+RefusesTokens tokens end (TooDeep index line column) = (before rest : List LocatedToken) × (before ++ rest ≡ tokens) × IsTooDeep before rest × Tells before (next_place rest end) index line column
+RefusesTokens tokens end NoMemory = Unit {0}
+
+-- an error as it is answered: its index as far as a u32 goes
+abbrev pub in_u32 : ParseError → ParseError
+in_u32 (Unexpected index line column) = Unexpected (min index (2 ^ 32 - 1)) line column
+in_u32 (TooDeep index line column) = TooDeep (min index (2 ^ 32 - 1)) line column
+in_u32 NoMemory = NoMemory
+
+-- an answer tells the first place at which the tokens are no program
+abbrev pub AnswersRefusal : List LocatedToken → Span → ParseError → Type 0
+AnswersRefusal tokens end error = (refusal : ParseError) × RefusesTokens tokens end refusal × (error ≡ in_u32 refusal)
 
 -- the answer is this tree, or memory ran out
-abbrev pub Gives : List FunctionTree → Result Tree ParseError → Type 0
-Gives functions (Ok tree) = map function_tree tree.functions.items ≡ functions
-Gives functions (Err error) = error ≡ NoMemory
+abbrev pub GivesTree : List FunctionTree → Result Tree ParseError → Type 0
+GivesTree functions (Ok tree) = map function_tree tree.functions.items ≡ functions
+GivesTree functions (Err error) = error ≡ NoMemory
 
 -- tokens spell one program, however deep it is nested
 abbrev pub OneProgram : Type 0
-OneProgram = (functions others : List FunctionTree) (ts us : List Marked) → IsProgram functions ts → IsProgram others us → tokens_of ts ≡ tokens_of us → functions ≡ others
+OneProgram = (functions others : List FunctionTree) (ts us : List Marked) → SpellsProgram functions ts → SpellsProgram others us → tokens_of ts ≡ tokens_of us → functions ≡ others
 
 -- of a tree, an unexpected token and one that opens a level too many, tokens have one alone, and at one place
 pub record OneAnswer : Type 0 where
@@ -86,3 +96,13 @@ pub record OneAnswer : Type 0 where
   pub unexpected_or_too_deep : (before rest front later : List LocatedToken) → before ++ rest ≡ front ++ later → IsUnexpected before rest → IsTooDeep front later → ⊥
   pub one_unexpected : (before rest front later : List LocatedToken) → before ++ rest ≡ front ++ later → IsUnexpected before rest → IsUnexpected front later → before ≡ front
   pub one_too_deep : (before rest front later : List LocatedToken) → before ++ rest ≡ front ++ later → IsTooDeep before rest → IsTooDeep front later → before ≡ front
+
+-- some tokens have an answer: a tree, or a first token, or the end, that is unexpected or opens a level too many
+pub data HasAnswer (tokens : List LocatedToken) : Type 0 where
+  of_tree : (functions : List FunctionTree) → HasTree tokens functions → HasAnswer tokens
+  of_unexpected : (before rest : List LocatedToken) → before ++ rest ≡ tokens → IsUnexpected before rest → HasAnswer tokens
+  of_too_deep : (before rest : List LocatedToken) → before ++ rest ≡ tokens → IsTooDeep before rest → HasAnswer tokens
+
+-- each list of tokens has one
+abbrev pub EachHasAnswer : Type 0
+EachHasAnswer = (tokens : List LocatedToken) → HasAnswer tokens

@@ -3,11 +3,11 @@ use Rattle.std.proofs.lemmas.Bool.{eqb-true, eqb-false}
 use Rattle.kk_syntax.specs.declared.token.LocatedToken.{LocatedToken}
 use Rattle.kk_syntax.specs.Programs.{function_tree}
 use Rattle.kk_parser.specs.declared.parser.Parser.{Parser}
-use Rattle.kk_parser.specs.Parses.{place_of}
+use Rattle.kk_parser.specs.Parses.{in_u32, next_place}
 use Rattle.kk_parser.specs.Phrases.{program, rule}
 use Rattle.kk_parser.specs.Reading.{Finds}
 use Rattle.kk_parser.proofs.Laws.{program_law, answer_law}
-use Rattle.kk_parser.proofs.Told.{found_all, found_only, left_refused, left_only, fault_refused, fault_only}
+use Rattle.kk_parser.proofs.Told.{found_all, found_only, left_answered, left_only, fault_answered, fault_only}
 use Rattle.kk_parser.proofs.program.parse.Goals.{In-Ok}
 use Rattle.kk_parser.proofs.program.parse.Goals as goal
 
@@ -30,7 +30,7 @@ returns-then-is_empty-clause-only c functions h = found_only h (read (goal.at.re
 
 pub returns-else-is_empty-clause-refused : goal.returns-else-is_empty-clause-refused
 returns-else-is_empty-clause-refused c =
-    rw c.error_at.ensures (left_refused c.args.tokens.now.items c.program.new.self.rest.now (map function_tree c.in-Ok.functions.items) c.program.new.self.depth c.args.tokens.now.end (some_left c.program.new.self.rest.now c.is_empty.result c.is_empty.ensures c.if-is_empty.false) (read (goal.at.returns-else-is_empty-clause-refused c).In-Ok))
+    rw c.error_at.ensures (left_answered c.args.tokens.now.items c.program.new.self.rest.now (map function_tree c.in-Ok.functions.items) c.program.new.self.depth c.args.tokens.now.end (some_left c.program.new.self.rest.now c.is_empty.result c.is_empty.ensures c.if-is_empty.false) (read (goal.at.returns-else-is_empty-clause-refused c).In-Ok))
 
 pub returns-else-is_empty-clause-only : goal.returns-else-is_empty-clause-only
 returns-else-is_empty-clause-only c functions h =
@@ -39,12 +39,12 @@ returns-else-is_empty-clause-only c functions h =
 pub returns-in-Err-clause-refused : goal.returns-in-Err-clause-refused
 returns-in-Err-clause-refused c =
     let old : Parser = record { alloc = c.args.alloc; rest = c.as_slice.result; depth = 0 } in
-    rw c.error_at-in-Err.ensures (fault_refused c.args.tokens.now.items c.args.tokens.now.end old c.program.new.self c.in-Err.fault refl c.as_slice.ensures c.in-Err.ensures.reads)
+    rw c.error_at-in-Err.ensures (fault_answered c.args.tokens.now.items c.args.tokens.now.end old c.program.new.self c.in-Err.fault refl c.as_slice.ensures c.in-Err.ensures.reads)
 
 pub returns-in-Err-clause-only : goal.returns-in-Err-clause-only
 returns-in-Err-clause-only c functions h =
     let old : Parser = record { alloc = c.args.alloc; rest = c.as_slice.result; depth = 0 } in
-    c.error_at-in-Err.ensures ∙ fault_only c.args.tokens.now.items functions (length c.args.tokens.now.items - length c.program.new.self.rest.now) (place_of c.program.new.self.rest.now c.args.tokens.now.end) old c.program.new.self c.in-Err.fault refl c.as_slice.ensures h c.in-Err.ensures.reads
+    c.error_at-in-Err.ensures ∙ ap in_u32 (fault_only c.args.tokens.now.items functions (length c.args.tokens.now.items - length c.program.new.self.rest.now) (next_place c.program.new.self.rest.now c.args.tokens.now.end) old c.program.new.self c.in-Err.fault refl c.as_slice.ensures h c.in-Err.ensures.reads)
 
 pub returns-then-is_empty-clause-one_program : goal.returns-then-is_empty-clause-one_program
 returns-then-is_empty-clause-one_program c = program_law
