@@ -1,3 +1,4 @@
+pub mod Exactly
 pub mod Faults
 pub mod Limits
 pub mod Machines

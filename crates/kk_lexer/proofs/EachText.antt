@@ -388,4 +388,4 @@ each_outcome (suc more) before place (b ∷ text) short =
 pub each_text_is_read : EachTextIsRead
 each_text_is_read text =
     let found = each_outcome (length text) [] start text (omega arith) in
-    (found.0, record { reads = found.1; only = λ other h. one_reading found.1 h }, found.2)
+    ((found.0, record { holds = found.1; only = λ other h. one_reading found.1 h }), λ h. found.2 (sym (one_reading found.1 h)))

@@ -48,7 +48,7 @@ ReadsOn-more text before place rest n token so_far begins =
     }
 
 the_reading : {text : List ℕ} {outcome : Outcome} → IsReadAs text outcome → IsReading text outcome
-the_reading h = record { reads = h; only = λ other k. one_reading h k }
+the_reading h = record { holds = h; only = λ other k. one_reading h k }
 
 -- at the end of the text
 pub ReadsOn-end : (text : List ℕ) (before : List LocatedToken) (place : Span) (rest : List ℕ) → ReadsOn text before place rest → length rest ≡ 0 → IsReading text (Ok (record { items = before; end = place }))

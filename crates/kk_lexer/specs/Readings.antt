@@ -3,6 +3,7 @@ use Rattle.std.specs.Prelude.{◌≡◌, ℕ, ◌-◌, List, [], ◌∷◌, ◌+
 use Rattle.kk_base.specs.declared.error.LexError.{LexError}
 use Rattle.kk_base.specs.declared.error.LexError.TheVariants as OfLexError
 use Rattle.kk_base.specs.declared.span.Span.{Span}
+use Rattle.kk_base.specs.Exactly.{IsOnly, ExactlyOne}
 use Rattle.kk_syntax.specs.declared.token.LocatedToken.{LocatedToken}
 use Rattle.kk_syntax.specs.declared.token.Symbol.TheVariants.{CloseParenthesis, CloseBrace}
 use Rattle.kk_syntax.specs.declared.token.Token.{Token}
@@ -53,13 +54,12 @@ abbrev pub IsReadAs : List ℕ → Outcome → Type 0
 IsReadAs text outcome = ReadsText [] start text outcome
 
 -- the reading of a text: there is no other
-pub record IsReading (text : List ℕ) (outcome : Outcome) : Type 0 where
-  pub reads : IsReadAs text outcome
-  pub only : (other : Outcome) → IsReadAs text other → other ≡ outcome
+abbrev pub IsReading : List ℕ → Outcome → Type 0
+IsReading text outcome = IsOnly (IsReadAs text) outcome
 
--- each text has a reading: its tokens, or a first lexeme that cannot be read (want of memory is no part of a text)
+-- each text has exactly one reading: its tokens, or a first lexeme that cannot be read, which is no want of memory
 abbrev pub EachTextIsRead : Type 0
-EachTextIsRead = (text : List ℕ) → (outcome : Outcome) × IsReading text outcome × (outcome ≡ Err OfLexError.NoMemory → ⊥)
+EachTextIsRead = (text : List ℕ) → ExactlyOne (IsReadAs text) × (IsReadAs text (Err OfLexError.NoMemory) → ⊥)
 
 -- a fact of an outcome, unless memory ran out
 abbrev pub UnlessNoMemory : Outcome → (Outcome → Type 0) → Type 0

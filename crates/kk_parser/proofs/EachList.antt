@@ -1,12 +1,17 @@
--- Each list of tokens has an answer: the reading of a phrase comes to an end, since no phrase is read again where no token was passed.
+-- Each list of tokens comes to something: the reading of a phrase comes to an end, since no phrase is read again where no token was passed.
 use Rattle.std.proofs.Common.{◌≡◌, ℕ, zero, suc, ◌+◌, ◌<◌, ◌≤◌, Bool, true, false, cond, not, ◌&&◌, ◌⊎◌, List, [], ◌∷◌, length, None, Some, refl, sym, ◌∙◌, subst, inl, inr, arith}
 use Rattle.std.proofs.lemmas.Bool.{and_parts, cases_lt}
+use Rattle.std.specs.Prelude.{Result, Ok, Err}
+use Rattle.kk_base.specs.declared.error.ParseError.{ParseError}
+use Rattle.kk_base.specs.declared.error.ParseError.TheVariants.{Unexpected, TooDeep}
+use Rattle.kk_syntax.specs.TokenList.{TokenList}
 use Rattle.kk_syntax.specs.declared.token.LocatedToken.{LocatedToken}
 use Rattle.kk_parser.specs.Kinds.{Kind, is_at}
 use Rattle.kk_parser.specs.Phrases.{Nonterminal, program, main_function, block, statement, print, said, expr, add, mul, un, atom, Phrase, token, opener, ◌▸◌, either, many, optional, level, rule, PhraseValue}
 use Rattle.kk_parser.specs.Grammar.{production, meaning}
-use Rattle.kk_parser.specs.Parses.{HasAnswer, of_tree, of_unexpected, of_too_deep, EachHasAnswer}
+use Rattle.kk_parser.specs.Parses.{next_place, WrittenTree, ParsesAs, EachListIsParsed}
 use Rattle.kk_parser.specs.Reading.{first, nullable, nullable_of, Finds, finds_token, finds_opener, finds_both, finds_first, finds_second, finds_none, finds_more, finds_absence, finds_presence, finds_level, finds_rule, Failure, unexpected, too_deep, ReadingFails, fails_token, fails_opener, fails_deep, fails_front, fails_behind, fails_first, fails_second, fails_one, fails_more, fails_presence, fails_level, fails_rule}
+use Rattle.kk_parser.proofs.OneOutcome.{only_outcome}
 use Rattle.kk_parser.proofs.Sound.{next_of}
 use Rattle.kk_parser.proofs.Tables.{nullable-production}
 use Rattle.kk_parser.proofs.Whole.{has_tree, fails_unexpected, finds_unexpected, fails_too_deep}
@@ -214,11 +219,21 @@ fewer_read : (more : ℕ) (ts : List LocatedToken) → length ts ≤ more → Fe
 fewer_read zero ts few q k us h less = absurd (omega arith)
 fewer_read (suc more) ts few q k us h less = read_starting (starts q h) k us (fewer_read more us (omega arith))
 
-answer : (ts : List LocatedToken) → ReadOrFailed (rule program) 0 ts → HasAnswer ts
-answer ts (was_read functions m [] r) = of_tree functions (has_tree r)
-answer ts (was_read functions m (t ∷ us) r) = let u = finds_unexpected r in of_unexpected u.0 (t ∷ us) u.1 u.2
-answer ts (has_failed (unexpected us) r) = let u = fails_unexpected r in of_unexpected u.0 us u.1 u.2
-answer ts (has_failed (too_deep us) r) = let u = fails_too_deep r in of_too_deep u.0 us u.1 u.2
+outcome_of : (tokens : TokenList) → ReadOrFailed (rule program) 0 tokens.items → (outcome : Result WrittenTree ParseError) × ParsesAs tokens outcome
+outcome_of tokens (was_read functions m [] r) = (Ok (record { functions = functions; length = tokens.end.at }), (has_tree r, refl))
+outcome_of tokens (was_read functions m (t ∷ us) r) =
+    let u = finds_unexpected r in
+    (Err (Unexpected (length u.0) t.span.line t.span.column), (u.0, t ∷ us, u.1, u.2, (refl, refl, refl)))
+outcome_of tokens (has_failed (unexpected us) r) =
+    let u = fails_unexpected r in
+    let place = next_place us tokens.end in
+    (Err (Unexpected (length u.0) place.line place.column), (u.0, us, u.1, u.2, (refl, refl, refl)))
+outcome_of tokens (has_failed (too_deep us) r) =
+    let u = fails_too_deep r in
+    let place = next_place us tokens.end in
+    (Err (TooDeep (length u.0) place.line place.column), (u.0, us, u.1, u.2, (refl, refl, refl)))
 
-pub each_has_answer : EachHasAnswer
-each_has_answer ts = answer ts (read_starting (starts (rule program) refl) 0 ts (fewer_read (length ts) ts (omega arith)))
+pub each_list_is_parsed : EachListIsParsed
+each_list_is_parsed tokens =
+    let found = outcome_of tokens (read_starting (starts (rule program) refl) 0 tokens.items (fewer_read (length tokens.items) tokens.items (omega arith))) in
+    (found.0, only_outcome tokens found.0 found.1)

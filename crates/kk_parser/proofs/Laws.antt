@@ -6,7 +6,7 @@ use Rattle.kk_syntax.specs.Programs.{FunctionTree}
 use Rattle.kk_parser.specs.Phrases.{program, rule}
 use Rattle.kk_parser.specs.Spells.{Marked, tokens_of}
 use Rattle.kk_parser.specs.Reading.{ReadingFails, too_deep}
-use Rattle.kk_parser.specs.Parses.{SpellsProgram, BeginsProgram, AtMost, HasTree, GoesOn, IsUnexpected, IsTooDeep, OneProgram, OneAnswer}
+use Rattle.kk_parser.specs.Parses.{SpellsProgram, BeginsProgram, AtMost, HasTree, GoesOn, IsUnexpected, IsTooDeep, OneProgram}
 use Rattle.kk_parser.proofs.Complete.{Within, all_within, one_within, Opens}
 use Rattle.kk_parser.proofs.Functional.{never_both, same_fails}
 use Rattle.kk_parser.proofs.Local.{one_next, fails_alike}
@@ -150,6 +150,14 @@ one_too_deep before rest front later e d c =
 
 pub program_law : OneProgram
 program_law functions others ts us p q e = one_program p q e
+
+-- of a tree, an unexpected token and one that opens a level too many, tokens have one alone, and at one place
+pub record OneAnswer : Type 0 where
+  pub tree_or_unexpected : (before rest : List LocatedToken) (functions : List FunctionTree) → HasTree (before ++ rest) functions → IsUnexpected before rest → ⊥
+  pub tree_or_too_deep : (before rest : List LocatedToken) (functions : List FunctionTree) → HasTree (before ++ rest) functions → IsTooDeep before rest → ⊥
+  pub unexpected_or_too_deep : (before rest front later : List LocatedToken) → before ++ rest ≡ front ++ later → IsUnexpected before rest → IsTooDeep front later → ⊥
+  pub one_unexpected : (before rest front later : List LocatedToken) → before ++ rest ≡ front ++ later → IsUnexpected before rest → IsUnexpected front later → before ≡ front
+  pub one_too_deep : (before rest front later : List LocatedToken) → before ++ rest ≡ front ++ later → IsTooDeep before rest → IsTooDeep front later → before ≡ front
 
 pub answer_law : OneAnswer
 answer_law = record {

@@ -8,6 +8,7 @@ pub mod Laws
 pub mod Local
 pub mod Lookahead
 pub mod Made
+pub mod OneOutcome
 pub mod Samples
 pub mod Sound
 pub mod Steps

@@ -1,12 +1,14 @@
 -- What a list of tokens comes to: the tree that it spells, or the first token with which no program goes on, or the
 -- token that opens a level of nesting too many.
 use Rattle.std.specs.Prelude.{◌≡◌, ℕ, ◌-◌, ◌^◌, ◌≤◌, min, List, [], ◌∷◌, ◌++◌, length, map, Result, Ok, Err}
+use Rattle.kk_base.specs.Exactly.{IsOnly, ExactlyOne}
 use Rattle.kk_base.specs.declared.span.Span.{Span}
 use Rattle.kk_base.specs.declared.error.ParseError.{ParseError}
 use Rattle.kk_base.specs.declared.error.ParseError.TheVariants.{Unexpected, TooDeep, NoMemory}
 use Rattle.kk_syntax.specs.declared.token.LocatedToken.{LocatedToken}
 use Rattle.kk_syntax.specs.declared.tree.Tree.{Tree}
 use Rattle.kk_syntax.specs.Programs.{FunctionTree, function_tree}
+use Rattle.kk_syntax.specs.TokenList.{TokenList}
 use Rattle.kk_parser.specs.Phrases.{program, rule}
 use Rattle.kk_parser.specs.Spells.{Marked, tokens_of, Spells}
 
@@ -68,7 +70,7 @@ Tells before place index line column = (index ≡ length before) × (line ≡ pl
 abbrev pub RefusesTokens : List LocatedToken → Span → ParseError → Type 0
 RefusesTokens tokens end (Unexpected index line column) = (before rest : List LocatedToken) × (before ++ rest ≡ tokens) × IsUnexpected before rest × Tells before (next_place rest end) index line column
 RefusesTokens tokens end (TooDeep index line column) = (before rest : List LocatedToken) × (before ++ rest ≡ tokens) × IsTooDeep before rest × Tells before (next_place rest end) index line column
-RefusesTokens tokens end NoMemory = Unit {0}
+RefusesTokens tokens end NoMemory = ⊥
 
 -- an error as it is answered: its index as far as a u32 goes
 abbrev pub in_u32 : ParseError → ParseError
@@ -76,33 +78,30 @@ in_u32 (Unexpected index line column) = Unexpected (min index (2 ^ 32 - 1)) line
 in_u32 (TooDeep index line column) = TooDeep (min index (2 ^ 32 - 1)) line column
 in_u32 NoMemory = NoMemory
 
--- an answer tells the first place at which the tokens are no program
-abbrev pub AnswersRefusal : List LocatedToken → Span → ParseError → Type 0
-AnswersRefusal tokens end error = (refusal : ParseError) × RefusesTokens tokens end refusal × (error ≡ in_u32 refusal)
+-- the functions of a text, and its length
+pub record WrittenTree : Type 0 where
+  pub functions : List FunctionTree
+  pub length : ℕ
 
--- the answer is this tree, or memory ran out
-abbrev pub GivesTree : List FunctionTree → Result Tree ParseError → Type 0
-GivesTree functions (Ok tree) = map function_tree tree.functions.items ≡ functions
-GivesTree functions (Err error) = error ≡ NoMemory
+abbrev pub written_tree : Tree → WrittenTree
+written_tree tree = record { functions = map function_tree tree.functions.items; length = tree.length }
+
+-- What a list of tokens comes to: the tree that it spells, whose length is that of the text, or the first place at which
+-- it is no program.
+abbrev pub ParsesAs : TokenList → Result WrittenTree ParseError → Type 0
+ParsesAs tokens (Ok tree) = HasTree tokens.items tree.functions × (tree.length ≡ tokens.end.at)
+ParsesAs tokens (Err error) = RefusesTokens tokens.items tokens.end error
+
+-- an answer is what the tokens come to, as nothing else is, unless memory ran out
+abbrev pub AnswersParse : TokenList → Result Tree ParseError → Type 0
+AnswersParse tokens (Ok tree) = IsOnly (ParsesAs tokens) (Ok (written_tree tree))
+AnswersParse tokens (Err NoMemory) = Unit {0}
+AnswersParse tokens (Err error) = (refusal : ParseError) × IsOnly (ParsesAs tokens) (Err refusal) × (error ≡ in_u32 refusal)
+
+-- each list of tokens comes to exactly one thing
+abbrev pub EachListIsParsed : Type 0
+EachListIsParsed = (tokens : TokenList) → ExactlyOne (ParsesAs tokens)
 
 -- tokens spell one program, however deep it is nested
 abbrev pub OneProgram : Type 0
 OneProgram = (functions others : List FunctionTree) (ts us : List Marked) → SpellsProgram functions ts → SpellsProgram others us → tokens_of ts ≡ tokens_of us → functions ≡ others
-
--- of a tree, an unexpected token and one that opens a level too many, tokens have one alone, and at one place
-pub record OneAnswer : Type 0 where
-  pub tree_or_unexpected : (before rest : List LocatedToken) (functions : List FunctionTree) → HasTree (before ++ rest) functions → IsUnexpected before rest → ⊥
-  pub tree_or_too_deep : (before rest : List LocatedToken) (functions : List FunctionTree) → HasTree (before ++ rest) functions → IsTooDeep before rest → ⊥
-  pub unexpected_or_too_deep : (before rest front later : List LocatedToken) → before ++ rest ≡ front ++ later → IsUnexpected before rest → IsTooDeep front later → ⊥
-  pub one_unexpected : (before rest front later : List LocatedToken) → before ++ rest ≡ front ++ later → IsUnexpected before rest → IsUnexpected front later → before ≡ front
-  pub one_too_deep : (before rest front later : List LocatedToken) → before ++ rest ≡ front ++ later → IsTooDeep before rest → IsTooDeep front later → before ≡ front
-
--- some tokens have an answer: a tree, or a first token, or the end, that is unexpected or opens a level too many
-pub data HasAnswer (tokens : List LocatedToken) : Type 0 where
-  of_tree : (functions : List FunctionTree) → HasTree tokens functions → HasAnswer tokens
-  of_unexpected : (before rest : List LocatedToken) → before ++ rest ≡ tokens → IsUnexpected before rest → HasAnswer tokens
-  of_too_deep : (before rest : List LocatedToken) → before ++ rest ≡ tokens → IsTooDeep before rest → HasAnswer tokens
-
--- each list of tokens has one
-abbrev pub EachHasAnswer : Type 0
-EachHasAnswer = (tokens : List LocatedToken) → HasAnswer tokens

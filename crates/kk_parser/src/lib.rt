@@ -9,4 +9,4 @@ mod program;
 #[cfg(test)]
 mod tests;
 
-pub use program::{each_list_has_answer, parse};
+pub use program::{each_list_is_parsed, parse};

@@ -2,7 +2,7 @@ ghost use Rattle.std.specs.Prelude.{◌≡◌, ◌-◌, ◌≤◌, length, map, 
 ghost use Rattle.kk_syntax.specs.Programs.{FunctionTree, function_tree};
 ghost use Rattle.kk_parser.specs.Kinds.{word};
 ghost use Rattle.kk_parser.specs.Methods.{ReadsPhrase, ReadsFor, error_for};
-ghost use Rattle.kk_parser.specs.Parses.{HasTree, AnswersRefusal, GivesTree, OneProgram, OneAnswer, EachHasAnswer, in_u32, next_place};
+ghost use Rattle.kk_parser.specs.Parses.{AnswersParse, EachListIsParsed, OneProgram, in_u32, next_place};
 ghost use Rattle.kk_parser.specs.Phrases.{token, rule, program as OfProgram, main_function as OfMain};
 
 use crate::fault::Fault;
@@ -16,16 +16,7 @@ use std::alloc::Global;
 /// An error tells the number of the tokens before the cause, from 0 (a `u32`'s last value where there are more), and
 /// the line and the column of the cause.
 pub fn parse(alloc: Global, tokens: &Tokens) -> Result<Tree, ParseError>
-    ensures found { IfOk result (λ tree. HasTree tokens.now.items (map function_tree tree.functions.items)) }
-    ensures length { IfOk result (λ tree. tree.length ≡ tokens.now.end.at) }
-    ensures refused { IfErr result (AnswersRefusal tokens.now.items tokens.now.end) }
-
-    // What has a tree is found, unless memory runs out.
-    ensures only { (functions : List FunctionTree) → HasTree tokens.now.items functions → GivesTree functions result }
-
-    // Of any tokens, whatever they are.
-    ensures one_program { OneProgram }
-    ensures one_answer { OneAnswer }
+    ensures { AnswersParse tokens.now result }
 {
     let mut parser = Parser {
         alloc,
@@ -47,12 +38,11 @@ pub fn parse(alloc: Global, tokens: &Tokens) -> Result<Tree, ParseError>
     }
 }
 
-/// Each list of tokens has an answer: a tree, or a first token that is unexpected or opens a level too many. It is a law,
-/// and does nothing.
-pub fn each_list_has_answer()
-    ensures each { EachHasAnswer }
-    ensures one_program { OneProgram }
-    ensures one_answer { OneAnswer }
+/// Each list of tokens comes to exactly one thing: a tree, or a first token that is unexpected or opens a level too many;
+/// and at any depth it spells one program at most. It is a law, and does nothing.
+pub fn each_list_is_parsed()
+    ensures exactly_one { EachListIsParsed }
+    ensures at_any_depth { OneProgram }
 {
 }
 
