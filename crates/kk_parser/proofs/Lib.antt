@@ -3,6 +3,7 @@ pub mod Begins
 pub mod Blocks
 pub mod Complete
 pub mod EachList
+pub mod FewNodes
 pub mod Functional
 pub mod Laws
 pub mod Local

@@ -1,5 +1,6 @@
-ghost use Rattle.std.specs.Prelude.{◌≡◌, ◌-◌, ◌≤◌, length, map, IfOk, IfErr, List, codes};
-ghost use Rattle.kk_syntax.specs.Programs.{FunctionTree, function_tree};
+ghost use Rattle.std.specs.Prelude.{◌≡◌, ◌-◌, ◌≤◌, length, map, All, IfOk, codes};
+ghost use Rattle.kk_syntax.specs.Programs.{function_tree};
+ghost use Rattle.kk_syntax.specs.Shapes.{nodes_of};
 ghost use Rattle.kk_parser.specs.Kinds.{word};
 ghost use Rattle.kk_parser.specs.Methods.{ReadsPhrase, ReadsFor, error_for};
 ghost use Rattle.kk_parser.specs.Parses.{AnswersParse, EachListIsParsed, OneProgram, in_u32, next_place};
@@ -16,7 +17,11 @@ use std::alloc::Global;
 /// An error tells the number of the tokens before the cause, from 0 (a `u32`'s last value where there are more), and
 /// the line and the column of the cause.
 pub fn parse(alloc: Global, tokens: &Tokens) -> Result<Tree, ParseError>
-    ensures { AnswersParse tokens.now result }
+    ensures parsed { AnswersParse tokens.now result }
+
+    // A body has no more nodes than the text has tokens.
+    ensures few_nodes { IfOk result (λ tree.
+        All (λ function. nodes_of function.body ≤ length tokens.now.items) (map function_tree tree.functions.items)) }
 {
     let mut parser = Parser {
         alloc,
