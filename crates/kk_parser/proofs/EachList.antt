@@ -4,12 +4,13 @@ use Rattle.std.proofs.lemmas.Bool.{and_parts, cases_lt}
 use Rattle.std.specs.Prelude.{Result, Ok, Err}
 use Rattle.kk_base.specs.declared.error.ParseError.{ParseError}
 use Rattle.kk_base.specs.declared.error.ParseError.TheVariants.{Unexpected, TooDeep}
+use Rattle.kk_syntax.specs.Programs.{WrittenTree}
 use Rattle.kk_syntax.specs.TokenList.{TokenList}
 use Rattle.kk_syntax.specs.declared.token.LocatedToken.{LocatedToken}
 use Rattle.kk_parser.specs.Kinds.{Kind, is_at}
 use Rattle.kk_parser.specs.Phrases.{Nonterminal, program, main_function, block, statement, print, said, expr, add, mul, un, atom, Phrase, token, opener, ◌▸◌, either, many, optional, level, rule, PhraseValue}
 use Rattle.kk_parser.specs.Grammar.{production, meaning}
-use Rattle.kk_parser.specs.Parses.{next_place, WrittenTree, ParsesAs, EachListIsParsed}
+use Rattle.kk_parser.specs.Parses.{next_place, ParsesAs, EachListIsParsed}
 use Rattle.kk_parser.specs.Reading.{first, nullable, nullable_of, Finds, finds_token, finds_opener, finds_both, finds_first, finds_second, finds_none, finds_more, finds_absence, finds_presence, finds_level, finds_rule, Failure, unexpected, too_deep, ReadingFails, fails_token, fails_opener, fails_deep, fails_front, fails_behind, fails_first, fails_second, fails_one, fails_more, fails_presence, fails_level, fails_rule}
 use Rattle.kk_parser.proofs.OneOutcome.{only_outcome}
 use Rattle.kk_parser.proofs.Sound.{next_of}

@@ -6,9 +6,9 @@ use Rattle.kk_base.specs.declared.error.ParseError.{ParseError}
 use Rattle.kk_base.specs.declared.error.ParseError.TheVariants.{Unexpected, TooDeep, NoMemory}
 use Rattle.kk_base.specs.declared.span.Span.{Span}
 use Rattle.kk_syntax.specs.declared.token.LocatedToken.{LocatedToken}
-use Rattle.kk_syntax.specs.Programs.{FunctionTree}
+use Rattle.kk_syntax.specs.Programs.{FunctionTree, WrittenTree}
 use Rattle.kk_syntax.specs.TokenList.{TokenList}
-use Rattle.kk_parser.specs.Parses.{HasTree, RefusesTokens, Tells, next_place, WrittenTree, ParsesAs}
+use Rattle.kk_parser.specs.Parses.{HasTree, RefusesTokens, Tells, next_place, ParsesAs}
 use Rattle.kk_parser.proofs.Laws.{program_law, answer_law}
 
 append_left : {X : Type 0} (before rest later : List X) → before ++ rest ≡ before ++ later → rest ≡ later

@@ -4,13 +4,13 @@ use Rattle.std.specs.Prelude.{Ok, Err, map}
 use Rattle.kk_base.specs.declared.span.Span.{Span}
 use Rattle.kk_syntax.specs.declared.token.LocatedToken.{LocatedToken}
 use Rattle.kk_syntax.specs.declared.tree.Tree.{Tree}
-use Rattle.kk_syntax.specs.Programs.{FunctionTree, function_tree}
+use Rattle.kk_syntax.specs.Programs.{FunctionTree, function_tree, written_tree}
 use Rattle.kk_syntax.specs.TokenList.{TokenList}
 use Rattle.kk_parser.specs.declared.fault.Fault.{Fault}
 use Rattle.kk_parser.specs.declared.fault.Fault.TheVariants.{Unexpected, TooDeep, NoMemory}
 use Rattle.kk_parser.specs.declared.parser.Parser.{Parser}
 use Rattle.kk_parser.specs.Methods.{FailedBy, error_for}
-use Rattle.kk_parser.specs.Parses.{Tells, IsUnexpected, AnswersParse, written_tree, in_u32, next_place}
+use Rattle.kk_parser.specs.Parses.{Tells, IsUnexpected, AnswersParse, in_u32, next_place}
 use Rattle.kk_parser.specs.Phrases.{program, rule}
 use Rattle.kk_parser.specs.Reading.{Finds, ReadingFails, unexpected, too_deep}
 use Rattle.kk_parser.proofs.OneOutcome.{only_outcome}

@@ -1,13 +1,13 @@
 -- What a list of tokens comes to: the tree that it spells, or the first token with which no program goes on, or the
 -- token that opens a level of nesting too many.
-use Rattle.std.specs.Prelude.{◌≡◌, ℕ, ◌-◌, ◌^◌, ◌≤◌, min, List, [], ◌∷◌, ◌++◌, length, map, Result, Ok, Err}
+use Rattle.std.specs.Prelude.{◌≡◌, ℕ, ◌-◌, ◌^◌, ◌≤◌, min, List, [], ◌∷◌, ◌++◌, length, Result, Ok, Err}
 use Rattle.kk_base.specs.Exactly.{IsOnly, ExactlyOne}
 use Rattle.kk_base.specs.declared.span.Span.{Span}
 use Rattle.kk_base.specs.declared.error.ParseError.{ParseError}
 use Rattle.kk_base.specs.declared.error.ParseError.TheVariants.{Unexpected, TooDeep, NoMemory}
 use Rattle.kk_syntax.specs.declared.token.LocatedToken.{LocatedToken}
 use Rattle.kk_syntax.specs.declared.tree.Tree.{Tree}
-use Rattle.kk_syntax.specs.Programs.{FunctionTree, function_tree}
+use Rattle.kk_syntax.specs.Programs.{FunctionTree, WrittenTree, written_tree}
 use Rattle.kk_syntax.specs.TokenList.{TokenList}
 use Rattle.kk_parser.specs.Phrases.{program, rule}
 use Rattle.kk_parser.specs.Spells.{Marked, tokens_of, Spells}
@@ -77,14 +77,6 @@ abbrev pub in_u32 : ParseError → ParseError
 in_u32 (Unexpected index line column) = Unexpected (min index (2 ^ 32 - 1)) line column
 in_u32 (TooDeep index line column) = TooDeep (min index (2 ^ 32 - 1)) line column
 in_u32 NoMemory = NoMemory
-
--- the functions of a text, and its length
-pub record WrittenTree : Type 0 where
-  pub functions : List FunctionTree
-  pub length : ℕ
-
-abbrev pub written_tree : Tree → WrittenTree
-written_tree tree = record { functions = map function_tree tree.functions.items; length = tree.length }
 
 -- What a list of tokens comes to: the tree that it spells, whose length is that of the text, or the first place at which
 -- it is no program.
