@@ -23,7 +23,7 @@ use Rattle.kk_parser.specs.Parses.{in_u32, ParsesAs, AnswersParse, EachListIsPar
 use Rattle.kk_names.specs.Names.{ResolvesAs, AnswersNames, EachTreeIsResolved}
 use Rattle.kk_mono.specs.Counts.{CountsAs, AnswersCounts, EachProgramIsCounted}
 use Rattle.kk_front.specs.Chain.{Then, stops, goes_on, ToldAs, Checking}
-use Rattle.kk_front.specs.Judgement.{ChecksLength, JudgedAs, AnswersText, RefusesText, IsRefusalOf, wants_memory, EachTextIsJudged}
+use Rattle.kk_front.specs.Judgement.{ChecksLength, JudgedAs, IsProgramOf, Refuses, IsRefusalOf, wants_memory, EachTextIsJudged}
 use Rattle.kk_front.proofs.Bounds.{fewer, parse_told, limit_told}
 use Rattle.kk_front.proofs.Chains.{only_stops, only_goes_on, exactly_then, only_told_ok, only_told_err, exactly_told, only_checking_ok, only_checking_err, exactly_checking}
 
@@ -134,7 +134,7 @@ module _ (text : List ℕ) (short : ChecksLength text (Ok tt)) where
   unreadable : (error : LexError) → IsReading text (Err error) → IsRefusalOf text (OfText.Lex error)
   unreadable error h = behind_length _ (only_stops OfLexemes FromGrammar text (OfText.Lex error) (only_told_err OfText.Lex IsReadAs text error h))
 
-  pub unreadable_judged : (error : LexError) → UnlessNoMemory (Err error) (IsReading text) → RefusesText text (OfText.Lex error)
+  pub unreadable_judged : (error : LexError) → UnlessNoMemory (Err error) (IsReading text) → Refuses text (OfText.Lex error)
   unreadable_judged OfLex.NoMemory h e = cc
   unreadable_judged (OfLex.BadByte at) h e = unreadable (OfLex.BadByte at) h
   unreadable_judged (OfLex.OpenComment at) h e = unreadable (OfLex.OpenComment at) h
@@ -152,7 +152,7 @@ module _ (text : List ℕ) (short : ChecksLength text (Ok tt)) where
         let told : refusal ≡ error = sym (e ∙ parse_told tokens refusal (omega arith) h.holds) in
         subst P told (behind_lexemes _ (only_stops OfGrammar FromNames tokens (OfText.Parse refusal) (only_told_err OfText.Parse ParsesAs tokens refusal h)))
 
-    pub misspelled_judged : (error : ParseError) → AnswersParse tokens (Err error) → RefusesText text (OfText.Parse error)
+    pub misspelled_judged : (error : ParseError) → AnswersParse tokens (Err error) → Refuses text (OfText.Parse error)
     misspelled_judged OfParse.NoMemory h e = cc
     misspelled_judged (OfParse.Unexpected index line column) h e = misspelled _ h.0 h.1 h.2
     misspelled_judged (OfParse.TooDeep index line column) h e = misspelled _ h.0 h.1 h.2
@@ -164,7 +164,7 @@ module _ (text : List ℕ) (short : ChecksLength text (Ok tt)) where
       unnamed : (error : NameError) → IsOnly (ResolvesAs (written_tree tree)) (Err error) → IsRefusalOf text (OfText.Name error)
       unnamed error h = behind_grammar _ (only_stops OfNames OfNodes (written_tree tree) (OfText.Name error) (only_told_err OfText.Name ResolvesAs (written_tree tree) error h))
 
-      pub unnamed_judged : (error : NameError) → AnswersNames tree (Err error) → RefusesText text (OfText.Name error)
+      pub unnamed_judged : (error : NameError) → AnswersNames tree (Err error) → Refuses text (OfText.Name error)
       unnamed_judged OfName.NoMemory h e = cc
       unnamed_judged (OfName.Twice name at) h e = unnamed (OfName.Twice name at) h
       unnamed_judged (OfName.Unknown name at) h e = unnamed (OfName.Unknown name at) h
@@ -176,15 +176,15 @@ module _ (text : List ℕ) (short : ChecksLength text (Ok tt)) where
         behind_names : (outcome : Result ProgramTree Refusal) → IsOnly (OfNodes (program_tree program)) outcome → IsOnly (JudgedAs text) outcome
         behind_names outcome h = behind_grammar outcome (only_goes_on OfNames OfNodes (written_tree tree) (program_tree program) outcome (only_told_ok OfText.Name ResolvesAs (written_tree tree) (program_tree program) resolved) h)
 
-        pub accepted_judged : AnswersCounts program (Ok tt) → AnswersText text (Ok program)
+        pub accepted_judged : AnswersCounts program (Ok tt) → IsProgramOf text (program_tree program)
         accepted_judged h = behind_names _ (only_told_ok OfText.Over (Checking CountsAs) (program_tree program) (program_tree program) (only_checking_ok CountsAs (program_tree program) h))
 
-        pub large_judged : (limit : Limit) → All (λ f. nodes_of f.body ≤ length tokens.items) (map function_tree tree.functions.items) → AnswersCounts program (Err limit) → RefusesText text (OfText.Over limit)
+        pub large_judged : (limit : Limit) → All (λ f. nodes_of f.body ≤ length tokens.items) (map function_tree tree.functions.items) → AnswersCounts program (Err limit) → Refuses text (OfText.Over limit)
         large_judged limit small h e =
             let P : Limit → Type 0 = λ x. IsRefusalOf text (OfText.Over x) in
             let within : All (λ f. nodes_of f.body ≤ 65536) (map function_tree program.functions.items) = fewer (length tokens.items) (map function_tree tree.functions.items) (map function_tree program.functions.items) resolved.holds.0 (omega arith) small in
             let told : h.0 ≡ limit = sym (h.2 ∙ limit_told (program_tree program) h.0 within h.1.holds) in
             subst P told (behind_names _ (only_told_err OfText.Over (Checking CountsAs) (program_tree program) h.0 (only_checking_err CountsAs (program_tree program) h.0 h.1)))
 
-pub long_judged : (text : List ℕ) (limit : Limit) → ChecksLength text (Err limit) → RefusesText text (OfText.Over limit)
+pub long_judged : (text : List ℕ) (limit : Limit) → ChecksLength text (Err limit) → Refuses text (OfText.Over limit)
 long_judged text limit h e = only_stops OfLength FromLexemes text (OfText.Over limit) (only_told_err OfText.Over (Checking ChecksLength) text limit (only_checking_err ChecksLength text limit (only_length text (Err limit) h)))

@@ -9,8 +9,7 @@ use Rattle.kk_base.specs.declared.limit.Limit.{Limit}
 use Rattle.kk_base.specs.declared.limit.LimitKind.TheVariants.{Source}
 use Rattle.kk_base.specs.declared.refusal.Refusal.{Refusal}
 use Rattle.kk_base.specs.declared.refusal.Refusal.TheVariants as OfText
-use Rattle.kk_syntax.specs.declared.tree.Program.{Program}
-use Rattle.kk_syntax.specs.Programs.{ProgramTree, program_tree}
+use Rattle.kk_syntax.specs.Programs.{ProgramTree}
 use Rattle.kk_lexer.specs.Readings.{IsReadAs}
 use Rattle.kk_parser.specs.Parses.{ParsesAs}
 use Rattle.kk_names.specs.Names.{ResolvesAs}
@@ -53,10 +52,5 @@ abbrev pub EachTextIsJudged : Type 0
 EachTextIsJudged = (text : List ℕ) → ExactlyOne (JudgedAs text) × ((refusal : Refusal) → JudgedAs text (Err refusal) → wants_memory refusal ≡ false)
 
 -- a refusal is the text's, unless it is want of memory
-abbrev pub RefusesText : List ℕ → Refusal → Type 0
-RefusesText text refusal = wants_memory refusal ≡ false → IsRefusalOf text refusal
-
--- an answer is what the text comes to, unless memory ran out
-abbrev pub AnswersText : List ℕ → Result Program Refusal → Type 0
-AnswersText text (Ok program) = IsProgramOf text (program_tree program)
-AnswersText text (Err refusal) = RefusesText text refusal
+abbrev pub Refuses : List ℕ → Refusal → Type 0
+Refuses text refusal = wants_memory refusal ≡ false → IsRefusalOf text refusal

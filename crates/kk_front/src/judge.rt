@@ -1,9 +1,9 @@
-ghost use Rattle.std.specs.Prelude.{◌≡◌, ◌≤◌, All, IfOk};
+ghost use Rattle.std.specs.Prelude.{◌≤◌, All, IfOk, IfErr};
 ghost use Rattle.kk_base.specs.Limits.{greatest_of};
 ghost use Rattle.kk_base.specs.declared.limit.LimitKind.TheVariants.{FunctionNodes};
 ghost use Rattle.kk_syntax.specs.Programs.{program_tree};
 ghost use Rattle.kk_syntax.specs.Shapes.{nodes_of};
-ghost use Rattle.kk_front.specs.Judgement.{ChecksLength, AnswersText, EachTextIsJudged};
+ghost use Rattle.kk_front.specs.Judgement.{ChecksLength, IsProgramOf, Refuses, EachTextIsJudged};
 
 use kk_base::{Limit, LimitKind, Refusal};
 use kk_lexer::{each_text_is_read, tokens};
@@ -15,7 +15,8 @@ use std::alloc::Global;
 
 /// The program of a text, or why it is not accepted: its first failure.
 pub fn read(alloc: Global, text: &[u8]) -> Result<Program, Refusal>
-    ensures judged { AnswersText text.now result }
+    ensures ok { IfOk result (λ program. IsProgramOf text.now (program_tree program)) }
+    ensures err { IfErr result (Refuses text.now) }
     ensures few_nodes { IfOk result (λ program.
         All (λ function. nodes_of function.body ≤ greatest_of FunctionNodes) (program_tree program).functions) }
 {
