@@ -4,6 +4,7 @@ pub mod Machines
 pub mod Memory
 pub mod Numbers
 pub mod Sink
+pub mod Sizes
 pub mod Source
 pub mod Store
 pub mod Trace

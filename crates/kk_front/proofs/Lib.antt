@@ -1,0 +1,3 @@
+pub mod Judgements
+pub mod Nodes
+pub mod Places
