@@ -1,8 +1,10 @@
+pub mod Agreements
 pub mod Faults
 pub mod Limits
 pub mod Machines
 pub mod Memory
 pub mod Numbers
+pub mod Simulations
 pub mod Sink
 pub mod Sizes
 pub mod Source
