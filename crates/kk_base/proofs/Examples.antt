@@ -1,9 +1,9 @@
 -- The definitions on small values.
-use Rattle.std.proofs.Common.{◌≡◌, [], ◌∷◌, true, false, Some, refl}
+use Rattle.std.proofs.Common.{◌≡◌, ℕ, ◌%◌, ◌<◌, List, [], ◌∷◌, ◌==◌, if◌then◌else◌, true, false, Some, refl, arith, rules}
 use Rattle.std.specs.Prelude.{codes}
-use Rattle.kk_base.specs.Trace.{output, input, input_end, output_of, input_of, TakesFrom}
+use Rattle.kk_base.specs.Trace.{output, input, input_end, output_of, input_of, TakesBytes, TakesFrom}
 use Rattle.kk_base.specs.Memory.{Part, covers, byte_loaded}
-use Rattle.kk_base.specs.Machines.{trace, ending_after}
+use Rattle.kk_base.specs.Machines.{trace, weight_of, ending_after, mapped}
 use Rattle.kk_base.proofs.Counters.{each, every_second}
 
 -- two pieces and two reads
@@ -59,3 +59,27 @@ counted_with_rests = refl
 
 ended_with_rests : ending_after every_second 6 (3, false) ≡ Some tt
 ended_with_rests = refl
+
+-- two numbers weigh 4, and so do four steps with rests; after the end nothing weighs
+weighed : weight_of each 2 3 ≡ 4
+weighed = refl
+
+weighed_with_rests : weight_of every_second 4 (3, false) ≡ 4
+weighed_with_rests = refl
+
+weighed_to_the_end : weight_of each 9 3 ≡ 6
+weighed_to_the_end = refl
+
+-- the odd numbers alone are seen
+abbrev odd_alone : ℕ → List ℕ
+odd_alone n = if n % 2 == 1 then n ∷ [] else []
+
+seen : trace (mapped odd_alone (λ w. w) each) 5 4 ≡ 3 ∷ 1 ∷ []
+seen = refl
+
+-- the second input is no byte
+bytes_taken : TakesBytes (input 255 ∷ output (codes "c") ∷ input_end ∷ [])
+bytes_taken = search rules
+
+no_byte_taken : TakesBytes (input 256 ∷ []) → ⊥
+no_byte_taken taken = let below : 256 < 256 = taken 0 0 (omega arith) in omega arith

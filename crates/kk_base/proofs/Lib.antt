@@ -1,4 +1,6 @@
+pub mod Agreements
 pub mod Counters
 mod Examples
 pub mod Machines
+pub mod Simulations
 pub mod Traces

@@ -1,6 +1,8 @@
 -- Events in two parts: what they take, put and leave.
-use Rattle.std.proofs.Common.{◌≡◌, ℕ, List, [], ◌∷◌, ◌++◌, Bool, true, false, refl, sym, ap, subst, ◌∙◌, append_assoc}
-use Rattle.kk_base.specs.Trace.{Event, output, input, input_end, output_of, input_of, TakesFrom, EndsOnce}
+use Rattle.std.proofs.Common.{◌≡◌, ℕ, ◌<◌, List, [], ◌∷◌, ◌++◌, Bool, true, false, refl, sym, ap, subst, ◌∙◌, append_assoc}
+use Rattle.std.proofs.lemmas.Bool.{true≢false}
+use Rattle.std.proofs.lemmas.List.Elements.{All-append}
+use Rattle.kk_base.specs.Trace.{Event, output, input, input_end, output_of, input_of, TakesBytes, TakesFrom, EndsOnce}
 
 -- what some events take, and then others
 pub TakesFrom-join : (es fs : List Event) (before mid after : List ℕ) → TakesFrom es before mid → TakesFrom fs mid after → TakesFrom (es ++ fs) before after
@@ -27,10 +29,26 @@ output_of-append (output piece ∷ es) fs = ap (λ rest. piece ++ rest) (output_
 output_of-append (input byte ∷ es) fs = output_of-append es fs
 output_of-append (input_end ∷ es) fs = output_of-append es fs
 
--- ---- the end of the input
+pub input_of-append : (es fs : List Event) → input_of (es ++ fs) ≡ input_of es ++ input_of fs
+input_of-append [] fs = refl
+input_of-append (output piece ∷ es) fs = input_of-append es fs
+input_of-append (input byte ∷ es) fs = ap (λ rest. byte ∷ rest) (input_of-append es fs)
+input_of-append (input_end ∷ es) fs = input_of-append es fs
 
-pub true≢false : true ≡ false → ⊥
-true≢false e = cc
+-- what some events took, and then others, are bytes
+pub TakesBytes-append : (es fs : List Event) → TakesBytes es → TakesBytes fs → TakesBytes (es ++ fs)
+TakesBytes-append es fs first second = rw (input_of-append es fs) (All-append (λ byte. byte < 256) (input_of es) (input_of fs) first second)
+
+-- what is taken and what is left are what there was
+pub TakesFrom-input : (es : List Event) (before after : List ℕ) → TakesFrom es before after → before ≡ input_of es ++ after
+TakesFrom-input [] before after takes = takes
+TakesFrom-input (output piece ∷ es) before after takes = TakesFrom-input es before after takes
+TakesFrom-input (input byte ∷ es) [] after takes = absurd takes
+TakesFrom-input (input byte ∷ es) (x ∷ xs) after takes = rw takes.0 (ap (λ rest. x ∷ rest) (TakesFrom-input es xs after takes.1))
+TakesFrom-input (input_end ∷ es) [] after takes = TakesFrom-input es [] after takes
+TakesFrom-input (input_end ∷ es) (x ∷ xs) after takes = absurd takes
+
+-- ---- the end of the input
 
 -- a source that may have met its end no later
 once-from : (fs : List Event) (before mid after : Bool) → (before ≡ true → mid ≡ true) → EndsOnce fs mid after → EndsOnce fs before after

@@ -1,10 +1,13 @@
+pub mod Agreements
 pub mod Exactly
 pub mod Faults
 pub mod Limits
 pub mod Machines
 pub mod Memory
 pub mod Numbers
+pub mod Simulations
 pub mod Sink
+pub mod Sizes
 pub mod Source
 pub mod Store
 pub mod Trace

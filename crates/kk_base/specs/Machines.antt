@@ -1,25 +1,43 @@
--- Deterministic machines, and what it is that one of them does what another does.
--- A machine's input is fixed from the start: it is a list in the state.
-use Rattle.std.specs.Prelude.{◌≡◌, ℕ, zero, suc, ◌+◌, ◌*◌, ◌≤◌, List, [], ◌++◌, length, drop, Option, Some, None}
-use Rattle.std.proofs.Common.{ap}
-use Rattle.kk_base.specs.Trace.{IsPrefix}
+-- Deterministic machines: what they do in so many steps, what these steps weigh, and how they end.
+-- A machine's input is fixed from the start: it is a list in the state. Where a machine may choose, its choices are a
+-- parameter of its definition.
+use Rattle.std.specs.Prelude.{◌≡◌, ℕ, zero, suc, ◌+◌, ◌≤◌, List, [], ◌++◌, length, drop, Option, Some, None, option_map}
+use Rattle.std.specs.List.{flat_map}
+use Rattle.std.proofs.Common.{ap, subst, refl}
 
--- from a state, the events of the next step and the state after it; how a state has ended, if it has; and an ended
--- state stays as it is, without an event
+-- from a state, the events of the next step and the state after it; how a state has ended, if it has; and what the next
+-- step weighs. An ended state stays as it is, without an event, and weighs nothing.
 pub record Machine (S E W : Type 0) : Type 0 where
   pub step : S → List E × S
   pub ending : S → Option W
+  pub weight : S → ℕ
   pub stays : (s : S) (w : W) → ending s ≡ Some w → step s ≡ ([], s)
+  pub weightless : (s : S) (w : W) → ending s ≡ Some w → weight s ≡ 0
 
 -- the step of a state that has not ended; one that has stays
 abbrev pub step_unless : {S E W : Type 0} → Option W → S → List E × S → List E × S
 step_unless None s next = next
 step_unless (Some w) s next = ([], s)
 
--- the machine that takes steps until it has ended
+-- the weight of a step of a state that has not ended; one that has weighs nothing
+abbrev pub weight_unless : {W : Type 0} → Option W → ℕ → ℕ
+weight_unless None weight = weight
+weight_unless (Some w) weight = 0
+
+-- the machine that takes steps of these weights until it has ended
+abbrev pub weighing : {S E W : Type 0} → (S → ℕ) → (S → Option W) → (S → List E × S) → Machine S E W
+weighing weight ending step =
+    record {
+      step = λ s. step_unless (ending s) s (step s);
+      ending = ending;
+      weight = λ s. weight_unless (ending s) (weight s);
+      stays = λ s w ended. ap (λ how. step_unless how s (step s)) ended;
+      weightless = λ s w ended. ap (λ how. weight_unless how (weight s)) ended;
+    }
+
+-- the machine that takes steps until it has ended, of which each weighs 1
 abbrev pub until : {S E W : Type 0} → (S → Option W) → (S → List E × S) → Machine S E W
-until ending step =
-    record { step = λ s. step_unless (ending s) s (step s); ending = ending; stays = λ s w ended. ap (λ how. step_unless how s (step s)) ended }
+until ending step = weighing (λ s. 1) ending step
 
 -- the machine of states that hold what they have told so far: the events of a step are those that it adds
 abbrev pub telling : {S E W : Type 0} → (S → Option W) → (S → S) → (S → List E) → Machine S E W
@@ -35,50 +53,31 @@ abbrev pub state : {S E W : Type 0} → Machine S E W → ℕ → S → S
 state machine zero s = s
 state machine (suc n) s = state machine n (machine.step s).1
 
+-- what n steps weigh in all
+abbrev pub weight_of : {S E W : Type 0} → Machine S E W → ℕ → S → ℕ
+weight_of machine zero s = 0
+weight_of machine (suc n) s = machine.weight s + weight_of machine n (machine.step s).1
+
 -- how the machine has ended within n steps, if it has
 abbrev pub ending_after : {S E W : Type 0} → Machine S E W → ℕ → S → Option W
 ending_after machine n s = machine.ending (state machine n s)
 
--- What the first machine does in n steps, the second does within `within n`: the first's trace is a prefix of the
--- second's; and where the first has ended, so has the second, alike and with the same trace.
-pub record IsFollowedBy {S T E W : Type 0} (first : Machine S E W) (second : Machine T E W) (within : ℕ → ℕ) (s : S) (t : T) : Type 0 where
-  pub prefix : (n : ℕ) → IsPrefix (trace first n s) (trace second (within n) t)
-  pub ending : (n : ℕ) (w : W) → ending_after first n s ≡ Some w → ending_after second (within n) t ≡ Some w
-  pub whole : (n : ℕ) (w : W) → ending_after first n s ≡ Some w → trace second (within n) t ≡ trace first n s
+-- each step of a state that has not ended weighs at least 1
+abbrev pub WeighsEach : {S E W : Type 0} → Machine S E W → Type 0
+WeighsEach {S} machine = (s : S) → machine.ending s ≡ None → 1 ≤ machine.weight s
 
--- Two machines agree: each trace of one is a prefix of one of the other, one ends if and only if the other does, alike,
--- and then with one trace; `down n` lower steps do what n upper ones do, and `up m` upper steps do what m lower ones do.
-pub record Agree {S T E W : Type 0} (upper : Machine S E W) (lower : Machine T E W) (down up : ℕ → ℕ) (s : S) (t : T) : Type 0 where
-  pub downwards : IsFollowedBy upper lower down s t
-  pub upwards : IsFollowedBy lower upper up t s
+-- an ending that is made of another is there where the other is
+pub ending_made : {W V : Type 0} (seen : W → V) (how : Option W) (v : V) → option_map seen how ≡ Some v → (w : W) × (how ≡ Some w)
+ending_made seen None v ended = absurd (subst (λ how. elim how as (λ _. Type 0) [ None ↦ Unit {0} | Some w ↦ ⊥ ]) ended tt)
+ending_made seen (Some w) v ended = (w, refl)
 
--- From t the machine takes `steps` steps with these events, and comes to a state that stands for s. At most `most` steps
--- are allowed, and those that are not used are saved as credit. They do `above` steps of the machine above: each pays
--- for `pace` of those, and `idle` of those may go by unpaid.
-pub record Reaches {S T E W : Type 0} (lower : Machine T E W) (Related : ℕ → ℕ → S → T → Type 0) (pace most above idle : ℕ) (events : List E) (s : S) (t : T) : Type 0 where
-  pub steps : ℕ
-  pub credit_after : ℕ
-  pub idle_after : ℕ
-  pub paid : steps + credit_after ≤ most
-  pub moves : above + idle_after ≤ steps * pace + idle
-  pub events_are : trace lower steps t ≡ events
-  pub related : Related credit_after idle_after s (state lower steps t)
-
--- The lower machine does each step of the upper by `cost` steps, on the whole. `Related credit idle s t` says that t
--- stands for s, with so many lower steps saved by earlier ones, and so many upper steps that may go by without a lower
--- one. Related states have ended alike.
-pub record Simulates {S T E W : Type 0} (upper : Machine S E W) (lower : Machine T E W) (Related : ℕ → ℕ → S → T → Type 0) (cost pace : ℕ) : Type 0 where
-  pub by : (credit idle : ℕ) (s : S) (t : T) → Related credit idle s t → Reaches lower Related pace (cost + credit) 1 idle (upper.step s).0 (upper.step s).1 t
-  pub alike : (credit idle : ℕ) (s : S) (t : T) → Related credit idle s t → lower.ending t ≡ upper.ending s
-
--- a state of the lowest of three machines stands for one of the highest, by way of one of the middle machine
-pub record Through {S T U : Type 0} (High : ℕ → ℕ → S → T → Type 0) (Low : ℕ → ℕ → T → U → Type 0) (pace cost credit idle : ℕ) (s : S) (u : U) : Type 0 where
-  pub middle : T
-  pub credit_high : ℕ
-  pub idle_high : ℕ
-  pub credit_low : ℕ
-  pub idle_low : ℕ
-  pub credit_is : credit ≡ cost * credit_high + credit_low
-  pub idle_is : idle ≡ idle_high + pace * idle_low
-  pub high : High credit_high idle_high s middle
-  pub low : Low credit_low idle_low middle u
+-- the machine that does the same, and of which less or other is seen: each event as some events, each ending as another
+abbrev pub mapped : {S E F W V : Type 0} → (E → List F) → (W → V) → Machine S E W → Machine S F V
+mapped {S} {E} {F} {W} {V} events seen machine =
+    record {
+      step = λ s. (flat_map events (machine.step s).0, (machine.step s).1);
+      ending = λ s. option_map seen (machine.ending s);
+      weight = machine.weight;
+      stays = λ s v ended. let made = ending_made seen (machine.ending s) v ended in ap (λ (next : List E × S). (flat_map events next.0, next.1)) (machine.stays s made.0 made.1);
+      weightless = λ s v ended. let made = ending_made seen (machine.ending s) v ended in machine.weightless s made.0 made.1;
+    }

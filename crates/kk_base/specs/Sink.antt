@@ -1,7 +1,12 @@
 -- A sink: what a call of `put` took of a piece.
-use Rattle.std.specs.Prelude.{ℕ, ◌≤◌, List, length, take, Bool, true, false}
+use Rattle.std.specs.Prelude.{ℕ, ◌≤◌, List, length, take, Option, Bool, true, false}
 use Rattle.kk_base.specs.declared.outside.Put.{Put}
 use Rattle.kk_base.specs.declared.outside.Put.TheVariants.{All, Failed}
+
+-- what a sink tells: what it has taken, where it tells its content; and its count of faults
+pub record SinkState : Type 0 where
+  pub held : Option (List ℕ)
+  pub faults : ℕ
 
 -- what was taken of a piece: all of it, or its first n bytes
 abbrev pub taken : Put → List ℕ → List ℕ

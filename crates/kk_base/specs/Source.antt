@@ -3,6 +3,12 @@ use Rattle.std.specs.Prelude.{◌≡◌, ℕ, List, [], ◌∷◌, Option, Some,
 use Rattle.kk_base.specs.declared.outside.Next.{Next}
 use Rattle.kk_base.specs.declared.outside.Next.TheVariants.{Byte, End, Failed}
 
+-- what a source tells: what is left of it, where it tells its content; whether its end was met; and its count of faults
+pub record SourceState : Type 0 where
+  pub left : Option (List ℕ)
+  pub ended : Bool
+  pub faults : ℕ
+
 -- the bytes that an answer took
 abbrev pub given : Next → List ℕ
 given (Byte b) = b ∷ []

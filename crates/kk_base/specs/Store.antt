@@ -3,6 +3,7 @@ use Rattle.std.specs.Prelude.{◌≡◌, ℕ, List, take, Option, Some, None, Bo
 use Rattle.std.specs.Str.{bytes_eq}
 use Rattle.kk_base.specs.declared.outside.Read.{Read}
 use Rattle.kk_base.specs.declared.outside.Read.TheVariants as OfRead
+use Rattle.kk_base.specs.declared.outside.StoreCall.{StoreCall}
 use Rattle.kk_base.specs.declared.outside.Wrote.{Wrote}
 use Rattle.kk_base.specs.declared.outside.Wrote.TheVariants as OfWrote
 
@@ -10,10 +11,12 @@ use Rattle.kk_base.specs.declared.outside.Wrote.TheVariants as OfWrote
 abbrev pub Files : Type 0
 Files = List ℕ → Option (List ℕ)
 
--- a call on a store, with the name that it was given
-pub data Call : Type 0 where
-  reading : (name : List ℕ) → Call
-  writing : (name : List ℕ) → Call
+-- what a store tells: its files, where it tells its content; its last call that failed, none before the first; and its
+-- count of faults
+pub record StoreState : Type 0 where
+  pub files : Option Files
+  pub last_failed : Option StoreCall
+  pub faults : ℕ
 
 abbrev pub read_failed : Read → Bool
 read_failed OfRead.Failed = true
@@ -24,9 +27,9 @@ wrote_failed OfWrote.Failed = true
 wrote_failed _ = false
 
 -- the bytes that were read are the first of the file of that name
-abbrev pub Reads : Read → ℕ → List ℕ → Option Files → Type 0
-Reads (OfRead.Bytes bytes) at_most name told = (files : Files) → told ≡ Some files → (content : List ℕ) × (files name ≡ Some content) × (bytes ≡ take at_most content)
-Reads _ at_most name told = Unit {0}
+abbrev pub ReadsFile : Read → ℕ → List ℕ → Option Files → Type 0
+ReadsFile (OfRead.Bytes bytes) at_most name told = (files : Files) → told ≡ Some files → (content : List ℕ) × (files name ≡ Some content) × (bytes ≡ take at_most content)
+ReadsFile _ at_most name told = Unit {0}
 
 -- every file is as it was, where both are told; told stays told
 abbrev pub SameFiles : Option Files → Option Files → Type 0
@@ -46,12 +49,12 @@ HasFile name bytes None = Unit {0}
 HasFile name bytes (Some files) = files name ≡ Some bytes
 
 -- what a write changed
-abbrev pub Writes : Wrote → List ℕ → List ℕ → Option Files → Option Files → Type 0
-Writes OfWrote.Done name bytes old new = SameOthers name old new × HasFile name bytes new
-Writes OfWrote.Failed name bytes old new = SameOthers name old new
-Writes OfWrote.NoMemory name bytes old new = SameFiles old new
+abbrev pub WritesFile : Wrote → List ℕ → List ℕ → Option Files → Option Files → Type 0
+WritesFile OfWrote.Done name bytes old new = SameOthers name old new × HasFile name bytes new
+WritesFile OfWrote.Failed name bytes old new = SameOthers name old new
+WritesFile OfWrote.NoMemory name bytes old new = SameFiles old new
 
 -- the last call that failed: this one where it failed, else the one before
-pub record Remembers (failed : Bool) (call : Call) (old new : Option Call) : Type 0 where
+pub record Remembers (failed : Bool) (call : StoreCall) (old new : Option StoreCall) : Type 0 where
   pub told : failed ≡ true → new ≡ Some call
   pub stays : failed ≡ false → new ≡ old

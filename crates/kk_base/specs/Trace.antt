@@ -1,5 +1,5 @@
 -- What a run has done on the outside: events in their order, of the source's machine and of an image alike.
-use Rattle.std.specs.Prelude.{◌≡◌, ℕ, List, [], ◌∷◌, ◌++◌, Bool, true, false}
+use Rattle.std.specs.Prelude.{◌≡◌, ℕ, ◌<◌, List, [], ◌∷◌, ◌++◌, All, Bool, true, false}
 
 -- an event: a piece put on the output, which is not empty; or a byte taken from the input; or the input's end met
 pub data Event : Type 0 where
@@ -24,6 +24,10 @@ input_of [] = []
 input_of (output piece ∷ later) = input_of later
 input_of (input byte ∷ later) = byte ∷ input_of later
 input_of (input_end ∷ later) = input_of later
+
+-- what was taken from the input are bytes
+abbrev pub TakesBytes : List Event → Type 0
+TakesBytes events = All (λ byte. byte < 256) (input_of events)
 
 -- the events take a list of bytes from what was left of it before to what is left after: each byte is its next one, and
 -- the end is met only where nothing is left

@@ -2,27 +2,32 @@
 //! statuses, and the traits of the outside.
 #![tactic(auto)]
 
-mod bytes;
 mod error;
+mod fault_count;
+mod items;
 mod limit;
 mod name;
 mod outside;
 mod refusal;
 mod simulation;
+mod sizes;
 mod span;
 mod status;
-mod text;
 
-pub use bytes::Bytes;
 pub use error::{LexError, NameError, NoMemory, ParseError};
+pub use fault_count::FaultCount;
+pub use items::{Bytes, Items, Text};
 pub use limit::{Limit, LimitKind};
 pub use name::Name;
-pub use outside::{Next, Put, Read, Sink, Source, Store, Wrote};
+pub use outside::{Next, Put, Read, Sink, Source, Store, StoreCall, Wrote};
 pub use refusal::Refusal;
-pub use simulation::{Layers, Simulation, layers_compose, related_states_agree};
+pub use simulation::{
+    Layers, Simulation, TwoAgreements, agreements_compose, every_state_is_passing, layers_compose,
+    related_states_agree, seen_machines_simulate,
+};
+pub use sizes::{GREATEST_CELLS, GREATEST_DEPTH};
 pub use span::Span;
 pub use status::Status;
-pub use text::Text;
 
 #[cfg(test)]
 mod tests;

@@ -5,7 +5,7 @@ use std::alloc::Global;
 use std::fmt;
 use std::marker::Model;
 
-/// A name of a source text, as it is spelled.
+/// A name of a source text or of a file, as it is spelled.
 #[derive(Debug, Drop)]
 pub struct Name {
     spelling: String,

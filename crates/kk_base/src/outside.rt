@@ -1,10 +1,12 @@
-ghost use Rattle.std.specs.Prelude.{◌≡◌, ℕ, List, ◌++◌, Bool, Option, option_map};
+ghost use Rattle.std.specs.Prelude.{◌≡◌, ◌<◌, ◌++◌, All, option_map};
 ghost use Rattle.kk_base.specs.Faults.{Counts};
-ghost use Rattle.kk_base.specs.Source.{given, next_failed, EndsAt, KeepsEnd};
-ghost use Rattle.kk_base.specs.Sink.{taken, put_failed, CutWithin};
-ghost use Rattle.kk_base.specs.Store.{Files, Call, reading, writing, read_failed, wrote_failed, Reads, SameFiles, Writes, Remembers};
+ghost use Rattle.kk_base.specs.Source.{SourceState, given, next_failed, EndsAt, KeepsEnd};
+ghost use Rattle.kk_base.specs.Sink.{SinkState, taken, put_failed, CutWithin};
+ghost use Rattle.kk_base.specs.Store.{StoreState, read_failed, wrote_failed, ReadsFile, SameFiles, WritesFile, Remembers};
+ghost use Rattle.kk_base.specs.declared.outside.StoreCall.TheVariants.{Reading, Writing};
 
-use crate::bytes::Bytes;
+use crate::items::Bytes;
+use crate::name::Name;
 use std::alloc::Global;
 
 /// What a source gives.
@@ -44,64 +46,62 @@ pub enum Wrote {
     NoMemory,
 }
 
+/// A call on a store, with the name that it was given.
+#[derive(Debug, Drop)]
+pub enum StoreCall {
+    Reading(Name),
+    Writing(Name),
+}
+
 /// A stream of input bytes.
 ///
-/// `left` is what is left of it, where the implementation tells its content. `faults` counts the calls that failed,
-/// as a u64 that stays at its last value: it never falls, and a call fails only where it rises. `ended` says that an end
-/// was met, behind which no byte comes.
+/// Of its state, `left` is what is left of it, where the implementation tells its content. `ended` says that an end was
+/// met, behind which no byte comes. `faults` counts the calls that failed, as a u64 that stays at its last value: it never
+/// falls, and a call fails only where it rises.
 pub trait Source {
-    ghost left: { Self → Option (List ℕ) };
-
-    ghost ended: { Self → Bool };
-
-    ghost faults: { Self → ℕ };
+    ghost state: { Self → SourceState };
 
     /// Takes the next byte.
     fn next(&mut self) -> Next
-        ensures content { left self.old ≡ option_map (λ rest. given result ++ rest) (left self.new) }
-        ensures end { EndsAt result (left self.old) }
-        ensures keeps { KeepsEnd result (ended self.old) (ended self.new) }
-        ensures faults { Counts (next_failed result) (faults self.old) (faults self.new) };
+        ensures content { (state self.old).left ≡ option_map (λ rest. given result ++ rest) (state self.new).left }
+        ensures bytes { All (λ byte. byte < 256) (given result) }
+        ensures end { EndsAt result (state self.old).left }
+        ensures keeps { KeepsEnd result (state self.old).ended (state self.new).ended }
+        ensures faults { Counts (next_failed result) (state self.old).faults (state self.new).faults };
 }
 
 /// A stream of output bytes.
 ///
-/// `held` is what it has taken, where the implementation tells its content. `faults` counts the calls that failed,
-/// as a u64 that stays at its last value: it never falls, and a call fails only where it rises.
+/// Of its state, `held` is what it has taken, where the implementation tells its content. `faults` counts the calls that
+/// failed, as a u64 that stays at its last value: it never falls, and a call fails only where it rises.
 pub trait Sink {
-    ghost held: { Self → Option (List ℕ) };
-
-    ghost faults: { Self → ℕ };
+    ghost state: { Self → SinkState };
 
     /// Puts a piece at the end. To take nothing of a piece that is not empty is a fault.
     fn put(&mut self, piece: &[u8]) -> Put
-        ensures content { held self.new ≡ option_map (λ before. before ++ taken result piece.now) (held self.old) }
+        ensures content { (state self.new).held ≡ option_map (λ before. before ++ taken result piece.now) (state self.old).held }
         ensures cut { CutWithin result piece.now }
-        ensures faults { Counts (put_failed result) (faults self.old) (faults self.new) };
+        ensures faults { Counts (put_failed result) (state self.old).faults (state self.new).faults };
 }
 
 /// Files by their names.
 ///
-/// `files` has the content of each name, where the implementation tells it. `faults` counts the calls that failed,
-/// as a u64 that stays at its last value: it never falls, and a call fails only where it rises. `last_failed` is the
-/// last call that failed.
+/// Of its state, `files` has the content of each name, where the implementation tells it. `last_failed` is the last call
+/// that failed. `faults` counts the calls that failed, as a u64 that stays at its last value: it never falls, and a call
+/// fails only where it rises.
 pub trait Store {
-    ghost files: { Self → Option Files };
-
-    ghost faults: { Self → ℕ };
-
-    ghost last_failed: { Self → Option Call };
+    ghost state: { Self → StoreState };
 
     /// The first `at_most` bytes of a file, all if there are fewer.
     fn read(&mut self, alloc: Global, name: &str, at_most: usize) -> Read
-        ensures content { Reads result at_most name.now (files self.old) }
-        ensures kept { SameFiles (files self.old) (files self.new) }
-        ensures faults { Counts (read_failed result) (faults self.old) (faults self.new) }
-        ensures named { Remembers (read_failed result) (reading name.now) (last_failed self.old) (last_failed self.new) };
+        ensures content { ReadsFile result at_most name.now (state self.old).files }
+        ensures kept { SameFiles (state self.old).files (state self.new).files }
+        ensures faults { Counts (read_failed result) (state self.old).faults (state self.new).faults }
+        ensures named { Remembers (read_failed result) (Reading name.now) (state self.old).last_failed (state self.new).last_failed };
 
     /// Makes a file these bytes; all other files stay.
     fn write(&mut self, name: &str, bytes: &[u8]) -> Wrote
-        ensures content { Writes result name.now bytes.now (files self.old) (files self.new) }
-        ensures faults { Counts (wrote_failed result) (faults self.old) (faults self.new) }
-        ensures named { Remembers (wrote_failed result) (writing name.now) (last_failed self.old) (last_failed self.new) };
+        ensures content { WritesFile result name.now bytes.now (state self.old).files (state self.new).files }
+        ensures faults { Counts (wrote_failed result) (state self.old).faults (state self.new).faults }
+        ensures named { Remembers (wrote_failed result) (Writing name.now) (state self.old).last_failed (state self.new).last_failed };
 }

@@ -1,7 +1,7 @@
 use crate::error::{LexError, NameError, ParseError};
+use crate::items::Text;
 use crate::limit::Limit;
 use crate::name::Name;
-use crate::text::Text;
 
 /// Why a text is not accepted: its first failure.
 #[derive(Debug, Drop)]

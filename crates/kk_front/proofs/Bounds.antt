@@ -1,5 +1,5 @@
 -- No count of a text within its limit reaches a number's end.
-use Rattle.std.proofs.Common.{◌≡◌, ℕ, ◌+◌, ◌-◌, ◌^◌, ◌≤◌, suc, min, nat_lt, Bool, true, false, cond, List, [], ◌∷◌, ◌++◌, length, Some, None, refl, sym, ap, ◌∙◌, subst, length-append, arith}
+use Rattle.std.proofs.Common.{◌≡◌, ℕ, ◌+◌, ◌-◌, ◌^◌, ◌≤◌, suc, min, nat_lt, Bool, true, false, cond, List, [], ◌∷◌, ◌++◌, length, map, Some, None, refl, sym, ap, ◌∙◌, subst, length-append, arith}
 use Rattle.std.specs.Prelude.{All, Ok, Err}
 use Rattle.std.proofs.lemmas.Bool.Decides.{nat_tests}
 use Rattle.std.proofs.lemmas.List.Elements.{All-nil, All-cons, All-head}
@@ -7,8 +7,10 @@ use Rattle.kk_base.specs.declared.error.ParseError.{ParseError}
 use Rattle.kk_base.specs.declared.error.ParseError.TheVariants.{Unexpected, TooDeep, NoMemory}
 use Rattle.kk_base.specs.declared.limit.Limit.{Limit}
 use Rattle.kk_base.specs.declared.limit.LimitKind.TheVariants.{FunctionNodes}
-use Rattle.kk_syntax.specs.Programs.{FunctionTree, ProgramTree}
+use Rattle.kk_syntax.specs.declared.tree.Function.{Function}
+use Rattle.kk_syntax.specs.Programs.{FunctionTree, function_tree, ProgramTree}
 use Rattle.kk_syntax.specs.Shapes.{nodes_of}
+use Rattle.kk_syntax.specs.Trees.{expr_tree}
 use Rattle.kk_syntax.specs.TokenList.{TokenList}
 use Rattle.kk_mono.specs.Counts.{too_many_nodes, CountsAs, in_u64}
 use Rattle.kk_parser.specs.Parses.{RefusesTokens, in_u32}
@@ -51,13 +53,13 @@ not_above : (n : ℕ) → nat_lt 480 n ≡ false → n ≤ 480
 not_above n h = grind (arith, nat_tests)
 
 -- a program without a function that is too large
-pub all_few : (functions : List FunctionTree) → too_many_nodes functions ≡ None → All (λ f. nodes_of f.body ≤ 480) functions
-all_few [] e = All-nil (λ f. nodes_of f.body ≤ 480)
-all_few (f ∷ fs) e = by (nat_lt 480 (nodes_of f.body)) refl (λ d. all_few fs d) e
+pub all_few : (functions : List Function) → too_many_nodes (map function_tree functions) ≡ None → All (λ f. nodes_of (expr_tree f.body) ≤ 480) functions
+all_few [] e = All-nil (λ f. nodes_of (expr_tree f.body) ≤ 480)
+all_few (f ∷ fs) e = by (nat_lt 480 (nodes_of (expr_tree f.body))) refl (λ d. all_few fs d) e
   where
-    by : (b : Bool) → nat_lt 480 (nodes_of f.body) ≡ b → (too_many_nodes fs ≡ None → All (λ g. nodes_of g.body ≤ 480) fs) → cond b (Some (nodes_of f.body)) (too_many_nodes fs) ≡ None → All (λ (g : FunctionTree). nodes_of g.body ≤ 480) (f ∷ fs)
+    by : (b : Bool) → nat_lt 480 (nodes_of (expr_tree f.body)) ≡ b → (too_many_nodes (map function_tree fs) ≡ None → All (λ (g : Function). nodes_of (expr_tree g.body) ≤ 480) fs) → cond b (Some (nodes_of (expr_tree f.body))) (too_many_nodes (map function_tree fs)) ≡ None → All (λ (g : Function). nodes_of (expr_tree g.body) ≤ 480) (f ∷ fs)
     by true is rest e = cc
-    by false is rest e = All-cons (λ g. nodes_of g.body ≤ 480) f fs (not_above (nodes_of f.body) is) (rest e)
+    by false is rest e = All-cons (λ g. nodes_of (expr_tree g.body) ≤ 480) f fs (not_above (nodes_of (expr_tree f.body)) is) (rest e)
 
 -- a bound on the nodes of a tree's functions holds of the program's
 pub fewer : (most : ℕ) (written functions : List FunctionTree) → functions ≡ written → most ≤ 65536 → All (λ f. nodes_of f.body ≤ most) written → All (λ f. nodes_of f.body ≤ 65536) functions

@@ -3,6 +3,7 @@ ghost use Rattle.kk_base.specs.Limits.{greatest_of};
 ghost use Rattle.kk_base.specs.declared.limit.LimitKind.TheVariants.{FunctionNodes};
 ghost use Rattle.kk_syntax.specs.Programs.{program_tree};
 ghost use Rattle.kk_syntax.specs.Shapes.{nodes_of};
+ghost use Rattle.kk_syntax.specs.Trees.{expr_tree};
 ghost use Rattle.kk_front.specs.Judgement.{ChecksLength, IsProgramOf, Refuses, EachTextIsJudged};
 
 use kk_base::{Limit, LimitKind, Refusal};
@@ -18,7 +19,7 @@ pub fn read(alloc: Global, text: &[u8]) -> Result<Program, Refusal>
     ensures ok { IfOk result (λ program. IsProgramOf text.now (program_tree program)) }
     ensures err { IfErr result (Refuses text.now) }
     ensures few_nodes { IfOk result (λ program.
-        All (λ function. nodes_of function.body ≤ greatest_of FunctionNodes) (program_tree program).functions) }
+        All (λ function. nodes_of (expr_tree function.body) ≤ greatest_of FunctionNodes) program.functions.items) }
 {
     match check_length(text) {
         Ok(()) => {}
