@@ -1,8 +1,8 @@
-ghost use Rattle.std.specs.Prelude.{◌≡◌, ℕ, ◌+◌, ◌<◌, ◌≤◌, ◌∷◌, [], length, IsTrue, OnOk};
+ghost use Rattle.std.specs.Prelude.{◌≡◌, ℕ, ◌+◌, ◌<◌, ◌≤◌, ◌∷◌, [], length, IsTrue, IsSome, OnOk};
 ghost use Rattle.kk_parser.specs.Grammar.{semicolons};
-ghost use Rattle.kk_parser.specs.Kinds.{keyword, symbol as OfSymbol, word, string, is_at};
-ghost use Rattle.kk_parser.specs.Methods.{behind, Read, Reads, Deepens};
-ghost use Rattle.kk_parser.specs.Phrases.{token, opener, Value};
+ghost use Rattle.kk_parser.specs.Kinds.{keyword, symbol as OfSymbol, word, string, next_says, is_at};
+ghost use Rattle.kk_parser.specs.Methods.{behind, Read, ReadsPhrase, Deepens};
+ghost use Rattle.kk_parser.specs.Phrases.{token, opener, PhraseValue};
 
 use crate::fault::Fault;
 use kk_syntax::{Keyword, LocatedToken, Symbol, Token};
@@ -52,15 +52,28 @@ impl<'a> Parser<'a> {
 
     /// Whether the next token is the name of this spelling.
     pub fn is_at_word(&self, spelling: &str) -> bool
-        ensures value { result ≡ is_at (word spelling.now ∷ []) self.now.rest.now }
-        ensures there { IsTrue result → 0 < length self.now.rest.now }
+        ensures { result ≡ is_at (word spelling.now ∷ []) self.now.rest.now }
+    {
+        self.word_at(spelling).is_some()
+    }
+
+    /// The byte of the next token, where it is the name of this spelling.
+    pub fn word_at(&self, spelling: &str) -> Option<u32>
+        ensures value { result ≡ next_says (word spelling.now) self.now.rest.now }
+        ensures there { IsSome result → 0 < length self.now.rest.now }
     {
         match self.rest.first() {
             Some(next) => match &next.token {
-                Token::Name(name) => name.as_str() == spelling,
-                _ => false,
+                Token::Name(name) => {
+                    if name.as_str() == spelling {
+                        Some(next.span.at)
+                    } else {
+                        None
+                    }
+                }
+                _ => None,
             },
-            None => false,
+            None => None,
         }
     }
 
@@ -106,7 +119,7 @@ impl<'a> Parser<'a> {
 
     /// Passes this symbol.
     pub fn expect(&mut self, symbol: Symbol) -> Result<(), Fault>
-        ensures reads { Reads (token (OfSymbol symbol)) (λ _. tt) result self.old self.new }
+        ensures reads { ReadsPhrase (token (OfSymbol symbol)) (λ _. tt) result self.old self.new }
         ensures depth { OnOk result (self.new.depth ≡ self.old.depth) }
         ensures left { length self.new.rest.now ≤ length self.old.rest.now }
         ensures passed { OnOk result (length self.new.rest.now + 1 ≡ length self.old.rest.now) }
@@ -120,7 +133,7 @@ impl<'a> Parser<'a> {
 
     /// Passes this keyword.
     pub fn expect_keyword(&mut self, word: Keyword) -> Result<(), Fault>
-        ensures reads { Reads (token (keyword word)) (λ _. tt) result self.old self.new }
+        ensures reads { ReadsPhrase (token (keyword word)) (λ _. tt) result self.old self.new }
         ensures left { length self.new.rest.now ≤ length self.old.rest.now }
     {
         if !self.is_at_keyword(word) {
@@ -132,7 +145,7 @@ impl<'a> Parser<'a> {
 
     /// Passes this symbol, which opens a level.
     pub fn open(&mut self, symbol: Symbol) -> Result<(), Fault>
-        ensures reads { Reads (opener (OfSymbol symbol)) (λ _. tt) result self.old self.new }
+        ensures reads { ReadsPhrase (opener (OfSymbol symbol)) (λ _. tt) result self.old self.new }
         ensures depth { OnOk result (self.new.depth ≡ self.old.depth + 1) }
         ensures within { OnOk result (self.new.depth ≤ 200) }
         ensures left { length self.new.rest.now ≤ length self.old.rest.now }
@@ -146,7 +159,7 @@ impl<'a> Parser<'a> {
 
     /// Passes semicolons.
     pub fn skip_semicolons(&mut self)
-        ensures reads { (v : Value semicolons) × Read semicolons v self.old self.new }
+        ensures reads { (v : PhraseValue semicolons) × Read semicolons v self.old self.new }
         ensures left { length self.new.rest.now ≤ length self.old.rest.now }
     {
         while self.is_at(Symbol::Semicolon) {

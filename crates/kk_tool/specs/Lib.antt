@@ -1,12 +1,6 @@
-pub mod Accepted
-pub mod Agreement
 pub mod Answer
-pub mod Causes
-pub mod Front
+pub mod Answers
+pub mod Commands
 pub mod ImageRuns
-pub mod Images
-pub mod Judgement
 pub mod Line
-pub mod Outcome
-pub mod Store
-pub mod Words
+pub mod Outside

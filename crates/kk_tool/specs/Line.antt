@@ -1,6 +1,7 @@
 -- The line that tells an answer on the error sink. Numbers are decimal, and each line ends with a line feed.
-use Rattle.std.specs.Prelude.{ℕ, List, [], ◌∷◌, ◌++◌, codes, decimal}
+use Rattle.std.specs.Prelude.{ℕ, List, [], ◌∷◌, ◌++◌, codes, decimal, flat_map, nat_eq, Option, Some, None, if◌then◌else◌}
 use Rattle.kk_base.specs.Limits.{limit_word_of}
+use Rattle.kk_base.specs.Numbers.{lex_number_of, parse_number_of, name_number_of}
 use Rattle.kk_base.specs.declared.limit.Limit.{Limit}
 use Rattle.kk_base.specs.declared.error.LexError.{LexError}
 use Rattle.kk_base.specs.declared.error.LexError.TheVariants as OfLex
@@ -10,8 +11,10 @@ use Rattle.kk_base.specs.declared.error.NameError.{NameError}
 use Rattle.kk_base.specs.declared.error.NameError.TheVariants as OfName
 use Rattle.kk_base.specs.declared.refusal.Refusal.{Refusal}
 use Rattle.kk_base.specs.declared.refusal.Refusal.TheVariants as OfText
+use Rattle.rv_sim.specs.declared.halt.Halt.{Halt}
+use Rattle.rv_sim.specs.declared.halt.Halt.TheVariants as OfHalt
 use Rattle.kk_tool.specs.declared.answer.Answer.{Answer}
-use Rattle.kk_tool.specs.declared.answer.Answer.TheVariants.{Done, ImageExit, Usage, Refused, NoMemory, FileFault, InputFault, OutputFault, StepsSpent, Trap}
+use Rattle.kk_tool.specs.declared.answer.Answer.TheVariants.{Done, Usage, Refused, NoMemory, FileFault, Ran}
 use Rattle.kk_tool.specs.declared.line.Piece.{Piece}
 use Rattle.kk_tool.specs.declared.line.Piece.TheVariants.{Text, Bytes, Number}
 
@@ -21,44 +24,74 @@ bytes_of (Text text) = text.now
 bytes_of (Bytes bytes) = bytes.now
 bytes_of (Number number) = decimal number
 
+-- the bytes of some parts
+abbrev pub joined : List Piece → List ℕ
+joined pieces = flat_map bytes_of pieces
+
 abbrev pub line_feed : List ℕ
 line_feed = 10 ∷ []
 
 abbrev pub no_memory_line : List ℕ
 no_memory_line = codes "no memory" ++ line_feed
 
--- lex K at A: the number of the fault, and its byte
-abbrev pub numbered_lex_line : ℕ → ℕ → List ℕ
-numbered_lex_line number at = codes "refused: lex " ++ (decimal number ++ (codes " at " ++ (decimal at ++ line_feed)))
+-- refused: lex K at A, with the number of the fault, and its byte
+abbrev pub lex_place_of : LexError → ℕ
+lex_place_of (OfLex.BadByte at) = at
+lex_place_of (OfLex.OpenComment at) = at
+lex_place_of (OfLex.OpenString at) = at
+lex_place_of (OfLex.NumberTooLarge at) = at
+lex_place_of (OfLex.StringTooLong at) = at
+lex_place_of OfLex.NoMemory = 0
+
+abbrev pub numbered_lex_line : Option ℕ → ℕ → List ℕ
+numbered_lex_line (Some number) at = codes "refused: lex " ++ (decimal number ++ (codes " at " ++ (decimal at ++ line_feed)))
+numbered_lex_line None at = no_memory_line
 
 abbrev pub lex_line : LexError → List ℕ
-lex_line (OfLex.BadByte at) = numbered_lex_line 1 at
-lex_line (OfLex.OpenComment at) = numbered_lex_line 2 at
-lex_line (OfLex.OpenString at) = numbered_lex_line 3 at
-lex_line (OfLex.NumberTooLarge at) = numbered_lex_line 4 at
-lex_line (OfLex.StringTooLong at) = numbered_lex_line 5 at
-lex_line OfLex.NoMemory = no_memory_line
+lex_line error = numbered_lex_line (lex_number_of error) (lex_place_of error)
 
--- parse K at line L column C
-abbrev pub numbered_parse_line : ℕ → ℕ → ℕ → List ℕ
-numbered_parse_line number line column = codes "refused: parse " ++ (decimal number ++ (codes " at line " ++ (decimal line ++ (codes " column " ++ (decimal column ++ line_feed)))))
+-- refused: parse K at line L column C
+abbrev pub parse_line_of : ParseError → ℕ
+parse_line_of (OfParse.Unexpected index line column) = line
+parse_line_of (OfParse.TooDeep index line column) = line
+parse_line_of OfParse.NoMemory = 0
+
+abbrev pub parse_column_of : ParseError → ℕ
+parse_column_of (OfParse.Unexpected index line column) = column
+parse_column_of (OfParse.TooDeep index line column) = column
+parse_column_of OfParse.NoMemory = 0
+
+abbrev pub numbered_parse_line : Option ℕ → ℕ → ℕ → List ℕ
+numbered_parse_line (Some number) line column =
+    codes "refused: parse " ++ (decimal number ++ (codes " at line " ++ (decimal line ++ (codes " column " ++ (decimal column ++ line_feed)))))
+numbered_parse_line None line column = no_memory_line
 
 abbrev pub parse_line : ParseError → List ℕ
-parse_line (OfParse.Unexpected index line column) = numbered_parse_line 1 line column
-parse_line (OfParse.TooDeep index line column) = numbered_parse_line 2 line column
-parse_line OfParse.NoMemory = no_memory_line
+parse_line error = numbered_parse_line (parse_number_of error) (parse_line_of error) (parse_column_of error)
 
--- name K NAME at A
-abbrev pub numbered_name_line : ℕ → List ℕ → ℕ → List ℕ
-numbered_name_line number name at = codes "refused: name " ++ (decimal number ++ (codes " " ++ (name ++ (codes " at " ++ (decimal at ++ line_feed)))))
+-- refused: name K NAME at A
+abbrev pub name_spelled_of : NameError → List ℕ
+name_spelled_of (OfName.Twice name at) = name
+name_spelled_of (OfName.Unknown name at) = name
+name_spelled_of (OfName.Arity name at) = name
+name_spelled_of (OfName.NoMain name at) = name
+name_spelled_of (OfName.MainShape name at) = name
+name_spelled_of OfName.NoMemory = []
+
+abbrev pub name_place_of : NameError → ℕ
+name_place_of (OfName.Twice name at) = at
+name_place_of (OfName.Unknown name at) = at
+name_place_of (OfName.Arity name at) = at
+name_place_of (OfName.NoMain name at) = at
+name_place_of (OfName.MainShape name at) = at
+name_place_of OfName.NoMemory = 0
+
+abbrev pub numbered_name_line : Option ℕ → List ℕ → ℕ → List ℕ
+numbered_name_line (Some number) name at = codes "refused: name " ++ (decimal number ++ (codes " " ++ (name ++ (codes " at " ++ (decimal at ++ line_feed)))))
+numbered_name_line None name at = no_memory_line
 
 abbrev pub name_line : NameError → List ℕ
-name_line (OfName.Twice name at) = numbered_name_line 1 name at
-name_line (OfName.Unknown name at) = numbered_name_line 2 name at
-name_line (OfName.Arity name at) = numbered_name_line 3 name at
-name_line (OfName.NoMain name at) = numbered_name_line 4 name at
-name_line (OfName.MainShape name at) = numbered_name_line 5 name at
-name_line OfName.NoMemory = no_memory_line
+name_line error = numbered_name_line (name_number_of error) (name_spelled_of error) (name_place_of error)
 
 -- limit: KIND COUNT
 abbrev pub limit_line : Limit → List ℕ
@@ -81,15 +114,19 @@ refusal_line OfText.NoMemory = no_memory_line
 abbrev pub trap_line : ℕ → ℕ → ℕ → List ℕ
 trap_line cause pc word = codes "trap: cause " ++ (decimal cause ++ (codes " pc " ++ (decimal pc ++ (codes " word " ++ (decimal word ++ line_feed)))))
 
+-- a run of an image out of a budget of `steps`; none where it exited with 0
+abbrev pub halt_line : Halt → ℕ → List ℕ
+halt_line (OfHalt.Exit code) steps = if nat_eq code 0 then [] else (codes "image exit: " ++ (decimal code ++ line_feed))
+halt_line OfHalt.StepsSpent steps = codes "steps spent: " ++ (decimal steps ++ line_feed)
+halt_line (OfHalt.Trap cause pc word) steps = trap_line cause pc word
+halt_line OfHalt.InputFault steps = codes "input fault" ++ line_feed
+halt_line OfHalt.OutputFault steps = codes "output fault" ++ line_feed
+
 -- the line of an answer; none where the command did its work
 abbrev pub line_of : Answer → List ℕ
 line_of Done = []
-line_of (ImageExit code) = codes "image exit: " ++ (decimal code ++ line_feed)
 line_of Usage = codes "usage: kokarv check FILE, build FILE -o OUT, run FILE, sim IMAGE, eval FILE, bench SEED SIZE" ++ line_feed
 line_of (Refused refusal) = refusal_line refusal
 line_of NoMemory = no_memory_line
 line_of (FileFault name) = codes "file fault: " ++ (name.now ++ line_feed)
-line_of InputFault = codes "input fault" ++ line_feed
-line_of OutputFault = codes "output fault" ++ line_feed
-line_of (StepsSpent steps) = codes "steps spent: " ++ (decimal steps ++ line_feed)
-line_of (Trap cause pc word) = trap_line cause pc word
+line_of (Ran halt steps) = halt_line halt steps

@@ -1,13 +1,11 @@
-ghost use Rattle.std.specs.Prelude.{◌≡◌, map, string_bytes};
-ghost use Rattle.kk_base.specs.Store.{SameFiles};
-ghost use Rattle.kk_tool.specs.Causes.{Answers, Ends};
-ghost use Rattle.kk_tool.specs.Words.{file_to_run};
+ghost use Rattle.std.specs.Prelude.{map, string_bytes};
+ghost use Rattle.kk_tool.specs.Answers.{Answers, Ends};
+ghost use Rattle.kk_tool.specs.Commands.{command_of};
 
 use crate::answer::Answer;
-use crate::line::put_line;
-use crate::run::run_file;
-use crate::words::Command;
-use kk_base::{Bytes, Sink, Source, Status, Store};
+use crate::perform::perform;
+use crate::words::command_in;
+use kk_base::{Bytes, NoMemory, Sink, Source, Status, Store};
 use std::alloc::Global;
 
 /// Does the command that `words` are, over the devices of the outside, and tells how it ended: by its status, and by a
@@ -24,20 +22,17 @@ pub fn kokarv<F: Store, I: Source, O: Sink, E: Sink>(
     err: &mut E,
     image: &mut Bytes,
 ) -> Status
-    ensures ends { Ends (file_to_run (map string_bytes words.now)) result
-        (record { files = F.files files.old; last_failed = F.last_failed files.old; faults = F.faults files.old })
-        (record { files = F.files files.new; last_failed = F.last_failed files.new; faults = F.faults files.new })
-        (record { left = I.left input.old; faults = I.faults input.old })
-        (record { left = I.left input.new; faults = I.faults input.new })
-        (record { held = O.held out.old; faults = O.faults out.old })
-        (record { held = O.held out.new; faults = O.faults out.new })
-        (record { held = E.held err.old; faults = E.faults err.old })
-        (record { held = E.held err.new; faults = E.faults err.new })
-        image.old image.new }
-    ensures files_stay { SameFiles (F.files files.old) (F.files files.new) }
+    ensures { Ends (command_of (map string_bytes words.now)) result
+        (record { files = F.state files.old; input = I.state input.old; out = O.state out.old; image = image.old })
+        (record { files = F.state files.new; input = I.state input.new; out = O.state out.new; image = image.new })
+        (E.state err.old) (E.state err.new) }
 {
     let answer = answer_words(alloc, words, files, input, out, image);
-    if put_line(err, &answer) {
+    let is_told = match answer.line() {
+        Some(line) => line.put(err),
+        None => true,
+    };
+    if is_told {
         answer.status()
     } else {
         Status::OutputFault
@@ -52,18 +47,14 @@ fn answer_words<'a, F: Store, I: Source, O: Sink>(
     out: &mut O,
     image: &mut Bytes,
 ) -> Answer<'a>
-    ensures answers { Answers (file_to_run (map string_bytes words.now)) result
-        (record { files = F.files files.old; last_failed = F.last_failed files.old; faults = F.faults files.old })
-        (record { files = F.files files.new; last_failed = F.last_failed files.new; faults = F.faults files.new })
-        (record { left = I.left input.old; faults = I.faults input.old })
-        (record { left = I.left input.new; faults = I.faults input.new })
-        (record { held = O.held out.old; faults = O.faults out.old })
-        (record { held = O.held out.new; faults = O.faults out.new })
-        image.old image.new }
-    ensures files_stay { SameFiles (F.files files.old) (F.files files.new) }
+    ensures { Answers
+        (record { files = F.state files.old; input = I.state input.old; out = O.state out.old; image = image.old })
+        (record { files = F.state files.new; input = I.state input.new; out = O.state out.new; image = image.new })
+        (command_of (map string_bytes words.now)) result }
 {
-    match Command::from_words(words) {
-        Some(Command::Run { file }) => run_file(alloc, file, files, input, out, image),
-        None => Answer::Usage,
+    match command_in(alloc, words) {
+        Ok(Some(command)) => perform(alloc, command, files, input, out, image),
+        Ok(None) => Answer::Usage,
+        Err(NoMemory) => Answer::NoMemory,
     }
 }

@@ -1,11 +1,13 @@
 //! The line for the user that tells how a command ended.
-ghost use Rattle.std.specs.Prelude.{flat_map};
-ghost use Rattle.kk_tool.specs.Line.{bytes_of, line_of, refusal_line, lex_line, parse_line, name_line, limit_line, no_memory_line, not_covered_line, numbered_lex_line, numbered_parse_line, numbered_name_line, trap_line};
-ghost use Rattle.kk_tool.specs.Outcome.{Puts};
+ghost use Rattle.std.specs.Prelude.{◌≡◌, ◌≤◌, length, [], Some, None, option_map, unwrap_or};
+ghost use Rattle.kk_tool.specs.Line.{bytes_of, joined, line_of, halt_line, refusal_line, lex_line, lex_place_of, parse_line, parse_line_of, parse_column_of, name_line, name_spelled_of, name_place_of, limit_line, no_memory_line, trap_line};
+ghost use Rattle.kk_tool.specs.Outside.{Puts};
 
 use crate::answer::Answer;
+use arrayvec::ArrayVec;
 use itoa::Buffer;
 use kk_base::{LexError, Limit, NameError, ParseError, Put, Refusal, Sink};
+use rv_sim::Halt;
 
 const USAGE: &str =
     "usage: kokarv check FILE, build FILE -o OUT, run FILE, sim IMAGE, eval FILE, bench SEED SIZE\n";
@@ -19,223 +21,236 @@ pub enum Piece<'a> {
     Number(u64),
 }
 
-/// Puts the line of an answer on `err`, ended by a line feed; nothing where there is no line. False where `err` failed,
-/// and only the beginning of the line was put.
-pub fn put_line<E: Sink>(err: &mut E, answer: &Answer<'_>) -> bool
-    ensures { Puts result (line_of answer.now) (E.held err.old) (E.held err.new) (E.faults err.old) (E.faults err.new) }
-{
-    match answer {
-        Answer::Done => true,
-        Answer::ImageExit { code } => put_pieces(
-            err,
-            &[
-                Piece::Text("image exit: "),
-                Piece::Number(*code as u64),
-                Piece::Text("\n"),
-            ],
-        ),
-        Answer::Usage => put_pieces(err, &[Piece::Text(USAGE)]),
-        Answer::Refused(refusal) => put_refusal(err, refusal),
-        Answer::NoMemory => put_no_memory(err),
-        Answer::FileFault { name } => put_pieces(
-            err,
-            &[
+impl Default for Piece<'_> {
+    fn default() -> Self {
+        Piece::Number(0)
+    }
+}
+
+/// A line, as its parts.
+#[derive(Drop)]
+pub struct Line<'a> {
+    pieces: ArrayVec<Piece<'a>, 7>,
+}
+
+impl<'a> Line<'a> {
+    /// The line of these parts.
+    fn new(pieces: &[Piece<'a>]) -> Self
+        requires { length pieces.now ≤ 7 }
+        ensures { result.pieces.items ≡ pieces.now }
+    {
+        let mut line = ArrayVec::new();
+        for piece in pieces {
+            line.push(*piece);
+        }
+        Line { pieces: line }
+    }
+
+    /// Puts the parts of the line in order, up to the first put that fails. False where one failed.
+    pub fn put<E: Sink>(&self, err: &mut E) -> bool
+        ensures { Puts result (joined self.now.pieces.items) (E.state err.old) (E.state err.new) }
+    {
+        for piece in &self.pieces {
+            if !put_piece(err, piece) {
+                return false;
+            }
+        }
+        true
+    }
+}
+
+impl Answer<'_> {
+    /// The line that tells the answer; none where the command did its work.
+    pub fn line(&self) -> Option<Line<'_>>
+        ensures { unwrap_or (option_map (λ line. joined line.pieces.items) result) [] ≡ line_of self.now }
+    {
+        match self {
+            Answer::Done => None,
+            Answer::Usage => Some(Line::new(&[Piece::Text(USAGE)])),
+            Answer::Refused(refusal) => Some(refusal_line(refusal)),
+            Answer::NoMemory => Some(no_memory_line()),
+            Answer::FileFault { name } => Some(Line::new(&[
                 Piece::Text("file fault: "),
                 Piece::Text(name),
                 Piece::Text("\n"),
-            ],
-        ),
-        Answer::InputFault => put_pieces(err, &[Piece::Text("input fault\n")]),
-        Answer::OutputFault => put_pieces(err, &[Piece::Text("output fault\n")]),
-        Answer::StepsSpent { steps } => put_pieces(
-            err,
-            &[
-                Piece::Text("steps spent: "),
-                Piece::Number(*steps),
-                Piece::Text("\n"),
-            ],
-        ),
-        Answer::Trap { cause, pc, word } => put_trap(err, *cause, *pc, *word),
-    }
-}
-
-fn put_trap<E: Sink>(err: &mut E, cause: u8, pc: u32, word: u32) -> bool
-    ensures { Puts result (trap_line cause pc word) (E.held err.old) (E.held err.new) (E.faults err.old) (E.faults err.new) }
-{
-    put_pieces(
-        err,
-        &[
-            Piece::Text("trap: cause "),
-            Piece::Number(cause as u64),
-            Piece::Text(" pc "),
-            Piece::Number(pc as u64),
-            Piece::Text(" word "),
-            Piece::Number(word as u64),
-            Piece::Text("\n"),
-        ],
-    )
-}
-
-fn put_no_memory<E: Sink>(err: &mut E) -> bool
-    ensures { Puts result no_memory_line (E.held err.old) (E.held err.new) (E.faults err.old) (E.faults err.new) }
-{
-    put_pieces(err, &[Piece::Text("no memory\n")])
-}
-
-fn put_refusal<E: Sink>(err: &mut E, refusal: &Refusal) -> bool
-    ensures { Puts result (refusal_line refusal.now) (E.held err.old) (E.held err.new) (E.faults err.old) (E.faults err.new) }
-{
-    match refusal {
-        Refusal::Lex(error) => put_lex_error(err, error),
-        Refusal::Parse(error) => put_parse_error(err, error),
-        Refusal::Name(error) => put_name_error(err, error),
-        Refusal::NotTyped { function } => put_pieces(
-            err,
-            &[
-                Piece::Text("refused: type in "),
-                Piece::Text(function.as_str()),
-                Piece::Text("\n"),
-            ],
-        ),
-        Refusal::NotCovered { function, example } => put_not_covered(
-            err,
-            function.as_str(),
-            example.as_slice(),
-        ),
-        Refusal::Over(limit) => put_limit(err, *limit),
-        Refusal::NoMemory => put_no_memory(err),
-    }
-}
-
-fn put_lex_error<E: Sink>(err: &mut E, error: &LexError) -> bool
-    ensures { Puts result (lex_line error.now) (E.held err.old) (E.held err.new) (E.faults err.old) (E.faults err.new) }
-{
-    match error {
-        LexError::BadByte { at } => put_lex_fault(err, 1, *at),
-        LexError::OpenComment { at } => put_lex_fault(err, 2, *at),
-        LexError::OpenString { at } => put_lex_fault(err, 3, *at),
-        LexError::NumberTooLarge { at } => put_lex_fault(err, 4, *at),
-        LexError::StringTooLong { at } => put_lex_fault(err, 5, *at),
-        LexError::NoMemory => put_no_memory(err),
-    }
-}
-
-fn put_lex_fault<E: Sink>(err: &mut E, number: u64, at: u32) -> bool
-    ensures { Puts result (numbered_lex_line number at) (E.held err.old) (E.held err.new) (E.faults err.old) (E.faults err.new) }
-{
-    put_pieces(
-        err,
-        &[
-            Piece::Text("refused: lex "),
-            Piece::Number(number),
-            Piece::Text(" at "),
-            Piece::Number(at as u64),
-            Piece::Text("\n"),
-        ],
-    )
-}
-
-fn put_parse_error<E: Sink>(err: &mut E, error: &ParseError) -> bool
-    ensures { Puts result (parse_line error.now) (E.held err.old) (E.held err.new) (E.faults err.old) (E.faults err.new) }
-{
-    match error {
-        ParseError::Unexpected { line, column, .. } => put_parse_fault(err, 1, *line, *column),
-        ParseError::TooDeep { line, column, .. } => put_parse_fault(err, 2, *line, *column),
-        ParseError::NoMemory => put_no_memory(err),
-    }
-}
-
-fn put_parse_fault<E: Sink>(err: &mut E, number: u64, line: u32, column: u32) -> bool
-    ensures { Puts result (numbered_parse_line number line column) (E.held err.old) (E.held err.new) (E.faults err.old) (E.faults err.new) }
-{
-    put_pieces(
-        err,
-        &[
-            Piece::Text("refused: parse "),
-            Piece::Number(number),
-            Piece::Text(" at line "),
-            Piece::Number(line as u64),
-            Piece::Text(" column "),
-            Piece::Number(column as u64),
-            Piece::Text("\n"),
-        ],
-    )
-}
-
-fn put_name_error<E: Sink>(err: &mut E, error: &NameError) -> bool
-    ensures { Puts result (name_line error.now) (E.held err.old) (E.held err.new) (E.faults err.old) (E.faults err.new) }
-{
-    match error {
-        NameError::Twice { name, at } => put_name_fault(err, 1, name.as_str(), *at),
-        NameError::Unknown { name, at } => put_name_fault(err, 2, name.as_str(), *at),
-        NameError::Arity { name, at } => put_name_fault(err, 3, name.as_str(), *at),
-        NameError::NoMain { name, at } => put_name_fault(err, 4, name.as_str(), *at),
-        NameError::MainShape { name, at } => put_name_fault(err, 5, name.as_str(), *at),
-        NameError::NoMemory => put_no_memory(err),
-    }
-}
-
-fn put_name_fault<E: Sink>(err: &mut E, number: u64, name: &str, at: u32) -> bool
-    ensures { Puts result (numbered_name_line number name.now at) (E.held err.old) (E.held err.new) (E.faults err.old) (E.faults err.new) }
-{
-    put_pieces(
-        err,
-        &[
-            Piece::Text("refused: name "),
-            Piece::Number(number),
-            Piece::Text(" "),
-            Piece::Text(name),
-            Piece::Text(" at "),
-            Piece::Number(at as u64),
-            Piece::Text("\n"),
-        ],
-    )
-}
-
-fn put_not_covered<'a, E: Sink>(err: &mut E, function: &'a str, example: &'a [u8]) -> bool
-    ensures { Puts result (not_covered_line function.now example.now) (E.held err.old) (E.held err.new) (E.faults err.old) (E.faults err.new) }
-{
-    put_pieces(
-        err,
-        &[
-            Piece::Text("refused: not covered in "),
-            Piece::Text(function),
-            Piece::Text(": "),
-            Piece::Bytes(example),
-            Piece::Text("\n"),
-        ],
-    )
-}
-
-fn put_limit<E: Sink>(err: &mut E, limit: Limit) -> bool
-    ensures { Puts result (limit_line limit) (E.held err.old) (E.held err.new) (E.faults err.old) (E.faults err.new) }
-{
-    put_pieces(
-        err,
-        &[
-            Piece::Text("limit: "),
-            Piece::Text(limit.kind.word()),
-            Piece::Text(" "),
-            Piece::Number(limit.count),
-            Piece::Text("\n"),
-        ],
-    )
-}
-
-/// Puts the parts of a line in order, up to the first put that fails.
-fn put_pieces<E: Sink>(err: &mut E, pieces: &[Piece<'_>]) -> bool
-    ensures { Puts result (flat_map bytes_of pieces.now) (E.held err.old) (E.held err.new) (E.faults err.old) (E.faults err.new) }
-{
-    for piece in pieces {
-        if !put_piece(err, piece) {
-            return false;
+            ])),
+            Answer::Ran { halt, steps } => halt_line(*halt, *steps),
         }
     }
-    true
+}
+
+fn no_memory_line<'a>() -> Line<'a>
+    ensures { joined result.pieces.items ≡ no_memory_line }
+{
+    Line::new(&[Piece::Text("no memory\n")])
+}
+
+fn halt_line<'a>(halt: Halt, steps: u64) -> Option<Line<'a>>
+    ensures { unwrap_or (option_map (λ line. joined line.pieces.items) result) [] ≡ halt_line halt steps }
+{
+    match halt {
+        Halt::Exit(0) => None,
+        Halt::Exit(code) => Some(Line::new(&[
+            Piece::Text("image exit: "),
+            Piece::Number(u64::from(code)),
+            Piece::Text("\n"),
+        ])),
+        Halt::StepsSpent => Some(Line::new(&[
+            Piece::Text("steps spent: "),
+            Piece::Number(steps),
+            Piece::Text("\n"),
+        ])),
+        Halt::Trap { cause, pc, word } => Some(trap_line(cause, pc, word)),
+        Halt::InputFault => Some(Line::new(&[Piece::Text("input fault\n")])),
+        Halt::OutputFault => Some(Line::new(&[Piece::Text("output fault\n")])),
+    }
+}
+
+fn trap_line<'a>(cause: u8, pc: u32, word: u32) -> Line<'a>
+    ensures { joined result.pieces.items ≡ trap_line cause pc word }
+{
+    Line::new(&[
+        Piece::Text("trap: cause "),
+        Piece::Number(u64::from(cause)),
+        Piece::Text(" pc "),
+        Piece::Number(u64::from(pc)),
+        Piece::Text(" word "),
+        Piece::Number(u64::from(word)),
+        Piece::Text("\n"),
+    ])
+}
+
+fn refusal_line(refusal: &Refusal) -> Line<'_>
+    ensures { joined result.pieces.items ≡ refusal_line refusal.now }
+{
+    match refusal {
+        Refusal::Lex(error) => lex_line(error),
+        Refusal::Parse(error) => parse_line(error),
+        Refusal::Name(error) => name_line(error),
+        Refusal::NotTyped { function } => Line::new(&[
+            Piece::Text("refused: type in "),
+            Piece::Text(function.as_str()),
+            Piece::Text("\n"),
+        ]),
+        Refusal::NotCovered { function, example } => Line::new(&[
+            Piece::Text("refused: not covered in "),
+            Piece::Text(function.as_str()),
+            Piece::Text(": "),
+            Piece::Bytes(example.as_slice()),
+            Piece::Text("\n"),
+        ]),
+        Refusal::Over(limit) => limit_line(*limit),
+        Refusal::NoMemory => no_memory_line(),
+    }
+}
+
+fn lex_line<'a>(error: &LexError) -> Line<'a>
+    ensures { joined result.pieces.items ≡ lex_line error.now }
+{
+    let Some(number) = error.number() else {
+        return no_memory_line();
+    };
+    Line::new(&[
+        Piece::Text("refused: lex "),
+        Piece::Number(u64::from(number)),
+        Piece::Text(" at "),
+        Piece::Number(u64::from(lex_place(error))),
+        Piece::Text("\n"),
+    ])
+}
+
+/// The byte of a lexeme that cannot be read; 0 for want of memory.
+fn lex_place(error: &LexError) -> u32
+    ensures { result ≡ lex_place_of error.now }
+{
+    match error {
+        LexError::BadByte { at }
+        | LexError::OpenComment { at }
+        | LexError::OpenString { at }
+        | LexError::NumberTooLarge { at }
+        | LexError::StringTooLong { at } => *at,
+        LexError::NoMemory => 0,
+    }
+}
+
+fn parse_line<'a>(error: &ParseError) -> Line<'a>
+    ensures { joined result.pieces.items ≡ parse_line error.now }
+{
+    let Some(number) = error.number() else {
+        return no_memory_line();
+    };
+    let (line, column) = parse_place(error);
+    Line::new(&[
+        Piece::Text("refused: parse "),
+        Piece::Number(u64::from(number)),
+        Piece::Text(" at line "),
+        Piece::Number(u64::from(line)),
+        Piece::Text(" column "),
+        Piece::Number(u64::from(column)),
+        Piece::Text("\n"),
+    ])
+}
+
+/// The line and the column of the token that fits no program; 0 for want of memory.
+fn parse_place(error: &ParseError) -> (u32, u32)
+    ensures line { result.0 ≡ parse_line_of error.now }
+    ensures column { result.1 ≡ parse_column_of error.now }
+{
+    match error {
+        ParseError::Unexpected { line, column, .. } | ParseError::TooDeep { line, column, .. } => {
+            (*line, *column)
+        }
+        ParseError::NoMemory => (0, 0),
+    }
+}
+
+fn name_line(error: &NameError) -> Line<'_>
+    ensures { joined result.pieces.items ≡ name_line error.now }
+{
+    let Some(number) = error.number() else {
+        return no_memory_line();
+    };
+    let (name, at) = name_place(error);
+    Line::new(&[
+        Piece::Text("refused: name "),
+        Piece::Number(u64::from(number)),
+        Piece::Text(" "),
+        Piece::Text(name),
+        Piece::Text(" at "),
+        Piece::Number(u64::from(at)),
+        Piece::Text("\n"),
+    ])
+}
+
+/// The name that does not resolve, and its byte; no name for want of memory.
+fn name_place(error: &NameError) -> (&str, u32)
+    ensures name { result.0.now ≡ name_spelled_of error.now }
+    ensures at { result.1 ≡ name_place_of error.now }
+{
+    match error {
+        NameError::Twice { name, at }
+        | NameError::Unknown { name, at }
+        | NameError::Arity { name, at }
+        | NameError::NoMain { name, at }
+        | NameError::MainShape { name, at } => (name.as_str(), *at),
+        NameError::NoMemory => ("", 0),
+    }
+}
+
+fn limit_line<'a>(limit: Limit) -> Line<'a>
+    ensures { joined result.pieces.items ≡ limit_line limit }
+{
+    Line::new(&[
+        Piece::Text("limit: "),
+        Piece::Text(limit.kind.word()),
+        Piece::Text(" "),
+        Piece::Number(limit.count),
+        Piece::Text("\n"),
+    ])
 }
 
 fn put_piece<E: Sink>(err: &mut E, piece: &Piece<'_>) -> bool
-    ensures { Puts result (bytes_of piece.now) (E.held err.old) (E.held err.new) (E.faults err.old) (E.faults err.new) }
+    ensures { Puts result (bytes_of piece.now) (E.state err.old) (E.state err.new) }
 {
     match piece {
         Piece::Text(text) => put_bytes(err, text.as_bytes()),
@@ -245,7 +260,7 @@ fn put_piece<E: Sink>(err: &mut E, piece: &Piece<'_>) -> bool
 }
 
 fn put_bytes<E: Sink>(err: &mut E, bytes: &[u8]) -> bool
-    ensures { Puts result bytes.now (E.held err.old) (E.held err.new) (E.faults err.old) (E.faults err.new) }
+    ensures { Puts result bytes.now (E.state err.old) (E.state err.new) }
 {
     match err.put(bytes) {
         Put::All => true,

@@ -3,13 +3,12 @@
 
 mod adapter;
 mod answer;
-mod back;
-mod build;
-mod front;
+mod application;
+mod command;
 mod kokarv;
 mod line;
-mod run;
-mod settings;
+mod number;
+mod perform;
 #[cfg(test)]
 mod tests;
 mod words;

@@ -1,32 +1,123 @@
-ghost use Rattle.std.specs.Prelude.{◌≡◌, map, option_map, string_bytes};
-ghost use Rattle.kk_tool.specs.Words.{file_of, file_to_run, is_option as begins_with_dash};
+ghost use Rattle.std.specs.Prelude.{◌≡◌, ◌≤◌, map, string_bytes, IfOk, IfSome, option_map};
+ghost use Rattle.clap.specs.Words.{found_of, rows_of, first_of, subcommand_rows_of};
+ghost use Rattle.kk_base.specs.Sizes.{greatest_cells, greatest_depth};
+ghost use Rattle.kk_tool.specs.Commands.{command_of, command_named, command_read, entered_command, check_in, build_in, run_in, cells_in, depth_in, steps_in};
 
-/// Whether a word is an option, and no file.
-fn is_option(word: &str) -> bool
-    ensures { result ≡ begins_with_dash word.now }
+use crate::application::application;
+use crate::command::{Command, Sizes};
+use crate::number::number_in;
+use clap::ArgMatches;
+use clap::error::ErrorKind;
+use kk_base::{GREATEST_CELLS, GREATEST_DEPTH, NoMemory};
+use std::alloc::Global;
+
+const DEFAULT_CELLS: u32 = 65_536;
+
+const DEFAULT_DEPTH: u32 = 4_096;
+
+const DEFAULT_STEPS: u64 = 1_000_000_000;
+
+/// The greatest number of instructions that a run may be asked for.
+const GREATEST_STEPS: u64 = 9_223_372_036_854_775_807;
+
+/// The command that the words of a line are; none where they are no command. The first word is the program's name.
+pub fn command_in<'a>(alloc: Global, words: &'a [String]) -> Result<Option<Command<'a>>, NoMemory>
+    ensures { IfOk result (λ read. option_map command_read read ≡ command_of (map string_bytes words.now)) }
 {
-    word.as_bytes().first() == Some(&b'-')
+    let matches = match application(alloc)?.try_get_matches_from(words) {
+        Ok(matches) => matches,
+        Err(error) if error.kind() == ErrorKind::OutOfMemory => return Err(NoMemory),
+        Err(_) => return Ok(None),
+    };
+    Ok(command_of(&matches))
 }
 
-/// What the words of the line ask for.
-#[derive(Clone, Copy, Debug, PartialEq, Eq)]
-pub enum Command<'a> {
-    /// `run FILE`: compile the program in the file and run it.
-    Run { file: &'a str },
+fn command_of<'a>(matches: &ArgMatches<'a>) -> Option<Command<'a>>
+    ensures { option_map command_read result ≡ entered_command (subcommand_rows_of matches.now) }
+{
+    let (name, matches) = matches.subcommand()?;
+    command_named(name, matches)
 }
 
-impl<'a> Command<'a> {
-    /// The command that the words are; none where they are no command. The first word is the program's name.
-    pub fn from_words(words: &'a [String]) -> Option<Self>
-        ensures { option_map file_of result ≡ file_to_run (map string_bytes words.now) }
-    {
-        match words {
-            [_program, command, file] if command.as_str() == "run" && !is_option(file.as_str()) => {
-                Some(Command::Run {
-                    file: file.as_str(),
-                })
-            }
-            _ => None,
-        }
+fn command_named<'a>(name: &str, matches: &ArgMatches<'a>) -> Option<Command<'a>>
+    ensures { option_map command_read result ≡ command_named name.now (rows_of (found_of matches.now)) }
+{
+    match name {
+        "check" => check_in(matches),
+        "build" => build_in(matches),
+        "run" => run_in(matches),
+        _ => None,
     }
+}
+
+fn check_in<'a>(matches: &ArgMatches<'a>) -> Option<Command<'a>>
+    ensures { option_map command_read result ≡ check_in (rows_of (found_of matches.now)) }
+{
+    let file = value_of(matches, "file")?;
+    Some(Command::Check { file })
+}
+
+fn build_in<'a>(matches: &ArgMatches<'a>) -> Option<Command<'a>>
+    ensures { option_map command_read result ≡ build_in (rows_of (found_of matches.now)) }
+{
+    let file = value_of(matches, "file")?;
+    let out = value_of(matches, "out")?;
+    let cells = cells_in(matches)?;
+    let depth = depth_in(matches)?;
+    Some(Command::Build {
+        file,
+        out,
+        sizes: Sizes { cells, depth },
+    })
+}
+
+fn run_in<'a>(matches: &ArgMatches<'a>) -> Option<Command<'a>>
+    ensures { option_map command_read result ≡ run_in (rows_of (found_of matches.now)) }
+{
+    let file = value_of(matches, "file")?;
+    let cells = cells_in(matches)?;
+    let depth = depth_in(matches)?;
+    let steps = steps_in(matches)?;
+    Some(Command::Run {
+        file,
+        sizes: Sizes { cells, depth },
+        steps,
+    })
+}
+
+fn cells_in(matches: &ArgMatches<'_>) -> Option<u32>
+    ensures value { result ≡ cells_in (rows_of (found_of matches.now)) }
+    ensures few { IfSome result (λ cells. cells ≤ greatest_cells) }
+{
+    match value_of(matches, "cells") {
+        Some(text) => Some(number_in(0, u64::from(GREATEST_CELLS), text)? as u32),
+        None => Some(DEFAULT_CELLS),
+    }
+}
+
+fn depth_in(matches: &ArgMatches<'_>) -> Option<u32>
+    ensures value { result ≡ depth_in (rows_of (found_of matches.now)) }
+    ensures some { IfSome result (λ depth. 1 ≤ depth) }
+    ensures small { IfSome result (λ depth. depth ≤ greatest_depth) }
+{
+    match value_of(matches, "depth") {
+        Some(text) => Some(number_in(1, u64::from(GREATEST_DEPTH), text)? as u32),
+        None => Some(DEFAULT_DEPTH),
+    }
+}
+
+fn steps_in(matches: &ArgMatches<'_>) -> Option<u64>
+    ensures { result ≡ steps_in (rows_of (found_of matches.now)) }
+{
+    match value_of(matches, "steps") {
+        Some(text) => number_in(0, GREATEST_STEPS, text),
+        None => Some(DEFAULT_STEPS),
+    }
+}
+
+/// The value that was given for an argument.
+fn value_of<'a>(matches: &ArgMatches<'a>, id: &str) -> Option<&'a str>
+    ensures { option_map (λ text. text.now) result ≡ first_of id.now (rows_of (found_of matches.now)) }
+{
+    matches.get_str(id)
 }

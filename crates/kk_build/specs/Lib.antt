@@ -1,0 +1,4 @@
+pub mod Agreement
+pub mod Built
+pub mod ImageAfter
+pub mod Images

@@ -1,0 +1,6 @@
+//! From the bytes of a text to its program, or to the one refusal of its first failure.
+#![tactic(auto)]
+
+mod judge;
+
+pub use judge::{each_text_is_judged, read};

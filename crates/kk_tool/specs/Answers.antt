@@ -1,0 +1,76 @@
+-- The answers of the commands, and the causes of each.
+use Rattle.std.specs.Prelude.{◌≡◌, ◌⊎◌, ℕ, ◌+◌, List, take, Bool, if◌then◌else◌, Option, Some, None}
+use Rattle.std.specs.Borrow.{Bor}
+use Rattle.kk_base.specs.Limits.{greatest_of}
+use Rattle.kk_base.specs.Sink.{SinkState}
+use Rattle.kk_base.specs.Store.{Files, StoreState}
+use Rattle.kk_base.specs.declared.limit.LimitKind.TheVariants.{Source}
+use Rattle.kk_base.specs.declared.refusal.Refusal.{Refusal}
+use Rattle.kk_base.specs.declared.status.Status.{Status}
+use Rattle.kk_base.specs.declared.status.Status.TheVariants as Ended
+use Rattle.kk_front.specs.Judgement.{ProgramTree, IsProgramOf, IsRefusalOf, wants_memory}
+use Rattle.kk_build.specs.Built.{IsBuilt}
+use Rattle.rv_sim.specs.declared.halt.Halt.{Halt}
+use Rattle.kk_tool.specs.declared.answer.Answer.{Answer}
+use Rattle.kk_tool.specs.declared.answer.Answer.TheVariants.{Done, Usage, Refused, NoMemory, FileFault, Ran}
+use Rattle.kk_tool.specs.Answer.{status_of}
+use Rattle.kk_tool.specs.Commands.{Command, check, build, run, file_of}
+use Rattle.kk_tool.specs.ImageRuns.{RunsImage}
+use Rattle.kk_tool.specs.Line.{line_of}
+use Rattle.kk_tool.specs.Outside.{Outside, KeepsFiles, KeepsStreams, KeepsAll, FailsToRead, FailsToWrite, WritesAlone, Puts}
+
+-- A file's text, where the store tells it: no more than its first 65,537 bytes are read, which tell whether there are more than 65,536.
+abbrev pub HasText : List ℕ → List ℕ → StoreState → Type 0
+HasText file text store =
+    (files : Files) → store.files ≡ Some files → (content : List ℕ) × (files file ≡ Some content) × (text ≡ take (greatest_of Source + 1) content)
+
+-- these bytes are the image of the text in a file
+pub record IsImageOf (file : List ℕ) (cells depth : ℕ) (store : StoreState) (image : List ℕ) : Type 0 where
+  pub text : List ℕ
+  pub has_text : HasText file text store
+  pub built : IsBuilt text cells depth image
+
+-- these bytes are the image that a command builds
+abbrev pub IsCommandImage : Option Command → StoreState → List ℕ → Type 0
+IsCommandImage (Some (build file out cells depth)) store image = IsImageOf file cells depth store image
+IsCommandImage (Some (run file cells depth steps)) store image = IsImageOf file cells depth store image
+IsCommandImage _ store image = ⊥
+
+-- The answers that the words of a line may have, with what each does to the outside. There is no other.
+pub data Answers (before after : Outside) : Option Command → Answer → Type 0 where
+  -- the words are no command
+  usage : KeepsAll before after → Answers before after None Usage
+  -- memory was refused, before anything was written or run
+  no_memory : (command : Option Command) → KeepsFiles before.files after.files → KeepsStreams before after
+      → (after.image ≡ before.image) ⊎ IsCommandImage command before.files after.image → Answers before after command NoMemory
+  -- FILE could not be read
+  unread : (command : Command) (name : Bor (List ℕ)) → name.now ≡ file_of command
+      → FailsToRead (file_of command) before.files after.files → KeepsStreams before after → after.image ≡ before.image → Answers before after (Some command) (FileFault name)
+  -- the text is refused, for its first failure
+  refused : (command : Command) (text : List ℕ) (refusal : Refusal) → HasText (file_of command) text before.files → IsRefusalOf text refusal
+      → KeepsAll before after → Answers before after (Some command) (Refused refusal)
+  -- check: the text is accepted
+  checked : (file text : List ℕ) (program : ProgramTree) → HasText file text before.files → IsProgramOf text program
+      → KeepsAll before after → Answers before after (Some (check file)) Done
+  -- build: OUT is the image
+  built : (file out : List ℕ) (cells depth : ℕ) → IsImageOf file cells depth before.files after.image
+      → WritesAlone out after.image before.files after.files → KeepsStreams before after → Answers before after (Some (build file out cells depth)) Done
+  -- build: OUT could not be written
+  unwritten : (file out : List ℕ) (cells depth : ℕ) (name : Bor (List ℕ)) → name.now ≡ out → IsImageOf file cells depth before.files after.image
+      → FailsToWrite out before.files after.files → KeepsStreams before after → Answers before after (Some (build file out cells depth)) (FileFault name)
+  -- run: the image ran, for at most `steps` instructions, and stopped so
+  ran : (file : List ℕ) (cells depth steps : ℕ) (halt : Halt) → IsImageOf file cells depth before.files after.image
+      → RunsImage after.image steps halt before.input after.input before.out after.out → KeepsFiles before.files after.files
+      → Answers before after (Some (run file cells depth steps)) (Ran halt steps)
+
+-- the answer to a text that is refused, or that was not judged for want of memory
+abbrev pub answer_of_refusal : Refusal → Answer
+answer_of_refusal refusal = if wants_memory refusal then NoMemory else Refused refusal
+
+-- a line ends with a status: that of an answer, whose line was put; or where putting the line failed, an output fault
+pub record Ends (command : Option Command) (status : Status) (before after : Outside) (err err' : SinkState) : Type 0 where
+  pub answer : Answer
+  pub answers : Answers before after command answer
+  pub whole : Bool
+  pub line : Puts whole (line_of answer) err err'
+  pub told : status ≡ (if whole then status_of answer else Ended.OutputFault)

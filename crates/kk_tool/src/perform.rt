@@ -1,0 +1,189 @@
+//! What the commands do.
+ghost use Rattle.std.specs.Prelude.{◌≡◌, ℕ, List, Some, None, IfOk, IfErr, OnOk, OnErr};
+ghost use Rattle.elf_image.specs.Loaded.{reason_of};
+ghost use Rattle.kk_base.specs.Sink.{SinkState};
+ghost use Rattle.kk_base.specs.Source.{SourceState};
+ghost use Rattle.kk_tool.specs.Answers.{Answers, HasText, IsImageOf, answer_of_refusal};
+ghost use Rattle.kk_tool.specs.Commands.{Command, command_read, check, build, run, file_of};
+ghost use Rattle.kk_tool.specs.ImageRuns.{RunsImage};
+ghost use Rattle.kk_tool.specs.Outside.{KeepsFiles};
+
+use crate::answer::{Answer, wants_memory};
+use crate::command::{Command, Sizes};
+use elf_image::BadImage;
+use kk_base::{Bytes, LimitKind, NoMemory, Read, Refusal, Sink, Source, Store, Wrote};
+use kk_build::build;
+use kk_front::read;
+use rv_sim::{Halt, Machine};
+use std::alloc::Global;
+
+/// Does a command.
+pub fn perform<'a, F: Store, I: Source, O: Sink>(
+    alloc: Global,
+    command: Command<'a>,
+    files: &mut F,
+    input: &mut I,
+    out: &mut O,
+    image: &mut Bytes,
+) -> Answer<'a>
+    ensures { Answers
+        (record { files = F.state files.old; input = I.state input.old; out = O.state out.old; image = image.old })
+        (record { files = F.state files.new; input = I.state input.new; out = O.state out.new; image = image.new })
+        (Some (command_read command)) result }
+{
+    match command {
+        Command::Check { file } => check_file(alloc, file, files),
+        Command::Build { file, out, sizes } => build_file(alloc, file, out, sizes, files, image),
+        Command::Run { file, sizes, steps } => {
+            run_file(alloc, file, sizes, steps, files, input, out, image)
+        }
+    }
+}
+
+/// Judges the text in a file.
+fn check_file<'a, F: Store>(alloc: Global, file: &'a str, files: &mut F) -> Answer<'a>
+    ensures { (input : SourceState) (out : SinkState) (image : List ℕ) → Answers
+        (record { files = F.state files.old; input = input; out = out; image = image })
+        (record { files = F.state files.new; input = input; out = out; image = image })
+        (Some (check file.now)) result }
+{
+    let text = match read_text(alloc, file, files) {
+        Ok(text) => text,
+        Err(answer) => return answer,
+    };
+    match read(alloc, text.as_slice()) {
+        Ok(_) => Answer::Done,
+        Err(refusal) => refusal_answer(refusal),
+    }
+}
+
+/// Builds the image of the text in a file, and writes it to another.
+fn build_file<'a, F: Store>(
+    alloc: Global,
+    file: &'a str,
+    out: &'a str,
+    sizes: Sizes,
+    files: &mut F,
+    image: &mut Bytes,
+) -> Answer<'a>
+    ensures { (input : SourceState) (output : SinkState) → Answers
+        (record { files = F.state files.old; input = input; out = output; image = image.old })
+        (record { files = F.state files.new; input = input; out = output; image = image.new })
+        (Some (build file.now out.now sizes.cells sizes.depth)) result }
+{
+    if let Err(answer) = build_image(alloc, file, sizes, files, image) {
+        return answer;
+    }
+    match files.write(out, image.as_slice()) {
+        Wrote::Done => Answer::Done,
+        Wrote::Failed => Answer::FileFault { name: out },
+        Wrote::NoMemory => Answer::NoMemory,
+    }
+}
+
+/// Builds the image of the text in a file, and runs it.
+fn run_file<'a, F: Store, I: Source, O: Sink>(
+    alloc: Global,
+    file: &'a str,
+    sizes: Sizes,
+    steps: u64,
+    files: &mut F,
+    input: &mut I,
+    out: &mut O,
+    image: &mut Bytes,
+) -> Answer<'a>
+    ensures { Answers
+        (record { files = F.state files.old; input = I.state input.old; out = O.state out.old; image = image.old })
+        (record { files = F.state files.new; input = I.state input.new; out = O.state out.new; image = image.new })
+        (Some (run file.now sizes.cells sizes.depth steps)) result }
+{
+    if let Err(answer) = build_image(alloc, file, sizes, files, image) {
+        return answer;
+    }
+    match run_image(alloc, image.as_slice(), steps, input, out) {
+        Ok(halt) => Answer::Ran { halt, steps },
+        Err(NoMemory) => Answer::NoMemory,
+    }
+}
+
+/// The text in a file, of which no more is read than tells whether it is too long; or the answer where it cannot be had.
+fn read_text<'a, F: Store>(
+    alloc: Global,
+    file: &'a str,
+    files: &mut F,
+) -> Result<Bytes, Answer<'a>>
+    ensures text { IfOk result (λ text. HasText file.now text (F.state files.old)) }
+    ensures kept { OnOk result (KeepsFiles (F.state files.old) (F.state files.new)) }
+    ensures err { IfErr result (λ answer. (input : SourceState) (out : SinkState) (image : List ℕ) (command : Command) → file_of command ≡ file.now → Answers
+        (record { files = F.state files.old; input = input; out = out; image = image })
+        (record { files = F.state files.new; input = input; out = out; image = image })
+        (Some command) answer) }
+{
+    let at_most = LimitKind::Source.greatest() as usize + 1;
+    match files.read(alloc, file, at_most) {
+        Read::Bytes(text) => Ok(text),
+        Read::Failed => Err(Answer::FileFault { name: file }),
+        Read::NoMemory => Err(Answer::NoMemory),
+    }
+}
+
+/// Makes `image` the image of the text in a file, or gives the answer where there is none.
+fn build_image<'a, F: Store>(
+    alloc: Global,
+    file: &'a str,
+    sizes: Sizes,
+    files: &mut F,
+    image: &mut Bytes,
+) -> Result<(), Answer<'a>>
+    ensures built { OnOk result (IsImageOf file.now sizes.cells sizes.depth (F.state files.old) image.new) }
+    ensures kept { OnOk result (KeepsFiles (F.state files.old) (F.state files.new)) }
+    ensures err { IfErr result (λ answer. (input : SourceState) (out : SinkState) (command : Command) → file_of command ≡ file.now → Answers
+        (record { files = F.state files.old; input = input; out = out; image = image.old })
+        (record { files = F.state files.new; input = input; out = out; image = image.new })
+        (Some command) answer) }
+{
+    let text = match read_text(alloc, file, files) {
+        Ok(text) => text,
+        Err(answer) => return Err(answer),
+    };
+    match build(alloc, text.as_slice(), sizes.cells, sizes.depth) {
+        Ok(bytes) => {
+            *image = bytes;
+            Ok(())
+        }
+        Err(refusal) => Err(refusal_answer(refusal)),
+    }
+}
+
+/// The answer to a text that is refused, or that was not judged for want of memory.
+fn refusal_answer<'a>(refusal: Refusal) -> Answer<'a>
+    ensures { result ≡ answer_of_refusal refusal }
+{
+    if wants_memory(&refusal) {
+        Answer::NoMemory
+    } else {
+        Answer::Refused(refusal)
+    }
+}
+
+/// Runs the image that a file loads, for at most so many instructions.
+fn run_image<I: Source, O: Sink>(
+    alloc: Global,
+    file: &[u8],
+    steps: u64,
+    input: &mut I,
+    out: &mut O,
+) -> Result<Halt, NoMemory>
+    requires { reason_of file.now ≡ None }
+    ensures ran { IfOk result (λ halt. RunsImage file.now steps halt (I.state input.old) (I.state input.new) (O.state out.old) (O.state out.new)) }
+    ensures input_kept { OnErr result (I.state input.new ≡ I.state input.old) }
+    ensures out_kept { OnErr result (O.state out.new ≡ O.state out.old) }
+{
+    let image = match elf_image::read(alloc, file) {
+        Ok(image) => image,
+        Err(BadImage::NoMemory) => return Err(NoMemory),
+        Err(_) => unreachable!(),
+    };
+    let mut machine = Machine::load(alloc, &image)?;
+    Ok(machine.run(steps, input, out))
+}
