@@ -5,7 +5,7 @@ use Rattle.kk_syntax.specs.Shapes.{nodes_of}
 use Rattle.kk_syntax.specs.Programs.{FunctionTree}
 use Rattle.kk_syntax.specs.State.{Setting, End, ended, heap_full, stack_full}
 use Rattle.kk_syntax.specs.SourceAfter.{source_after}
-use Rattle.rv_isa.specs.Machine as machine
+use Rattle.rv_isa.specs.Processor as processor
 use Rattle.elf_image.specs.Loaded.{reason_of}
 use Rattle.kk_build.specs.ImageAfter.{file_after}
 
@@ -16,18 +16,18 @@ exit_of heap_full = 101
 exit_of stack_full = 102
 
 -- the image goes on, or exits with one of these numbers; it never traps
-abbrev pub EndsWell : machine.Ending → Type 0
-EndsWell machine.going = Unit {0}
-EndsWell (machine.exited number) = (end : End) × (number ≡ exit_of end)
-EndsWell (machine.trapped cause pc word) = ⊥
+abbrev pub EndsWell : processor.Ending → Type 0
+EndsWell processor.going = Unit {0}
+EndsWell (processor.exited number) = (end : End) × (number ≡ exit_of end)
+EndsWell (processor.trapped cause pc word) = ⊥
 
 -- the image in a file agrees with a program on an input
 pub record AgreesOn (file : List ℕ) (setting : Setting) (input : List ℕ) : Type 0 where
   pub ends_well : (m : ℕ) → EndsWell (file_after file input m).ending
-  pub image_is_behind : (m : ℕ) → (n : ℕ) × IsPrefix (file_after file input m).machine.trace (source_after setting input n).trace
-  pub source_is_behind : (n : ℕ) → (m : ℕ) × IsPrefix (source_after setting input n).trace (file_after file input m).machine.trace
-  pub end_alike : (end : End) → ((n : ℕ) × ((source_after setting input n).ending ≡ Some end)) ↔ ((m : ℕ) × ((file_after file input m).ending ≡ machine.exited (exit_of end)))
-  pub same_trace : (end : End) (n m : ℕ) → (source_after setting input n).ending ≡ Some end → (file_after file input m).ending ≡ machine.exited (exit_of end) → (source_after setting input n).trace ≡ (file_after file input m).machine.trace
+  pub image_is_behind : (m : ℕ) → (n : ℕ) × IsPrefix (file_after file input m).processor.trace (source_after setting input n).trace
+  pub source_is_behind : (n : ℕ) → (m : ℕ) × IsPrefix (source_after setting input n).trace (file_after file input m).processor.trace
+  pub end_alike : (end : End) → ((n : ℕ) × ((source_after setting input n).ending ≡ Some end)) ↔ ((m : ℕ) × ((file_after file input m).ending ≡ processor.exited (exit_of end)))
+  pub same_trace : (end : End) (n m : ℕ) → (source_after setting input n).ending ≡ Some end → (file_after file input m).ending ≡ processor.exited (exit_of end) → (source_after setting input n).trace ≡ (file_after file input m).processor.trace
 
 -- the file can be loaded, and its image agrees with the program on every input of bytes
 pub record Agrees (file : List ℕ) (setting : Setting) : Type 0 where
@@ -46,8 +46,8 @@ instructions_within setting n =
 
 -- the image in a file keeps that bound on an input
 pub record IsBoundedOn (file : List ℕ) (setting : Setting) (input : List ℕ) : Type 0 where
-  pub goes_on : (n : ℕ) → IsPrefix (source_after setting input n).trace (file_after file input (instructions_within setting n)).machine.trace
-  pub ends : (n : ℕ) (end : End) → (source_after setting input n).ending ≡ Some end → (file_after file input (instructions_within setting n)).ending ≡ machine.exited (exit_of end)
+  pub goes_on : (n : ℕ) → IsPrefix (source_after setting input n).trace (file_after file input (instructions_within setting n)).processor.trace
+  pub ends : (n : ℕ) (end : End) → (source_after setting input n).ending ≡ Some end → (file_after file input (instructions_within setting n)).ending ≡ processor.exited (exit_of end)
 
 abbrev pub IsBounded : List ℕ → Setting → Type 0
 IsBounded file setting = (input : List ℕ) → All (λ byte. byte < 256) input → IsBoundedOn file setting input

@@ -1,6 +1,4 @@
-pub mod ImageRuns
-pub mod Judgements
-pub mod Lines
-pub mod Nodes
-pub mod Places
-pub mod Texts
+mod ImageRuns
+mod Lines
+mod Numbers
+mod TakenLines

@@ -8,8 +8,8 @@ use Rattle.kk_base.specs.declared.limit.LimitKind.TheVariants.{Source}
 use Rattle.kk_base.specs.declared.refusal.Refusal.{Refusal}
 use Rattle.kk_base.specs.declared.status.Status.{Status}
 use Rattle.kk_base.specs.declared.status.Status.TheVariants as Ended
-use Rattle.kk_front.specs.Judgement.{ProgramTree, IsProgramOf, IsRefusalOf, wants_memory}
-use Rattle.kk_build.specs.Built.{IsBuilt}
+use Rattle.kk_front.specs.Judgement.{IsProgramOf, IsRefusalOf, wants_memory}
+use Rattle.kk_build.specs.Built.{ProgramTree, IsBuilt}
 use Rattle.rv_sim.specs.declared.halt.Halt.{Halt}
 use Rattle.kk_tool.specs.declared.answer.Answer.{Answer}
 use Rattle.kk_tool.specs.declared.answer.Answer.TheVariants.{Done, Usage, Refused, NoMemory, FileFault, Ran}

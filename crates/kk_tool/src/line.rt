@@ -46,11 +46,20 @@ impl<'a> Line<'a> {
         Line { pieces: line }
     }
 
+    /// The line that is this text.
+    fn text(text: &'a str) -> Self
+        ensures { joined result.pieces.items ≡ text.entry.now }
+    {
+        let mut pieces = ArrayVec::new();
+        pieces.push(Piece::Text(text));
+        Line { pieces }
+    }
+
     /// Puts the parts of the line in order, up to the first put that fails. False where one failed.
     pub fn put<E: Sink>(&self, err: &mut E) -> bool
         ensures { Puts result (joined self.now.pieces.items) (E.state err.old) (E.state err.new) }
     {
-        for piece in &self.pieces {
+        for piece in self.pieces.as_slice() {
             if !put_piece(err, piece) {
                 return false;
             }
@@ -66,7 +75,7 @@ impl Answer<'_> {
     {
         match self {
             Answer::Done => None,
-            Answer::Usage => Some(Line::new(&[Piece::Text(USAGE)])),
+            Answer::Usage => Some(Line::text(USAGE)),
             Answer::Refused(refusal) => Some(refusal_line(refusal)),
             Answer::NoMemory => Some(no_memory_line()),
             Answer::FileFault { name } => Some(Line::new(&[
@@ -82,7 +91,7 @@ impl Answer<'_> {
 fn no_memory_line<'a>() -> Line<'a>
     ensures { joined result.pieces.items ≡ no_memory_line }
 {
-    Line::new(&[Piece::Text("no memory\n")])
+    Line::text("no memory\n")
 }
 
 fn halt_line<'a>(halt: Halt, steps: u64) -> Option<Line<'a>>
@@ -101,8 +110,8 @@ fn halt_line<'a>(halt: Halt, steps: u64) -> Option<Line<'a>>
             Piece::Text("\n"),
         ])),
         Halt::Trap { cause, pc, word } => Some(trap_line(cause, pc, word)),
-        Halt::InputFault => Some(Line::new(&[Piece::Text("input fault\n")])),
-        Halt::OutputFault => Some(Line::new(&[Piece::Text("output fault\n")])),
+        Halt::InputFault => Some(Line::text("input fault\n")),
+        Halt::OutputFault => Some(Line::text("output fault\n")),
     }
 }
 
