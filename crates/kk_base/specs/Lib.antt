@@ -1,4 +1,5 @@
 pub mod Agreements
+pub mod Exactly
 pub mod Faults
 pub mod Limits
 pub mod Machines

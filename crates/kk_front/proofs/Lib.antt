@@ -1,3 +1,3 @@
-pub mod Judgements
-pub mod Nodes
-pub mod Places
+pub mod Bounds
+pub mod Chains
+pub mod Judging

@@ -1,35 +1,55 @@
--- The judgement of a text: one program that it is accepted as, or one refusal.
-use Rattle.std.specs.Prelude.{◌≡◌, ℕ, List, Bool, true, false}
-use Rattle.kk_base.specs.declared.error.NameError.{NameError}
+-- The judgement of a text: the program that it is accepted as, or the refusal of its first failure.
+use Rattle.std.specs.Prelude.{◌≡◌, ℕ, ◌+◌, ◌<◌, ◌≤◌, List, length, Bool, true, false, Result, Ok, Err}
+use Rattle.kk_base.specs.Exactly.{IsOnly, ExactlyOne}
+use Rattle.kk_base.specs.Limits.{greatest_of}
+use Rattle.kk_base.specs.declared.error.LexError.TheVariants as OfLex
 use Rattle.kk_base.specs.declared.error.NameError.TheVariants as OfName
+use Rattle.kk_base.specs.declared.error.ParseError.TheVariants as OfParse
+use Rattle.kk_base.specs.declared.limit.Limit.{Limit}
+use Rattle.kk_base.specs.declared.limit.LimitKind.TheVariants.{Source}
 use Rattle.kk_base.specs.declared.refusal.Refusal.{Refusal}
 use Rattle.kk_base.specs.declared.refusal.Refusal.TheVariants as OfText
 use Rattle.kk_syntax.specs.Programs.{ProgramTree}
-use Rattle.kk_front.specs.Accepted.{IsAccepted, IsRefused, lexer_wants_memory, parser_wants_memory}
+use Rattle.kk_lexer.specs.Readings.{IsReadAs}
+use Rattle.kk_parser.specs.Parses.{ParsesAs}
+use Rattle.kk_names.specs.Names.{ResolvesAs}
+use Rattle.kk_mono.specs.Counts.{CountsAs}
+use Rattle.kk_front.specs.Chain.{Then, ToldAs, Checking}
 
--- the text is accepted as this program, and as no other, and it is not refused
-pub record IsProgramOf (text : List ℕ) (program : ProgramTree) : Type 0 where
-  pub accepted : IsAccepted text program
-  pub one : (other : ProgramTree) → IsAccepted text other → other ≡ program
-  pub not_refused : (refusal : Refusal) → IsRefused text refusal → ⊥
+-- a text has at most 65,536 bytes; the count that is told is always one more
+abbrev pub ChecksLength : List ℕ → Result (Unit {0}) Limit → Type 0
+ChecksLength text (Ok _) = length text ≤ greatest_of Source
+ChecksLength text (Err limit) = (greatest_of Source < length text) × (limit ≡ record { kind = Source; count = greatest_of Source + 1 })
 
--- the text is refused for this, and for nothing else, and it is not accepted
-pub record IsRefusalOf (text : List ℕ) (refusal : Refusal) : Type 0 where
-  pub refused : IsRefused text refusal
-  pub one : (other : Refusal) → IsRefused text other → other ≡ refusal
-  pub not_accepted : (program : ProgramTree) → IsAccepted text program → ⊥
+-- What a text comes to. The first failure decides, in this order: its length; a lexeme that cannot be read; tokens that
+-- are no program; names; a function with too many nodes.
+abbrev pub JudgedAs : List ℕ → Result ProgramTree Refusal → Type 0
+JudgedAs =
+    Then (ToldAs OfText.Over (Checking ChecksLength))
+    (Then (ToldAs OfText.Lex IsReadAs)
+    (Then (ToldAs OfText.Parse ParsesAs)
+    (Then (ToldAs OfText.Name ResolvesAs)
+    (ToldAs OfText.Over (Checking CountsAs)))))
 
--- memory was refused while the text was judged
-abbrev pub names_want_memory : NameError → Bool
-names_want_memory OfName.NoMemory = true
-names_want_memory _ = false
+-- the text is accepted as this program, and comes to nothing else
+abbrev pub IsProgramOf : List ℕ → ProgramTree → Type 0
+IsProgramOf text program = IsOnly (JudgedAs text) (Ok program)
 
+-- the text is refused for this, and comes to nothing else
+abbrev pub IsRefusalOf : List ℕ → Refusal → Type 0
+IsRefusalOf text refusal = IsOnly (JudgedAs text) (Err refusal)
+
+-- a refusal is want of memory, which is none of the text's
 abbrev pub wants_memory : Refusal → Bool
 wants_memory OfText.NoMemory = true
-wants_memory (OfText.Lex error) = lexer_wants_memory error
-wants_memory (OfText.Parse error) = parser_wants_memory error
-wants_memory (OfText.Name error) = names_want_memory error
+wants_memory (OfText.Lex OfLex.NoMemory) = true
+wants_memory (OfText.Parse OfParse.NoMemory) = true
+wants_memory (OfText.Name OfName.NoMemory) = true
 wants_memory _ = false
+
+-- each text comes to exactly one thing, and that is no want of memory
+abbrev pub EachTextIsJudged : Type 0
+EachTextIsJudged = (text : List ℕ) → ExactlyOne (JudgedAs text) × ((refusal : Refusal) → JudgedAs text (Err refusal) → wants_memory refusal ≡ false)
 
 -- a refusal is the text's, unless it is want of memory
 abbrev pub Refuses : List ℕ → Refusal → Type 0

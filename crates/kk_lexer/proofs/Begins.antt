@@ -19,7 +19,7 @@ use Rattle.kk_lexer.specs.Comments.{Closes}
 use Rattle.kk_lexer.specs.FirstLexemes.{AnswersMeaning, IsFirstLexeme, IsNameOrKeyword}
 use Rattle.kk_lexer.specs.declared.lexeme.Lexeme.{Lexeme}
 use Rattle.kk_lexer.specs.Fronts.{begins_with, HasNoFront, IsLongest}
-use Rattle.kk_lexer.specs.Lexemes.{Meaning, passed, kept, refused, IsLexeme, Spells, name, keyword, constructor_name, wildcard, number, negative_number, symbol, is_blank, blank, line_comment, comment, open_comment, string, open_string, bad_escape, string_meaning, number_meaning, negative_meaning, BeginsWith, lexeme, no_lexeme}
+use Rattle.kk_lexer.specs.Lexemes.{Meaning, passed, kept, refused, IsLexeme, SpellsLexeme, name, keyword, constructor_name, wildcard, number, negative_number, symbol, is_blank, blank, line_comment, comment, open_comment, string, open_string, bad_escape, string_meaning, number_meaning, negative_meaning, BeginsWith, lexeme, no_lexeme}
 use Rattle.kk_lexer.specs.Names.{ends_name, is_name, is_constructor_name, is_wildcard, is_word_byte}
 use Rattle.kk_lexer.specs.Numbers.{IsNumber}
 use Rattle.kk_lexer.specs.declared.strings.Part.TheVariants.{Quote, BadEscape, End}
@@ -36,7 +36,7 @@ use Rattle.kk_lexer.specs.Scanners.{begins_other, IsSomeNumber, IsSymbol}
 
 -- the longest front behind the first byte makes the longest lexeme
 begins_byte : (signed : Bool) (at : ℕ) (P : List ℕ → Type 0) (b : ℕ) (text : List ℕ) (n : ℕ) (m : Meaning) → ((w : List ℕ) → IsLexeme signed at (b ∷ w) → P w)
-    → IsLongest P text n → Spells signed at (b ∷ take n text) m → BeginsWith signed at (b ∷ text) (suc n) m
+    → IsLongest P text n → SpellsLexeme signed at (b ∷ take n text) m → BeginsWith signed at (b ∷ text) (suc n) m
 begins_byte signed at P b text n m only found spells = lexeme (suc n) m (record { fits = omega (arith, found.fits); member = (m, spells); longest = go }) spells
   where
     go : (j : ℕ) → j ≤ suc (length text) → IsLexeme signed at (take j (b ∷ text)) → j ≤ suc n
@@ -44,10 +44,10 @@ begins_byte signed at P b text n m only found spells = lexeme (suc n) m (record 
     go (suc j) fits p = omega (arith, found.longest j (omega arith) (only _ p))
 
 pub begins : (signed : Bool) (at : ℕ) (P : List ℕ → Type 0) (text : List ℕ) (n : ℕ) (m : Meaning) → 0 < length text → ((w : List ℕ) → IsLexeme signed at (get_or text 0 0 ∷ w) → P w)
-    → IsLongest P (take (length text - 1) (drop 1 text)) n → Spells signed at (take (1 + n) text) m → BeginsWith signed at text (1 + n) m
+    → IsLongest P (take (length text - 1) (drop 1 text)) n → SpellsLexeme signed at (take (1 + n) text) m → BeginsWith signed at text (1 + n) m
 begins signed at P text n m some only found spells = go text some only (rw take_rest at found) (rw one-add at spells)
   where
-    go : (text : List ℕ) → 0 < length text → ((w : List ℕ) → IsLexeme signed at (get_or text 0 0 ∷ w) → P w) → IsLongest P (drop 1 text) n → Spells signed at (take (suc n) text) m
+    go : (text : List ℕ) → 0 < length text → ((w : List ℕ) → IsLexeme signed at (get_or text 0 0 ∷ w) → P w) → IsLongest P (drop 1 text) n → SpellsLexeme signed at (take (suc n) text) m
         → BeginsWith signed at text (1 + n) m
     go [] some only found spells = absurd (omega arith)
     go (b ∷ text) some only found spells = rw one-add (begins_byte signed at P b text n m only found spells)
@@ -71,9 +71,9 @@ upper_only signed at b w upper h =
     let found = subst (λ c. ByClass signed at c (b ∷ w) h.0) (class_of-upper b upper) (by_class signed at h.1) in
     (and_parts _ _ found.0).1
 
-spells_name : (signed : Bool) (at : ℕ) (word : List ℕ) (token : Token) → is_name word ≡ true → IsNameOrKeyword word token → Spells signed at word (kept token)
-spells_name signed at word (OfToken.Name spelling) h is = subst (λ x. Spells signed at word (kept (OfToken.Name x))) (sym is.0) (name word h is.1)
-spells_name signed at word (OfToken.Keyword k) h is = subst (λ x. Spells signed at x (kept (OfToken.Keyword k))) is (keyword k)
+spells_name : (signed : Bool) (at : ℕ) (word : List ℕ) (token : Token) → is_name word ≡ true → IsNameOrKeyword word token → SpellsLexeme signed at word (kept token)
+spells_name signed at word (OfToken.Name spelling) h is = subst (λ x. SpellsLexeme signed at word (kept (OfToken.Name x))) (sym is.0) (name word h is.1)
+spells_name signed at word (OfToken.Keyword k) h is = subst (λ x. SpellsLexeme signed at x (kept (OfToken.Keyword k))) is (keyword k)
 spells_name signed at word _ h is = absurd is
 
 module _ (text : List ℕ) (n : ℕ) (some : 0 < length text) (found : IsLongest (λ w. ends_name (get_or text 0 0) w ≡ true) (take (length text - 1) (drop 1 text)) n) where
@@ -107,7 +107,7 @@ wildcard_begins text signed at some is =
 
 -- numbers
 begins_whole : (signed : Bool) (at : ℕ) (P : List ℕ → Type 0) (text : List ℕ) (n : ℕ) (m : Meaning) → ((w : List ℕ) → IsLexeme signed at (get_or text 0 0 ∷ w) → P (get_or text 0 0 ∷ w))
-    → IsLongest P text n → Spells signed at (take n text) m → BeginsWith signed at text n m
+    → IsLongest P text n → SpellsLexeme signed at (take n text) m → BeginsWith signed at text n m
 begins_whole signed at P text n m only found spells = lexeme n m (record { fits = found.fits; member = (m, spells); longest = λ j fits h. go text j fits h only found.longest }) spells
   where
     go : (text : List ℕ) (j : ℕ) → j ≤ length text → IsLexeme signed at (take j text) → ((w : List ℕ) → IsLexeme signed at (get_or text 0 0 ∷ w) → P (get_or text 0 0 ∷ w))
@@ -234,7 +234,7 @@ pub arrow_begins : (text : List ℕ) (signed : Bool) (at : ℕ) → 1 < length t
 arrow_begins text signed at long dash arrow =
     begins signed at (InDashRest signed) text 1 _ (omega arith) (λ w. dash_only signed at _ w dash)
     (arrow_longest signed (rest_of text) (second text (λ b. b == 62) long ∙ eq-eqb _ _ arrow))
-    (subst (λ w. Spells signed at w (kept (OfToken.Symbol Arrow))) (sym (ap (take 2) (two_bytes text 45 62 long dash arrow))) (symbol Arrow))
+    (subst (λ w. SpellsLexeme signed at w (kept (OfToken.Symbol Arrow))) (sym (ap (take 2) (two_bytes text 45 62 long dash arrow))) (symbol Arrow))
 
 pub minus_begins : (text : List ℕ) (signed : Bool) (at : ℕ) → 0 < length text → get_or text 0 0 ≡ 45 → (signed ≡ true → 1 < length text → is_ascii_digit (get_or text 1 0) ≡ true → ⊥) → (1 < length text → get_or text 1 0 ≡ 62 → ⊥)
     → BeginsWith signed at text 1 (kept (OfToken.Symbol Minus))
@@ -285,7 +285,7 @@ other_only signed at b w other h =
 pub symbol_begins : (text : List ℕ) (signed : Bool) (at n : ℕ) (s : Symbol) → begins_other (get_or text 0 0) ≡ true → IsLongest IsSymbol text n → symbol_spelling s ≡ take n text
     → BeginsWith signed at text n (kept (OfToken.Symbol s))
 symbol_begins text signed at n s other found is =
-    begins_whole signed at IsSymbol text n _ (λ w. other_only signed at _ w other) found (subst (λ w. Spells signed at w (kept (OfToken.Symbol s))) is (symbol s))
+    begins_whole signed at IsSymbol text n _ (λ w. other_only signed at _ w other) found (subst (λ w. SpellsLexeme signed at w (kept (OfToken.Symbol s))) is (symbol s))
 
 pub bad_byte_begins : (text : List ℕ) (signed : Bool) (at : ℕ) → 0 < length text → begins_other (get_or text 0 0) ≡ true → HasNoFront IsSymbol text → BeginsWith signed at text 1 (refused (BadByte at))
 bad_byte_begins text signed at some other none = no_lexeme some (λ m fits h. go text m fits h other none)
@@ -300,7 +300,7 @@ slash_only : (signed : Bool) (at : ℕ) (w : List ℕ) → IsLexeme signed at (4
 slash_only signed at w h = (by_class signed at h.1).0
 
 slash_byte : (signed : Bool) (at : ℕ) (text : List ℕ) (n : ℕ) (m : Meaning) → ((j : ℕ) → j ≤ length text → InSlash (47 ∷ take j text) → j ≤ n) → n ≤ length text → InSlash (47 ∷ take n text)
-    → Spells signed at (47 ∷ take n text) m → BeginsWith signed at (47 ∷ text) (suc n) m
+    → SpellsLexeme signed at (47 ∷ take n text) m → BeginsWith signed at (47 ∷ text) (suc n) m
 slash_byte signed at text n m longest fits member spells =
     begins_byte signed at (λ w. InSlash (47 ∷ w)) 47 text n m (slash_only signed at) (record { fits = fits; member = member; longest = longest }) spells
 
@@ -387,7 +387,7 @@ quote_only signed at b w is h =
 
 module _ (signed : Bool) (at : ℕ) (text : List ℕ) (some : 0 < length text) (quote : get_or text 0 0 ≡ 34) (n : ℕ) (bs : List ℕ) (fits : n ≤ length (take (length text - 1) (drop 1 text)))
     (inside : IsInside (take n (take (length text - 1) (drop 1 text))) bs) where
-  string_spelled : (m : Meaning) (k : ℕ) (w : List ℕ) → take k (rest_of text) ≡ w → Spells signed at (34 ∷ w) m → Spells signed at (take (1 + k) text) m
+  string_spelled : (m : Meaning) (k : ℕ) (w : List ℕ) → take k (rest_of text) ≡ w → SpellsLexeme signed at (34 ∷ w) m → SpellsLexeme signed at (take (1 + k) text) m
   string_spelled m k w is spells = rw (front text k some, quote, is) spells
 
   pub closed_string : IsFirstPart (take (length (take (length text - 1) (drop 1 text)) - n) (drop n (take (length text - 1) (drop 1 text)))) Quote → BeginsWith signed at text (n + 2) (string_meaning at bs)
@@ -407,7 +407,7 @@ module _ (signed : Bool) (at : ℕ) (text : List ℕ) (some : 0 < length text) (
       let size = inside_length at _ n bs fits inside in
       let is' : drop n (rest_of text) ≡ 92 ∷ rest = sym (take_rest (rest_of text) n) ∙ is in
       begins signed at (IsQuoted at) text (n + 1) _ some (λ w. quote_only signed at _ w quote) (bad_longest at _ n bs fits inside rest is' none)
-      (string_spelled _ (n + 1) _ (one_behind at _ n bs fits inside 92 rest is') (subst (λ x. Spells signed at (34 ∷ take n (rest_of text) ++ 92 ∷ []) (refused (BadByte (at + 1 + x)))) size (bad_escape _ bs inside)))
+      (string_spelled _ (n + 1) _ (one_behind at _ n bs fits inside 92 rest is') (subst (λ x. SpellsLexeme signed at (34 ∷ take n (rest_of text) ++ 92 ∷ []) (refused (BadByte (at + 1 + x)))) size (bad_escape _ bs inside)))
 
 -- an answer that says what so many bytes mean
 pub answered : (signed : Bool) (at : ℕ) (text : List ℕ) (n : ℕ) (m : Meaning) (answer : Result Lexeme LexError) → AnswersMeaning n m answer → BeginsWith signed at text n m → IsFirstLexeme signed at text answer

@@ -11,7 +11,7 @@ use Rattle.kk_syntax.specs.declared.token.Symbol.{Symbol}
 use Rattle.kk_syntax.specs.declared.token.Symbol.TheVariants as OfSymbol
 use Rattle.kk_syntax.specs.declared.token.Token.TheVariants as OfToken
 use Rattle.kk_lexer.specs.Comments.{is_within_line, Closes}
-use Rattle.kk_lexer.specs.Lexemes.{Meaning, passed, kept, refused, is_blank, number_meaning, negative_meaning, string_meaning, Spells, blank, line_comment, comment, open_comment, name, keyword, constructor_name, wildcard, number, negative_number, string, open_string, bad_escape, symbol}
+use Rattle.kk_lexer.specs.Lexemes.{Meaning, passed, kept, refused, is_blank, number_meaning, negative_meaning, string_meaning, SpellsLexeme, blank, line_comment, comment, open_comment, name, keyword, constructor_name, wildcard, number, negative_number, string, open_string, bad_escape, symbol}
 use Rattle.kk_lexer.specs.Names.{is_name, is_constructor_name, is_wildcard, keyword_spelling}
 use Rattle.kk_lexer.specs.Numbers.{IsNumber, decimal, hexadecimal, is_decimal}
 use Rattle.kk_lexer.specs.Strings.{IsInside}
@@ -133,7 +133,7 @@ module _ (signed : Bool) (at : ℕ) where
       let apart : (c == 62) ≡ false = grind (arith, nat_tests) in
       rw apart (ap (negative_meaning at) (number_value-is h))
 
-  pub by_class : {w : List ℕ} {m : Meaning} → Spells signed at w m → ByClass signed at (class_of (get_or w 0 0)) w m
+  pub by_class : {w : List ℕ} {m : Meaning} → SpellsLexeme signed at w m → ByClass signed at (class_of (get_or w 0 0)) w m
   by_class (blank b h) = at_class (class_of b) (b ∷ []) passed (class_of-blank b h) (refl, refl)
   by_class (line_comment line h) = (inl (refl, h), by_line line)
   by_class (comment inside h) = (inr (refl, inr h), by_comment inside h)

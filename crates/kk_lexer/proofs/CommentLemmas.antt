@@ -24,19 +24,19 @@ no_mark_at : (v w : List ℕ) → begins_with_mark v ≡ false → begins_with_m
 no_mark_at v w no_ yes_ is = let bad : false ≡ true = sym no_ ∙ (ap begins_with_mark is ∙ yes_) in cc
 
 -- what a mark leaves to be closed
-open_at : {m : ℕ} {v : List ℕ} → Closes m v → (d : ℕ) (w : List ℕ) → m ≡ suc d → v ≡ 47 ∷ 42 ∷ w → Closes (suc (suc d)) w
+pub open_at : {m : ℕ} {v : List ℕ} → Closes m v → (d : ℕ) (w : List ℕ) → m ≡ suc d → v ≡ 47 ∷ 42 ∷ w → Closes (suc (suc d)) w
 open_at closed d w e is = absurd (omega arith)
 open_at (opens n bytes h) d w e is = subst₂ Closes (ap suc e) (rests_same _ _ _ _ _ _ is) h
 open_at (closes n bytes h) d w e is = absurd (apart _ _ is)
 open_at (other n b bytes no_mark h) d w e is = absurd (no_mark_at _ _ no_mark refl is)
 
-close_at : {m : ℕ} {v : List ℕ} → Closes m v → (d : ℕ) (w : List ℕ) → m ≡ suc d → v ≡ 42 ∷ 47 ∷ w → Closes d w
+pub close_at : {m : ℕ} {v : List ℕ} → Closes m v → (d : ℕ) (w : List ℕ) → m ≡ suc d → v ≡ 42 ∷ 47 ∷ w → Closes d w
 close_at closed d w e is = absurd (omega arith)
 close_at (opens n bytes h) d w e is = absurd (apart _ _ (sym is))
 close_at (closes n bytes h) d w e is = subst₂ Closes (less n d e) (rests_same _ _ _ _ _ _ is) h
 close_at (other n b bytes no_mark h) d w e is = absurd (no_mark_at _ _ no_mark refl is)
 
-other_at : {m : ℕ} {v : List ℕ} → Closes m v → (d b : ℕ) (w : List ℕ) → m ≡ suc d → v ≡ b ∷ w → begins_with_mark v ≡ false → Closes (suc d) w
+pub other_at : {m : ℕ} {v : List ℕ} → Closes m v → (d b : ℕ) (w : List ℕ) → m ≡ suc d → v ≡ b ∷ w → begins_with_mark v ≡ false → Closes (suc d) w
 other_at closed d b w e is no_mark = cc
 other_at (opens n bytes h) d b w e is no_mark = cc
 other_at (closes n bytes h) d b w e is no_mark = cc
@@ -54,13 +54,13 @@ nothing_at (other n c bytes no_mark h) d e is = cc
 pub closes_nothing : {d : ℕ} → Closes (suc d) [] → ⊥
 closes_nothing h = nothing_at h _ refl refl
 
-one_at : {m : ℕ} {v : List ℕ} → Closes m v → (d b : ℕ) → m ≡ suc d → v ≡ b ∷ [] → ⊥
+pub one_at : {m : ℕ} {v : List ℕ} → Closes m v → (d b : ℕ) → m ≡ suc d → v ≡ b ∷ [] → ⊥
 one_at closed d b e is = cc
 one_at (opens n bytes h) d b e is = cc
 one_at (closes n bytes h) d b e is = cc
 one_at (other n c bytes no_mark h) d b e is = let nothing : bytes ≡ [] = cc in nothing_at h n refl nothing
 
-closed_at : {m : ℕ} {v : List ℕ} → Closes m v → m ≡ 0 → v ≡ []
+pub closed_at : {m : ℕ} {v : List ℕ} → Closes m v → m ≡ 0 → v ≡ []
 closed_at closed e = refl
 closed_at (opens n bytes h) e = cc
 closed_at (closes n bytes h) e = cc

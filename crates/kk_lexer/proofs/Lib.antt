@@ -1,6 +1,7 @@
 pub mod Begins
 pub mod Classes
 pub mod CommentLemmas
+pub mod EachText
 pub mod Examples
 pub mod FrontLemmas
 pub mod Insides

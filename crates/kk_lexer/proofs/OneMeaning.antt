@@ -13,9 +13,9 @@ use Rattle.kk_syntax.specs.declared.token.Symbol.{Symbol}
 use Rattle.kk_syntax.specs.declared.token.Symbol.TheVariants as OfSymbol
 use Rattle.kk_syntax.specs.declared.token.Token.TheVariants as OfToken
 use Rattle.kk_syntax.specs.Places.{place_behind}
-use Rattle.kk_lexer.specs.Lexemes.{Meaning, passed, kept, refused, number_meaning, string_meaning, Spells, BeginsWith, lexeme, no_lexeme}
+use Rattle.kk_lexer.specs.Lexemes.{Meaning, passed, kept, refused, number_meaning, string_meaning, SpellsLexeme, BeginsWith, lexeme, no_lexeme}
 use Rattle.kk_lexer.specs.Names.{keyword_spelling}
-use Rattle.kk_lexer.specs.Readings.{is_sign, Outcome, Reads, ends, passes, keeps, refuses}
+use Rattle.kk_lexer.specs.Readings.{is_sign, Outcome, ReadsText, ends, passes, keeps, refuses}
 use Rattle.kk_lexer.specs.Strings.{IsInside, empty, is_plain}
 use Rattle.kk_lexer.specs.Symbols.{symbol_spelling}
 use Rattle.kk_lexer.proofs.Classes.{Class, of_blank, of_lower, of_upper, of_underscore, of_digit, of_quote, of_slash, of_dash, of_other, InQuote, in_closed, in_open, in_bad, ByClass, by_class}
@@ -24,7 +24,7 @@ use Rattle.kk_lexer.proofs.NumberLemmas.{one_value}
 use Rattle.kk_lexer.proofs.Insides.{IsInside-behind, IsInside-stop, IsInside-one}
 
 -- the keyword of a word, and the symbol
-keyword_of : List ℕ → Option Keyword
+pub keyword_of : List ℕ → Option Keyword
 keyword_of w =
     if bytes_eq w (codes "type") then Some OfKeyword.«Type»
     else (if bytes_eq w (codes "fun") then Some OfKeyword.Fun
@@ -36,7 +36,7 @@ keyword_of w =
     else (if bytes_eq w (codes "else") then Some OfKeyword.Else
     else None)))))))
 
-keyword_of-spelling : (k : Keyword) → keyword_of (keyword_spelling k) ≡ Some k
+pub keyword_of-spelling : (k : Keyword) → keyword_of (keyword_spelling k) ≡ Some k
 unfolding keyword_of
 keyword_of-spelling OfKeyword.«Type» = refl
 keyword_of-spelling k = refl
@@ -44,7 +44,7 @@ keyword_of-spelling k = refl
 pub one_keyword : (k j : Keyword) → keyword_spelling k ≡ keyword_spelling j → k ≡ j
 one_keyword k j e = let s : Some k ≡ Some j = sym (keyword_of-spelling k) ∙ (ap keyword_of e ∙ keyword_of-spelling j) in cc
 
-symbol_of : List ℕ → Option Symbol
+pub symbol_of : List ℕ → Option Symbol
 symbol_of w =
     if bytes_eq w (codes "(") then Some OfSymbol.OpenParenthesis
     else (if bytes_eq w (codes ")") then Some OfSymbol.CloseParenthesis
@@ -73,7 +73,7 @@ symbol_of w =
     else (if bytes_eq w (codes "~") then Some OfSymbol.Tilde
     else None))))))))))))))))))))))))
 
-symbol_of-spelling : (s : Symbol) → symbol_of (symbol_spelling s) ≡ Some s
+pub symbol_of-spelling : (s : Symbol) → symbol_of (symbol_spelling s) ≡ Some s
 unfolding symbol_of
 symbol_of-spelling OfSymbol.Arrow = refl
 symbol_of-spelling s = refl
@@ -127,7 +127,7 @@ one_by_class signed at of_slash w m k h j = h.1 ∙ sym j.1
 one_by_class signed at of_dash w m k h j = h.1 ∙ sym j.1
 one_by_class signed at of_other w m k h j = h.2 ∙ (ap (λ s. kept (OfToken.Symbol s)) (one_symbol h.0 j.0 (h.1 ∙ sym j.1)) ∙ sym j.2)
 
-pub one_meaning : {signed : Bool} {at : ℕ} {w : List ℕ} {m k : Meaning} → Spells signed at w m → Spells signed at w k → m ≡ k
+pub one_meaning : {signed : Bool} {at : ℕ} {w : List ℕ} {m k : Meaning} → SpellsLexeme signed at w m → SpellsLexeme signed at w k → m ≡ k
 one_meaning {signed} {at} {w} {m} {k} h j = one_by_class signed at _ w m k (by_class signed at h) (by_class signed at j)
 
 -- a lexeme has a byte
@@ -135,28 +135,28 @@ no_empty_symbol : (s : Symbol) → symbol_spelling s ≡ [] → ⊥
 no_empty_symbol OfSymbol.Arrow e = cc
 no_empty_symbol s e = cc
 
-pub no_empty_lexeme : {signed : Bool} {at : ℕ} {m : Meaning} → Spells signed at [] m → ⊥
+pub no_empty_lexeme : {signed : Bool} {at : ℕ} {m : Meaning} → SpellsLexeme signed at [] m → ⊥
 no_empty_lexeme {signed} {at} h = let s = by_class signed at h in no_empty_symbol s.0 s.1
 
 nothing_begins : {signed : Bool} {at n : ℕ} {m : Meaning} → BeginsWith signed at [] n m → ⊥
 nothing_begins {signed} {at} (lexeme n m longest spells) =
     let none : n ≡ 0 = omega (arith, longest.fits) in
-    no_empty_lexeme (subst (λ x. Spells signed at (take x []) m) none spells)
+    no_empty_lexeme (subst (λ x. SpellsLexeme signed at (take x []) m) none spells)
 nothing_begins (no_lexeme some none) = omega arith
 
 -- what a text begins with is one
 pub one_beginning : {signed : Bool} {at : ℕ} {text : List ℕ} {n j : ℕ} {m k : Meaning} → BeginsWith signed at text n m → BeginsWith signed at text j k → (n ≡ j) × (m ≡ k)
 one_beginning {signed} {at} {text} (lexeme n m longest spells) (lexeme j k longest' spells') =
     let e = IsLongest-unique longest longest' in
-    (e, one_meaning spells (subst (λ x. Spells signed at (take x text) k) (sym e) spells'))
+    (e, one_meaning spells (subst (λ x. SpellsLexeme signed at (take x text) k) (sym e) spells'))
 one_beginning (lexeme n m longest spells) (no_lexeme some none) = absurd (none n longest.fits (m, spells))
 one_beginning (no_lexeme some none) (lexeme j k longest spells) = absurd (none j longest.fits (k, spells))
 one_beginning (no_lexeme some none) (no_lexeme some' none') = (refl, refl)
 
 -- the reading behind what a text begins with
 abbrev After : List LocatedToken → Span → List ℕ → Outcome → ℕ → Meaning → Type 0
-After before place text outcome n passed = Reads before (place_behind place (take n text)) (drop n text) outcome
-After before place text outcome n (kept token) = Reads (before ++ record { token = token; span = place } ∷ []) (place_behind place (take n text)) (drop n text) outcome
+After before place text outcome n passed = ReadsText before (place_behind place (take n text)) (drop n text) outcome
+After before place text outcome n (kept token) = ReadsText (before ++ record { token = token; span = place } ∷ []) (place_behind place (take n text)) (drop n text) outcome
 After before place text outcome n (refused error) = outcome ≡ Err error
 
 after_same : (before : List LocatedToken) (place : Span) (text : List ℕ) (outcome : Outcome) {n j : ℕ} {m k : Meaning}
@@ -165,20 +165,20 @@ after_same : (before : List LocatedToken) (place : Span) (text : List ℕ) (outc
 after_same before place text outcome a b h = let e = one_beginning a b in subst₂ (After before place text outcome) (sym e.0) (sym e.1) h
 
 after : {before : List LocatedToken} {place : Span} {text : List ℕ} {outcome : Outcome} {n : ℕ} {m : Meaning}
-    → Reads before place text outcome → BeginsWith (is_sign before place.line) place.at text n m → After before place text outcome n m
+    → ReadsText before place text outcome → BeginsWith (is_sign before place.line) place.at text n m → After before place text outcome n m
 after (ends before place) b = absurd (nothing_begins b)
 after (passes before place text n outcome a r) b = after_same before place text outcome b a r
 after (keeps before place text n token outcome a r) b = after_same before place text outcome b a r
 after (refuses before place text n error a) b = after_same before place text (Err error) b a refl
 
-at_end : {before : List LocatedToken} {place : Span} {outcome : Outcome} → Reads before place [] outcome → outcome ≡ Ok (record { items = before; end = place })
+at_end : {before : List LocatedToken} {place : Span} {outcome : Outcome} → ReadsText before place [] outcome → outcome ≡ Ok (record { items = before; end = place })
 at_end (ends before place) = refl
 at_end (passes before place text n outcome a r) = absurd (nothing_begins a)
 at_end (keeps before place text n token outcome a r) = absurd (nothing_begins a)
 at_end (refuses before place text n error a) = absurd (nothing_begins a)
 
 -- a text has one reading
-pub one_reading : {before : List LocatedToken} {place : Span} {text : List ℕ} {a b : Outcome} → Reads before place text a → Reads before place text b → b ≡ a
+pub one_reading : {before : List LocatedToken} {place : Span} {text : List ℕ} {a b : Outcome} → ReadsText before place text a → ReadsText before place text b → b ≡ a
 one_reading (ends before place) h = at_end h
 one_reading (passes before place text n outcome a r) h = one_reading r (after h a)
 one_reading (keeps before place text n token outcome a r) h = one_reading r (after h a)

@@ -10,7 +10,7 @@ use Rattle.kk_syntax.specs.declared.token.Token.{Token}
 use Rattle.kk_syntax.specs.Places.{start, place_behind}
 use Rattle.kk_lexer.specs.FirstLexemes.{meaning_of, IsFirstLexeme}
 use Rattle.kk_lexer.specs.Lexemes.{Meaning, BeginsWith, lexeme, no_lexeme}
-use Rattle.kk_lexer.specs.Readings.{is_sign, Outcome, Reads, ends, passes, keeps, refuses, IsReadAs, IsReading, UnlessNoMemory}
+use Rattle.kk_lexer.specs.Readings.{is_sign, Outcome, ReadsText, ends, passes, keeps, refuses, IsReadAs, IsReading, UnlessNoMemory}
 use Rattle.kk_lexer.proofs.OneMeaning.{no_empty_lexeme, one_reading}
 use Rattle.kk_lexer.specs.Scanners.{located}
 
@@ -22,16 +22,16 @@ BeginsWith-fits (no_lexeme some none) = (omega arith, some)
 
 -- so far, the text is read as what is left of it is
 pub record ReadsOn (text : List ℕ) (before : List LocatedToken) (place : Span) (rest : List ℕ) : Type 0 where
-  pub reads : (outcome : Outcome) → Reads before place rest outcome → IsReadAs text outcome
+  pub reads : (outcome : Outcome) → ReadsText before place rest outcome → IsReadAs text outcome
   pub few : length before + length rest ≤ length text
 
 pub ReadsOn-start : (text : List ℕ) → ReadsOn text [] start text
 ReadsOn-start text = record { reads = λ outcome h. h; few = omega arith }
 
 read_one : (before : List LocatedToken) (place : Span) (text : List ℕ) (n : ℕ) (token : Option Token) (outcome : Outcome) → BeginsWith (is_sign before place.line) place.at text n (meaning_of token)
-    → Reads (before ++ located token place) (place_behind place (take n text)) (drop n text) outcome → Reads before place text outcome
+    → ReadsText (before ++ located token place) (place_behind place (take n text)) (drop n text) outcome → ReadsText before place text outcome
 read_one before place text n None outcome begins rest =
-    passes before place text n outcome begins (subst (λ x. Reads x (place_behind place (take n text)) (drop n text) outcome) (append-nil before) rest)
+    passes before place text n outcome begins (subst (λ x. ReadsText x (place_behind place (take n text)) (drop n text) outcome) (append-nil before) rest)
 read_one before place text n (Some token) outcome begins rest = keeps before place text n token outcome begins rest
 
 located_few : (token : Option Token) (place : Span) → length (located token place) ≤ 1
@@ -48,12 +48,12 @@ ReadsOn-more text before place rest n token so_far begins =
     }
 
 the_reading : {text : List ℕ} {outcome : Outcome} → IsReadAs text outcome → IsReading text outcome
-the_reading h = record { reads = h; only = λ other k. one_reading h k }
+the_reading h = record { holds = h; only = λ other k. one_reading h k }
 
 -- at the end of the text
 pub ReadsOn-end : (text : List ℕ) (before : List LocatedToken) (place : Span) (rest : List ℕ) → ReadsOn text before place rest → length rest ≡ 0 → IsReading text (Ok (record { items = before; end = place }))
 ReadsOn-end text before place rest so_far none =
-    the_reading (so_far.reads _ (subst (λ x. Reads before place x (Ok (record { items = before; end = place }))) (sym (nil_from_length rest none)) (ends before place)))
+    the_reading (so_far.reads _ (subst (λ x. ReadsText before place x (Ok (record { items = before; end = place }))) (sym (nil_from_length rest none)) (ends before place)))
 
 -- at a refusal
 pub ReadsOn-refused : (text : List ℕ) (before : List LocatedToken) (place : Span) (rest : List ℕ) (error : LexError) → ReadsOn text before place rest

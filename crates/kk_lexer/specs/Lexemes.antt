@@ -38,27 +38,27 @@ string_meaning at bytes = if nat_lt 255 (length bytes) then refused (StringTooLo
 -- A lexeme by its spelling. `at` is the place of its first byte, and `signed` says whether a `-` belongs to the number
 -- directly behind it. The byte `-` is 45, `"` is 34 and `\` is 92. A comment or a string that is not closed and a string up to
 -- a bad escape are lexemes too, so that the longest lexeme tells whether and where a text cannot be read.
-pub data Spells (signed : Bool) (at : ℕ) : List ℕ → Meaning → Type 0 where
-  blank : (b : ℕ) → is_blank b ≡ true → Spells signed at (b ∷ []) passed
-  line_comment : (line : List ℕ) → is_within_line line ≡ true → Spells signed at (codes "//" ++ line) passed
-  comment : (inside : List ℕ) → Closes 1 inside → Spells signed at (codes "/*" ++ inside) passed
-  open_comment : Spells signed at (codes "/*") (refused (OpenComment at))
-  name : (word : List ℕ) → is_name word ≡ true → ((k : Keyword) → keyword_spelling k ≡ word → ⊥) → Spells signed at word (kept (OfToken.Name word))
-  keyword : (k : Keyword) → Spells signed at (keyword_spelling k) (kept (OfToken.Keyword k))
-  constructor_name : (word : List ℕ) → is_constructor_name word ≡ true → Spells signed at word (kept (OfToken.Constructor word))
-  wildcard : (word : List ℕ) → is_wildcard word ≡ true → Spells signed at word (kept OfToken.Wildcard)
-  number : (word : List ℕ) (n : ℕ) → IsNumber word n → Spells signed at word (number_meaning at n)
-  negative_number : (word : List ℕ) (n : ℕ) → signed ≡ true → IsNumber word n → Spells signed at (45 ∷ word) (negative_meaning at n)
-  string : (word bytes : List ℕ) → IsInside word bytes → Spells signed at (34 ∷ word ++ 34 ∷ []) (string_meaning at bytes)
-  open_string : (word bytes : List ℕ) → IsInside word bytes → Spells signed at (34 ∷ word) (refused (OpenString at))
-  bad_escape : (word bytes : List ℕ) → IsInside word bytes → Spells signed at (34 ∷ word ++ 92 ∷ []) (refused (BadByte (at + 1 + length word)))
-  symbol : (s : Symbol) → Spells signed at (symbol_spelling s) (kept (OfToken.Symbol s))
+pub data SpellsLexeme (signed : Bool) (at : ℕ) : List ℕ → Meaning → Type 0 where
+  blank : (b : ℕ) → is_blank b ≡ true → SpellsLexeme signed at (b ∷ []) passed
+  line_comment : (line : List ℕ) → is_within_line line ≡ true → SpellsLexeme signed at (codes "//" ++ line) passed
+  comment : (inside : List ℕ) → Closes 1 inside → SpellsLexeme signed at (codes "/*" ++ inside) passed
+  open_comment : SpellsLexeme signed at (codes "/*") (refused (OpenComment at))
+  name : (word : List ℕ) → is_name word ≡ true → ((k : Keyword) → keyword_spelling k ≡ word → ⊥) → SpellsLexeme signed at word (kept (OfToken.Name word))
+  keyword : (k : Keyword) → SpellsLexeme signed at (keyword_spelling k) (kept (OfToken.Keyword k))
+  constructor_name : (word : List ℕ) → is_constructor_name word ≡ true → SpellsLexeme signed at word (kept (OfToken.Constructor word))
+  wildcard : (word : List ℕ) → is_wildcard word ≡ true → SpellsLexeme signed at word (kept OfToken.Wildcard)
+  number : (word : List ℕ) (n : ℕ) → IsNumber word n → SpellsLexeme signed at word (number_meaning at n)
+  negative_number : (word : List ℕ) (n : ℕ) → signed ≡ true → IsNumber word n → SpellsLexeme signed at (45 ∷ word) (negative_meaning at n)
+  string : (word bytes : List ℕ) → IsInside word bytes → SpellsLexeme signed at (34 ∷ word ++ 34 ∷ []) (string_meaning at bytes)
+  open_string : (word bytes : List ℕ) → IsInside word bytes → SpellsLexeme signed at (34 ∷ word) (refused (OpenString at))
+  bad_escape : (word bytes : List ℕ) → IsInside word bytes → SpellsLexeme signed at (34 ∷ word ++ 92 ∷ []) (refused (BadByte (at + 1 + length word)))
+  symbol : (s : Symbol) → SpellsLexeme signed at (symbol_spelling s) (kept (OfToken.Symbol s))
 
 -- a word is a lexeme
 abbrev pub IsLexeme : Bool → ℕ → List ℕ → Type 0
-IsLexeme signed at word = (meaning : Meaning) × Spells signed at word meaning
+IsLexeme signed at word = (meaning : Meaning) × SpellsLexeme signed at word meaning
 
 -- What a text begins with, so many bytes: its longest front that is a lexeme; where none is, a byte that begins no token.
 pub data BeginsWith (signed : Bool) (at : ℕ) (text : List ℕ) : ℕ → Meaning → Type 0 where
-  lexeme : (n : ℕ) (meaning : Meaning) → IsLongest (IsLexeme signed at) text n → Spells signed at (take n text) meaning → BeginsWith signed at text n meaning
+  lexeme : (n : ℕ) (meaning : Meaning) → IsLongest (IsLexeme signed at) text n → SpellsLexeme signed at (take n text) meaning → BeginsWith signed at text n meaning
   no_lexeme : 0 < length text → HasNoFront (IsLexeme signed at) text → BeginsWith signed at text 1 (refused (BadByte at))

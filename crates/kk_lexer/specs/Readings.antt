@@ -3,6 +3,7 @@ use Rattle.std.specs.Prelude.{◌≡◌, ℕ, ◌-◌, List, [], ◌∷◌, ◌+
 use Rattle.kk_base.specs.declared.error.LexError.{LexError}
 use Rattle.kk_base.specs.declared.error.LexError.TheVariants as OfLexError
 use Rattle.kk_base.specs.declared.span.Span.{Span}
+use Rattle.kk_base.specs.Exactly.{IsOnly, ExactlyOne}
 use Rattle.kk_syntax.specs.declared.token.LocatedToken.{LocatedToken}
 use Rattle.kk_syntax.specs.declared.token.Symbol.TheVariants.{CloseParenthesis, CloseBrace}
 use Rattle.kk_syntax.specs.declared.token.Token.{Token}
@@ -39,23 +40,26 @@ Outcome = Result TokenList LexError
 
 -- a text that stands at a place, with these tokens before it, is read as an outcome: from place to place, what it begins with is
 -- passed over, kept as a token, or refused
-pub data Reads : List LocatedToken → Span → List ℕ → Outcome → Type 0 where
-  ends : (before : List LocatedToken) (place : Span) → Reads before place [] (Ok (record { items = before; end = place }))
+pub data ReadsText : List LocatedToken → Span → List ℕ → Outcome → Type 0 where
+  ends : (before : List LocatedToken) (place : Span) → ReadsText before place [] (Ok (record { items = before; end = place }))
   passes : (before : List LocatedToken) (place : Span) (text : List ℕ) (n : ℕ) (outcome : Outcome) → BeginsWith (is_sign before place.line) place.at text n passed
-      → Reads before (place_behind place (take n text)) (drop n text) outcome → Reads before place text outcome
+      → ReadsText before (place_behind place (take n text)) (drop n text) outcome → ReadsText before place text outcome
   keeps : (before : List LocatedToken) (place : Span) (text : List ℕ) (n : ℕ) (token : Token) (outcome : Outcome) → BeginsWith (is_sign before place.line) place.at text n (kept token)
-      → Reads (before ++ record { token = token; span = place } ∷ []) (place_behind place (take n text)) (drop n text) outcome → Reads before place text outcome
+      → ReadsText (before ++ record { token = token; span = place } ∷ []) (place_behind place (take n text)) (drop n text) outcome → ReadsText before place text outcome
   refuses : (before : List LocatedToken) (place : Span) (text : List ℕ) (n : ℕ) (error : LexError) → BeginsWith (is_sign before place.line) place.at text n (refused error)
-      → Reads before place text (Err error)
+      → ReadsText before place text (Err error)
 
 -- the outcome of a whole text
 abbrev pub IsReadAs : List ℕ → Outcome → Type 0
-IsReadAs text outcome = Reads [] start text outcome
+IsReadAs text outcome = ReadsText [] start text outcome
 
 -- the reading of a text: there is no other
-pub record IsReading (text : List ℕ) (outcome : Outcome) : Type 0 where
-  pub reads : IsReadAs text outcome
-  pub only : (other : Outcome) → IsReadAs text other → other ≡ outcome
+abbrev pub IsReading : List ℕ → Outcome → Type 0
+IsReading text outcome = IsOnly (IsReadAs text) outcome
+
+-- each text has exactly one reading: its tokens, or a first lexeme that cannot be read, which is no want of memory
+abbrev pub EachTextIsRead : Type 0
+EachTextIsRead = (text : List ℕ) → ExactlyOne (IsReadAs text) × (IsReadAs text (Err OfLexError.NoMemory) → ⊥)
 
 -- a fact of an outcome, unless memory ran out
 abbrev pub UnlessNoMemory : Outcome → (Outcome → Type 0) → Type 0

@@ -13,7 +13,7 @@ mod places;
 mod strings;
 mod symbols;
 
-pub use list::tokens;
+pub use list::{each_text_is_read, tokens};
 
 #[cfg(test)]
 mod tests;

@@ -1,5 +1,5 @@
 ghost use Rattle.std.specs.Prelude.{◌≡◌, ◌+◌, ◌≤◌, [], ◌++◌, length, IfOk, OnOk};
-ghost use Rattle.kk_lexer.specs.Readings.{ends_operand, is_sign, IsReading, UnlessNoMemory};
+ghost use Rattle.kk_lexer.specs.Readings.{ends_operand, is_sign, EachTextIsRead, IsReading, UnlessNoMemory};
 ghost use Rattle.kk_lexer.specs.Scanners.{located};
 
 use crate::lexeme::{Lexeme, first_lexeme};
@@ -64,3 +64,8 @@ pub fn tokens(alloc: Global, text: &[u8]) -> Result<Tokens, LexError>
     }
     Ok(Tokens::from_vec(items, place))
 }
+
+/// Each text has a reading: its tokens, or a first lexeme that cannot be read. It is a law, and does nothing.
+pub fn each_text_is_read()
+    ensures { EachTextIsRead }
+{}

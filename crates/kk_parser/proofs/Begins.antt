@@ -2,7 +2,7 @@
 use Rattle.std.proofs.Common.{◌≡◌, ℕ, Bool, true, false, cond, ◌||◌, ◌⊎◌, List, [], ◌∷◌, ◌++◌, is_some, Some, refl, sym, ◌∙◌, subst, inl, inr}
 use Rattle.kk_syntax.specs.declared.token.LocatedToken.{LocatedToken}
 use Rattle.kk_parser.specs.Kinds.{Kind, Said, says, next_says, is_at}
-use Rattle.kk_parser.specs.Phrases.{Phrase, Nonterminal, Value, rule}
+use Rattle.kk_parser.specs.Phrases.{Phrase, Nonterminal, PhraseValue, rule}
 use Rattle.kk_parser.specs.Grammar.{production}
 use Rattle.kk_parser.specs.Spells.{Marked, tokens_of, Spells, by_token, by_opener, by_both, by_first, by_second, by_none, by_more, by_absence, by_presence, by_level, by_rule}
 use Rattle.kk_parser.specs.Reading.{first, nullable}
@@ -56,7 +56,7 @@ begins_rule : (x : Nonterminal) (ts us : List Marked) → Begins (production x) 
 begins_rule x ts us (inl h) = inl (subst (λ ks. is_at ks (tokens_of ts) ≡ true) (first-production x) h)
 begins_rule x ts us (inr (h, e)) = inr (sym (nullable-production x) ∙ h, e)
 
-pub begins : {p : Phrase} {n m : ℕ} {v : Value p} {ts us : List Marked} → Spells p n v m ts us → Begins p ts us
+pub begins : {p : Phrase} {n m : ℕ} {v : PhraseValue p} {ts us : List Marked} → Spells p n v m ts us → Begins p ts us
 begins (by_token {k = k} {t = t} {v = v} {us = us} e) = inl (is_at-one k t (tokens_of us) v e)
 begins (by_opener {k = k} {t = t} {v = v} {us = us} e) = inl (is_at-one k t (tokens_of us) v e)
 begins (by_both {a = a} {b = b} {ts = ts} {us = us} {ws = ws} r s) = begins_both (nullable a) (nullable b) (first a) (first b) ts us ws (begins r) (begins s)

@@ -3,10 +3,10 @@ use Rattle.std.proofs.Common.{◌≡◌, ℕ, ◌+◌, ◌≤◌, Bool, true, fa
 use Rattle.std.proofs.lemmas.Bool.{cases_lt}
 use Rattle.kk_syntax.specs.declared.token.LocatedToken.{LocatedToken}
 use Rattle.kk_parser.specs.Kinds.{Kind, Said, says, is_at}
-use Rattle.kk_parser.specs.Phrases.{Nonterminal, Phrase, token, opener, ◌▸◌, either, many, optional, level, rule, Value}
+use Rattle.kk_parser.specs.Phrases.{Nonterminal, Phrase, token, opener, ◌▸◌, either, many, optional, level, rule, PhraseValue}
 use Rattle.kk_parser.specs.Grammar.{production, meaning}
 use Rattle.kk_parser.specs.Spells.{Marked, tokens_of, Spells, by_token, by_opener, by_both, by_first, by_second, by_none, by_more, by_absence, by_presence, by_level, by_rule}
-use Rattle.kk_parser.specs.Reading.{first, nullable, Finds, finds_token, finds_opener, finds_both, finds_first, finds_second, finds_none, finds_more, finds_absence, finds_presence, finds_level, finds_rule, too_deep, Fails, fails_deep, fails_front, fails_behind, fails_first, fails_second, fails_one, fails_more, fails_presence, fails_level, fails_rule}
+use Rattle.kk_parser.specs.Reading.{first, nullable, Finds, finds_token, finds_opener, finds_both, finds_first, finds_second, finds_none, finds_more, finds_absence, finds_presence, finds_level, finds_rule, too_deep, ReadingFails, fails_deep, fails_front, fails_behind, fails_first, fails_second, fails_one, fails_more, fails_presence, fails_level, fails_rule}
 use Rattle.kk_parser.proofs.Apart.{apart, within, cond_parts}
 use Rattle.kk_parser.proofs.Begins.{begins, is_at-one}
 use Rattle.kk_parser.proofs.Tables.{follow_of, end_of}
@@ -28,7 +28,7 @@ Opens limit (t ∷ ts) = t.levels ≡ limit + 1
 
 module _ (limit : ℕ) where
   -- a text is read whole
-  pub record Whole (p : Phrase) (n : ℕ) (v : Value p) (m : ℕ) (ts us : List Marked) : Type 0 where
+  pub record Whole (p : Phrase) (n : ℕ) (v : PhraseValue p) (m : ℕ) (ts us : List Marked) : Type 0 where
     pub finds : Finds limit p n (tokens_of ts) v m (tokens_of us)
     pub within : Within limit ts us
     pub levels : m ≤ limit
@@ -36,11 +36,11 @@ module _ (limit : ℕ) where
   -- a text is read up to a token at which too many levels are open
   pub record Part (p : Phrase) (n : ℕ) (ts : List Marked) : Type 0 where
     pub rest : List Marked
-    pub fails : Fails limit p n (tokens_of ts) (too_deep (tokens_of rest))
+    pub fails : ReadingFails limit p n (tokens_of ts) (too_deep (tokens_of rest))
     pub within : Within limit ts rest
     pub opens : Opens limit rest
 
-  abbrev pub Read : (p : Phrase) → ℕ → Value p → ℕ → List Marked → List Marked → Type 0
+  abbrev pub Read : (p : Phrase) → ℕ → PhraseValue p → ℕ → List Marked → List Marked → Type 0
   Read p n v m ts us = Whole p n v m ts us ⊎ Part p n ts
 
   read_token : {k : Kind} {t : LocatedToken} {v : Said k} {n : ℕ} {us : List Marked} → says k t ≡ Some v → n ≤ limit → Read (token k) n v n (record { token = t; levels = n } ∷ us) us
@@ -52,7 +52,7 @@ module _ (limit : ℕ) where
     | inr b ↦ inr (record { rest = record { token = t; levels = n + 1 } ∷ us; fails = fails_deep (is_at-one k t (tokens_of us) v h) b; within = all_within; opens = omega arith })
   ]
 
-  read_both : {a b : Phrase} {n k m : ℕ} {u : Value a} {v : Value b} {ts us ws : List Marked} → Read a n u k ts us → (k ≤ limit → Read b k v m us ws) → Read (a ▸ b) n (u, v) m ts ws
+  read_both : {a b : Phrase} {n k m : ℕ} {u : PhraseValue a} {v : PhraseValue b} {ts us ws : List Marked} → Read a n u k ts us → (k ≤ limit → Read b k v m us ws) → Read (a ▸ b) n (u, v) m ts ws
   read_both (inr s) r = inr (record { rest = s.rest; fails = fails_front s.fails; within = s.within; opens = s.opens })
   read_both {a} {b} {n} {k} {m} {u} {v} {ts} {us} {ws} (inl s) r = behind (r s.levels)
     where
@@ -60,15 +60,15 @@ module _ (limit : ℕ) where
       behind (inl w) = inl (record { finds = finds_both s.finds w.finds; within = within_both s.within w.within; levels = w.levels })
       behind (inr w) = inr (record { rest = w.rest; fails = fails_behind s.finds w.fails; within = within_both s.within w.within; opens = w.opens })
 
-  read_first : {a b : Phrase} {n m : ℕ} {v : Value a} {ts us : List Marked} → is_at (first a) (tokens_of ts) ≡ true → Read a n v m ts us → Read (either a b) n (inl v) m ts us
+  read_first : {a b : Phrase} {n m : ℕ} {v : PhraseValue a} {ts us : List Marked} → is_at (first a) (tokens_of ts) ≡ true → Read a n v m ts us → Read (either a b) n (inl v) m ts us
   read_first h (inl s) = inl (record { finds = finds_first h s.finds; within = s.within; levels = s.levels })
   read_first h (inr s) = inr (record { rest = s.rest; fails = fails_first h s.fails; within = s.within; opens = s.opens })
 
-  read_second : {a b : Phrase} {n m : ℕ} {v : Value b} {ts us : List Marked} → is_at (first a) (tokens_of ts) ≡ false → Read b n v m ts us → Read (either a b) n (inr v) m ts us
+  read_second : {a b : Phrase} {n m : ℕ} {v : PhraseValue b} {ts us : List Marked} → is_at (first a) (tokens_of ts) ≡ false → Read b n v m ts us → Read (either a b) n (inr v) m ts us
   read_second h (inl s) = inl (record { finds = finds_second h s.finds; within = s.within; levels = s.levels })
   read_second h (inr s) = inr (record { rest = s.rest; fails = fails_second h s.fails; within = s.within; opens = s.opens })
 
-  read_more : {a : Phrase} {n k m : ℕ} {u : Value a} {vs : List (Value a)} {ts us ws : List Marked} → is_at (first a) (tokens_of ts) ≡ true → Read a n u k ts us → (k ≤ limit → Read (many a) k vs m us ws) → Read (many a) n (u ∷ vs) m ts ws
+  read_more : {a : Phrase} {n k m : ℕ} {u : PhraseValue a} {vs : List (PhraseValue a)} {ts us ws : List Marked} → is_at (first a) (tokens_of ts) ≡ true → Read a n u k ts us → (k ≤ limit → Read (many a) k vs m us ws) → Read (many a) n (u ∷ vs) m ts ws
   read_more h (inr s) r = inr (record { rest = s.rest; fails = fails_one h s.fails; within = s.within; opens = s.opens })
   read_more {a} {n} {k} {m} {u} {vs} {ts} {us} {ws} h (inl s) r = behind (r s.levels)
     where
@@ -76,19 +76,19 @@ module _ (limit : ℕ) where
       behind (inl w) = inl (record { finds = finds_more h s.finds w.finds; within = within_both s.within w.within; levels = w.levels })
       behind (inr w) = inr (record { rest = w.rest; fails = fails_more h s.finds w.fails; within = within_both s.within w.within; opens = w.opens })
 
-  read_presence : {a : Phrase} {n m : ℕ} {v : Value a} {ts us : List Marked} → is_at (first a) (tokens_of ts) ≡ true → Read a n v m ts us → Read (optional a) n (Some v) m ts us
+  read_presence : {a : Phrase} {n m : ℕ} {v : PhraseValue a} {ts us : List Marked} → is_at (first a) (tokens_of ts) ≡ true → Read a n v m ts us → Read (optional a) n (Some v) m ts us
   read_presence h (inl s) = inl (record { finds = finds_presence h s.finds; within = s.within; levels = s.levels })
   read_presence h (inr s) = inr (record { rest = s.rest; fails = fails_presence h s.fails; within = s.within; opens = s.opens })
 
-  read_level : {a : Phrase} {n m : ℕ} {v : Value a} {ts us : List Marked} → n ≤ limit → Read a n v m ts us → Read (level a) n v n ts us
+  read_level : {a : Phrase} {n m : ℕ} {v : PhraseValue a} {ts us : List Marked} → n ≤ limit → Read a n v m ts us → Read (level a) n v n ts us
   read_level h (inl s) = inl (record { finds = finds_level s.finds; within = s.within; levels = h })
   read_level h (inr s) = inr (record { rest = s.rest; fails = fails_level s.fails; within = s.within; opens = s.opens })
 
-  read_rule : {x : Nonterminal} {n m : ℕ} {v : Value (production x)} {ts us : List Marked} → Read (production x) n v m ts us → Read (rule x) n (meaning x v) m ts us
+  read_rule : {x : Nonterminal} {n m : ℕ} {v : PhraseValue (production x)} {ts us : List Marked} → Read (production x) n v m ts us → Read (rule x) n (meaning x v) m ts us
   read_rule (inl s) = inl (record { finds = finds_rule s.finds; within = s.within; levels = s.levels })
   read_rule (inr s) = inr (record { rest = s.rest; fails = fails_rule s.fails; within = s.within; opens = s.opens })
 
-  pub read : {p : Phrase} {n m : ℕ} {v : Value p} {ts us : List Marked} → Spells p n v m ts us → (ks : List Kind) (end : Bool) → decided p ks end ≡ true → Follows ks end us → n ≤ limit → Read p n v m ts us
+  pub read : {p : Phrase} {n m : ℕ} {v : PhraseValue p} {ts us : List Marked} → Spells p n v m ts us → (ks : List Kind) (end : Bool) → decided p ks end ≡ true → Follows ks end us → n ≤ limit → Read p n v m ts us
   read (by_token h) ks end d f l = read_token h l
   read (by_opener h) ks end d f l = read_opener h l
   read (by_both {a = a} {b = b} {us = us} {ws = ws} r s) ks end d f l =

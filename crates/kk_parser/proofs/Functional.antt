@@ -3,13 +3,13 @@ use Rattle.std.proofs.Common.{◌≡◌, ℕ, List, ◌∷◌, Option, Some, ref
 use Rattle.std.proofs.lemmas.Bool.{both_ways}
 use Rattle.kk_syntax.specs.declared.token.LocatedToken.{LocatedToken}
 use Rattle.kk_parser.specs.Kinds.{says}
-use Rattle.kk_parser.specs.Phrases.{Phrase, Value}
+use Rattle.kk_parser.specs.Phrases.{Phrase, PhraseValue}
 use Rattle.kk_parser.specs.Grammar.{meaning}
-use Rattle.kk_parser.specs.Reading.{Finds, finds_token, finds_opener, finds_both, finds_first, finds_second, finds_none, finds_more, finds_absence, finds_presence, finds_level, finds_rule, Failure, Fails, fails_token, fails_opener, fails_deep, fails_front, fails_behind, fails_first, fails_second, fails_one, fails_more, fails_presence, fails_level, fails_rule}
+use Rattle.kk_parser.specs.Reading.{Finds, finds_token, finds_opener, finds_both, finds_first, finds_second, finds_none, finds_more, finds_absence, finds_presence, finds_level, finds_rule, Failure, ReadingFails, fails_token, fails_opener, fails_deep, fails_front, fails_behind, fails_first, fails_second, fails_one, fails_more, fails_presence, fails_level, fails_rule}
 use Rattle.kk_parser.proofs.Begins.{is_at-one}
 
 -- two ends of a reading are one
-pub record Same (p : Phrase) (v w : Value p) (m k : ℕ) (us ws : List LocatedToken) : Type 0 where
+pub record Same (p : Phrase) (v w : PhraseValue p) (m k : ℕ) (us ws : List LocatedToken) : Type 0 where
   pub value : v ≡ w
   pub levels : m ≡ k
   pub rest : us ≡ ws
@@ -24,10 +24,10 @@ cons_path : {A : Type 0} {a c : A} {b d : List A} → a ≡ c → b ≡ d → a 
 cons_path e f = cc
 
 module _ (limit : ℕ) where
-  moved : {p : Phrase} {n k m : ℕ} {v : Value p} {ts us ws : List LocatedToken} → n ≡ k → ts ≡ us → Finds limit p k us v m ws → Finds limit p n ts v m ws
+  moved : {p : Phrase} {n k m : ℕ} {v : PhraseValue p} {ts us ws : List LocatedToken} → n ≡ k → ts ≡ us → Finds limit p k us v m ws → Finds limit p n ts v m ws
   moved {p} {n} {k} {m} {v} {ts} {us} {ws} e f r = subst (λ x. Finds limit p x ts v m ws) (sym e) (subst (λ x. Finds limit p k x v m ws) (sym f) r)
 
-  pub same_finds : {p : Phrase} {n m k : ℕ} {v w : Value p} {ts us ws : List LocatedToken} → Finds limit p n ts v m us → Finds limit p n ts w k ws → Same p v w m k us ws
+  pub same_finds : {p : Phrase} {n m k : ℕ} {v w : PhraseValue p} {ts us ws : List LocatedToken} → Finds limit p n ts v m us → Finds limit p n ts w k ws → Same p v w m k us ws
   same_finds (finds_token {k = k} {t = t} {v = v} h) (finds_token {v = w} h') = record { value = same_words (says k t) v w h h'; levels = refl; rest = refl }
   same_finds (finds_opener {k = k} {t = t} {v = v} h l) (finds_opener {v = w} h' l') = record { value = same_words (says k t) v w h h'; levels = refl; rest = refl }
   same_finds (finds_both r s) (finds_both r' s') =
@@ -52,11 +52,11 @@ module _ (limit : ℕ) where
   same_finds (finds_level r) (finds_level r') = let a = same_finds r r' in record { value = a.value; levels = refl; rest = a.rest }
   same_finds (finds_rule {x = x} r) (finds_rule r') = let a = same_finds r r' in record { value = ap (meaning x) a.value; levels = a.levels; rest = a.rest }
 
-  fails_moved : {p : Phrase} {n k : ℕ} {ts us : List LocatedToken} {f : Failure} → n ≡ k → ts ≡ us → Fails limit p k us f → Fails limit p n ts f
-  fails_moved {p} {n} {k} {ts} {us} {f} e d r = subst (λ x. Fails limit p x ts f) (sym e) (subst (λ x. Fails limit p k x f) (sym d) r)
+  fails_moved : {p : Phrase} {n k : ℕ} {ts us : List LocatedToken} {f : Failure} → n ≡ k → ts ≡ us → ReadingFails limit p k us f → ReadingFails limit p n ts f
+  fails_moved {p} {n} {k} {ts} {us} {f} e d r = subst (λ x. ReadingFails limit p x ts f) (sym e) (subst (λ x. ReadingFails limit p k x f) (sym d) r)
 
   -- what is found does not fail
-  pub never_both : {p : Phrase} {n m : ℕ} {v : Value p} {ts us : List LocatedToken} {f : Failure} → Finds limit p n ts v m us → Fails limit p n ts f → ⊥
+  pub never_both : {p : Phrase} {n m : ℕ} {v : PhraseValue p} {ts us : List LocatedToken} {f : Failure} → Finds limit p n ts v m us → ReadingFails limit p n ts f → ⊥
   never_both (finds_token {k = k} {t = t} {v = v} {us = us} h) (fails_token h') = both_ways _ h' (is_at-one k t us v h)
   never_both (finds_opener {k = k} {t = t} {v = v} {us = us} h l) (fails_opener h') = both_ways _ h' (is_at-one k t us v h)
   never_both (finds_opener h l) (fails_deep h' d) = omega arith
@@ -76,7 +76,7 @@ module _ (limit : ℕ) where
   never_both (finds_rule r) (fails_rule r') = never_both r r'
 
   -- a reading fails in one way
-  pub same_fails : {p : Phrase} {n : ℕ} {ts : List LocatedToken} {f g : Failure} → Fails limit p n ts f → Fails limit p n ts g → f ≡ g
+  pub same_fails : {p : Phrase} {n : ℕ} {ts : List LocatedToken} {f g : Failure} → ReadingFails limit p n ts f → ReadingFails limit p n ts g → f ≡ g
   same_fails (fails_token h) (fails_token h') = refl
   same_fails (fails_opener h) (fails_opener h') = refl
   same_fails (fails_opener h) (fails_deep h' d') = absurd (both_ways _ h h')

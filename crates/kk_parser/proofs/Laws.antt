@@ -5,8 +5,8 @@ use Rattle.kk_syntax.specs.declared.token.LocatedToken.{LocatedToken}
 use Rattle.kk_syntax.specs.Programs.{FunctionTree}
 use Rattle.kk_parser.specs.Phrases.{program, rule}
 use Rattle.kk_parser.specs.Spells.{Marked, tokens_of}
-use Rattle.kk_parser.specs.Reading.{Fails, too_deep}
-use Rattle.kk_parser.specs.Parses.{IsProgram, BeginsProgram, AtMost, HasTree, GoesOn, IsUnexpected, IsTooDeep, OneProgram, OneAnswer}
+use Rattle.kk_parser.specs.Reading.{ReadingFails, too_deep}
+use Rattle.kk_parser.specs.Parses.{SpellsProgram, BeginsProgram, AtMost, HasTree, GoesOn, IsUnexpected, IsTooDeep, OneProgram}
 use Rattle.kk_parser.proofs.Complete.{Within, all_within, one_within, Opens}
 use Rattle.kk_parser.proofs.Functional.{never_both, same_fails}
 use Rattle.kk_parser.proofs.Local.{one_next, fails_alike}
@@ -25,12 +25,12 @@ split_marked (t ∷ ts) (x ∷ xs) ys e =
 begun_goes_on : (before : List LocatedToken) (t : LocatedToken) (more rest : List LocatedToken) (front : List Marked) → BeginsProgram front → tokens_of front ≡ before ++ t ∷ more → GoesOn before (t ∷ rest)
 begun_goes_on before t more rest front b e =
     let s = split_marked front (before ++ t ∷ []) more (e ∙ sym (append_assoc before (t ∷ []) more)) in
-    (s.0, (b.0, s.1 ++ b.1, subst (λ ts. IsProgram b.0 ts) (ap (λ ts. ts ++ b.1) s.2 ∙ append_assoc s.0 s.1 b.1) b.2), s.3)
+    (s.0, (b.0, s.1 ++ b.1, subst (λ ts. SpellsProgram b.0 ts) (ap (λ ts. ts ++ b.1) s.2 ∙ append_assoc s.0 s.1 b.1) b.2), s.3)
 
 tree_goes_on : (before rest : List LocatedToken) (functions : List FunctionTree) → HasTree (before ++ rest) functions → GoesOn before rest
 tree_goes_on before [] functions h = (functions, h.marked, h.program, h.tokens_are ∙ append-nil before)
 tree_goes_on before (t ∷ rest) functions h =
-    begun_goes_on before t rest rest h.marked (functions, [], subst (λ ts. IsProgram functions ts) (sym (append-nil h.marked)) h.program) h.tokens_are
+    begun_goes_on before t rest rest h.marked (functions, [], subst (λ ts. SpellsProgram functions ts) (sym (append-nil h.marked)) h.program) h.tokens_are
 
 -- of two fronts of one list one goes on as the other's rest does
 data Fronts (xs ys us ws : List LocatedToken) : Type 0 where
@@ -82,25 +82,25 @@ never_whole (one_within m r) [] rest opener e n l = omega (arith, m, ap (λ x. x
 never_whole (one_within m r) (x ∷ front) rest opener e n l = never_whole r front rest opener (cons_tail e) n l
 
 -- where the reading fails at a token that opens a level too many, it does so whatever is behind that token
-moved_failure : (before later other : List LocatedToken) (t : LocatedToken) → Fails 200 (rule program) 0 (before ++ t ∷ later) (too_deep (t ∷ later)) → Fails 200 (rule program) 0 (before ++ t ∷ other) (too_deep (t ∷ other))
+moved_failure : (before later other : List LocatedToken) (t : LocatedToken) → ReadingFails 200 (rule program) 0 (before ++ t ∷ later) (too_deep (t ∷ later)) → ReadingFails 200 (rule program) 0 (before ++ t ∷ other) (too_deep (t ∷ other))
 moved_failure before later other t r =
     let a = fails_alike 200 r (one_next {us = other}) in
-    subst (λ ts. Fails 200 (rule program) 0 ts (too_deep (t ∷ other))) (turned_tokens before (t ∷ later) (t ∷ other) a.before a.turns) a.fails
+    subst (λ ts. ReadingFails 200 (rule program) 0 ts (too_deep (t ∷ other))) (turned_tokens before (t ∷ later) (t ∷ other) a.before a.turns) a.fails
 
 -- where a token opens a level too many, the reading fails there
-too_deep_fails : (before rest : List LocatedToken) → IsTooDeep before rest → Fails 200 (rule program) 0 (before ++ rest) (too_deep rest)
+too_deep_fails : (before rest : List LocatedToken) → IsTooDeep before rest → ReadingFails 200 (rule program) 0 (before ++ rest) (too_deep rest)
 too_deep_fails before rest d =
     let later = d.begins.1 in
     let ts = d.front ++ d.opener ∷ later in
-    let p : IsProgram d.begins.0 ts = subst (λ us. IsProgram d.begins.0 us) (append_assoc d.front (d.opener ∷ []) later) d.begins.2 in
+    let p : SpellsProgram d.begins.0 ts = subst (λ us. SpellsProgram d.begins.0 us) (append_assoc d.front (d.opener ∷ []) later) d.begins.2 in
     let tokens : tokens_of ts ≡ before ++ d.opener.token ∷ tokens_of later = tokens_of-append d.front (d.opener ∷ later) ∙ ap (λ us. us ++ d.opener.token ∷ tokens_of later) d.tokens_are in
     elim (program_read p 200).1 [
       | inl w ↦ absurd (never_whole w.within d.front later d.opener refl refl d.opens)
-      | inr q ↦ at_rest (subst (λ us. Fails 200 (rule program) 0 us (too_deep (d.opener.token ∷ tokens_of later))) tokens (subst (λ us. Fails 200 (rule program) 0 (tokens_of ts) (too_deep (tokens_of us))) (too_many_there q.within d.front later d.opener refl q.opens d.shallow d.opens) q.fails))
+      | inr q ↦ at_rest (subst (λ us. ReadingFails 200 (rule program) 0 us (too_deep (d.opener.token ∷ tokens_of later))) tokens (subst (λ us. ReadingFails 200 (rule program) 0 (tokens_of ts) (too_deep (tokens_of us))) (too_many_there q.within d.front later d.opener refl q.opens d.shallow d.opens) q.fails))
     ]
   where
-    at_rest : Fails 200 (rule program) 0 (before ++ d.opener.token ∷ tokens_of d.begins.1) (too_deep (d.opener.token ∷ tokens_of d.begins.1)) → Fails 200 (rule program) 0 (before ++ rest) (too_deep rest)
-    at_rest r = subst (λ us. Fails 200 (rule program) 0 (before ++ us) (too_deep us)) (sym d.next_is) (moved_failure before (tokens_of d.begins.1) d.later d.opener.token r)
+    at_rest : ReadingFails 200 (rule program) 0 (before ++ d.opener.token ∷ tokens_of d.begins.1) (too_deep (d.opener.token ∷ tokens_of d.begins.1)) → ReadingFails 200 (rule program) 0 (before ++ rest) (too_deep rest)
+    at_rest r = subst (λ us. ReadingFails 200 (rule program) 0 (before ++ us) (too_deep us)) (sym d.next_is) (moved_failure before (tokens_of d.begins.1) d.later d.opener.token r)
 
 tokens_of-length : (ts : List Marked) → length (tokens_of ts) ≡ length ts
 tokens_of-length [] = refl
@@ -112,13 +112,13 @@ opener_goes_on before rest d front t more later e =
     begun_goes_on front t more later (d.front ++ d.opener ∷ []) d.begins (tokens_of-append d.front (d.opener ∷ []) ∙ ap (λ ts. ts ++ d.opener.token ∷ []) d.tokens_are ∙ e)
 
 -- behind a token that opens a level too many, none is the first that is unexpected
-passed : (before rest front : List LocatedToken) (t : LocatedToken) (more later : List LocatedToken) → before ≡ front ++ t ∷ more → IsUnexpected before rest → Fails 200 (rule program) 0 (front ++ t ∷ later) (too_deep (t ∷ later)) → ⊥
+passed : (before rest front : List LocatedToken) (t : LocatedToken) (more later : List LocatedToken) → before ≡ front ++ t ∷ more → IsUnexpected before rest → ReadingFails 200 (rule program) 0 (front ++ t ∷ later) (too_deep (t ∷ later)) → ⊥
 passed before rest front t more later e u r =
     let behind = u.begins.1 in
     let tokens : tokens_of (u.front ++ behind) ≡ front ++ t ∷ (more ++ tokens_of behind) =
     tokens_of-append u.front behind ∙ ap (λ ts. ts ++ tokens_of behind) (u.tokens_are ∙ e) ∙ append_assoc front (t ∷ more) (tokens_of behind) in
-    let s : Fails 200 (rule program) 0 (tokens_of (u.front ++ behind)) (too_deep (t ∷ (more ++ tokens_of behind))) =
-    subst (λ ts. Fails 200 (rule program) 0 ts (too_deep (t ∷ (more ++ tokens_of behind)))) (sym tokens) (moved_failure front later (more ++ tokens_of behind) t r) in
+    let s : ReadingFails 200 (rule program) 0 (tokens_of (u.front ++ behind)) (too_deep (t ∷ (more ++ tokens_of behind))) =
+    subst (λ ts. ReadingFails 200 (rule program) 0 ts (too_deep (t ∷ (more ++ tokens_of behind)))) (sym tokens) (moved_failure front later (more ++ tokens_of behind) t r) in
     elim (program_read u.begins.2 200).1 [
       | inl w ↦ never_both 200 w.finds s
       | inr q ↦ let f : too_deep (tokens_of q.rest) ≡ too_deep (t ∷ (more ++ tokens_of behind)) = same_fails 200 q.fails s in
@@ -131,7 +131,7 @@ unexpected_or_too_deep before rest front later e u d =
     elim (fronts before front rest later e) [
       | same_front f g ↦ u.stuck (subst (λ ts. GoesOn before ts) (sym (g ∙ d.next_is)) (opener_goes_on front later d before d.opener.token [] d.later (ap (λ ts. ts ++ d.opener.token ∷ []) (sym f))))
       | first_shorter t more f g ↦ u.stuck (subst (λ ts. GoesOn before ts) (sym g) (opener_goes_on front later d before t (more ++ d.opener.token ∷ []) (more ++ later) (ap (λ ts. ts ++ d.opener.token ∷ []) f ∙ append_assoc before (t ∷ more) (d.opener.token ∷ []))))
-      | second_shorter t more f g ↦ passed before rest front t more (more ++ rest) f u (subst (λ ts. Fails 200 (rule program) 0 (front ++ ts) (too_deep ts)) g (too_deep_fails front later d))
+      | second_shorter t more f g ↦ passed before rest front t more (more ++ rest) f u (subst (λ ts. ReadingFails 200 (rule program) 0 (front ++ ts) (too_deep ts)) g (too_deep_fails front later d))
     ]
 
 one_unexpected : (before rest front later : List LocatedToken) → before ++ rest ≡ front ++ later → IsUnexpected before rest → IsUnexpected front later → before ≡ front
@@ -144,12 +144,20 @@ one_unexpected before rest front later e u w =
 
 one_too_deep : (before rest front later : List LocatedToken) → before ++ rest ≡ front ++ later → IsTooDeep before rest → IsTooDeep front later → before ≡ front
 one_too_deep before rest front later e d c =
-    let f : too_deep rest ≡ too_deep later = same_fails 200 (subst (λ ts. Fails 200 (rule program) 0 ts (too_deep rest)) e (too_deep_fails before rest d)) (too_deep_fails front later c) in
+    let f : too_deep rest ≡ too_deep later = same_fails 200 (subst (λ ts. ReadingFails 200 (rule program) 0 ts (too_deep rest)) e (too_deep_fails before rest d)) (too_deep_fails front later c) in
     let g : rest ≡ later = cc f in
     append_cancel_right before front later (ap (λ ts. before ++ ts) (sym g) ∙ e)
 
 pub program_law : OneProgram
 program_law functions others ts us p q e = one_program p q e
+
+-- of a tree, an unexpected token and one that opens a level too many, tokens have one alone, and at one place
+pub record OneAnswer : Type 0 where
+  pub tree_or_unexpected : (before rest : List LocatedToken) (functions : List FunctionTree) → HasTree (before ++ rest) functions → IsUnexpected before rest → ⊥
+  pub tree_or_too_deep : (before rest : List LocatedToken) (functions : List FunctionTree) → HasTree (before ++ rest) functions → IsTooDeep before rest → ⊥
+  pub unexpected_or_too_deep : (before rest front later : List LocatedToken) → before ++ rest ≡ front ++ later → IsUnexpected before rest → IsTooDeep front later → ⊥
+  pub one_unexpected : (before rest front later : List LocatedToken) → before ++ rest ≡ front ++ later → IsUnexpected before rest → IsUnexpected front later → before ≡ front
+  pub one_too_deep : (before rest front later : List LocatedToken) → before ++ rest ≡ front ++ later → IsTooDeep before rest → IsTooDeep front later → before ≡ front
 
 pub answer_law : OneAnswer
 answer_law = record {

@@ -2,8 +2,8 @@
 use Rattle.std.proofs.Common.{◌≡◌, ℕ, Bool, ◌||◌, List, [], ◌∷◌, is_some, refl, sym, ap, ◌∙◌}
 use Rattle.kk_syntax.specs.declared.token.LocatedToken.{LocatedToken}
 use Rattle.kk_parser.specs.Kinds.{Kind, next_says, is_at}
-use Rattle.kk_parser.specs.Phrases.{Phrase, Value}
-use Rattle.kk_parser.specs.Reading.{Finds, finds_token, finds_opener, finds_both, finds_first, finds_second, finds_none, finds_more, finds_absence, finds_presence, finds_level, finds_rule, Failure, unexpected, too_deep, Fails, fails_token, fails_opener, fails_deep, fails_front, fails_behind, fails_first, fails_second, fails_one, fails_more, fails_presence, fails_level, fails_rule}
+use Rattle.kk_parser.specs.Phrases.{Phrase, PhraseValue}
+use Rattle.kk_parser.specs.Reading.{Finds, finds_token, finds_opener, finds_both, finds_first, finds_second, finds_none, finds_more, finds_absence, finds_presence, finds_level, finds_rule, Failure, unexpected, too_deep, ReadingFails, fails_token, fails_opener, fails_deep, fails_front, fails_behind, fails_first, fails_second, fails_one, fails_more, fails_presence, fails_level, fails_rule}
 use Rattle.kk_parser.proofs.Sound.{rest_of}
 
 -- the same token is next, or neither has one
@@ -39,20 +39,20 @@ with_rest (too_deep rest) us = too_deep us
 
 module _ (limit : ℕ) where
   -- the same tokens are read so before others
-  pub record FindsAlike (p : Phrase) (n : ℕ) (ts : List LocatedToken) (v : Value p) (m : ℕ) (us us' : List LocatedToken) : Type 0 where
+  pub record FindsAlike (p : Phrase) (n : ℕ) (ts : List LocatedToken) (v : PhraseValue p) (m : ℕ) (us us' : List LocatedToken) : Type 0 where
     pub before : List LocatedToken
     pub finds : Finds limit p n before v m us'
     pub turns : Turns ts us before us'
 
   pub record FailsAlike (p : Phrase) (n : ℕ) (ts : List LocatedToken) (f : Failure) (us' : List LocatedToken) : Type 0 where
     pub before : List LocatedToken
-    pub fails : Fails limit p n before (with_rest f us')
+    pub fails : ReadingFails limit p n before (with_rest f us')
     pub turns : Turns ts (rest_of f) before us'
 
   alike : (ks : List Kind) (b : Bool) {ts us ts' us' : List LocatedToken} → Turns ts us ts' us' → is_at ks ts ≡ b → is_at ks ts' ≡ b
   alike ks b r e = sym (is_at-next ks (same_next r)) ∙ e
 
-  pub finds_alike : {p : Phrase} {n m : ℕ} {v : Value p} {ts us us' : List LocatedToken} → Finds limit p n ts v m us → SameNext us us' → FindsAlike p n ts v m us us'
+  pub finds_alike : {p : Phrase} {n m : ℕ} {v : PhraseValue p} {ts us us' : List LocatedToken} → Finds limit p n ts v m us → SameNext us us' → FindsAlike p n ts v m us us'
   finds_alike {us' = us'} (finds_token {t = t} h) x = record { before = t ∷ us'; finds = finds_token h; turns = turns_behind (turns_here x) }
   finds_alike {us' = us'} (finds_opener {t = t} h l) x = record { before = t ∷ us'; finds = finds_opener h l; turns = turns_behind (turns_here x) }
   finds_alike (finds_both r s) x =
@@ -71,7 +71,7 @@ module _ (limit : ℕ) where
   finds_alike (finds_level r) x = let a = finds_alike r x in record { before = a.before; finds = finds_level a.finds; turns = a.turns }
   finds_alike (finds_rule r) x = let a = finds_alike r x in record { before = a.before; finds = finds_rule a.finds; turns = a.turns }
 
-  pub fails_alike : {p : Phrase} {n : ℕ} {ts us' : List LocatedToken} {f : Failure} → Fails limit p n ts f → SameNext (rest_of f) us' → FailsAlike p n ts f us'
+  pub fails_alike : {p : Phrase} {n : ℕ} {ts us' : List LocatedToken} {f : Failure} → ReadingFails limit p n ts f → SameNext (rest_of f) us' → FailsAlike p n ts f us'
   fails_alike {us' = us'} (fails_token {k = k} h) x = record { before = us'; fails = fails_token (sym (is_at-next (k ∷ []) x) ∙ h); turns = turns_here x }
   fails_alike {us' = us'} (fails_opener {k = k} h) x = record { before = us'; fails = fails_opener (sym (is_at-next (k ∷ []) x) ∙ h); turns = turns_here x }
   fails_alike {us' = us'} (fails_deep {k = k} h d) x = record { before = us'; fails = fails_deep (sym (is_at-next (k ∷ []) x) ∙ h) d; turns = turns_here x }

@@ -8,13 +8,13 @@ use Rattle.kk_syntax.specs.declared.token.Token.TheVariants as OfToken
 use Rattle.kk_syntax.specs.contracts.token.Keyword.{the_type as the_keywords}
 use Rattle.kk_syntax.specs.contracts.token.Symbol.{the_type as the_symbols}
 use Rattle.kk_parser.specs.Kinds.{Kind, keyword, symbol, word, number, string, Said, says}
-use Rattle.kk_parser.specs.Phrases.{Nonterminal, program, main_function, block, statement, print, said, expr, add, mul, un, atom, Phrase, token, opener, ◌▸◌, either, many, optional, level, rule, Value}
+use Rattle.kk_parser.specs.Phrases.{Nonterminal, program, main_function, block, statement, print, said, expr, add, mul, un, atom, Phrase, token, opener, ◌▸◌, either, many, optional, level, rule, PhraseValue}
 use Rattle.kk_parser.specs.Grammar.{production, meaning}
 use Rattle.kk_parser.specs.Spells.{Marked, Spells, by_token, by_opener, by_both, by_first, by_second, by_none, by_absence, by_level, by_rule}
 
 -- a text of a phrase
 pub record Text (p : Phrase) (n : ℕ) : Type 0 where
-  pub value : Value p
+  pub value : PhraseValue p
   pub levels : ℕ
   pub spelled : (us : List Marked) → (ts : List Marked) × Spells p n value levels ts us
 

@@ -2,10 +2,10 @@
 use Rattle.std.proofs.Common.{◌≡◌, ℕ, ◌+◌, ◌<◌, ◌≤◌, Bool, true, false, List, [], ◌∷◌, Option, Some, is_some, refl, sym, ◌∙◌, subst, inl, inr, arith}
 use Rattle.kk_syntax.specs.declared.token.LocatedToken.{LocatedToken}
 use Rattle.kk_parser.specs.Kinds.{Kind, Said, says, is_at}
-use Rattle.kk_parser.specs.Phrases.{Phrase, token, opener, Value}
+use Rattle.kk_parser.specs.Phrases.{Phrase, token, opener, PhraseValue}
 use Rattle.kk_parser.specs.Grammar.{meaning}
 use Rattle.kk_parser.specs.Spells.{Marked, Spells, by_token, by_opener, by_both, by_first, by_second, by_none, by_more, by_absence, by_presence, by_level, by_rule}
-use Rattle.kk_parser.specs.Reading.{Finds, finds_token, finds_opener, finds_both, finds_first, finds_second, finds_none, finds_more, finds_absence, finds_presence, finds_level, finds_rule, Failure, unexpected, too_deep, Fails, fails_token, fails_opener, fails_deep, fails_front, fails_behind, fails_first, fails_second, fails_one, fails_more, fails_presence, fails_level, fails_rule}
+use Rattle.kk_parser.specs.Reading.{Finds, finds_token, finds_opener, finds_both, finds_first, finds_second, finds_none, finds_more, finds_absence, finds_presence, finds_level, finds_rule, Failure, unexpected, too_deep, ReadingFails, fails_token, fails_opener, fails_deep, fails_front, fails_behind, fails_first, fails_second, fails_one, fails_more, fails_presence, fails_level, fails_rule}
 use Rattle.kk_parser.proofs.Samples.{a_text}
 
 -- Fronts limit xs zs ts us: the tokens of xs up to zs are those of ts up to us, and no more than `limit` levels are open
@@ -39,8 +39,17 @@ reaches_behind : {limit : ℕ} {xs ys : List Marked} {ts us : List LocatedToken}
 reaches_behind no_front s = s
 reaches_behind (one_front h r) s = behind h (reaches_behind r s)
 
+-- what the first token says where it is of a kind
+pub next_of : (k : Kind) (ts : List LocatedToken) → is_at (k ∷ []) ts ≡ true → (t : LocatedToken) × (us : List LocatedToken) × (v : Said k) × (ts ≡ t ∷ us) × (says k t ≡ Some v)
+next_of k [] h = absurd (cc h)
+next_of k (t ∷ us) h = let w = words (says k t) h in (t, us, w.0, refl, w.1)
+  where
+    words : (o : Option (Said k)) → Rattle.std.proofs.Common.◌||◌ (is_some o) false ≡ true → (v : Said k) × (o ≡ Some v)
+    words (Some v) e = (v, refl)
+    words Rattle.std.proofs.Common.None e = absurd (cc e)
+
 module _ (limit : ℕ) where
-  levels_kept : {p : Phrase} {n m : ℕ} {v : Value p} {ts us : List LocatedToken} → Finds limit p n ts v m us → n ≤ limit → m ≤ limit
+  levels_kept : {p : Phrase} {n m : ℕ} {v : PhraseValue p} {ts us : List LocatedToken} → Finds limit p n ts v m us → n ≤ limit → m ≤ limit
   levels_kept (finds_token h) l = l
   levels_kept (finds_opener h k) l = omega arith
   levels_kept (finds_both r s) l = levels_kept s (levels_kept r l)
@@ -54,10 +63,10 @@ module _ (limit : ℕ) where
   levels_kept (finds_rule r) l = levels_kept r l
 
   -- a text whose tokens are those read, before any others
-  abbrev Spelled : (p : Phrase) → ℕ → Value p → ℕ → List LocatedToken → List LocatedToken → List Marked → Type 0
+  abbrev Spelled : (p : Phrase) → ℕ → PhraseValue p → ℕ → List LocatedToken → List LocatedToken → List Marked → Type 0
   Spelled p n v m ts us zs = (xs : List Marked) × Spells p n v m xs zs × Fronts limit xs zs ts us
 
-  pub spelled : {p : Phrase} {n m : ℕ} {v : Value p} {ts us : List LocatedToken} → Finds limit p n ts v m us → n ≤ limit → (zs : List Marked) → Spelled p n v m ts us zs
+  pub spelled : {p : Phrase} {n m : ℕ} {v : PhraseValue p} {ts us : List LocatedToken} → Finds limit p n ts v m us → n ≤ limit → (zs : List Marked) → Spelled p n v m ts us zs
   spelled (finds_token {t = t} {n = n} h) l zs = (record { token = t; levels = n } ∷ zs, by_token h, one_front l no_front)
   spelled (finds_opener {t = t} {n = n} h k) l zs = (record { token = t; levels = n + 1 } ∷ zs, by_opener h, one_front (omega arith) no_front)
   spelled (finds_both r s) l zs =
@@ -78,17 +87,9 @@ module _ (limit : ℕ) where
 
   -- a text that begins with the tokens read up to where the reading fails
   pub record Begun (p : Phrase) (n : ℕ) (ts : List LocatedToken) (f : Failure) : Type 0 where
-    pub value : Value p
+    pub value : PhraseValue p
     pub levels : ℕ
     pub text : (zs : List Marked) → (xs : List Marked) × Spells p n value levels xs zs × Reaches limit xs ts f
-
-  next_of : (k : Kind) (ts : List LocatedToken) → is_at (k ∷ []) ts ≡ true → (t : LocatedToken) × (us : List LocatedToken) × (v : Said k) × (ts ≡ t ∷ us) × (says k t ≡ Some v)
-  next_of k [] h = absurd (cc h)
-  next_of k (t ∷ us) h = let w = words (says k t) h in (t, us, w.0, refl, w.1)
-    where
-      words : (o : Option (Said k)) → Rattle.std.proofs.Common.◌||◌ (is_some o) false ≡ true → (v : Said k) × (o ≡ Some v)
-      words (Some v) e = (v, refl)
-      words Rattle.std.proofs.Common.None e = absurd (cc e)
 
   begun_deep : (k : Kind) (n : ℕ) (ts : List LocatedToken) → is_at (k ∷ []) ts ≡ true → limit ≤ n → n ≤ limit → Begun (opener k) n ts (too_deep ts)
   begun_deep k n ts h d l =
@@ -99,7 +100,7 @@ module _ (limit : ℕ) where
         text = λ zs. (record { token = t.0; levels = n + 1 } ∷ zs, by_opener t.4, there refl (omega arith, t.1, t.3));
       }
 
-  pub begun : {p : Phrase} {n : ℕ} {ts : List LocatedToken} {f : Failure} → Fails limit p n ts f → n ≤ limit → Begun p n ts f
+  pub begun : {p : Phrase} {n : ℕ} {ts : List LocatedToken} {f : Failure} → ReadingFails limit p n ts f → n ≤ limit → Begun p n ts f
   begun (fails_token {k = k} {n = n} h) l =
       let t = a_text (token k) n in
       record { value = t.value; levels = t.levels; text = λ zs. ((t.spelled zs).0, (t.spelled zs).1, there refl tt) }

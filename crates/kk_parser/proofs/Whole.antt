@@ -5,8 +5,8 @@ use Rattle.kk_syntax.specs.declared.token.LocatedToken.{LocatedToken}
 use Rattle.kk_syntax.specs.Programs.{FunctionTree}
 use Rattle.kk_parser.specs.Phrases.{program, Phrase, rule}
 use Rattle.kk_parser.specs.Spells.{Marked, tokens_of, Spells}
-use Rattle.kk_parser.specs.Reading.{Finds, Failure, unexpected, too_deep, Fails}
-use Rattle.kk_parser.specs.Parses.{IsProgram, AtMost, HasTree, GoesOn, IsUnexpected, IsTooDeep}
+use Rattle.kk_parser.specs.Reading.{Finds, Failure, unexpected, too_deep, ReadingFails}
+use Rattle.kk_parser.specs.Parses.{SpellsProgram, AtMost, HasTree, GoesOn, IsUnexpected, IsTooDeep}
 use Rattle.kk_parser.proofs.Complete.{Within, all_within, one_within, Opens, Read, read}
 use Rattle.kk_parser.proofs.Sound.{Fronts, no_front, one_front, spelled, rest_of, Opened, Reaches, there, behind, begun}
 use Rattle.kk_parser.proofs.Functional.{same_finds, never_both, same_fails}
@@ -61,7 +61,7 @@ has_tree {functions} {m} {ts} r =
 record Continued (before us : List LocatedToken) : Type 0 where
   pub functions : List FunctionTree
   pub marked : List Marked
-  pub program : IsProgram functions marked
+  pub program : SpellsProgram functions marked
   pub rest : List LocatedToken
   pub next : SameNext us rest
   pub tokens : tokens_of marked ≡ before ++ rest
@@ -91,18 +91,18 @@ turned_tokens before us rest other r =
     t.2 ∙ ap (λ front. front ++ rest) (sym (append_cancel_right before t.0 us t.1))
 
 -- the reading of a program
-pub program_read : {functions : List FunctionTree} {ts : List Marked} → IsProgram functions ts → (limit : ℕ) → (m : ℕ) × Read limit (rule program) 0 functions m ts []
+pub program_read : {functions : List FunctionTree} {ts : List Marked} → SpellsProgram functions ts → (limit : ℕ) → (m : ℕ) × Read limit (rule program) 0 functions m ts []
 program_read p limit = (p.0, read limit p.1 [] true refl (inr (refl, refl)) (omega arith))
 
-unmoved : {p : Phrase} {n : ℕ} {ts us : List LocatedToken} {f : Failure} → ts ≡ us → Fails 200 p n ts f → Fails 200 p n us f
-unmoved {p} {n} {ts} {us} {f} e r = subst (λ x. Fails 200 p n x f) e r
+unmoved : {p : Phrase} {n : ℕ} {ts us : List LocatedToken} {f : Failure} → ts ≡ us → ReadingFails 200 p n ts f → ReadingFails 200 p n us f
+unmoved {p} {n} {ts} {us} {f} e r = subst (λ x. ReadingFails 200 p n x f) e r
 
 -- where a reading fails since a token is unexpected, no program goes on with it
-stuck_fails : (before us : List LocatedToken) → Fails 200 (rule program) 0 (before ++ us) (unexpected us) → GoesOn before us → ⊥
+stuck_fails : (before us : List LocatedToken) → ReadingFails 200 (rule program) 0 (before ++ us) (unexpected us) → GoesOn before us → ⊥
 stuck_fails before us r g =
     let c = continued before us g in
     let a = fails_alike 200 r c.next in
-    let s : Fails 200 (rule program) 0 (tokens_of c.marked) (unexpected c.rest) = unmoved (turned_tokens before us c.rest a.before a.turns ∙ sym c.tokens) a.fails in
+    let s : ReadingFails 200 (rule program) 0 (tokens_of c.marked) (unexpected c.rest) = unmoved (turned_tokens before us c.rest a.before a.turns ∙ sym c.tokens) a.fails in
     elim (program_read c.program 200).1 [ inl w ↦ never_both 200 w.finds s | inr q ↦ absurd (cc (same_fails 200 q.fails s)) ]
 
 no_rest : (t : LocatedToken) (us rest : List LocatedToken) → SameNext (t ∷ us) rest → [] ≡ rest → ⊥
@@ -118,7 +118,7 @@ stuck_finds before t us {functions} {m} r g =
     elim (program_read c.program 200).1 [ inl w ↦ no_rest t us c.rest c.next ((same_finds 200 w.finds s).rest) | inr q ↦ never_both 200 s q.fails ]
 
 -- where the reading of a program fails since a token is unexpected, it is the first such token
-pub fails_unexpected : {ts us : List LocatedToken} → Fails 200 (rule program) 0 ts (unexpected us) → (before : List LocatedToken) × (before ++ us ≡ ts) × IsUnexpected before us
+pub fails_unexpected : {ts us : List LocatedToken} → ReadingFails 200 (rule program) 0 ts (unexpected us) → (before : List LocatedToken) × (before ++ us ≡ ts) × IsUnexpected before us
 fails_unexpected {ts} {us} r =
     let b = begun 200 r (omega arith) in
     let x = b.text [] in
@@ -154,7 +154,7 @@ finds_unexpected {functions} {m} {ts} {t} {us} r =
     )
 
 -- where the reading of a program fails for depth, the token there opens the first level too many
-pub fails_too_deep : {ts us : List LocatedToken} → Fails 200 (rule program) 0 ts (too_deep us) → (before : List LocatedToken) × (before ++ us ≡ ts) × IsTooDeep before us
+pub fails_too_deep : {ts us : List LocatedToken} → ReadingFails 200 (rule program) 0 ts (too_deep us) → (before : List LocatedToken) × (before ++ us ≡ ts) × IsTooDeep before us
 fails_too_deep {ts} {us} r =
     let b = begun 200 r (omega arith) in
     let x = b.text [] in
@@ -183,7 +183,7 @@ too_many {limit} (all_within {us = us}) o h = here us o h
 too_many (one_within l r) o h = too_many r o h.1
 
 -- a program at whose tokens no more than `limit` levels are open is found
-program_found : (limit : ℕ) {functions : List FunctionTree} {ts : List Marked} → IsProgram functions ts → AtMost limit ts → (m : ℕ) × Finds limit (rule program) 0 (tokens_of ts) functions m []
+program_found : (limit : ℕ) {functions : List FunctionTree} {ts : List Marked} → SpellsProgram functions ts → AtMost limit ts → (m : ℕ) × Finds limit (rule program) 0 (tokens_of ts) functions m []
 program_found limit p h =
     let r = program_read p limit in
     (r.0, elim r.1 [ inl w ↦ w.finds | inr q ↦ absurd (too_many q.within q.opens h) ])
@@ -204,7 +204,7 @@ at_most_summed [] more = tt
 at_most_summed (t ∷ ts) more = (omega arith, subst (λ limit. AtMost limit ts) (omega arith) (at_most_summed ts (t.levels + more)))
 
 -- tokens spell one program, however deep it is nested
-pub one_program : {functions others : List FunctionTree} {ts us : List Marked} → IsProgram functions ts → IsProgram others us → tokens_of ts ≡ tokens_of us → functions ≡ others
+pub one_program : {functions others : List FunctionTree} {ts us : List Marked} → SpellsProgram functions ts → SpellsProgram others us → tokens_of ts ≡ tokens_of us → functions ≡ others
 one_program {functions} {others} {ts} {us} p q e =
     let limit = summed ts + summed us in
     let a = program_found limit p (at_most_summed ts (summed us)) in

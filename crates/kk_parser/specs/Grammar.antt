@@ -10,7 +10,7 @@ use Rattle.kk_syntax.specs.declared.tree.PrintForm.{PrintForm}
 use Rattle.kk_syntax.specs.declared.tree.PrintForm.TheVariants as Form
 use Rattle.kk_syntax.specs.declared.tree.UnaryOperator.TheVariants.{Negate}
 use Rattle.kk_parser.specs.Kinds.{keyword, symbol, word, number, string}
-use Rattle.kk_parser.specs.Phrases.{Nonterminal, program, main_function, block, statement, print, said, expr, add, mul, un, atom, Meant, Phrase, token, opener, ◌▸◌, either, many, optional, level, rule, Value}
+use Rattle.kk_parser.specs.Phrases.{Nonterminal, program, main_function, block, statement, print, said, expr, add, mul, un, atom, Meant, Phrase, token, opener, ◌▸◌, either, many, optional, level, rule, PhraseValue}
 
 -- none or more semicolons
 abbrev pub semicolons : Phrase
@@ -62,20 +62,20 @@ production un = either (opener (symbol Tilde) ▸ rule un) (rule atom)
 production atom = either (token number) (bracketed (rule expr))
 
 -- the form of a print
-abbrev pub print_form : Value print_word → PrintForm
+abbrev pub print_form : PhraseValue print_word → PrintForm
 print_form (inl at) = Form.Print
 print_form (inr at) = Form.PrintLine
 
 -- the operator of a sum
-abbrev pub sum_of : Value sum_operator → BinaryOperator
-sum_of (inl _) = Add
-sum_of (inr _) = Subtract
+abbrev pub sum_operator_of : PhraseValue sum_operator → BinaryOperator
+sum_operator_of (inl _) = Add
+sum_operator_of (inr _) = Subtract
 
 -- the operator of a product
-abbrev pub product_of : Value product_operator → BinaryOperator
-product_of (inl _) = Multiply
-product_of (inr (inl _)) = Divide
-product_of (inr (inr _)) = Remainder
+abbrev pub product_operator_of : PhraseValue product_operator → BinaryOperator
+product_operator_of (inl _) = Multiply
+product_operator_of (inr (inl _)) = Divide
+product_operator_of (inr (inr _)) = Remainder
 
 -- operators of one level of precedence group to the left
 abbrev pub to_left : {A : Type 0} → (A → BinaryOperator) → Tree → List (A × Tree) → Tree
@@ -104,7 +104,7 @@ block_of [] value = value
 block_of (t ∷ ts) value = Block (trees_of (t ∷ ts)) value
 
 -- what a text of a production means
-abbrev pub meaning : (x : Nonterminal) → Value (production x) → Meant x
+abbrev pub meaning : (x : Nonterminal) → PhraseValue (production x) → Meant x
 meaning program (_, None) = []
 meaning program (_, Some (function, _)) = function ∷ []
 meaning main_function (_, (at, (_, (_, body)))) = record { name = codes "main"; at = at; body = body }
@@ -115,8 +115,8 @@ meaning print (form, (_, (inl text, _))) = print_text (print_form form) text
 meaning print (form, (_, (inr value, _))) = Print (print_form form) value
 meaning said (text, (_, (form, _))) = print_text (print_form form) text
 meaning expr t = t
-meaning add (left, more) = to_left sum_of left more
-meaning mul (left, more) = to_left product_of left more
+meaning add (left, more) = to_left sum_operator_of left more
+meaning mul (left, more) = to_left product_operator_of left more
 meaning un (inl (_, operand)) = unary Negate operand
 meaning un (inr t) = t
 meaning atom (inl value) = Number value

@@ -8,8 +8,8 @@ use Rattle.kk_parser.specs.declared.fault.Fault.{Fault}
 use Rattle.kk_parser.specs.declared.fault.Fault.TheVariants.{Unexpected, TooDeep, NoMemory}
 use Rattle.kk_parser.specs.declared.parser.Parser.{Parser}
 use Rattle.kk_parser.specs.Kinds.{is_at}
-use Rattle.kk_parser.specs.Phrases.{Phrase, Value}
-use Rattle.kk_parser.specs.Reading.{first, Finds, Fails, unexpected, too_deep}
+use Rattle.kk_parser.specs.Phrases.{Phrase, PhraseValue}
+use Rattle.kk_parser.specs.Reading.{first, Finds, ReadingFails, unexpected, too_deep}
 
 -- the tokens behind the next one
 abbrev pub behind : List LocatedToken → List LocatedToken
@@ -17,34 +17,34 @@ behind [] = []
 behind (t ∷ ts) = ts
 
 -- from one state of the parser to another it read a phrase that says v
-abbrev pub Read : (p : Phrase) → Value p → Parser → Parser → Type 0
+abbrev pub Read : (p : Phrase) → PhraseValue p → Parser → Parser → Type 0
 Read p v old new = Finds 200 p old.depth old.rest.now v new.depth new.rest.now
 
 -- The reading of a phrase failed by a fault, and the parser stands at the token that is the cause. Want of memory is
 -- free.
 abbrev pub FailedBy : Fault → Phrase → Parser → Parser → Type 0
-FailedBy Unexpected p old new = Fails 200 p old.depth old.rest.now (unexpected new.rest.now)
-FailedBy TooDeep p old new = Fails 200 p old.depth old.rest.now (too_deep new.rest.now)
+FailedBy Unexpected p old new = ReadingFails 200 p old.depth old.rest.now (unexpected new.rest.now)
+FailedBy TooDeep p old new = ReadingFails 200 p old.depth old.rest.now (too_deep new.rest.now)
 FailedBy NoMemory p old new = Unit {0}
 
 -- a method read a phrase that says what its result says
-abbrev pub Reads : {A : Type 0} (p : Phrase) → (A → Value p) → Result A Fault → Parser → Parser → Type 0
-Reads p view (Ok x) old new = Read p (view x) old new
-Reads p view (Err fault) old new = FailedBy fault p old new
+abbrev pub ReadsPhrase : {A : Type 0} (p : Phrase) → (A → PhraseValue p) → Result A Fault → Parser → Parser → Type 0
+ReadsPhrase p view (Ok x) old new = Read p (view x) old new
+ReadsPhrase p view (Err fault) old new = FailedBy fault p old new
 
 -- a method read a phrase, and gives what is meant by what the phrase says
-abbrev pub ReadsFor : {A : Type 0} (p : Phrase) → (Value p → A) → Result A Fault → Parser → Parser → Type 0
-ReadsFor p means (Ok x) old new = (v : Value p) × (means v ≡ x) × Read p v old new
+abbrev pub ReadsFor : {A : Type 0} (p : Phrase) → (PhraseValue p → A) → Result A Fault → Parser → Parser → Type 0
+ReadsFor p means (Ok x) old new = (v : PhraseValue p) × (means v ≡ x) × Read p v old new
 ReadsFor p means (Err fault) old new = FailedBy fault p old new
 
 -- a method read a phrase where the next token may begin one, and else nothing
-abbrev pub ReadsIfNext : {A : Type 0} (p : Phrase) → (Value p → A) → Result (Option A) Fault → Parser → Parser → Type 0
+abbrev pub ReadsIfNext : {A : Type 0} (p : Phrase) → (PhraseValue p → A) → Result (Option A) Fault → Parser → Parser → Type 0
 ReadsIfNext p means (Ok None) old new = (is_at (first p) old.rest.now ≡ false) × (new.depth ≡ old.depth) × (new.rest.now ≡ old.rest.now)
-ReadsIfNext p means (Ok (Some x)) old new = (is_at (first p) old.rest.now ≡ true) × (v : Value p) × (means v ≡ x) × Read p v old new
+ReadsIfNext p means (Ok (Some x)) old new = (is_at (first p) old.rest.now ≡ true) × (v : PhraseValue p) × (means v ≡ x) × Read p v old new
 ReadsIfNext p means (Err fault) old new = (is_at (first p) old.rest.now ≡ true) × FailedBy fault p old new
 
 -- the same where nothing may fail
-abbrev pub TakesIfNext : (p : Phrase) → Option (Value p) → Parser → Parser → Type 0
+abbrev pub TakesIfNext : (p : Phrase) → Option (PhraseValue p) → Parser → Parser → Type 0
 TakesIfNext p None old new = (is_at (first p) old.rest.now ≡ false) × (new.depth ≡ old.depth) × (new.rest.now ≡ old.rest.now)
 TakesIfNext p (Some v) old new = (is_at (first p) old.rest.now ≡ true) × Read p v old new
 
@@ -55,6 +55,6 @@ Deepens (Err fault) old new = (fault ≡ TooDeep) × (200 ≤ old.depth) × (new
 
 -- the error that a fault is where some tokens were passed, at the place of the next
 abbrev pub error_for : Fault → ℕ → Span → ParseError
-error_for Unexpected passed place = OfError.Unexpected (min passed (2 ^ 32 - 1)) place.line place.column
-error_for TooDeep passed place = OfError.TooDeep (min passed (2 ^ 32 - 1)) place.line place.column
+error_for Unexpected passed place = OfError.Unexpected passed place.line place.column
+error_for TooDeep passed place = OfError.TooDeep passed place.line place.column
 error_for NoMemory passed place = OfError.NoMemory

@@ -1,22 +1,24 @@
 -- What a list of tokens comes to: the tree that it spells, or the first token with which no program goes on, or the
 -- token that opens a level of nesting too many.
-use Rattle.std.specs.Prelude.{◌≡◌, ℕ, ◌-◌, ◌^◌, ◌≤◌, min, List, [], ◌∷◌, ◌++◌, length, map, Result, Ok, Err}
+use Rattle.std.specs.Prelude.{◌≡◌, ℕ, ◌-◌, ◌^◌, ◌≤◌, min, List, [], ◌∷◌, ◌++◌, length, Result, Ok, Err}
+use Rattle.kk_base.specs.Exactly.{IsOnly, ExactlyOne}
 use Rattle.kk_base.specs.declared.span.Span.{Span}
 use Rattle.kk_base.specs.declared.error.ParseError.{ParseError}
 use Rattle.kk_base.specs.declared.error.ParseError.TheVariants.{Unexpected, TooDeep, NoMemory}
 use Rattle.kk_syntax.specs.declared.token.LocatedToken.{LocatedToken}
 use Rattle.kk_syntax.specs.declared.tree.Tree.{Tree}
-use Rattle.kk_syntax.specs.Programs.{FunctionTree, function_tree}
+use Rattle.kk_syntax.specs.Programs.{FunctionTree, WrittenTree, written_tree}
+use Rattle.kk_syntax.specs.TokenList.{TokenList}
 use Rattle.kk_parser.specs.Phrases.{program, rule}
 use Rattle.kk_parser.specs.Spells.{Marked, tokens_of, Spells}
 
 -- marked tokens that are a program with these functions
-abbrev pub IsProgram : List FunctionTree → List Marked → Type 0
-IsProgram functions ts = (m : ℕ) × Spells (rule program) 0 functions m ts []
+abbrev pub SpellsProgram : List FunctionTree → List Marked → Type 0
+SpellsProgram functions ts = (m : ℕ) × Spells (rule program) 0 functions m ts []
 
 -- marked tokens that begin a program
 abbrev pub BeginsProgram : List Marked → Type 0
-BeginsProgram front = (functions : List FunctionTree) × (rest : List Marked) × IsProgram functions (front ++ rest)
+BeginsProgram front = (functions : List FunctionTree) × (rest : List Marked) × SpellsProgram functions (front ++ rest)
 
 -- no more than so many levels are open at each token
 abbrev pub AtMost : ℕ → List Marked → Type 0
@@ -28,11 +30,11 @@ pub record HasTree (tokens : List LocatedToken) (functions : List FunctionTree) 
   pub marked : List Marked
   pub tokens_are : tokens_of marked ≡ tokens
   pub shallow : AtMost 200 marked
-  pub program : IsProgram functions marked
+  pub program : SpellsProgram functions marked
 
 -- behind these tokens some program goes on with the first of `rest`; where there is none, some program ends
 abbrev pub GoesOn : List LocatedToken → List LocatedToken → Type 0
-GoesOn before [] = (functions : List FunctionTree) × (ts : List Marked) × IsProgram functions ts × (tokens_of ts ≡ before)
+GoesOn before [] = (functions : List FunctionTree) × (ts : List Marked) × SpellsProgram functions ts × (tokens_of ts ≡ before)
 GoesOn before (t ∷ rest) = (front : List Marked) × BeginsProgram front × (tokens_of front ≡ before ++ t ∷ [])
 
 -- The first of `rest` behind these tokens, or the end, is the first that is unexpected: the tokens before it begin a
@@ -56,33 +58,42 @@ pub record IsTooDeep (before rest : List LocatedToken) : Type 0 where
   pub opens : opener.levels ≡ 201
 
 -- where the first of some tokens stands, or where the text ends
-abbrev pub place_of : List LocatedToken → Span → Span
-place_of [] end = end
-place_of (t ∷ ts) end = t.span
+abbrev pub next_place : List LocatedToken → Span → Span
+next_place [] end = end
+next_place (t ∷ ts) end = t.span
 
--- the number of the tokens before a place, as far as a u32 goes, and the place's line and column
+-- the number of the tokens before a place, and the place's line and column
 abbrev pub Tells : List LocatedToken → Span → ℕ → ℕ → ℕ → Type 0
-Tells before place index line column = (index ≡ min (length before) (2 ^ 32 - 1)) × (line ≡ place.line) × (column ≡ place.column)
+Tells before place index line column = (index ≡ length before) × (line ≡ place.line) × (column ≡ place.column)
 
 -- the error tells the first place at which the tokens are no program, and why
-abbrev pub Refuses : List LocatedToken → Span → ParseError → Type 0
-Refuses tokens end (Unexpected index line column) = (before rest : List LocatedToken) × (before ++ rest ≡ tokens) × IsUnexpected before rest × Tells before (place_of rest end) index line column
-Refuses tokens end (TooDeep index line column) = (before rest : List LocatedToken) × (before ++ rest ≡ tokens) × IsTooDeep before rest × Tells before (place_of rest end) index line column
-Refuses tokens end NoMemory = Unit {0}
+abbrev pub RefusesTokens : List LocatedToken → Span → ParseError → Type 0
+RefusesTokens tokens end (Unexpected index line column) = (before rest : List LocatedToken) × (before ++ rest ≡ tokens) × IsUnexpected before rest × Tells before (next_place rest end) index line column
+RefusesTokens tokens end (TooDeep index line column) = (before rest : List LocatedToken) × (before ++ rest ≡ tokens) × IsTooDeep before rest × Tells before (next_place rest end) index line column
+RefusesTokens tokens end NoMemory = ⊥
 
--- the answer is this tree, or memory ran out
-abbrev pub Gives : List FunctionTree → Result Tree ParseError → Type 0
-Gives functions (Ok tree) = map function_tree tree.functions.items ≡ functions
-Gives functions (Err error) = error ≡ NoMemory
+-- an error as it is answered: its index as far as a u32 goes
+abbrev pub in_u32 : ParseError → ParseError
+in_u32 (Unexpected index line column) = Unexpected (min index (2 ^ 32 - 1)) line column
+in_u32 (TooDeep index line column) = TooDeep (min index (2 ^ 32 - 1)) line column
+in_u32 NoMemory = NoMemory
+
+-- What a list of tokens comes to: the tree that it spells, whose length is that of the text, or the first place at which
+-- it is no program.
+abbrev pub ParsesAs : TokenList → Result WrittenTree ParseError → Type 0
+ParsesAs tokens (Ok tree) = HasTree tokens.items tree.functions × (tree.length ≡ tokens.end.at)
+ParsesAs tokens (Err error) = RefusesTokens tokens.items tokens.end error
+
+-- an answer is what the tokens come to, as nothing else is, unless memory ran out
+abbrev pub AnswersParse : TokenList → Result Tree ParseError → Type 0
+AnswersParse tokens (Ok tree) = IsOnly (ParsesAs tokens) (Ok (written_tree tree))
+AnswersParse tokens (Err NoMemory) = Unit {0}
+AnswersParse tokens (Err error) = (refusal : ParseError) × IsOnly (ParsesAs tokens) (Err refusal) × (error ≡ in_u32 refusal)
+
+-- each list of tokens comes to exactly one thing
+abbrev pub EachListIsParsed : Type 0
+EachListIsParsed = (tokens : TokenList) → ExactlyOne (ParsesAs tokens)
 
 -- tokens spell one program, however deep it is nested
 abbrev pub OneProgram : Type 0
-OneProgram = (functions others : List FunctionTree) (ts us : List Marked) → IsProgram functions ts → IsProgram others us → tokens_of ts ≡ tokens_of us → functions ≡ others
-
--- of a tree, an unexpected token and one that opens a level too many, tokens have one alone, and at one place
-pub record OneAnswer : Type 0 where
-  pub tree_or_unexpected : (before rest : List LocatedToken) (functions : List FunctionTree) → HasTree (before ++ rest) functions → IsUnexpected before rest → ⊥
-  pub tree_or_too_deep : (before rest : List LocatedToken) (functions : List FunctionTree) → HasTree (before ++ rest) functions → IsTooDeep before rest → ⊥
-  pub unexpected_or_too_deep : (before rest front later : List LocatedToken) → before ++ rest ≡ front ++ later → IsUnexpected before rest → IsTooDeep front later → ⊥
-  pub one_unexpected : (before rest front later : List LocatedToken) → before ++ rest ≡ front ++ later → IsUnexpected before rest → IsUnexpected front later → before ≡ front
-  pub one_too_deep : (before rest front later : List LocatedToken) → before ++ rest ≡ front ++ later → IsTooDeep before rest → IsTooDeep front later → before ≡ front
+OneProgram = (functions others : List FunctionTree) (ts us : List Marked) → SpellsProgram functions ts → SpellsProgram others us → tokens_of ts ≡ tokens_of us → functions ≡ others

@@ -28,12 +28,12 @@ pub data Phrase : Type 0 where
   rule : Nonterminal → Phrase
 
 -- what a phrase says: its parts' words in their order
-abbrev pub Value : Phrase → Type 0
-Value (token k) = Said k
-Value (opener k) = Said k
-Value (a ▸ b) = Value a × Value b
-Value (either a b) = Value a ⊎ Value b
-Value (many a) = List (Value a)
-Value (optional a) = Option (Value a)
-Value (level a) = Value a
-Value (rule x) = Meant x
+abbrev pub PhraseValue : Phrase → Type 0
+PhraseValue (token k) = Said k
+PhraseValue (opener k) = Said k
+PhraseValue (a ▸ b) = PhraseValue a × PhraseValue b
+PhraseValue (either a b) = PhraseValue a ⊎ PhraseValue b
+PhraseValue (many a) = List (PhraseValue a)
+PhraseValue (optional a) = Option (PhraseValue a)
+PhraseValue (level a) = PhraseValue a
+PhraseValue (rule x) = Meant x

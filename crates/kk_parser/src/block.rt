@@ -2,7 +2,7 @@ ghost use Rattle.std.specs.Prelude.{◌≡◌, ◌≤◌, ◌∷◌, [], length,
 ghost use Rattle.kk_syntax.specs.Trees.{expr_tree, print as OfPrint};
 ghost use Rattle.kk_parser.specs.Grammar.{print_word, print_form, no_arguments, block_of};
 ghost use Rattle.kk_parser.specs.Kinds.{string, is_at};
-ghost use Rattle.kk_parser.specs.Methods.{Reads, ReadsFor, ReadsIfNext};
+ghost use Rattle.kk_parser.specs.Methods.{ReadsPhrase, ReadsFor, ReadsIfNext};
 ghost use Rattle.kk_parser.specs.Reading.{first};
 ghost use Rattle.kk_parser.specs.Phrases.{token, optional, rule, block as OfBlock, statement as OfStatement, print as PrintRule, said as OfSaid};
 
@@ -15,7 +15,7 @@ use std::alloc::Global;
 impl<'a> Parser<'a> {
     /// `block = "{" ;* statement { ";" [ statement ] } "}"`
     pub fn block(&mut self) -> Result<Expr, Fault>
-        ensures reads { Reads (rule OfBlock) expr_tree result self.old self.new }
+        ensures reads { ReadsPhrase (rule OfBlock) expr_tree result self.old self.new }
         ensures left { length self.new.rest.now ≤ length self.old.rest.now }
     {
         self.open(Symbol::OpenBrace)?;
@@ -45,7 +45,7 @@ impl<'a> Parser<'a> {
 
     /// `statement = said | print`: the levels end that it opens.
     fn statement(&mut self) -> Result<Expr, Fault>
-        ensures reads { Reads (rule OfStatement) expr_tree result self.old self.new }
+        ensures reads { ReadsPhrase (rule OfStatement) expr_tree result self.old self.new }
         ensures left { length self.new.rest.now ≤ length self.old.rest.now }
     {
         let depth = self.depth;
@@ -61,7 +61,7 @@ impl<'a> Parser<'a> {
 
     /// `print = ( "print" | "println" ) "(" ( string | expr ) ")"`
     fn print(&mut self) -> Result<Expr, Fault>
-        ensures reads { Reads (rule PrintRule) expr_tree result self.old self.new }
+        ensures reads { ReadsPhrase (rule PrintRule) expr_tree result self.old self.new }
         ensures left { length self.new.rest.now ≤ length self.old.rest.now }
     {
         let form = self.print_form()?;
@@ -77,7 +77,7 @@ impl<'a> Parser<'a> {
 
     /// `said = string "." ( "print" | "println" ) [ "(" ")" ]`
     fn said(&mut self) -> Result<Expr, Fault>
-        ensures reads { Reads (rule OfSaid) expr_tree result self.old self.new }
+        ensures reads { ReadsPhrase (rule OfSaid) expr_tree result self.old self.new }
         ensures left { length self.new.rest.now ≤ length self.old.rest.now }
     {
         let Some(text) = self.string()? else {

@@ -1,8 +1,8 @@
 ghost use Rattle.std.specs.Prelude.{◌≡◌, ◌+◌, ◌≤◌, length, IsSome, IfOk, OnOk};
 ghost use Rattle.kk_syntax.specs.Trees.{expr_tree, unary as OfUnary, binary as OfBinary};
-ghost use Rattle.kk_parser.specs.Grammar.{sum_operator, sum_of, product_operator, product_of};
+ghost use Rattle.kk_parser.specs.Grammar.{sum_operator, sum_operator_of, product_operator, product_operator_of};
 ghost use Rattle.kk_parser.specs.Kinds.{number};
-ghost use Rattle.kk_parser.specs.Methods.{Reads, ReadsIfNext, TakesIfNext};
+ghost use Rattle.kk_parser.specs.Methods.{ReadsPhrase, ReadsIfNext, TakesIfNext};
 ghost use Rattle.kk_parser.specs.Phrases.{token, rule, expr as OfExpr, add as OfAdd, mul as OfMul, un as OfUn, atom as OfAtom};
 
 use crate::fault::Fault;
@@ -15,7 +15,7 @@ impl<'a> Parser<'a> {
     /// `expr = add`: the levels end that it opens.
     #[cycle(expr)]
     pub fn expr(&mut self) -> Result<Expr, Fault>
-        ensures reads { Reads (rule OfExpr) expr_tree result self.old self.new }
+        ensures reads { ReadsPhrase (rule OfExpr) expr_tree result self.old self.new }
         ensures depth { OnOk result (self.new.depth ≡ self.old.depth) }
         ensures left { length self.new.rest.now ≤ length self.old.rest.now }
     {
@@ -28,7 +28,7 @@ impl<'a> Parser<'a> {
     /// `add = mul { ( "+" | "-" ) mul }`, to the left.
     #[cycle(expr)]
     fn add(&mut self) -> Result<Expr, Fault>
-        ensures reads { Reads (rule OfAdd) expr_tree result self.old self.new }
+        ensures reads { ReadsPhrase (rule OfAdd) expr_tree result self.old self.new }
         ensures depth { OnOk result (self.old.depth ≤ self.new.depth) }
         ensures left { length self.new.rest.now ≤ length self.old.rest.now }
     {
@@ -43,7 +43,7 @@ impl<'a> Parser<'a> {
     /// `mul = un { ( "*" | "/" | "%" ) un }`, to the left.
     #[cycle(expr)]
     fn mul(&mut self) -> Result<Expr, Fault>
-        ensures reads { Reads (rule OfMul) expr_tree result self.old self.new }
+        ensures reads { ReadsPhrase (rule OfMul) expr_tree result self.old self.new }
         ensures depth { OnOk result (self.old.depth ≤ self.new.depth) }
         ensures left { length self.new.rest.now ≤ length self.old.rest.now }
     {
@@ -58,7 +58,7 @@ impl<'a> Parser<'a> {
     /// `un = "~" un | atom`
     #[cycle(expr)]
     fn un(&mut self) -> Result<Expr, Fault>
-        ensures reads { Reads (rule OfUn) expr_tree result self.old self.new }
+        ensures reads { ReadsPhrase (rule OfUn) expr_tree result self.old self.new }
         ensures depth { OnOk result (self.old.depth ≤ self.new.depth) }
         ensures left { length self.new.rest.now ≤ length self.old.rest.now }
     {
@@ -73,7 +73,7 @@ impl<'a> Parser<'a> {
     /// `atom = number | "(" expr ")"`
     #[cycle(expr)]
     fn atom(&mut self) -> Result<Expr, Fault>
-        ensures reads { Reads (rule OfAtom) expr_tree result self.old self.new }
+        ensures reads { ReadsPhrase (rule OfAtom) expr_tree result self.old self.new }
         ensures depth { OnOk result (self.old.depth ≤ self.new.depth) }
         ensures left { length self.new.rest.now ≤ length self.old.rest.now }
     {
@@ -107,7 +107,7 @@ impl<'a> Parser<'a> {
 
     /// An operator of a sum, where one is next. It opens a level.
     fn sum_operator(&mut self) -> Result<Option<BinaryOperator>, Fault>
-        ensures reads { ReadsIfNext sum_operator sum_of result self.old self.new }
+        ensures reads { ReadsIfNext sum_operator sum_operator_of result self.old self.new }
         ensures depth { OnOk result (self.old.depth ≤ self.new.depth) }
         ensures left { length self.new.rest.now ≤ length self.old.rest.now }
         ensures passed { IfOk result (λ found. IsSome found → length self.new.rest.now + 1 ≡ length self.old.rest.now) }
@@ -125,7 +125,7 @@ impl<'a> Parser<'a> {
 
     /// An operator of a product, where one is next. It opens a level.
     fn product_operator(&mut self) -> Result<Option<BinaryOperator>, Fault>
-        ensures reads { ReadsIfNext product_operator product_of result self.old self.new }
+        ensures reads { ReadsIfNext product_operator product_operator_of result self.old self.new }
         ensures depth { OnOk result (self.old.depth ≤ self.new.depth) }
         ensures left { length self.new.rest.now ≤ length self.old.rest.now }
         ensures passed { IfOk result (λ found. IsSome found → length self.new.rest.now + 1 ≡ length self.old.rest.now) }

@@ -9,4 +9,4 @@ mod program;
 #[cfg(test)]
 mod tests;
 
-pub use program::parse;
+pub use program::{each_list_is_parsed, parse};

@@ -1,8 +1,8 @@
 ghost use Rattle.std.specs.Prelude.{◌≡◌, ℕ, ◌+◌, ◌<◌, ◌≤◌, ◌∷◌, [], length, IsTrue, OnOk};
 ghost use Rattle.kk_parser.specs.Grammar.{semicolons};
 ghost use Rattle.kk_parser.specs.Kinds.{keyword, symbol as OfSymbol, word, string, is_at};
-ghost use Rattle.kk_parser.specs.Methods.{behind, Read, Reads, Deepens};
-ghost use Rattle.kk_parser.specs.Phrases.{token, opener, Value};
+ghost use Rattle.kk_parser.specs.Methods.{behind, Read, ReadsPhrase, Deepens};
+ghost use Rattle.kk_parser.specs.Phrases.{token, opener, PhraseValue};
 
 use crate::fault::Fault;
 use kk_syntax::{Keyword, LocatedToken, Symbol, Token};
@@ -106,7 +106,7 @@ impl<'a> Parser<'a> {
 
     /// Passes this symbol.
     pub fn expect(&mut self, symbol: Symbol) -> Result<(), Fault>
-        ensures reads { Reads (token (OfSymbol symbol)) (λ _. tt) result self.old self.new }
+        ensures reads { ReadsPhrase (token (OfSymbol symbol)) (λ _. tt) result self.old self.new }
         ensures depth { OnOk result (self.new.depth ≡ self.old.depth) }
         ensures left { length self.new.rest.now ≤ length self.old.rest.now }
         ensures passed { OnOk result (length self.new.rest.now + 1 ≡ length self.old.rest.now) }
@@ -120,7 +120,7 @@ impl<'a> Parser<'a> {
 
     /// Passes this keyword.
     pub fn expect_keyword(&mut self, word: Keyword) -> Result<(), Fault>
-        ensures reads { Reads (token (keyword word)) (λ _. tt) result self.old self.new }
+        ensures reads { ReadsPhrase (token (keyword word)) (λ _. tt) result self.old self.new }
         ensures left { length self.new.rest.now ≤ length self.old.rest.now }
     {
         if !self.is_at_keyword(word) {
@@ -132,7 +132,7 @@ impl<'a> Parser<'a> {
 
     /// Passes this symbol, which opens a level.
     pub fn open(&mut self, symbol: Symbol) -> Result<(), Fault>
-        ensures reads { Reads (opener (OfSymbol symbol)) (λ _. tt) result self.old self.new }
+        ensures reads { ReadsPhrase (opener (OfSymbol symbol)) (λ _. tt) result self.old self.new }
         ensures depth { OnOk result (self.new.depth ≡ self.old.depth + 1) }
         ensures within { OnOk result (self.new.depth ≤ 200) }
         ensures left { length self.new.rest.now ≤ length self.old.rest.now }
@@ -146,7 +146,7 @@ impl<'a> Parser<'a> {
 
     /// Passes semicolons.
     pub fn skip_semicolons(&mut self)
-        ensures reads { (v : Value semicolons) × Read semicolons v self.old self.new }
+        ensures reads { (v : PhraseValue semicolons) × Read semicolons v self.old self.new }
         ensures left { length self.new.rest.now ≤ length self.old.rest.now }
     {
         while self.is_at(Symbol::Semicolon) {

@@ -1,8 +1,9 @@
-ghost use Rattle.std.specs.Prelude.{◌≡◌, ◌-◌, ◌≤◌, length, map, IfOk, IfErr, List, codes};
-ghost use Rattle.kk_syntax.specs.Programs.{FunctionTree, function_tree};
+ghost use Rattle.std.specs.Prelude.{◌≡◌, ◌-◌, ◌≤◌, length, map, All, IfOk, codes};
+ghost use Rattle.kk_syntax.specs.Programs.{function_tree};
+ghost use Rattle.kk_syntax.specs.Shapes.{nodes_of};
 ghost use Rattle.kk_parser.specs.Kinds.{word};
-ghost use Rattle.kk_parser.specs.Methods.{Reads, ReadsFor, error_for};
-ghost use Rattle.kk_parser.specs.Parses.{HasTree, Refuses, Gives, OneProgram, OneAnswer, place_of};
+ghost use Rattle.kk_parser.specs.Methods.{ReadsPhrase, ReadsFor, error_for};
+ghost use Rattle.kk_parser.specs.Parses.{AnswersParse, EachListIsParsed, OneProgram, in_u32, next_place};
 ghost use Rattle.kk_parser.specs.Phrases.{token, rule, program as OfProgram, main_function as OfMain};
 
 use crate::fault::Fault;
@@ -16,16 +17,11 @@ use std::alloc::Global;
 /// An error tells the number of the tokens before the cause, from 0 (a `u32`'s last value where there are more), and
 /// the line and the column of the cause.
 pub fn parse(alloc: Global, tokens: &Tokens) -> Result<Tree, ParseError>
-    ensures found { IfOk result (λ tree. HasTree tokens.now.items (map function_tree tree.functions.items)) }
-    ensures length { IfOk result (λ tree. tree.length ≡ tokens.now.end.at) }
-    ensures refused { IfErr result (Refuses tokens.now.items tokens.now.end) }
+    ensures parsed { AnswersParse tokens.now result }
 
-    // What has a tree is found, unless memory runs out.
-    ensures only { (functions : List FunctionTree) → HasTree tokens.now.items functions → Gives functions result }
-
-    // Of any tokens, whatever they are.
-    ensures one_program { OneProgram }
-    ensures one_answer { OneAnswer }
+    // A body has no more nodes than the text has tokens.
+    ensures few_nodes { IfOk result (λ tree.
+        All (λ function. nodes_of function.body ≤ length tokens.now.items) (map function_tree tree.functions.items)) }
 {
     let mut parser = Parser {
         alloc,
@@ -47,10 +43,18 @@ pub fn parse(alloc: Global, tokens: &Tokens) -> Result<Tree, ParseError>
     }
 }
 
+/// Each list of tokens comes to exactly one thing: a tree, or a first token that is unexpected or opens a level too many;
+/// and at any depth it spells one program at most. It is a law, and does nothing.
+pub fn each_list_is_parsed()
+    ensures exactly_one { EachListIsParsed }
+    ensures at_any_depth { OneProgram }
+{
+}
+
 // The error for a fault at the first of the tokens that are left, or at the end.
 fn error_at(fault: Fault, tokens: &Tokens, left: &[LocatedToken]) -> ParseError
     requires { length left.now ≤ length tokens.now.items }
-    ensures { result ≡ error_for fault (length tokens.now.items - length left.now) (place_of left.now tokens.now.end) }
+    ensures { result ≡ in_u32 (error_for fault (length tokens.now.items - length left.now) (next_place left.now tokens.now.end)) }
 {
     let passed = tokens.as_slice().len() - left.len();
     let index = passed.min(u32::MAX as usize) as u32;
@@ -76,7 +80,7 @@ fn error_at(fault: Fault, tokens: &Tokens, left: &[LocatedToken]) -> ParseError
 impl<'a> Parser<'a> {
     /// `program = ;* [ main_function ;* ]`
     fn program(&mut self) -> Result<Vec<Function>, Fault>
-        ensures reads { Reads (rule OfProgram) (λ functions. map function_tree functions.items) result self.old self.new }
+        ensures reads { ReadsPhrase (rule OfProgram) (λ functions. map function_tree functions.items) result self.old self.new }
         ensures left { length self.new.rest.now ≤ length self.old.rest.now }
     {
         self.skip_semicolons();
@@ -95,7 +99,7 @@ impl<'a> Parser<'a> {
 
     /// `main_function = "fun" "main" "(" ")" block`: the levels end that it opens.
     fn main_function(&mut self) -> Result<Function, Fault>
-        ensures reads { Reads (rule OfMain) function_tree result self.old self.new }
+        ensures reads { ReadsPhrase (rule OfMain) function_tree result self.old self.new }
         ensures left { length self.new.rest.now ≤ length self.old.rest.now }
     {
         let depth = self.depth;

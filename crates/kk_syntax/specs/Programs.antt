@@ -2,6 +2,7 @@
 use Rattle.std.specs.Prelude.{ℕ, pos, List, [], map, slice_index_or}
 use Rattle.kk_syntax.specs.declared.tree.Function.{Function}
 use Rattle.kk_syntax.specs.declared.tree.Program.{Program}
+use Rattle.kk_syntax.specs.declared.tree.Tree.{Tree as TextTree}
 use Rattle.kk_syntax.specs.Trees.{Tree, number, expr_tree}
 
 -- a function: its name, the byte where that stands in the text, and its body
@@ -24,3 +25,11 @@ program_tree program = record { functions = map function_tree program.functions.
 -- the body of a function by its index; past the last one, where no program looks, a number
 abbrev pub body_of : ProgramTree → ℕ → Tree
 body_of program index = (slice_index_or program.functions index (record { name = []; at = 0; body = number (pos 0) })).body
+
+-- the functions of a text, and its length
+pub record WrittenTree : Type 0 where
+  pub functions : List FunctionTree
+  pub length : ℕ
+
+abbrev pub written_tree : TextTree → WrittenTree
+written_tree tree = record { functions = map function_tree tree.functions.items; length = tree.length }

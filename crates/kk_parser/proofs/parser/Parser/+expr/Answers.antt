@@ -4,7 +4,7 @@ use mir.Syntax.{w32}
 use mir.Val.{SFits, to_z, of_z}
 use Rattle.kk_syntax.specs.Trees.{expr_tree, binary, number as OfNumber}
 use Rattle.kk_syntax.specs.declared.token.Symbol.TheVariants.{Tilde, OpenParenthesis, CloseParenthesis}
-use Rattle.kk_parser.specs.Grammar.{sum_operator, sum_of, product_operator, product_of, to_left, meaning, production}
+use Rattle.kk_parser.specs.Grammar.{sum_operator, sum_operator_of, product_operator, product_operator_of, to_left, meaning, production}
 use Rattle.kk_parser.specs.Kinds.{symbol}
 use Rattle.kk_parser.specs.Methods.{Read}
 use Rattle.kk_parser.specs.Phrases.{token, opener, rule, expr, add, mul, un, atom, many, ◌▸◌}
@@ -54,15 +54,15 @@ add-loop-left-preserved t c =
     record {
       left = omega (arith, c.in_ok-right.ensures.left, c.in_ok-operator.ensures.left);
       depth = omega (arith, c.in_ok-right.ensures.depth, c.in_ok-operator.ensures.depth);
-      read = continues_left (rule add) sum_operator (rule mul) (to_left sum_of) l o.1 r (expr_tree c.in_ok-left-2.left) c.args.self.now c.loop-left.self c.sum_operator.new.self c.mul-in-Some.new.self c.loop-left.invariant.read o.0 o.3 c.in_ok-right.ensures.reads
-          (λ vs. ap (λ left. to_left sum_of left vs) (ap (λ operator. binary operator l r) o.2 ∙ sym c.in_ok-left-2.ensures));
+      read = continues_left (rule add) sum_operator (rule mul) (to_left sum_operator_of) l o.1 r (expr_tree c.in_ok-left-2.left) c.args.self.now c.loop-left.self c.sum_operator.new.self c.mul-in-Some.new.self c.loop-left.invariant.read o.0 o.3 c.in_ok-right.ensures.reads
+          (λ vs. ap (λ left. to_left sum_operator_of left vs) (ap (λ operator. binary operator l r) o.2 ∙ sym c.in_ok-left-2.ensures));
     }
 
 pub add-returns-clause-reads : goal.add-returns-clause-reads
 add-returns-clause-reads t c =
     let n = rw c.in_default.is at c.in_ok-operator.ensures.reads in
     let left = expr_tree c.loop-left.left in
-    read_to (rule add) left c.args.self.now c.loop-left.self c.sum_operator.new.self n.1 n.2 (ends_many (rule add) (sum_operator ▸ rule mul) (to_left sum_of left) c.args.self.now c.loop-left.self c.loop-left.invariant.read n.0)
+    read_to (rule add) left c.args.self.now c.loop-left.self c.sum_operator.new.self n.1 n.2 (ends_many (rule add) (sum_operator ▸ rule mul) (to_left sum_operator_of left) c.args.self.now c.loop-left.self c.loop-left.invariant.read n.0)
 
 pub mul-returns-in_err-left-clause-reads : goal.mul-returns-in_err-left-clause-reads
 mul-returns-in_err-left-clause-reads t c =
@@ -98,15 +98,15 @@ mul-loop-left-preserved t c =
     record {
       left = omega (arith, c.in_ok-right.ensures.left, c.in_ok-operator.ensures.left);
       depth = omega (arith, c.in_ok-right.ensures.depth, c.in_ok-operator.ensures.depth);
-      read = continues_left (rule mul) product_operator (rule un) (to_left product_of) l o.1 r (expr_tree c.in_ok-left-2.left) c.args.self.now c.loop-left.self c.product_operator.new.self c.un-in-Some.new.self c.loop-left.invariant.read o.0 o.3 c.in_ok-right.ensures.reads
-          (λ vs. ap (λ left. to_left product_of left vs) (ap (λ operator. binary operator l r) o.2 ∙ sym c.in_ok-left-2.ensures));
+      read = continues_left (rule mul) product_operator (rule un) (to_left product_operator_of) l o.1 r (expr_tree c.in_ok-left-2.left) c.args.self.now c.loop-left.self c.product_operator.new.self c.un-in-Some.new.self c.loop-left.invariant.read o.0 o.3 c.in_ok-right.ensures.reads
+          (λ vs. ap (λ left. to_left product_operator_of left vs) (ap (λ operator. binary operator l r) o.2 ∙ sym c.in_ok-left-2.ensures));
     }
 
 pub mul-returns-clause-reads : goal.mul-returns-clause-reads
 mul-returns-clause-reads t c =
     let n = rw c.in_default.is at c.in_ok-operator.ensures.reads in
     let left = expr_tree c.loop-left.left in
-    read_to (rule mul) left c.args.self.now c.loop-left.self c.product_operator.new.self n.1 n.2 (ends_many (rule mul) (product_operator ▸ rule un) (to_left product_of left) c.args.self.now c.loop-left.self c.loop-left.invariant.read n.0)
+    read_to (rule mul) left c.args.self.now c.loop-left.self c.product_operator.new.self n.1 n.2 (ends_many (rule mul) (product_operator ▸ rule un) (to_left product_operator_of left) c.args.self.now c.loop-left.self c.loop-left.invariant.read n.0)
 
 pub un-returns-then-not-is_at-clause-reads : goal.un-returns-then-not-is_at-clause-reads
 un-returns-then-not-is_at-clause-reads t c =

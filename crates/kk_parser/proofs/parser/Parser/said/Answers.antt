@@ -5,7 +5,7 @@ use Rattle.kk_parser.specs.Grammar.{print_word, print_form, no_arguments}
 use Rattle.kk_parser.specs.Kinds.{symbol, string}
 use Rattle.kk_parser.specs.Methods.{Read}
 use Rattle.kk_parser.specs.Phrases.{rule, said, token, opener, optional}
-use Rattle.kk_parser.specs.Reading.{fails_rule, fails_front, fails_behind, fails_token, finds_rule, finds_both, Fails, unexpected}
+use Rattle.kk_parser.specs.Reading.{fails_rule, fails_front, fails_behind, fails_token, finds_rule, finds_both, ReadingFails, unexpected}
 use Rattle.kk_parser.proofs.Made.{expr_tree-PrintText}
 use Rattle.kk_parser.proofs.Steps.{gives_up_in}
 use Rattle.kk_parser.proofs.parser.Parser.said.Goals as goal
@@ -17,7 +17,7 @@ returns-in_err-text-clause-reads c =
 pub returns-in_default-clause-reads : goal.returns-in_default-clause-reads
 returns-in_default-clause-reads c =
     let n = rw c.in_default.is at c.in_ok-text.ensures.reads in
-    subst (λ us. Fails 200 (rule said) c.args.self.now.depth c.args.self.now.rest.now (unexpected us)) (sym n.2) (fails_rule (fails_front (fails_token n.0)))
+    subst (λ us. ReadingFails 200 (rule said) c.args.self.now.depth c.args.self.now.rest.now (unexpected us)) (sym n.2) (fails_rule (fails_front (fails_token n.0)))
 
 pub returns-in_err-open-clause-reads : goal.returns-in_err-open-clause-reads
 returns-in_err-open-clause-reads c =

@@ -1,0 +1,5 @@
+use Rattle.kk_lexer.proofs.EachText.{each_text_is_read}
+use Rattle.kk_lexer.proofs.list.each_text_is_read.Goals as goal
+
+pub returns : goal.returns
+returns c = each_text_is_read
