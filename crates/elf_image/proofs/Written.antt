@@ -12,7 +12,7 @@ use Rattle.elf_image.specs.Fields.{entry_of, table_offset_of, header_size_of, he
 use Rattle.elf_image.specs.Parts.{greatest_end, are_apart, are_in_reach, is_entry}
 use Rattle.elf_image.specs.Loaded.{is_elf, is_rv32, is_executable, is_inside, has_segments, greatest_file, part_of, parts_of, IsLoaded}
 use Rattle.elf_image.specs.Reading.{IsFileHeader, HasLoads, HasSegments}
-use Rattle.elf_image.specs.Program.{text_start, memory_start, text_part, memory_part, program_parts, text_of, memory_size_of, IsProgram, zeros, file_header, segment_header, program_file}
+use Rattle.elf_image.specs.Program.{text_start, memory_start, text_part, memory_part, program_parts, text_of, memory_size_of, IsProgramImage, zeros, file_header, segment_header, program_file}
 use Rattle.elf_image.proofs.Conditions.{both, headers_tell, inside_tells, segments_are, is_loaded}
 
 zeros-is : (n : ℕ) → replicate n 0 ≡ zeros n
@@ -32,7 +32,7 @@ unfolding headers file_header segment_header
 length-headers text size = refl
 
 -- the pieces that are put one behind the other make the file
-pub written : (entry : ℕ) (parts : List Part) (p q : Part) (start head first second padded all text : List ℕ) (len : ℕ) → IsProgram entry parts → p ≡ get_or parts 0 p → q ≡ get_or parts 1 q
+pub written : (entry : ℕ) (parts : List Part) (p q : Part) (start head first second padded all text : List ℕ) (len : ℕ) → IsProgramImage entry parts → p ≡ get_or parts 0 p → q ≡ get_or parts 1 q
     → start ≡ [] → head ≡ start ++ file_header entry → first ≡ head ++ segment_header p → second ≡ first ++ segment_header q → len ≡ length second
     → padded ≡ take 4096 second ++ replicate (4096 - len) 0 → text ≡ p.bytes → all ≡ padded ++ text → all ≡ program_file (text_of parts) (memory_size_of parts)
 unfolding headers program_file
@@ -184,7 +184,7 @@ loads file text size parts s has apart reach fits begins same =
     is_loaded file (file_header_of file) (segments_of text size) (segments_of text size) parts (says-header file text size s) has apart reach fits begins refl same
 
 -- the file of a program loads the program
-pub reads_again : (entry : ℕ) (parts : List Part) (file : List ℕ) → IsProgram entry parts → is_entry parts entry ≡ true → are_apart parts ≡ true → are_in_reach parts ≡ true
+pub reads_again : (entry : ℕ) (parts : List Part) (file : List ℕ) → IsProgramImage entry parts → is_entry parts entry ≡ true → are_apart parts ≡ true → are_in_reach parts ≡ true
     → file ≡ program_file (text_of parts) (memory_size_of parts) → IsLoaded file entry parts
 reads_again entry parts file is begins apart in_reach file-is =
     let text : List ℕ = text_of parts in

@@ -10,6 +10,10 @@ half_at file offset = little_number 2 (drop offset file)
 abbrev pub word_at : List ℕ → ℕ → ℕ
 word_at file offset = little_number 4 (drop offset file)
 
+-- the bytes that every ELF file begins with
+abbrev pub magic : List ℕ
+magic = 0x7f ∷ 0x45 ∷ 0x4c ∷ 0x46 ∷ []
+
 -- the file header: class, data encoding and version of the identification; then type, machine and version of the file, the entry,
 -- the offset of the program headers, their size and their number
 abbrev pub class_of : List ℕ → ℕ

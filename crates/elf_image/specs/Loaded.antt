@@ -6,7 +6,7 @@ use Rattle.elf_image.specs.declared.bad_image.BadImage.{BadImage}
 use Rattle.elf_image.specs.declared.bad_image.BadImage.TheVariants.{Short, NotElf, NotRv32, NotExec, BadHeaders, PartOutside, PartsOverlap, TooLarge, BadEntry, NoMemory}
 use Rattle.elf_image.specs.declared.header.ProgramHeader.{ProgramHeader}
 use Rattle.elf_image.specs.declared.part.Part.{Part}
-use Rattle.elf_image.specs.Fields.{class_of, encoding_of, identification_version_of, type_of, machine_of, version_of, entry_of, table_offset_of, header_size_of, header_count_of, loads_of}
+use Rattle.elf_image.specs.Fields.{magic, class_of, encoding_of, identification_version_of, type_of, machine_of, version_of, entry_of, table_offset_of, header_size_of, header_count_of, loads_of}
 use Rattle.elf_image.specs.Parts.{memory_of, are_apart, are_in_reach, is_entry}
 
 -- the bytes of a segment
@@ -23,7 +23,7 @@ parts_of file = map (part_of file) (filter (λ h. nat_lt 0 h.memsz) (loads_of fi
 
 -- the file begins with the bytes of ELF
 abbrev pub is_elf : List ℕ → Bool
-is_elf file = starts_with nat_eq file (0x7f ∷ 0x45 ∷ 0x4c ∷ 0x46 ∷ [])
+is_elf file = starts_with nat_eq file magic
 
 -- ELFCLASS32, ELFDATA2LSB, EV_CURRENT, and EM_RISCV
 abbrev pub is_rv32 : List ℕ → Bool

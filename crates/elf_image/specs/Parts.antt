@@ -2,17 +2,18 @@
 use Rattle.std.specs.Prelude.{ℕ, ◌+◌, ◌%◌, ◌==◌, bit_and, nat_le, nat_lt, min, max, List, [], ◌∷◌, length, map, Bool, true, not, ◌&&◌}
 use Rattle.std.specs.List.{list_any, list_all}
 use Rattle.kk_base.specs.Memory as memory
+use Rattle.elf_image.specs.declared.image.TheConstants.{GREATEST_END}
 use Rattle.elf_image.specs.declared.part.Part.{Part}
+use Rattle.elf_image.specs.declared.part.TheConstants.Part.{READ, WRITE, EXECUTE}
 
--- a part as a machine's memory has it: the flags of a program header (System V ABI, "Segment Permissions") are 1 to execute, 2 to
--- write and 4 to read
+-- a part as a machine's memory has it, by the flags of its program header (System V ABI, "Segment Permissions")
 abbrev pub loaded : Part → memory.Part
 loaded p = record {
   start = p.vaddr;
   size = p.memsz;
-  readable = not (bit_and p.flags 4 == 0);
-  writable = not (bit_and p.flags 2 == 0);
-  executable = not (bit_and p.flags 1 == 0);
+  readable = not (bit_and p.flags READ == 0);
+  writable = not (bit_and p.flags WRITE == 0);
+  executable = not (bit_and p.flags EXECUTE == 0);
   bytes = p.bytes;
 }
 
@@ -26,7 +27,7 @@ end_of p = p.vaddr + p.memsz
 
 -- the greatest address behind a part
 abbrev pub greatest_end : ℕ
-greatest_end = 0xf0000000
+greatest_end = GREATEST_END
 
 -- two parts share an address: the one that starts last does so below both ends
 abbrev pub share_address : Part → Part → Bool

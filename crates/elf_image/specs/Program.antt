@@ -2,15 +2,18 @@
 use Rattle.std.specs.Prelude.{◌≡◌, ◌<◌, ◌≤◌, ℕ, ◌+◌, ◌-◌, List, [], ◌∷◌, ◌++◌, length, replicate}
 use Rattle.std.specs.Int.{next_multiple_of}
 use Rattle.byteorder.specs.Endian.{little_bytes}
+use Rattle.elf_image.specs.declared.image.TheConstants.{TEXT_START, PAGE_SIZE}
 use Rattle.elf_image.specs.declared.part.Part.{Part}
+use Rattle.elf_image.specs.declared.part.TheConstants.Part.{READ, WRITE, EXECUTE}
+use Rattle.elf_image.specs.Fields.{magic}
 
 -- the address of the first byte of the text, where the program begins
 abbrev pub text_start : ℕ
-text_start = 0x10000
+text_start = TEXT_START
 
 -- the address of the memory behind a text of so many bytes: the next one that is a multiple of 4096
 abbrev pub memory_start : ℕ → ℕ
-memory_start size = next_multiple_of (text_start + size) 0x1000
+memory_start size = next_multiple_of (text_start + size) PAGE_SIZE
 
 -- the greatest number of a text's bytes
 abbrev pub greatest_text : ℕ
@@ -18,11 +21,11 @@ greatest_text = 268431360
 
 -- the part of a text, to be read and executed
 abbrev pub text_part : List ℕ → Part
-text_part text = record { vaddr = text_start; memsz = length text; flags = 5; bytes = text }
+text_part text = record { vaddr = text_start; memsz = length text; flags = READ + EXECUTE; bytes = text }
 
 -- the part behind it: so many bytes of memory, to be read and written
 abbrev pub memory_part : List ℕ → ℕ → Part
-memory_part text size = record { vaddr = memory_start (length text); memsz = size; flags = 6; bytes = [] }
+memory_part text size = record { vaddr = memory_start (length text); memsz = size; flags = READ + WRITE; bytes = [] }
 
 -- the parts of a program
 abbrev pub program_parts : List ℕ → ℕ → List Part
@@ -39,7 +42,7 @@ memory_size_of (p ∷ []) = 0
 memory_size_of (p ∷ q ∷ ps) = q.memsz
 
 -- an entry and parts are those of a program
-pub record IsProgram (entry : ℕ) (parts : List Part) : Type 0 where
+pub record IsProgramImage (entry : ℕ) (parts : List Part) : Type 0 where
   pub entry_is : entry ≡ text_start
   pub parts_are : parts ≡ program_parts (text_of parts) (memory_size_of parts)
   pub text_fits : length (text_of parts) ≤ greatest_text
@@ -58,7 +61,7 @@ zeros n = replicate n 0
 
 -- the identification: the bytes of ELF, class 32, the lowest byte first, version 1, and padding
 abbrev pub identification : List ℕ
-identification = 0x7f ∷ 0x45 ∷ 0x4c ∷ 0x46 ∷ 1 ∷ 1 ∷ 1 ∷ 0 ∷ 0 ∷ 0 ∷ 0 ∷ 0 ∷ 0 ∷ 0 ∷ 0 ∷ 0 ∷ []
+identification = magic ++ (1 ∷ 1 ∷ 1 ∷ 0 ∷ 0 ∷ 0 ∷ 0 ∷ 0 ∷ 0 ∷ 0 ∷ 0 ∷ 0 ∷ [])
 
 -- the file header of an executable file for RISC-V that begins at an address: the identification; type, machine and version;
 -- the entry; the offsets of program headers and section headers; flags; the header's size; the size and number of program headers;

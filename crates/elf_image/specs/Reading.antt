@@ -1,4 +1,4 @@
--- What a reader of a file has found out, condition by condition.
+-- What a reader of a file has found out, condition by condition. Private functions alone cite these.
 use Rattle.std.specs.Prelude.{◌≡◌, ℕ, nat_le, List, [], length, map, true}
 use Rattle.std.specs.List.{list_all}
 use Rattle.elf_image.specs.declared.header.FileHeader.{FileHeader}

@@ -1,15 +1,19 @@
 ghost use Rattle.std.specs.Prelude.{◌≡◌, ◌+◌, ◌%◌, ◌<◌, ◌≤◌, length, IsTrue, IfOk};
 ghost use Rattle.elf_image.specs.Parts.{are_apart, are_in_reach, are_filled, is_entry, greatest_end};
-ghost use Rattle.elf_image.specs.Program.{text_start, memory_start, greatest_text, program_parts, IsProgram};
+ghost use Rattle.elf_image.specs.Program.{text_start, memory_start, greatest_text, program_parts, IsProgramImage};
 
 use crate::part::{Part, Parts};
 use kk_base::{Bytes, NoMemory};
 use std::alloc::Global;
 
 /// The address of a program's text, where it begins.
-const TEXT_START: u32 = 0x0001_0000;
+pub const TEXT_START: u32 = 0x0001_0000;
+
 /// The memory behind the text begins at a multiple of this.
-const PAGE_SIZE: u32 = 0x1000;
+pub const PAGE_SIZE: u32 = 0x1000;
+
+/// The greatest address behind a part.
+pub const GREATEST_END: u64 = 0xf000_0000;
 
 /// A program as a machine loads it. No two parts share an address, none ends above 0xf000_0000, and none has more bytes
 /// than addresses.
@@ -34,7 +38,7 @@ impl Image {
         requires memory_fits { memory_start (length text) + memory ≤ greatest_end }
         ensures entry { IfOk result (λ image. image.entry ≡ text_start) }
         ensures parts { IfOk result (λ image. image.parts ≡ program_parts text memory) }
-        ensures is_program { IfOk result (λ image. IsProgram image.entry image.parts) }
+        ensures is_program { IfOk result (λ image. IsProgramImage image.entry image.parts) }
     {
         let size = text.len() as u32;
         let mut parts = Vec::new(alloc);

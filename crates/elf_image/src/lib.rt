@@ -13,7 +13,7 @@ mod segments;
 mod writing;
 
 pub use bad_image::BadImage;
-pub use image::Image;
+pub use image::{GREATEST_END, Image, PAGE_SIZE, TEXT_START};
 pub use part::{Part, Parts};
 pub use reading::read;
 pub use writing::write;

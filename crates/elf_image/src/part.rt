@@ -1,9 +1,7 @@
-ghost use Rattle.std.specs.Prelude.{◌≡◌, ◌+◌, ◌==◌, List, [], length};
+ghost use Rattle.std.specs.Prelude.{◌≡◌, ◌+◌};
 ghost use Rattle.elf_image.specs.Parts.{loaded};
 
-use kk_base::Bytes;
-use std::alloc::Global;
-use std::marker::Model;
+use kk_base::{Bytes, Items};
 
 /// A part of the addresses that a program is loaded to.
 #[derive(Debug, Drop)]
@@ -56,60 +54,4 @@ impl Part {
 }
 
 /// The parts of an image, a list.
-#[derive(Debug, Drop)]
-pub struct Parts {
-    items: Vec<Part>,
-}
-
-impl Model for Parts {
-    ghost use Rattle.std.specs.Prelude.{List};
-    ghost use Rattle.elf_image.specs.declared.part.Part.{Part};
-
-    ghost Value = { List Part };
-
-    ghost view = { λ p. p.items.items };
-}
-
-impl Parts {
-    /// No parts. Takes no memory.
-    pub fn new(alloc: Global) -> Self
-        ensures { result ≡ [] }
-    {
-        Parts {
-            items: Vec::new(alloc),
-        }
-    }
-
-    /// The same parts. Takes no memory.
-    pub fn from_vec(items: Vec<Part>) -> Self
-        ensures { result ≡ items.items }
-    {
-        Parts { items }
-    }
-
-    /// The same parts. Takes no memory.
-    pub fn into_vec(self) -> Vec<Part>
-        ensures { result.items ≡ self }
-    {
-        let Parts { items } = self;
-        items
-    }
-
-    pub fn as_slice(&self) -> &[Part]
-        ensures { result.now ≡ self.now }
-    {
-        self.items.as_slice()
-    }
-
-    pub fn len(&self) -> usize
-        ensures { result ≡ length self.now }
-    {
-        self.items.len()
-    }
-
-    pub fn is_empty(&self) -> bool
-        ensures { result ≡ (length self.now == 0) }
-    {
-        self.items.is_empty()
-    }
-}
+pub type Parts = Items<Part>;

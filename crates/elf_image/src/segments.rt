@@ -6,12 +6,10 @@ ghost use Rattle.elf_image.specs.Loaded.{part_of, is_inside};
 ghost use Rattle.elf_image.specs.Reading.{place_of};
 
 use crate::header::{PROGRAM_HEADER_SIZE, ProgramHeader};
+use crate::image::GREATEST_END;
 use crate::part::Parts;
 use kk_base::NoMemory;
 use std::alloc::Global;
-
-/// The greatest address behind a part.
-const GREATEST_END: u64 = 0xf000_0000;
 
 /// The segments to be loaded, of a table of `count` program headers that the bytes begin with.
 pub fn read_loads(alloc: Global, count: usize, bytes: &[u8]) -> Result<Vec<ProgramHeader>, NoMemory>

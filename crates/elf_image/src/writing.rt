@@ -1,5 +1,5 @@
 ghost use Rattle.std.specs.Prelude.{◌≡◌, ◌++◌, ◌<◌, ◌^◌, length, OnOk, IfOk};
-ghost use Rattle.elf_image.specs.Program.{IsProgram, program_file, file_header, segment_header, text_of, memory_size_of};
+ghost use Rattle.elf_image.specs.Program.{IsProgramImage, program_file, file_header, segment_header, text_of, memory_size_of};
 ghost use Rattle.elf_image.specs.Loaded.{IsLoaded};
 
 use crate::field::{put_half, put_word};
@@ -20,7 +20,7 @@ const TEXT_OFFSET: u32 = 0x1000;
 /// The file of a compiled program's image, as [`Image::program`] makes it: the headers, zeros up to the offset 4096, and
 /// the text. [`crate::read`] gives the image again.
 pub fn write(alloc: Global, image: &Image) -> Result<Bytes, NoMemory>
-    requires { IsProgram image.now.entry image.now.parts }
+    requires { IsProgramImage image.now.entry image.now.parts }
     // The bytes of the format.
     ensures written { IfOk result (λ file. file ≡ program_file (text_of image.now.parts) (memory_size_of image.now.parts)) }
     // The file is read as the image again.

@@ -3,7 +3,7 @@ use Rattle.std.proofs.Common.{◌≡◌, ◌↔◌, ℕ, ◌+◌, ◌≤◌, Lis
 use Rattle.kk_base.specs.Trace.{IsPrefix}
 use Rattle.kk_base.specs.Machines.{Machine, trace, weight_of, ending_after, WeighsEach, ending_made, mapped}
 use Rattle.kk_base.specs.Agreements.{IsFollowedBy, Does, Agree}
-use Rattle.kk_base.proofs.Machines.{trace_grows, ending_stays, trace_stays, Within, steps_within, trace-mapped, weight_of-mapped, ending_after-mapped, IsPrefix-flat_map}
+use Rattle.kk_base.proofs.Machines.{trace_grows, ending_stays, trace_stays, Within, steps_within, trace-mapped, IsPrefix-flat_map}
 
 pub prefix_through : {E : Type 0} (xs ys zs : List E) → IsPrefix xs ys → IsPrefix ys zs → IsPrefix xs zs
 prefix_through xs ys zs a b = (a.0 ++ b.0, sym (append_assoc xs a.0 b.0) ∙ rw a.1 b.1)
@@ -55,17 +55,17 @@ agree_mapped events seen upper lower credit up s t agree =
           let done : Does lower (weight_of upper n s + credit) (trace upper n s) (ending_after upper n s) t = agree.downwards n in
           record {
             steps = done.steps;
-            weighs = rw (weight_of-mapped events seen lower done.steps t, weight_of-mapped events seen upper n s) done.weighs;
+            weighs = done.weighs;
             events_are = trace-mapped events seen lower done.steps t ∙ ap (flat_map events) done.events_are ∙ sym (trace-mapped events seen upper n s);
-            ending_is = ending_after-mapped events seen lower done.steps t ∙ ap (option_map seen) done.ending_is ∙ sym (ending_after-mapped events seen upper n s);
+            ending_is = ap (option_map seen) done.ending_is;
           };
       upwards = record {
         prefix = λ m. rw (trace-mapped events seen lower m t, trace-mapped events seen upper (up m) s) (IsPrefix-flat_map events (trace lower m t) (trace upper (up m) s) (agree.upwards.prefix m));
         ending = λ m v e.
-            let made = ending_made seen (ending_after lower m t) v (sym (ending_after-mapped events seen lower m t) ∙ e) in
-            ending_after-mapped events seen upper (up m) s ∙ ap (option_map seen) (agree.upwards.ending m made.0 made.1 ∙ sym made.1) ∙ sym (ending_after-mapped events seen lower m t) ∙ e;
+            let made = ending_made seen (ending_after lower m t) v e in
+            ap (option_map seen) (agree.upwards.ending m made.0 made.1 ∙ sym made.1) ∙ e;
         whole = λ m v e.
-            let made = ending_made seen (ending_after lower m t) v (sym (ending_after-mapped events seen lower m t) ∙ e) in
+            let made = ending_made seen (ending_after lower m t) v e in
             trace-mapped events seen upper (up m) s ∙ ap (flat_map events) (agree.upwards.whole m made.0 made.1) ∙ sym (trace-mapped events seen lower m t);
       };
     }

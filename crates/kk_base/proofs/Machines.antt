@@ -1,10 +1,10 @@
 -- What machines do in many steps: in two parts, after their end, and with less to be seen.
-use Rattle.std.proofs.Common.{◌≡◌, ℕ, zero, suc, ◌+◌, ◌-◌, ◌*◌, ◌≤◌, List, [], ◌++◌, length, drop, Option, None, Some, refl, sym, ◌∙◌, ap, arith, append_assoc, zero-add, suc-add, mul-suc, mul-zero, flat_map, option_map}
+use Rattle.std.proofs.Common.{◌≡◌, ℕ, zero, suc, ◌+◌, ◌-◌, ◌*◌, ◌≤◌, List, [], ◌++◌, length, drop, Option, None, Some, refl, sym, ◌∙◌, ap, arith, append_assoc, zero-add, suc-add, mul-suc, mul-zero, flat_map}
 use Rattle.std.proofs.lemmas.List.{append-nil}
 use Rattle.std.proofs.lemmas.List.Prefix.{front_rest}
 use Rattle.std.proofs.lemmas.Grind.{flat_map-append}
 use Rattle.kk_base.specs.Trace.{IsPrefix}
-use Rattle.kk_base.specs.Machines.{Machine, step_unless, telling, trace, state, weight_of, ending_after, WeighsEach, mapped}
+use Rattle.kk_base.specs.Machines.{Machine, step_unless, weighing, until, telling, trace, state, weight_of, ending_after, WeighsEach, mapped}
 
 -- the state after j + k steps
 pub state-add : {S E W : Type 0} (machine : Machine S E W) (j k : ℕ) (s : S) → state machine (j + k) s ≡ state machine k (state machine j s)
@@ -127,11 +127,7 @@ told_after {S = S} {E = E} {W = W} ending next told grows (suc n) s =
     ∙ ap (λ (so_far : List E). so_far ++ trace machine n (machine.step s).1) (told_next ending next told grows s)
     ∙ append_assoc (told s) (machine.step s).0 (trace machine n (machine.step s).1)
 
--- ---- what is seen of a machine
-
-pub state-mapped : {S E F W V : Type 0} (events : E → List F) (seen : W → V) (machine : Machine S E W) (n : ℕ) (s : S) → state (mapped events seen machine) n s ≡ state machine n s
-state-mapped events seen machine zero s = refl
-state-mapped events seen machine (suc n) s = state-mapped events seen machine n (machine.step s).1
+-- ---- what is seen of a machine: its states, weights and endings are those of the machine, by computation
 
 pub trace-mapped : {S E F W V : Type 0} (events : E → List F) (seen : W → V) (machine : Machine S E W) (n : ℕ) (s : S) → trace (mapped events seen machine) n s ≡ flat_map events (trace machine n s)
 trace-mapped events seen machine zero s = refl
@@ -139,12 +135,12 @@ trace-mapped {F = F} events seen machine (suc n) s =
     ap (λ (later : List F). flat_map events (machine.step s).0 ++ later) (trace-mapped events seen machine n (machine.step s).1)
     ∙ sym (flat_map-append events (machine.step s).0 (trace machine n (machine.step s).1))
 
-pub weight_of-mapped : {S E F W V : Type 0} (events : E → List F) (seen : W → V) (machine : Machine S E W) (n : ℕ) (s : S) → weight_of (mapped events seen machine) n s ≡ weight_of machine n s
-weight_of-mapped events seen machine zero s = refl
-weight_of-mapped events seen machine (suc n) s = ap (λ (rest : ℕ). machine.weight s + rest) (weight_of-mapped events seen machine n (machine.step s).1)
+-- other weights change nothing that is done
+pub trace-weighing : {S E W : Type 0} (weight : S → ℕ) (ending : S → Option W) (step : S → List E × S) (n : ℕ) (s : S) → trace (weighing weight ending step) n s ≡ trace (until ending step) n s
+trace-weighing weight ending step n s = refl
 
-pub ending_after-mapped : {S E F W V : Type 0} (events : E → List F) (seen : W → V) (machine : Machine S E W) (n : ℕ) (s : S) → ending_after (mapped events seen machine) n s ≡ option_map seen (ending_after machine n s)
-ending_after-mapped events seen machine n s = ap (λ (after : _). option_map seen (machine.ending after)) (state-mapped events seen machine n s)
+pub state-weighing : {S E W : Type 0} (weight : S → ℕ) (ending : S → Option W) (step : S → List E × S) (n : ℕ) (s : S) → state (weighing weight ending step) n s ≡ state (until ending step) n s
+state-weighing weight ending step n s = refl
 
 pub IsPrefix-flat_map : {E F : Type 0} (events : E → List F) (before whole : List E) → IsPrefix before whole → IsPrefix (flat_map events before) (flat_map events whole)
 IsPrefix-flat_map events before whole prefix =

@@ -1,11 +1,47 @@
 -- What follows from a simulation: two machines agree, two simulations are one, and what is passed between related states
 -- is all that the lower machine comes by.
-use Rattle.std.proofs.Common.{◌≡◌, ℕ, zero, suc, ◌+◌, ◌-◌, ◌*◌, ◌≤◌, ◌<◌, List, refl, sym, ◌∙◌, ap, subst, arith, zero-mul, add-mul, mul_assoc, mul_comm, mul-le-mul_right, lt_of_mul-lt-mul_right, flat_map, option_map, inl, inr}
+use Rattle.std.proofs.Common.{◌≡◌, ℕ, zero, suc, ◌+◌, ◌-◌, ◌*◌, ◌≤◌, ◌<◌, List, Option, None, Some, refl, sym, ◌∙◌, ap, subst, arith, zero-mul, add-mul, mul_assoc, mul_comm, mul-le-mul_right, lt_of_mul-lt-mul_right, flat_map, option_map, inl, inr}
 use Rattle.std.proofs.lemmas.Bool.{cases_lt}
 use Rattle.kk_base.specs.Machines.{Machine, trace, state, weight_of, ending_after, mapped}
 use Rattle.kk_base.specs.Agreements.{IsFollowedBy, Does, Agree}
 use Rattle.kk_base.specs.Simulations.{Reaches, Simulates, Through}
-use Rattle.kk_base.proofs.Machines.{state-add, trace-add, weight_of-add, trace_grows, ending_stays, trace_stays, state-mapped, trace-mapped, weight_of-mapped}
+use Rattle.kk_base.proofs.Machines.{state_ended, trace_ended, state-add, trace-add, weight_of-add, trace_grows, ending_stays, trace_stays, trace-mapped}
+
+-- related states that have ended stay related: the lower machine takes a step that weighs nothing
+pub ended_reaches : {S T E W : Type 0} (upper : Machine S E W) (lower : Machine T E W) (Related : ℕ → ℕ → S → T → Type 0) (Passing : T → Type 0) (pace credit idle : ℕ) (s : S) (t : T) (w : W)
+    → 1 ≤ pace → Related credit idle s t → upper.ending s ≡ Some w → lower.ending t ≡ Some w → Passing t
+    → Reaches lower Related Passing pace (upper.weight s + credit) 1 idle (upper.step s).0 (upper.step s).1 t
+ended_reaches upper lower Related Passing pace credit idle s t w paces related upper_ended lower_ended passing =
+    record {
+      steps = 1;
+      credit_after = credit;
+      idle_after = idle;
+      paid = omega (arith, lower.weightless t w lower_ended);
+      moves = omega arith;
+      events_are = trace_ended lower 1 t w lower_ended ∙ sym (ap (λ next. next.0) (upper.stays s w upper_ended));
+      passes = λ k less. let first : k ≡ 0 = omega arith in rw first passing;
+      related = rw (state_ended lower 1 t w lower_ended, upper.stays s w upper_ended) related;
+    }
+
+-- a simulation of the steps of states that have not ended is one of all
+pub simulates_until_ended : {S T E W : Type 0} (upper : Machine S E W) (lower : Machine T E W) (Related : ℕ → ℕ → S → T → Type 0) (Passing : T → Type 0) (pace : ℕ)
+    → 1 ≤ pace
+    → ((credit idle : ℕ) (s : S) (t : T) → Related credit idle s t → lower.ending t ≡ upper.ending s)
+    → ((credit idle : ℕ) (s : S) (t : T) → Related credit idle s t → Passing t)
+    → ((credit idle : ℕ) (s : S) (t : T) → Related credit idle s t → upper.ending s ≡ None → Reaches lower Related Passing pace (upper.weight s + credit) 1 idle (upper.step s).0 (upper.step s).1 t)
+    → Simulates upper lower Related Passing pace
+simulates_until_ended {S} {T} {E} {W} upper lower Related Passing pace paces alike passing by =
+    record {
+      by = λ credit idle s t related.
+          let Goal : Type 0 = Reaches lower Related Passing pace (upper.weight s + credit) 1 idle (upper.step s).0 (upper.step s).1 t in
+          let cases : (how : Option W) → upper.ending s ≡ how → Goal
+          = λ how. elim how as (λ how. upper.ending s ≡ how → Goal) [
+            | None ↦ λ goes_on. by credit idle s t related goes_on
+            | Some w ↦ λ ended. ended_reaches upper lower Related Passing pace credit idle s t w paces related ended (alike credit idle s t related ∙ ended) (passing credit idle s t related)
+          ] in
+          cases (upper.ending s) refl;
+      alike = alike;
+    }
 
 -- what is passed in some steps and then in others
 passes_in_parts : {T E W : Type 0} (lower : Machine T E W) (Passing : T → Type 0) (first rest : ℕ) (t : T)
@@ -159,11 +195,11 @@ simulates_mapped events seen upper lower Related Passing pace simulation =
             steps = one.steps;
             credit_after = one.credit_after;
             idle_after = one.idle_after;
-            paid = rw (weight_of-mapped events seen lower one.steps t) one.paid;
+            paid = one.paid;
             moves = one.moves;
             events_are = trace-mapped events seen lower one.steps t ∙ ap (flat_map events) one.events_are;
-            passes = λ k less. rw (state-mapped events seen lower k t) (one.passes k less);
-            related = rw (state-mapped events seen lower one.steps t) one.related;
+            passes = one.passes;
+            related = one.related;
           };
       alike = λ credit idle s t related. ap (option_map seen) (simulation.alike credit idle s t related);
     }

@@ -1,6 +1,7 @@
 -- The definitions on small values.
 use Rattle.std.proofs.Common.{◌≡◌, ◌-◌, ◌^◌, [], ◌∷◌, true, false, refl}
-use Rattle.kk_memio.specs.Plan.{Plan, unused, one_more, is_planned, after_call}
+use Rattle.kk_base.specs.Faults.{one_more}
+use Rattle.kk_memio.specs.Plan.{Plan, unused, is_planned, after_call}
 use Rattle.kk_memio.specs.Sink.{tally_after}
 
 -- the second and the third call are to fail

@@ -1,7 +1,7 @@
 -- A store in memory: what a call on it does.
-use Rattle.std.specs.Prelude.{◌≡◌, ℕ, List, Option, Some, None, option_map, string_bytes, Bool, true, false}
+use Rattle.std.specs.Prelude.{◌≡◌, ℕ, List, Some, None, Bool, true, false}
 use Rattle.std.specs.BTreeMap.{get_by_text}
-use Rattle.kk_base.specs.Store.{Files, Call, reading, writing, SameFiles}
+use Rattle.kk_base.specs.Store.{Files, StoreState, SameFiles}
 use Rattle.kk_base.specs.declared.outside.Read.{Read}
 use Rattle.kk_base.specs.declared.outside.Read.TheVariants as OfRead
 use Rattle.kk_base.specs.declared.outside.Wrote.{Wrote}
@@ -9,8 +9,6 @@ use Rattle.kk_base.specs.declared.outside.Wrote.TheVariants as OfWrote
 use Rattle.kk_memio.specs.Plan.{Plan}
 use Rattle.kk_memio.specs.FaultPlan.{plan_of}
 use Rattle.kk_memio.specs.declared.store.MemStore.{MemStore}
-use Rattle.kk_memio.specs.declared.store.FailedCall.{FailedCall}
-use Rattle.kk_memio.specs.declared.store.FailedCall.TheVariants as OfCall
 
 -- the content of each name
 abbrev pub files_of : MemStore → Files
@@ -20,13 +18,9 @@ files_of store name = get_by_text store.files name
 abbrev pub plan_of_store : MemStore → Plan
 plan_of_store store = plan_of store.plan
 
-abbrev pub call_of : FailedCall → Call
-call_of (OfCall.Read name) = reading (string_bytes name)
-call_of (OfCall.Write name) = writing (string_bytes name)
-
--- the last call that failed; none before the first
-abbrev pub last_failed_of : MemStore → Option Call
-last_failed_of store = option_map call_of store.last_failed
+-- what a store in memory tells
+abbrev pub store_state : MemStore → StoreState
+store_state store = record { files = Some (files_of store); last_failed = store.last_failed; faults = (plan_of_store store).faults }
 
 -- a read fails where it is planned, and where there is no such file; nowhere else
 abbrev pub ReadsAsPlanned : Bool → Read → List ℕ → Files → Type 0

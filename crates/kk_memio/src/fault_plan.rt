@@ -1,9 +1,9 @@
 ghost use Rattle.std.specs.Prelude.{◌≡◌, IfOk};
 ghost use Rattle.kk_base.specs.Faults.{Counts};
-ghost use Rattle.kk_memio.specs.Plan.{unused, one_more, is_planned, after_call};
+ghost use Rattle.kk_memio.specs.Plan.{unused, is_planned, after_call};
 ghost use Rattle.kk_memio.specs.FaultPlan.{plan_of};
 
-use kk_base::NoMemory;
+use kk_base::{FaultCount, NoMemory};
 use std::alloc::Global;
 
 /// Which calls of a device are to fail, by their numbers from 1, and how many were made and failed.
@@ -11,7 +11,7 @@ use std::alloc::Global;
 pub(crate) struct FaultPlan {
     fails: Vec<u64>,
     calls: u64,
-    faults: u64,
+    faults: FaultCount,
 }
 
 impl FaultPlan {
@@ -21,7 +21,7 @@ impl FaultPlan {
         Ok(FaultPlan {
             fails: Vec::from_slice(alloc, fails)?,
             calls: 0,
-            faults: 0,
+            faults: FaultCount::new(),
         })
     }
 
@@ -38,6 +38,6 @@ impl FaultPlan {
         ensures faults { Counts failed (plan_of self.old).faults (plan_of self.new).faults }
     {
         self.calls = self.calls.saturating_add(1);
-        self.faults = self.faults.saturating_add(u64::from(failed));
+        self.faults.count_call(failed);
     }
 }

@@ -3,7 +3,7 @@ ghost use Rattle.kk_base.specs.Faults.{Counts};
 ghost use Rattle.kk_base.specs.Sink.{taken, put_failed, CutWithin};
 ghost use Rattle.kk_memio.specs.Plan.{unused, is_planned, after_call};
 ghost use Rattle.kk_memio.specs.FaultPlan.{plan_of};
-ghost use Rattle.kk_memio.specs.Sink.{SinkState, Takes, tally_after};
+ghost use Rattle.kk_memio.specs.Sink.{PlannedSink, TakesAsPlanned, planned_sink_state, tally_state, tally_after};
 
 use crate::fault_plan::FaultPlan;
 use kk_base::{NoMemory, Put, Sink};
@@ -20,7 +20,7 @@ pub struct MemSink {
 }
 
 impl Model for MemSink {
-    ghost Value = { SinkState };
+    ghost Value = { PlannedSink };
 
     ghost view = { λ s. record { held = s.bytes.items; room = s.room; plan = plan_of s.plan } };
 
@@ -49,15 +49,13 @@ impl MemSink {
 }
 
 impl Sink for MemSink {
-    ghost held = { λ s. Some s.held };
-
-    ghost faults = { λ s. s.plan.faults };
+    ghost state = { planned_sink_state };
 
     fn put(&mut self, piece: &[u8]) -> Put
-        ensures content { ⟦<MemSink as Sink>⟧.held self.new ≡ option_map (λ before. before ++ taken result piece.now) (⟦<MemSink as Sink>⟧.held self.old) }
+        ensures content { (planned_sink_state self.new).held ≡ option_map (λ before. before ++ taken result piece.now) (planned_sink_state self.old).held }
         ensures cut { CutWithin result piece.now }
-        ensures faults { Counts (put_failed result) (⟦<MemSink as Sink>⟧.faults self.old) (⟦<MemSink as Sink>⟧.faults self.new) }
-        ensures takes { Takes (is_planned self.old.plan) result piece.now self.old.held self.old.room }
+        ensures faults { Counts (put_failed result) (planned_sink_state self.old).faults (planned_sink_state self.new).faults }
+        ensures takes { TakesAsPlanned (is_planned self.old.plan) result piece.now self.old.held self.old.room }
         ensures counted { self.new.plan ≡ after_call (put_failed result) self.old.plan }
         ensures room { self.new.room ≡ self.old.room }
     {
@@ -107,14 +105,12 @@ impl TallySink {
 }
 
 impl Sink for TallySink {
-    ghost held = { λ _. None };
-
-    ghost faults = { λ _. 0 };
+    ghost state = { tally_state };
 
     fn put(&mut self, piece: &[u8]) -> Put
-        ensures content { ⟦<TallySink as Sink>⟧.held self.new ≡ option_map (λ before. before ++ taken result piece.now) (⟦<TallySink as Sink>⟧.held self.old) }
+        ensures content { (tally_state self.new).held ≡ option_map (λ before. before ++ taken result piece.now) (tally_state self.old).held }
         ensures cut { CutWithin result piece.now }
-        ensures faults { Counts (put_failed result) (⟦<TallySink as Sink>⟧.faults self.old) (⟦<TallySink as Sink>⟧.faults self.new) }
+        ensures faults { Counts (put_failed result) (tally_state self.old).faults (tally_state self.new).faults }
         ensures all { result ≡ Put.All }
         ensures tally { self.new ≡ tally_after self.old piece.now }
     {

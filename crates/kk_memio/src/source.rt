@@ -1,9 +1,9 @@
-ghost use Rattle.std.specs.Prelude.{◌≡◌, ℕ, List, [], ◌∷◌, false, ◌++◌, ◌≤◌, length, drop, Option, Some, option_map, IfOk};
+ghost use Rattle.std.specs.Prelude.{◌≡◌, ℕ, List, [], ◌∷◌, false, ◌++◌, ◌<◌, ◌≤◌, length, drop, All, option_map, IfOk};
 ghost use Rattle.kk_base.specs.Faults.{Counts};
 ghost use Rattle.kk_base.specs.Source.{given, next_failed, EndsAt, KeepsEnd};
 ghost use Rattle.kk_memio.specs.Plan.{unused, is_planned, after_call};
 ghost use Rattle.kk_memio.specs.FaultPlan.{plan_of};
-ghost use Rattle.kk_memio.specs.Source.{SourceState, Gives, is_used_up};
+ghost use Rattle.kk_memio.specs.Source.{PlannedSource, GivesAsPlanned, plain_source_state, planned_source_state};
 
 use crate::fault_plan::FaultPlan;
 use kk_base::{Next, NoMemory, Source};
@@ -44,26 +44,22 @@ impl PlainSource {
 }
 
 impl Source for PlainSource {
-    ghost left = { λ s. Some s };
-
-    ghost ended = { λ s. is_used_up s };
-
-    ghost faults = { λ _. 0 };
+    ghost state = { plain_source_state };
 
     fn next(&mut self) -> Next
-        ensures content { ⟦<PlainSource as Source>⟧.left self.old ≡ option_map (λ rest. given result ++ rest) (⟦<PlainSource as Source>⟧.left self.new) }
-        ensures end { EndsAt result (⟦<PlainSource as Source>⟧.left self.old) }
-        ensures keeps { KeepsEnd result (⟦<PlainSource as Source>⟧.ended self.old) (⟦<PlainSource as Source>⟧.ended self.new) }
-        ensures faults { Counts (next_failed result) (⟦<PlainSource as Source>⟧.faults self.old) (⟦<PlainSource as Source>⟧.faults self.new) }
-        ensures gives { Gives false result self.old self.new }
+        ensures content { (plain_source_state self.old).left ≡ option_map (λ rest. given result ++ rest) (plain_source_state self.new).left }
+        ensures bytes { All (λ byte. byte < 256) (given result) }
+        ensures end { EndsAt result ((plain_source_state self.old).left) }
+        ensures keeps { KeepsEnd result (plain_source_state self.old).ended (plain_source_state self.new).ended }
+        ensures faults { Counts (next_failed result) (plain_source_state self.old).faults (plain_source_state self.new).faults }
+        ensures gives { GivesAsPlanned false result self.old self.new }
     {
-        match self.bytes.as_slice().get(self.at) {
-            Some(&byte) => {
-                self.at += 1;
-                Next::Byte(byte)
-            }
-            None => Next::End,
+        if self.at == self.bytes.len() {
+            return Next::End;
         }
+        let byte = self.bytes[self.at];
+        self.at += 1;
+        Next::Byte(byte)
     }
 }
 
@@ -75,7 +71,7 @@ pub struct MemSource {
 }
 
 impl Model for MemSource {
-    ghost Value = { SourceState };
+    ghost Value = { PlannedSource };
 
     ghost view = { λ s. record { left = s.bytes; plan = plan_of s.plan } };
 }
@@ -100,18 +96,15 @@ impl MemSource {
 }
 
 impl Source for MemSource {
-    ghost left = { λ s. Some s.left };
-
-    ghost ended = { λ s. is_used_up s.left };
-
-    ghost faults = { λ s. s.plan.faults };
+    ghost state = { planned_source_state };
 
     fn next(&mut self) -> Next
-        ensures content { ⟦<MemSource as Source>⟧.left self.old ≡ option_map (λ rest. given result ++ rest) (⟦<MemSource as Source>⟧.left self.new) }
-        ensures end { EndsAt result (⟦<MemSource as Source>⟧.left self.old) }
-        ensures keeps { KeepsEnd result (⟦<MemSource as Source>⟧.ended self.old) (⟦<MemSource as Source>⟧.ended self.new) }
-        ensures faults { Counts (next_failed result) (⟦<MemSource as Source>⟧.faults self.old) (⟦<MemSource as Source>⟧.faults self.new) }
-        ensures gives { Gives (is_planned self.old.plan) result self.old.left self.new.left }
+        ensures content { (planned_source_state self.old).left ≡ option_map (λ rest. given result ++ rest) (planned_source_state self.new).left }
+        ensures bytes { All (λ byte. byte < 256) (given result) }
+        ensures end { EndsAt result ((planned_source_state self.old).left) }
+        ensures keeps { KeepsEnd result (planned_source_state self.old).ended (planned_source_state self.new).ended }
+        ensures faults { Counts (next_failed result) (planned_source_state self.old).faults (planned_source_state self.new).faults }
+        ensures gives { GivesAsPlanned (is_planned self.old.plan) result self.old.left self.new.left }
         ensures counted { self.new.plan ≡ after_call (next_failed result) self.old.plan }
     {
         if self.plan.is_next_planned() {

@@ -1,20 +1,14 @@
-ghost use Rattle.std.specs.Prelude.{◌≡◌, ℕ, List, [], Option, Some, None, option_map, IfOk, OnOk, OnErr};
+ghost use Rattle.std.specs.Prelude.{◌≡◌, ℕ, List, Some, None, option_map, IfOk, OnOk, OnErr};
 ghost use Rattle.kk_base.specs.Faults.{Counts};
-ghost use Rattle.kk_base.specs.Store.{Files, reading, writing, read_failed, wrote_failed, Reads, SameFiles, SameOthers, HasFile, Writes, Remembers};
+ghost use Rattle.kk_base.specs.Store.{read_failed, wrote_failed, ReadsFile, SameFiles, SameOthers, HasFile, WritesFile, Remembers};
+ghost use Rattle.kk_base.specs.declared.outside.StoreCall.TheVariants.{Reading, Writing};
 ghost use Rattle.kk_memio.specs.Plan.{unused, is_planned, after_call};
-ghost use Rattle.kk_memio.specs.Store.{files_of, plan_of_store, last_failed_of, ReadsAsPlanned, WritesAsPlanned};
+ghost use Rattle.kk_memio.specs.Store.{files_of, plan_of_store, store_state, ReadsAsPlanned, WritesAsPlanned};
 
 use crate::fault_plan::FaultPlan;
-use kk_base::{Bytes, NoMemory, Read, Store, Wrote};
+use kk_base::{Bytes, Name, NoMemory, Read, Store, StoreCall, Wrote};
 use std::alloc::Global;
 use std::collections::BTreeMap;
-
-/// A call that failed, with the name that it was given.
-#[derive(Debug, Drop)]
-pub(crate) enum FailedCall {
-    Read(String),
-    Write(String),
-}
 
 /// Files in memory. A call fails exactly where it is planned, and a read also where there is no file of the name.
 #[derive(Debug, Drop)]
@@ -22,7 +16,7 @@ pub struct MemStore {
     alloc: Global,
     files: BTreeMap<String, Bytes>,
     plan: FaultPlan,
-    last_failed: Option<FailedCall>,
+    last_failed: Option<StoreCall>,
 }
 
 impl MemStore {
@@ -31,7 +25,7 @@ impl MemStore {
     pub fn new(alloc: Global, fails: &[u64]) -> Result<Self, NoMemory>
         ensures files { IfOk result (λ store. (name : List ℕ) → files_of store name ≡ None) }
         ensures plan { IfOk result (λ store. plan_of_store store ≡ unused fails.now) }
-        ensures last_failed { IfOk result (λ store. last_failed_of store ≡ None) }
+        ensures last_failed { IfOk result (λ store. store.last_failed ≡ None) }
     {
         Ok(MemStore {
             alloc,
@@ -47,7 +41,7 @@ impl MemStore {
         ensures ok { OnOk result (HasFile name.now bytes.now (Some (files_of self.new)) × SameOthers name.now (Some (files_of self.old)) (Some (files_of self.new))) }
         ensures err { OnErr result (SameFiles (Some (files_of self.old)) (Some (files_of self.new))) }
         ensures plan { plan_of_store self.new ≡ plan_of_store self.old }
-        ensures last_failed { last_failed_of self.new ≡ last_failed_of self.old }
+        ensures last_failed { self.new.last_failed ≡ self.old.last_failed }
     {
         let content = Bytes::from_slice(self.alloc, bytes)?;
         let key = String::from_str(self.alloc, name)?;
@@ -67,20 +61,15 @@ impl MemStore {
 }
 
 impl Store for MemStore {
-    ghost use Rattle.std.specs.Prelude.{Some};
-    ghost use Rattle.kk_memio.specs.Store.{files_of, plan_of_store, last_failed_of};
+    ghost use Rattle.kk_memio.specs.Store.{store_state};
 
-    ghost files = { λ s. Some (files_of s) };
-
-    ghost faults = { λ s. (plan_of_store s).faults };
-
-    ghost last_failed = { last_failed_of };
+    ghost state = { store_state };
 
     fn read(&mut self, alloc: Global, name: &str, at_most: usize) -> Read
-        ensures content { Reads result at_most name.now (⟦<MemStore as Store>⟧.files self.old) }
-        ensures kept { SameFiles (⟦<MemStore as Store>⟧.files self.old) (⟦<MemStore as Store>⟧.files self.new) }
-        ensures faults { Counts (read_failed result) (⟦<MemStore as Store>⟧.faults self.old) (⟦<MemStore as Store>⟧.faults self.new) }
-        ensures named { Remembers (read_failed result) (reading name.now) (⟦<MemStore as Store>⟧.last_failed self.old) (⟦<MemStore as Store>⟧.last_failed self.new) }
+        ensures content { ReadsFile result at_most name.now (store_state self.old).files }
+        ensures kept { SameFiles (store_state self.old).files (store_state self.new).files }
+        ensures faults { Counts (read_failed result) (store_state self.old).faults (store_state self.new).faults }
+        ensures named { Remembers (read_failed result) (Reading name.now) (store_state self.old).last_failed (store_state self.new).last_failed }
         ensures planned { ReadsAsPlanned (is_planned (plan_of_store self.old)) result name.now (files_of self.old) }
         ensures counted { plan_of_store self.new ≡ after_call (read_failed result) (plan_of_store self.old) }
     {
@@ -97,7 +86,7 @@ impl Store for MemStore {
             }
             _ => match String::from_str(self.alloc, name) {
                 Ok(name) => {
-                    self.last_failed = Some(FailedCall::Read(name));
+                    self.last_failed = Some(StoreCall::Reading(Name::new(name)));
                     self.plan.count_call(true);
                     Read::Failed
                 }
@@ -110,16 +99,16 @@ impl Store for MemStore {
     }
 
     fn write(&mut self, name: &str, bytes: &[u8]) -> Wrote
-        ensures content { Writes result name.now bytes.now (⟦<MemStore as Store>⟧.files self.old) (⟦<MemStore as Store>⟧.files self.new) }
-        ensures faults { Counts (wrote_failed result) (⟦<MemStore as Store>⟧.faults self.old) (⟦<MemStore as Store>⟧.faults self.new) }
-        ensures named { Remembers (wrote_failed result) (writing name.now) (⟦<MemStore as Store>⟧.last_failed self.old) (⟦<MemStore as Store>⟧.last_failed self.new) }
+        ensures content { WritesFile result name.now bytes.now (store_state self.old).files (store_state self.new).files }
+        ensures faults { Counts (wrote_failed result) (store_state self.old).faults (store_state self.new).faults }
+        ensures named { Remembers (wrote_failed result) (Writing name.now) (store_state self.old).last_failed (store_state self.new).last_failed }
         ensures planned { WritesAsPlanned (is_planned (plan_of_store self.old)) result (files_of self.old) (files_of self.new) }
         ensures counted { plan_of_store self.new ≡ after_call (wrote_failed result) (plan_of_store self.old) }
     {
         if self.plan.is_next_planned() {
             match String::from_str(self.alloc, name) {
                 Ok(name) => {
-                    self.last_failed = Some(FailedCall::Write(name));
+                    self.last_failed = Some(StoreCall::Writing(Name::new(name)));
                     self.plan.count_call(true);
                     Wrote::Failed
                 }

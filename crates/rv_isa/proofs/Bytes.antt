@@ -1,11 +1,11 @@
--- What a memory holds after bytes, or the bytes of a number, were put in it.
+-- What a memory holds after bytes were put in it: these bytes there, and elsewhere what it held; and which number the bytes of a number spell.
 use Rattle.std.proofs.Common.{◌≡◌, ◌≤◌, ◌<◌, ℕ, zero, suc, ◌+◌, ◌-◌, ◌*◌, ◌/◌, ◌%◌, ◌^◌, ◌⊎◌, inl, inr, List, [], ◌∷◌, length, slice_index, refl, sym, ap, ◌∙◌, arith}
 use Rattle.std.proofs.Common.{lit<}
 use Rattle.std.proofs.Math.Nat.{mod-one, div-one, pow-suc, div-div-eq-div-mul, mod-eq_of_lt}
 use Rattle.std.proofs.Math.Arith.{mod-mul}
 use Rattle.std.proofs.lemmas.Bool.Decides.{nat_tests}
 use Rattle.std.specs.Int.{bytes_low_first, byte_at}
-use Rattle.rv_isa.specs.Bytes.{little_endian, lowest_bytes, bytes_at, with_bytes, number_at, with_number}
+use Rattle.rv_isa.specs.Bytes.{little_endian, lowest_bytes, bytes_at, with_bytes, Apart}
 
 pub length-bytes_at : (memory : ℕ → ℕ) (at count : ℕ) → length (bytes_at memory at count) ≡ count
 unfolding bytes_at
@@ -52,7 +52,7 @@ bytes_at-with_bytes at bytes memory =
     ap (λ a. bytes_at (with_bytes at bytes memory) a (length bytes)) e
     ∙ bytes_at-from at 0 bytes bytes memory (λ k. let z : 0 + k ≡ k = omega arith in rw z refl) (omega arith)
 
-pub bytes_at-with_bytes_apart : (at : ℕ) (bytes : List ℕ) (memory : ℕ → ℕ) (other count : ℕ) → (other + count ≤ at) ⊎ (at + length bytes ≤ other) → bytes_at (with_bytes at bytes memory) other count ≡ bytes_at memory other count
+pub bytes_at-with_bytes_apart : (at : ℕ) (bytes : List ℕ) (memory : ℕ → ℕ) (other count : ℕ) → Apart at (length bytes) other count → bytes_at (with_bytes at bytes memory) other count ≡ bytes_at memory other count
 bytes_at-with_bytes_apart at bytes memory other count (inl below) =
     bytes_at-same _ _ other count (λ x low high. with_bytes-below at bytes memory x (omega arith))
 bytes_at-with_bytes_apart at bytes memory other count (inr above) =
@@ -83,46 +83,3 @@ little_endian-lowest_from i (suc count) n =
     let whole : n / 256 ^ i % 256 ^ suc count ≡ (n / 256 ^ i / 256 % 256 ^ count) * 256 + n / 256 ^ i % 256 =
     ap (λ d. n / 256 ^ i % d) (pow-suc 256 count) ∙ mod-mul (n / 256 ^ i) {m = 256 ^ count} {c = 256} (positive count) (lit< tt) in
     rw (rest, first, next, whole) (omega arith)
-
--- a number that its bytes can hold is the number that they spell
-pub little_endian-lowest_bytes : (count n : ℕ) → n < 256 ^ count → little_endian (lowest_bytes count n) ≡ n
-little_endian-lowest_bytes count n fits =
-    little_endian-lowest_from 0 count n ∙ ap (λ q. q % 256 ^ count) (div-one n) ∙ mod-eq_of_lt fits
-
--- bytes spell a number below 256 to their count
-pub little_endian-below : (bytes : List ℕ) → ((k : ℕ) → slice_index bytes k < 256) → little_endian bytes < 256 ^ length bytes
-little_endian-below [] small = lit< tt
-little_endian-below (b ∷ bytes) small =
-    let rest = little_endian-below bytes (λ k. small (suc k)) in
-    let first : b < 256 = small 0 in
-    let e : 256 ^ suc (length bytes) ≡ 256 ^ length bytes * 256 = pow-suc 256 (length bytes) in
-    rw e (omega arith)
-
--- numbers in memory
-pub number_at-same : (f g : ℕ → ℕ) (at count : ℕ) → ((x : ℕ) → at ≤ x → x < at + count → f x ≡ g x) → number_at f at count ≡ number_at g at count
-unfolding number_at
-number_at-same f g at count same = ap little_endian (bytes_at-same f g at count same)
-
-pub number_at-with_number : (at count n : ℕ) (memory : ℕ → ℕ) → n < 256 ^ count → number_at (with_number at count n memory) at count ≡ n
-unfolding number_at with_number
-number_at-with_number at count n memory fits =
-    let bytes = bytes_at-with_bytes at (lowest_bytes count n) memory in
-    let e : bytes_at (with_bytes at (lowest_bytes count n) memory) at count ≡ lowest_bytes count n =
-    ap (λ k. bytes_at (with_bytes at (lowest_bytes count n) memory) at k) (sym (length-lowest_bytes count n)) ∙ bytes in
-    rw e (little_endian-lowest_bytes count n fits)
-
-pub number_at-with_number_apart : (at count n : ℕ) (memory : ℕ → ℕ) (other size : ℕ) → (other + size ≤ at) ⊎ (at + count ≤ other) → number_at (with_number at count n memory) other size ≡ number_at memory other size
-unfolding number_at with_number
-number_at-with_number_apart at count n memory other size apart =
-    let e = length-lowest_bytes count n in
-    ap little_endian (bytes_at-with_bytes_apart at (lowest_bytes count n) memory other size (rw e apart))
-
--- bytes outside of a number that is put in stay
-pub with_number-below : (at count n : ℕ) (memory : ℕ → ℕ) (x : ℕ) → x < at → with_number at count n memory x ≡ memory x
-unfolding with_number
-with_number-below at count n memory x below = with_bytes-below at (lowest_bytes count n) memory x below
-
-pub with_number-above : (at count n : ℕ) (memory : ℕ → ℕ) (x : ℕ) → at + count ≤ x → with_number at count n memory x ≡ memory x
-unfolding with_number
-with_number-above at count n memory x above =
-    let e = length-lowest_bytes count n in with_bytes-above at (lowest_bytes count n) memory x (rw e above)

@@ -2,10 +2,11 @@
 use Rattle.std.proofs.Common.{◌≡◌, ◌≢◌, ℕ, ◌%◌, [], ◌∷◌, ◌++◌, Bool, true, false, ◌&&◌, nat_eq, refl, arith}
 use Rattle.std.proofs.lemmas.Bool.Decides.{nat_tests}
 use Rattle.kk_base.specs.Trace.{output}
-use Rattle.rv_isa.specs.Machine.{Machine, goes, traps, exited, value, put, can_load, can_store}
+use Rattle.rv_isa.specs.declared.environment.TheConstants.{READ, WRITE, EXIT, STANDARD_INPUT, STANDARD_OUTPUT, UNKNOWN_CALL}
+use Rattle.rv_isa.specs.Processor.{Processor, goes, traps, exited, value, put, can_load, can_store}
 use Rattle.rv_isa.specs.Environment.{stepped, asks, reads, written, writes, calls}
 
-module _ (next : ℕ) (s : Machine) where
+module _ (next : ℕ) (s : Processor) where
   pub reads-none : value s.registers 12 ≡ 0 → reads next s ≡ record (stepped next s) { registers = put 10 0 s.registers }
   reads-none none = let test : nat_eq (value s.registers 12) 0 ≡ true = grind (arith, nat_tests) in rw test refl
 
@@ -26,26 +27,26 @@ none_of : (a number b file : ℕ) (allowed : Bool) → (a ≡ number → b ≡ f
 none_of a number b file true none = grind (arith, nat_tests, none)
 none_of a number b file false none = grind (arith, nat_tests)
 
-module _ (next word : ℕ) (s : Machine) where
-  pub calls-read : value s.registers 17 ≡ 63 → value s.registers 10 ≡ 0 → can_store s.parts (value s.registers 11) (value s.registers 12) ≡ true → calls next word s ≡ goes (reads next s)
+module _ (next word : ℕ) (s : Processor) where
+  pub calls-read : value s.registers 17 ≡ READ → value s.registers 10 ≡ STANDARD_INPUT → can_store s.parts (value s.registers 11) (value s.registers 12) ≡ true → calls next word s ≡ goes (reads next s)
   unfolding calls
   calls-read number file allowed = rw (number, file, allowed) refl
 
-  pub calls-write : value s.registers 17 ≡ 64 → value s.registers 10 ≡ 1 → can_load s.parts (value s.registers 11) (value s.registers 12) ≡ true → calls next word s ≡ goes (writes next s)
+  pub calls-write : value s.registers 17 ≡ WRITE → value s.registers 10 ≡ STANDARD_OUTPUT → can_load s.parts (value s.registers 11) (value s.registers 12) ≡ true → calls next word s ≡ goes (writes next s)
   unfolding calls
   calls-write number file allowed = rw (number, file, allowed) refl
 
-  pub calls-exit : value s.registers 17 ≡ 93 → calls next word s ≡ record { machine = stepped next s; ending = exited (value s.registers 10 % 256) }
+  pub calls-exit : value s.registers 17 ≡ EXIT → calls next word s ≡ record { processor = stepped next s; ending = exited (value s.registers 10 % 256) }
   unfolding calls
   calls-exit number = rw number refl
 
-  pub calls-none : (value s.registers 17 ≡ 63 → value s.registers 10 ≡ 0 → can_store s.parts (value s.registers 11) (value s.registers 12) ≡ true → ⊥)
-      → (value s.registers 17 ≡ 64 → value s.registers 10 ≡ 1 → can_load s.parts (value s.registers 11) (value s.registers 12) ≡ true → ⊥)
-      → value s.registers 17 ≢ 93 → calls next word s ≡ traps 6 word s
+  pub calls-none : (value s.registers 17 ≡ READ → value s.registers 10 ≡ STANDARD_INPUT → can_store s.parts (value s.registers 11) (value s.registers 12) ≡ true → ⊥)
+      → (value s.registers 17 ≡ WRITE → value s.registers 10 ≡ STANDARD_OUTPUT → can_load s.parts (value s.registers 11) (value s.registers 12) ≡ true → ⊥)
+      → value s.registers 17 ≢ EXIT → calls next word s ≡ traps UNKNOWN_CALL word s
   unfolding calls
   calls-none reads writes exits =
       rw (
-        none_of (value s.registers 17) 63 (value s.registers 10) 0 (can_store s.parts (value s.registers 11) (value s.registers 12)) reads,
-        none_of (value s.registers 17) 64 (value s.registers 10) 1 (can_load s.parts (value s.registers 11) (value s.registers 12)) writes,
-        not_equal (value s.registers 17) 93 exits,
+        none_of (value s.registers 17) READ (value s.registers 10) STANDARD_INPUT (can_store s.parts (value s.registers 11) (value s.registers 12)) reads,
+        none_of (value s.registers 17) WRITE (value s.registers 10) STANDARD_OUTPUT (can_load s.parts (value s.registers 11) (value s.registers 12)) writes,
+        not_equal (value s.registers 17) EXIT exits,
       ) refl

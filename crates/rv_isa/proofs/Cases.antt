@@ -1,16 +1,16 @@
--- What holds of every step, by a few cases: what an instruction can come to.
+-- What holds of every step over an instruction set, by a few cases: what an instruction can come to.
 use Rattle.std.proofs.Common.{◌≡◌, ◌≢◌, ℕ, zero, suc, ◌+◌, ◌%◌, List, [], ◌∷◌, ◌++◌, Bool, true, false, not, ◌&&◌, Option, Some, None, nat_eq, if◌then◌else◌, refl, sym, ap, ◌∙◌, subst, add-zero, append-nil, arith}
 use Rattle.std.proofs.lemmas.Bool.Decides.{nat_tests}
 use Rattle.kk_base.specs.Trace.{output, input, input_end, IsPrefix}
+use Rattle.rv_isa.specs.declared.environment.TheConstants.{READ, WRITE, STANDARD_INPUT, STANDARD_OUTPUT, ILLEGAL_INSTRUCTION, FETCH_FAULT, MISALIGNED_TARGET, ACCESS_FAULT, MISALIGNED_ACCESS, UNKNOWN_CALL}
 use Rattle.rv_isa.specs.declared.act.Act.{Act}
 use Rattle.rv_isa.specs.declared.act.Act.TheVariants.{Nothing, Set, Load, Store, Call, Break}
-use Rattle.rv_isa.specs.declared.instr.Instr.{Instr}
-use Rattle.rv_isa.specs.Read.{read}
-use Rattle.rv_isa.specs.Operands.{rd_of}
 use Rattle.rv_isa.specs.Bytes.{number_at, with_number}
-use Rattle.rv_isa.specs.Machine.{Machine, Ending, going, exited, trapped, After, goes, traps, counted, value, put, can_fetch, can_load, can_store}
+use Rattle.rv_isa.specs.Processor.{Processor, Ending, going, exited, trapped, Progress, goes, traps, counted, value, put, can_fetch, can_load, can_store}
 use Rattle.rv_isa.specs.Environment.{stepped, is_read, is_write, is_exit, asks, reads, writes, written, calls}
-use Rattle.rv_isa.specs.Execution.{widened, acts, effect_at, executes, decodes, step, resumes, run, Leads}
+use Rattle.std.specs.Int.{Width}
+use Rattle.rv_isa.specs.Words.{widened_in}
+use Rattle.rv_isa.specs.InstructionSet.{InstructionSet, acts_over, effect_over, executes_over, decodes_over, step_over, resumes, run_over, LeadsOver}
 use Rattle.rv_isa.proofs.Runs.{run-zero, run-suc, Leads-run}
 
 -- what holds of both branches, each where its test holds, holds of the choice
@@ -22,7 +22,7 @@ not-false : (b : Bool) → not b ≡ false → b ≡ true
 not-false true e = refl
 not-false false e = cc
 
-and-right : (a b : Bool) → (a && b) ≡ true → b ≡ true
+pub and-right : (a b : Bool) → (a && b) ≡ true → b ≡ true
 and-right true b e = e
 and-right false b e = cc
 
@@ -30,7 +30,7 @@ not_zero : (n : ℕ) → nat_eq n 0 ≡ false → n ≢ 0
 not_zero n e = grind (arith, nat_tests)
 
 -- what holds of everything that an instruction can come to from this machine
-pub record Cases (P : After → Type 0) (s : Machine) : Type 0 where
+pub record Cases (P : Progress → Type 0) (s : Processor) : Type 0 where
   pub trap : (cause word : ℕ) → P (traps cause word s)
   pub nothing : (next : ℕ) → P (goes (stepped next s))
   pub set : (rd v next : ℕ) → P (goes (record (stepped next s) { registers = put rd v s.registers }))
@@ -38,9 +38,9 @@ pub record Cases (P : After → Type 0) (s : Machine) : Type 0 where
   pub ask_end : (next : ℕ) → s.left ≡ [] → P (goes (asks [] next s))
   pub ask_byte : (byte : ℕ) (rest : List ℕ) (next : ℕ) → s.left ≡ byte ∷ rest → value s.registers 12 ≢ 0 → can_store s.parts (value s.registers 11) (value s.registers 12) ≡ true → P (goes (asks (byte ∷ rest) next s))
   pub write : (next : ℕ) → can_load s.parts (value s.registers 11) (value s.registers 12) ≡ true → P (goes (record (stepped next s) { registers = put 10 (value s.registers 12) s.registers; trace = s.trace ++ output (written s) ∷ [] }))
-  pub exit : (next : ℕ) → P (record { machine = stepped next s; ending = exited (value s.registers 10 % 256) })
+  pub exit : (next : ℕ) → P (record { processor = stepped next s; ending = exited (value s.registers 10 % 256) })
 
-module _ (P : After → Type 0) (s : Machine) (cases : Cases P s) where
+module _ (P : Progress → Type 0) (s : Processor) (cases : Cases P s) where
   by_left : (left : List ℕ) (next : ℕ) → s.left ≡ left → value s.registers 12 ≢ 0 → can_store s.parts (value s.registers 11) (value s.registers 12) ≡ true → P (goes (asks left next s))
   by_left [] next is some allowed = cases.ask_end next is
   by_left (byte ∷ rest) next is some allowed = cases.ask_byte byte rest next is some allowed
@@ -57,101 +57,104 @@ module _ (P : After → Type 0) (s : Machine) (cases : Cases P s) where
   unfolding calls
   calls-by next word =
       either P (is_read s) _ _
-      (λ e. by_count_read next (and-right (nat_eq (value s.registers 17) 63 && nat_eq (value s.registers 10) 0) _ e))
+      (λ e. by_count_read next (and-right (nat_eq (value s.registers 17) READ && nat_eq (value s.registers 10) STANDARD_INPUT) _ e))
       (λ _. either P (is_write s) _ _
-      (λ e. by_count_write next (and-right (nat_eq (value s.registers 17) 64 && nat_eq (value s.registers 10) 1) _ e))
-      (λ _. either P (is_exit s) _ _ (λ _. cases.exit next) (λ _. cases.trap 6 word)))
+      (λ e. by_count_write next (and-right (nat_eq (value s.registers 17) WRITE && nat_eq (value s.registers 10) STANDARD_OUTPUT) _ e))
+      (λ _. either P (is_exit s) _ _ (λ _. cases.exit next) (λ _. cases.trap UNKNOWN_CALL word)))
 
-  pub acts-by : (act : Act) (rd next word : ℕ) → P (acts act rd next word s)
-  unfolding acts
-  acts-by Nothing rd next word = cases.nothing next
-  acts-by (Set v) rd next word = cases.set rd v next
-  acts-by (Load at width signed) rd next word =
-      either P (not (nat_eq (at % width) 0)) _ _ (λ _. cases.trap 5 word) (λ _.
-      either P (not (can_load s.parts at width)) _ _ (λ _. cases.trap 4 word) (λ _.
-      cases.set rd (widened width signed (number_at s.memory at width)) next))
-  acts-by (Store at width v) rd next word =
-      either P (not (nat_eq (at % width) 0)) _ _ (λ _. cases.trap 5 word) (λ _.
-      either P (not (can_store s.parts at width)) _ _ (λ _. cases.trap 4 word) (λ e.
-      cases.store at width v next (not-false _ e)))
-  acts-by Call rd next word = calls-by next word
-  acts-by Break rd next word = cases.trap 1 word
+  pub acts-by : (width : Width) (act : Act) (rd next word : ℕ) → P (acts_over width act rd next word s)
+  unfolding acts_over
+  acts-by width Nothing rd next word = cases.nothing next
+  acts-by width (Set v) rd next word = cases.set rd v next
+  acts-by width (Load at count signed) rd next word =
+      either P (not (nat_eq (at % count) 0)) _ _ (λ _. cases.trap MISALIGNED_ACCESS word) (λ _.
+      either P (not (can_load s.parts at count)) _ _ (λ _. cases.trap ACCESS_FAULT word) (λ _.
+      cases.set rd (widened_in width count signed (number_at s.memory at count)) next))
+  acts-by width (Store at count v) rd next word =
+      either P (not (nat_eq (at % count) 0)) _ _ (λ _. cases.trap MISALIGNED_ACCESS word) (λ _.
+      either P (not (can_store s.parts at count)) _ _ (λ _. cases.trap ACCESS_FAULT word) (λ e.
+      cases.store at count v next (not-false _ e)))
+  acts-by width Call rd next word = calls-by next word
+  acts-by width Break rd next word = cases.trap ILLEGAL_INSTRUCTION word
 
-  executes-by : (word : ℕ) (i : Instr) → P (executes s word i)
-  unfolding executes
+module _ {I : Type 0} (set : InstructionSet I) (P : Progress → Type 0) (s : Processor) (cases : Cases P s) where
+  executes-by : (word : ℕ) (i : I) → P (executes_over set s word i)
+  unfolding executes_over
   executes-by word i =
-      either P (nat_eq ((effect_at s i).next % 4) 0) _ _ (λ _. acts-by (effect_at s i).act (rd_of i) (effect_at s i).next word) (λ _. cases.trap 3 word)
+      either P (nat_eq ((effect_over set s i).next % 4) 0) _ _ (λ _. acts-by P s cases set.width (effect_over set s i).act (set.rd i) (effect_over set s i).next word) (λ _. cases.trap MISALIGNED_TARGET word)
 
-  decodes-by : (word : ℕ) (i : Option Instr) → P (decodes s word i)
-  unfolding decodes
-  decodes-by word None = cases.trap 1 word
+  decodes-by : (word : ℕ) (i : Option I) → P (decodes_over set s word i)
+  unfolding decodes_over
+  decodes-by word None = cases.trap ILLEGAL_INSTRUCTION word
   decodes-by word (Some i) = executes-by word i
 
-  pub step-by : P (step s)
-  unfolding step
+  pub step-by : P (step_over set s)
+  unfolding step_over
   step-by =
-      either P (can_fetch s.parts s.pc 4) _ _ (λ _. decodes-by (number_at s.memory s.pc 4) (read (number_at s.memory s.pc 4))) (λ _. cases.trap 2 0)
+      either P (can_fetch s.parts s.pc 4) _ _ (λ _. decodes-by (number_at s.memory s.pc 4) (set.read (number_at s.memory s.pc 4))) (λ _. cases.trap FETCH_FAULT 0)
 
--- what stays in every step, and what grows
-pub step-parts : (s : Machine) → (step s).machine.parts ≡ s.parts
-step-parts s = step-by (λ after. after.machine.parts ≡ s.parts) s record {
-  trap = λ cause word. refl;
-  nothing = λ next. refl;
-  set = λ rd v next. refl;
-  store = λ at width v next allowed. refl;
-  ask_end = λ next is. refl;
-  ask_byte = λ byte rest next is some allowed. refl;
-  write = λ next allowed. refl;
-  exit = λ next. refl;
-}
-
-pub step-executed : (s : Machine) → (step s).machine.executed ≡ s.executed + counted (step s).ending
-step-executed s = step-by (λ after. after.machine.executed ≡ s.executed + counted after.ending) s record {
-  trap = λ cause word. sym (add-zero s.executed);
-  nothing = λ next. refl;
-  set = λ rd v next. refl;
-  store = λ at width v next allowed. refl;
-  ask_end = λ next is. refl;
-  ask_byte = λ byte rest next is some allowed. refl;
-  write = λ next allowed. refl;
-  exit = λ next. refl;
-}
-
-pub step-trace : (s : Machine) → IsPrefix s.trace (step s).machine.trace
-step-trace s = step-by (λ after. IsPrefix s.trace after.machine.trace) s record {
-  trap = λ cause word. ([], append-nil s.trace);
-  nothing = λ next. ([], append-nil s.trace);
-  set = λ rd v next. ([], append-nil s.trace);
-  store = λ at width v next allowed. ([], append-nil s.trace);
-  ask_end = λ next is. (input_end ∷ [], refl);
-  ask_byte = λ byte rest next is some allowed. (input byte ∷ [], refl);
-  write = λ next allowed. (output (written s) ∷ [], refl);
-  exit = λ next. ([], append-nil s.trace);
-}
-
--- a run that leads to a machine keeps the parts, and has executed its count of instructions
-abbrev Kept : ℕ → Machine → Machine → Type 0
+-- a run that leads to a state keeps the parts, and has executed its count of instructions
+abbrev Kept : ℕ → Processor → Processor → Type 0
 Kept n s t = (t.parts ≡ s.parts) × (t.executed ≡ s.executed + n)
 
-kept-step : (n : ℕ) (s t : Machine) (e : Ending) → (step s).ending ≡ e → (run n (step s).machine ≡ goes t → Kept n (step s).machine t)
-    → resumes e (step s).machine (run n) ≡ goes t → Kept (suc n) s t
-kept-step n s t going ending rest on =
-    let one : (step s).machine.executed ≡ s.executed + 1 = step-executed s ∙ ap (λ e. s.executed + counted e) ending in
-    let sum : s.executed + 1 + n ≡ s.executed + suc n = omega arith in
-    ((rest on).0 ∙ step-parts s, (rest on).1 ∙ ap (λ e. e + n) one ∙ sum)
-kept-step n s t (exited number) ending rest on = let e : exited number ≡ going = ap (λ after. after.ending) on in cc
-kept-step n s t (trapped cause pc word) ending rest on =
-    let e : trapped cause pc word ≡ going = ap (λ after. after.ending) on in cc
+module _ {I : Type 0} (set : InstructionSet I) where
+  -- what stays in every step, and what grows
+  pub step-parts : (s : Processor) → (step_over set s).processor.parts ≡ s.parts
+  step-parts s = step-by set (λ after. after.processor.parts ≡ s.parts) s record {
+    trap = λ cause word. refl;
+    nothing = λ next. refl;
+    set = λ rd v next. refl;
+    store = λ at width v next allowed. refl;
+    ask_end = λ next is. refl;
+    ask_byte = λ byte rest next is some allowed. refl;
+    write = λ next allowed. refl;
+    exit = λ next. refl;
+  }
 
-kept-run : (n : ℕ) (s t : Machine) → run n s ≡ goes t → Kept n s t
-kept-run zero s t is =
-    let same : s ≡ t = ap (λ after. after.machine) (sym (run-zero s) ∙ is) in
-    subst (λ u. Kept 0 s u) same (refl, sym (add-zero s.executed))
-kept-run (suc n) s t is =
-    kept-step n s t (step s).ending refl (kept-run n (step s).machine t) (sym (run-suc n s) ∙ is)
+  pub step-executed : (s : Processor) → (step_over set s).processor.executed ≡ s.executed + counted (step_over set s).ending
+  step-executed s = step-by set (λ after. after.processor.executed ≡ s.executed + counted after.ending) s record {
+    trap = λ cause word. sym (add-zero s.executed);
+    nothing = λ next. refl;
+    set = λ rd v next. refl;
+    store = λ at width v next allowed. refl;
+    ask_end = λ next is. refl;
+    ask_byte = λ byte rest next is some allowed. refl;
+    write = λ next allowed. refl;
+    exit = λ next. refl;
+  }
 
-pub Leads-parts : {n : ℕ} {s t : Machine} → Leads n s t → t.parts ≡ s.parts
-Leads-parts {n} {s} {t} leads = (kept-run n s t (Leads-run leads)).0
+  pub step-trace : (s : Processor) → IsPrefix s.trace (step_over set s).processor.trace
+  step-trace s = step-by set (λ after. IsPrefix s.trace after.processor.trace) s record {
+    trap = λ cause word. ([], append-nil s.trace);
+    nothing = λ next. ([], append-nil s.trace);
+    set = λ rd v next. ([], append-nil s.trace);
+    store = λ at width v next allowed. ([], append-nil s.trace);
+    ask_end = λ next is. (input_end ∷ [], refl);
+    ask_byte = λ byte rest next is some allowed. (input byte ∷ [], refl);
+    write = λ next allowed. (output (written s) ∷ [], refl);
+    exit = λ next. ([], append-nil s.trace);
+  }
 
-pub Leads-executed : {n : ℕ} {s t : Machine} → Leads n s t → t.executed ≡ s.executed + n
-Leads-executed {n} {s} {t} leads = (kept-run n s t (Leads-run leads)).1
+  kept-step : (n : ℕ) (s t : Processor) (e : Ending) → (step_over set s).ending ≡ e → (run_over set n (step_over set s).processor ≡ goes t → Kept n (step_over set s).processor t)
+      → resumes e (step_over set s).processor (run_over set n) ≡ goes t → Kept (suc n) s t
+  kept-step n s t going ending rest on =
+      let one : (step_over set s).processor.executed ≡ s.executed + 1 = step-executed s ∙ ap (λ e. s.executed + counted e) ending in
+      let sum : s.executed + 1 + n ≡ s.executed + suc n = omega arith in
+      ((rest on).0 ∙ step-parts s, (rest on).1 ∙ ap (λ e. e + n) one ∙ sum)
+  kept-step n s t (exited number) ending rest on = let e : exited number ≡ going = ap (λ after. after.ending) on in cc
+  kept-step n s t (trapped cause pc word) ending rest on =
+      let e : trapped cause pc word ≡ going = ap (λ after. after.ending) on in cc
+
+  kept-run : (n : ℕ) (s t : Processor) → run_over set n s ≡ goes t → Kept n s t
+  kept-run zero s t is =
+      let same : s ≡ t = ap (λ after. after.processor) (sym (run-zero set s) ∙ is) in
+      subst (λ u. Kept 0 s u) same (refl, sym (add-zero s.executed))
+  kept-run (suc n) s t is =
+      kept-step n s t (step_over set s).ending refl (kept-run n (step_over set s).processor t) (sym (run-suc set n s) ∙ is)
+
+module _ {I : Type 0} {set : InstructionSet I} where
+  pub Leads-parts : {n : ℕ} {s t : Processor} → LeadsOver set n s t → t.parts ≡ s.parts
+  Leads-parts {n} {s} {t} leads = (kept-run set n s t (Leads-run leads)).0
+
+  pub Leads-executed : {n : ℕ} {s t : Processor} → LeadsOver set n s t → t.executed ≡ s.executed + n
+  Leads-executed {n} {s} {t} leads = (kept-run set n s t (Leads-run leads)).1

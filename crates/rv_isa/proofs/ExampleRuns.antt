@@ -1,15 +1,17 @@
 -- Runs of a few instructions, put together from what each of them leads to.
 use Rattle.std.proofs.Common.{◌≡◌, ◌≢◌, ◌<◌, ℕ, zero, suc, ◌+◌, ◌-◌, ◌*◌, ◌%◌, ◌^◌, List, [], ◌∷◌, Some, refl, sym, ap, ◌∙◌, lit<, arith}
+use Rattle.rv_isa.specs.declared.environment.TheConstants.{EXIT}
 use Rattle.rv_isa.specs.declared.register.Register.{Register}
 use Rattle.rv_isa.specs.declared.immediate.Immediate.{Immediate}
 use Rattle.rv_isa.specs.declared.immediate.BranchOffset.{BranchOffset}
 use Rattle.rv_isa.specs.Arithmetic.{sum_word}
 use Rattle.rv_isa.specs.declared.instr.Instr.{Instr}
 use Rattle.rv_isa.specs.declared.instr.Instr.TheVariants.{Bne, Addi, Add, Ecall}
-use Rattle.rv_isa.specs.Machine.{Machine, going, exited, value, put}
+use Rattle.rv_isa.specs.Processor.{Processor, going, exited, value, put}
 use Rattle.rv_isa.specs.Execution.{run, Leads}
 use Rattle.rv_isa.proofs.Runs.{Leads-none, Leads-then, Leads-ended}
-use Rattle.rv_isa.proofs.Standing.{Code, Has, Stands, Stands-leads, next-is}
+use Rattle.rv_isa.specs.Standing.{Code, Has, Stands}
+use Rattle.rv_isa.proofs.Standing.{Stands-leads, next-is}
 use Rattle.rv_isa.proofs.Instructions.{leads-addi, leads-add, leads-bne_taken, leads-bne_not_taken, step-exit}
 
 abbrev x0 : Register
@@ -40,14 +42,14 @@ three = record { word = 3; in_range = (lit< tt, lit< tt) }
 abbrev sum_of_two : Instr → List Instr
 sum_of_two after = Addi x5 x0 two ∷ Addi x6 x0 three ∷ Add x7 x5 x6 ∷ after ∷ []
 
-abbrev sum_of_two_after : Machine → Machine
+abbrev sum_of_two_after : Processor → Processor
 sum_of_two_after s = record s {
   registers = put 7 5 (put 6 3 (put 5 2 s.registers));
   pc = s.pc + 4 + 4 + 4;
   executed = s.executed + 1 + 1 + 1;
 }
 
-module _ {code : Code} {s : Machine} (stands : Stands code s) (after : Instr) (has : Has code s.pc (sum_of_two after)) where
+module _ {code : Code} {s : Processor} (stands : Stands code s) (after : Instr) (has : Has code s.pc (sum_of_two after)) where
   sum_of_two-leads : Leads 3 s (sum_of_two_after s)
   sum_of_two-leads =
       let first = leads-addi stands {v = 2} has.0 refl (next-is stands s.pc (Addi x6 x0 three) has.1.0) in
@@ -65,18 +67,18 @@ abbrev count_down : Instr → List Instr
 count_down after = Addi x5 x5 minus_one ∷ Bne x5 x0 back_four ∷ after ∷ []
 
 -- the machine stands at the first of them, with x5 not 0
-record Down (code : Code) (at n : ℕ) (s : Machine) : Type 0 where
+record Down (code : Code) (at n : ℕ) (s : Processor) : Type 0 where
   stands : Stands code s
   pc_is : s.pc ≡ at
   holds : value s.registers 5 ≡ suc n
   fits : suc n < 2 ^ 32
 
 -- a turn has left n in x5
-abbrev turned : ℕ → ℕ → Machine → Machine
+abbrev turned : ℕ → ℕ → Processor → Processor
 turned n next s = record s { registers = put 5 n s.registers; pc = next; executed = s.executed + 1 + 1 }
 
 module _ {code : Code} (at : ℕ) (after : Instr) (has : Has code at (count_down after)) where
-  count_down-lowers : (n : ℕ) (s : Machine) → Down code at n s → Leads 1 s (record s { registers = put 5 n s.registers; pc = at + 4; executed = s.executed + 1 })
+  count_down-lowers : (n : ℕ) (s : Processor) → Down code at n s → Leads 1 s (record s { registers = put 5 n s.registers; pc = at + 4; executed = s.executed + 1 })
   count_down-lowers n s down =
       let holds = down.holds in
       let fits = down.fits in
@@ -84,21 +86,21 @@ module _ {code : Code} (at : ℕ) (after : Instr) (has : Has code at (count_down
       leads-addi down.stands (ap code down.pc_is ∙ has.0) lower (ap (λ a. sum_word a 4) down.pc_is ∙ next-is down.stands at _ has.1.0)
 
   -- a turn goes back to its first instruction, or past its last
-  count_down-turns : (n : ℕ) (s : Machine) → Down code at (suc n) s → Leads 2 s (turned (suc n) at s)
+  count_down-turns : (n : ℕ) (s : Processor) → Down code at (suc n) s → Leads 2 s (turned (suc n) at s)
   count_down-turns n s down =
       let first = count_down-lowers (suc n) s down in
       let stands = Stands-leads first down.stands in
       let below = down.stands.below (at + 4) _ has.1.0 in
       Leads-then first (leads-bne_taken stands has.1.0 (omega arith) (omega arith) (down.stands.aligned at _ has.0))
 
-  count_down-ends : (s : Machine) → Down code at 0 s → Leads 2 s (turned 0 (at + 4 + 4) s)
+  count_down-ends : (s : Processor) → Down code at 0 s → Leads 2 s (turned 0 (at + 4 + 4) s)
   count_down-ends s down =
       let first = count_down-lowers 0 s down in
       let stands = Stands-leads first down.stands in
       Leads-then first (leads-bne_not_taken stands has.1.0 refl (next-is down.stands (at + 4) _ has.1.1.0))
 
   -- so x5 comes to 0, and memory stays
-  count_down-leads : (n : ℕ) (s : Machine) → Down code at n s → (t : Machine) × Leads (2 * suc n) s t × (t.pc ≡ at + 8) × (value t.registers 5 ≡ 0) × (t.memory ≡ s.memory)
+  count_down-leads : (n : ℕ) (s : Processor) → Down code at n s → (t : Processor) × Leads (2 * suc n) s t × (t.pc ≡ at + 8) × (value t.registers 5 ≡ 0) × (t.memory ≡ s.memory)
   count_down-leads zero s down = (turned 0 (at + 4 + 4) s, count_down-ends s down, omega arith, refl, refl)
   count_down-leads (suc n) s down =
       let turn = count_down-turns n s down in
@@ -112,8 +114,8 @@ module _ {code : Code} (at : ℕ) (after : Instr) (has : Has code at (count_down
       let sum : 2 + 2 * suc n ≡ 2 * suc (suc n) = omega arith in
       (rest.0, rw (sym sum) (Leads-then turn rest.1), rest.2, rest.3, rest.4)
 
--- ecall, with 93 in x17 and 258 in x10: the run has ended with 2, after any count from one on
-exit-ends : {code : Code} {s : Machine} → Stands code s → code s.pc ≡ Some Ecall → value s.registers 17 ≡ 93 → value s.registers 10 ≡ 258
+-- ecall, with the number of exit in x17 and 258 in x10: the run has ended with 2, after any count from one on
+exit-ends : {code : Code} {s : Processor} → Stands code s → code s.pc ≡ Some Ecall → value s.registers 17 ≡ EXIT → value s.registers 10 ≡ 258
     → (more : ℕ) → (run (suc more) s).ending ≡ exited 2
 exit-ends {code} {s} stands here number status more =
     let exit = step-exit stands here number (ap (λ x. x % 256) status) refl in

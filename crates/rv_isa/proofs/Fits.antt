@@ -10,10 +10,7 @@ use Rattle.rv_isa.specs.declared.act.Effect.{Effect}
 use Rattle.rv_isa.specs.declared.instr.Instr.{Instr}
 use Rattle.rv_isa.specs.declared.instr.Instr.TheVariants.{Lui, Auipc, Jal, Jalr, Beq, Bne, Blt, Bge, Bltu, Bgeu, Lb, Lh, Lw, Lbu, Lhu, Sb, Sh, Sw, Addi, Slti, Sltiu, Xori, Ori, Andi, Slli, Srli, Srai, Add, Sub, Sll, Slt, Sltu, Xor, Srl, Sra, Or, And, Fence, Ecall, Ebreak, Mul, Mulh, Mulhsu, Mulhu, Div, Divu, Rem, Remu}
 use Rattle.rv_isa.specs.Arithmetic.{word_of, bit_of, sum_word, difference_word, shift_left, shift_right_logical, product_word, upper_unsigned, quotient_signed, quotient_unsigned, remainder_signed, remainder_unsigned, signed}
-use Rattle.rv_isa.specs.Meaning.{sets, jumps, branches, loads, stores, effect_of}
-
-abbrev pub IsWidth : ℕ → Type 0
-IsWidth width = (width ≡ 1) ⊎ ((width ≡ 2) ⊎ (width ≡ 4))
+use Rattle.rv_isa.specs.Meaning.{IsWidth, sets, jumps, branches, loads, stores, effect_of}
 
 abbrev pub ActFits : Act → Type 0
 ActFits Nothing = Unit {0}

@@ -2,6 +2,7 @@
 use Rattle.std.proofs.Common.{◌≡◌, ◌≢◌, ◌≤◌, ◌<◌, ℕ, ◌-◌, ◌%◌, List, [], ◌∷◌, ◌++◌, Some, Bool, true, false, nat_eq, nat_lt, int_lt, refl, sym, ap, ◌∙◌, subst, arith}
 use Rattle.std.proofs.lemmas.Bool.Decides.{nat_tests}
 use Rattle.kk_base.specs.Trace.{output, input, input_end}
+use Rattle.rv_isa.specs.declared.environment.TheConstants.{READ, WRITE, EXIT, STANDARD_INPUT, STANDARD_OUTPUT}
 use Rattle.rv_isa.specs.declared.register.Register.{Register}
 use Rattle.rv_isa.specs.declared.immediate.Immediate.{Immediate}
 use Rattle.rv_isa.specs.declared.immediate.BranchOffset.{BranchOffset}
@@ -10,18 +11,19 @@ use Rattle.rv_isa.specs.declared.immediate.UpperImmediate.{UpperImmediate}
 use Rattle.rv_isa.specs.declared.act.Act.TheVariants.{Nothing, Load, Store, Call}
 use Rattle.rv_isa.specs.declared.instr.Instr.{Instr}
 use Rattle.rv_isa.specs.declared.instr.Instr.TheVariants.{Lui, Jal, Jalr, Beq, Bne, Blt, Bge, Bltu, Bgeu, Lw, Lbu, Sb, Sw, Addi, Add, Sub, Ecall, Mul, Div, Divu, Rem, Remu}
-use Rattle.rv_isa.specs.Arithmetic.{signed, sum_word, difference_word, product_word, quotient_signed, quotient_unsigned, remainder_signed, remainder_unsigned}
+use Rattle.rv_isa.specs.Arithmetic.{signed, sum_word, difference_word, product_word, quotient_signed, quotient_unsigned, remainder_signed, remainder_unsigned, widened}
 use Rattle.rv_isa.specs.Operands.{rd_of}
 use Rattle.rv_isa.specs.Meaning.{goes_on, sets, jumps}
 use Rattle.rv_isa.specs.Bytes.{bytes_at, with_bytes, number_at, with_number}
-use Rattle.rv_isa.specs.Machine.{Machine, exited, goes, value, put, can_load, can_store}
+use Rattle.rv_isa.specs.Processor.{Processor, exited, goes, value, put, can_load, can_store}
 use Rattle.rv_isa.specs.Environment.{stepped, calls}
-use Rattle.rv_isa.specs.Execution.{widened, effect_at, step, Leads}
+use Rattle.rv_isa.specs.Execution.{effect_at, step, Leads}
 use Rattle.rv_isa.proofs.Runs.{Leads-step}
 use Rattle.rv_isa.proofs.Acts.{acts-nothing, acts-set, acts-load, acts-store, acts-call}
 use Rattle.rv_isa.proofs.Calls.{reads-some, writes-none, writes-some, calls-read, calls-write, calls-exit}
 use Rattle.rv_isa.proofs.Memory.{number_at-one}
-use Rattle.rv_isa.proofs.Standing.{Code, Stands, next-aligned, step-at}
+use Rattle.rv_isa.specs.Standing.{Code, Stands}
+use Rattle.rv_isa.proofs.Standing.{next-aligned, step-at}
 
 -- a register that was set holds the value, and another register what it held
 pub value-put_same : (number v : ℕ) (registers : ℕ → ℕ) → number ≢ 0 → value (put number v registers) number ≡ v
@@ -37,7 +39,7 @@ widened-word n = grind (arith, nat_tests)
 even-target : (target next : ℕ) → target ≡ next → next % 4 ≡ 0 → target - target % 2 ≡ next
 even-target target next is aligned = omega arith
 
-module _ {code : Code} {s : Machine} (stands : Stands code s) where
+module _ {code : Code} {s : Processor} (stands : Stands code s) where
   -- ---- an instruction by its effect
 
   -- it sets its destination, and the next one in memory follows
@@ -242,7 +244,7 @@ module _ {code : Code} {s : Machine} (stands : Stands code s) where
 
   -- a write of some bytes puts them in one piece
   pub leads-write : {at count next : ℕ} {piece : List ℕ} → code s.pc ≡ Some Ecall
-      → value s.registers 17 ≡ 64 → value s.registers 10 ≡ 1 → value s.registers 11 ≡ at → value s.registers 12 ≡ count
+      → value s.registers 17 ≡ WRITE → value s.registers 10 ≡ STANDARD_OUTPUT → value s.registers 11 ≡ at → value s.registers 12 ≡ count
       → count ≢ 0 → can_load s.parts at count ≡ true → bytes_at s.memory at count ≡ piece → sum_word s.pc 4 ≡ next
       → Leads 1 s (record (stepped next s) { registers = put 10 count s.registers; trace = s.trace ++ output piece ∷ [] })
   leads-write {at} {count} {next} {piece} here number file at_is count_is some allowed piece_is next_is =
@@ -252,7 +254,7 @@ module _ {code : Code} {s : Machine} (stands : Stands code s) where
 
   -- a write of no bytes puts nothing
   pub leads-write_none : {next : ℕ} → code s.pc ≡ Some Ecall
-      → value s.registers 17 ≡ 64 → value s.registers 10 ≡ 1 → value s.registers 12 ≡ 0 → can_load s.parts (value s.registers 11) 0 ≡ true → sum_word s.pc 4 ≡ next
+      → value s.registers 17 ≡ WRITE → value s.registers 10 ≡ STANDARD_OUTPUT → value s.registers 12 ≡ 0 → can_load s.parts (value s.registers 11) 0 ≡ true → sum_word s.pc 4 ≡ next
       → Leads 1 s (record (stepped next s) { registers = put 10 0 s.registers })
   leads-write_none {next} here number file none allowed next_is =
       Leads-step (calls-at here next_is
@@ -261,7 +263,7 @@ module _ {code : Code} {s : Machine} (stands : Stands code s) where
 
   -- a read takes the next byte of the input
   pub leads-read_byte : {at byte next : ℕ} {rest : List ℕ} → code s.pc ≡ Some Ecall
-      → value s.registers 17 ≡ 63 → value s.registers 10 ≡ 0 → value s.registers 11 ≡ at → value s.registers 12 ≢ 0
+      → value s.registers 17 ≡ READ → value s.registers 10 ≡ STANDARD_INPUT → value s.registers 11 ≡ at → value s.registers 12 ≢ 0
       → can_store s.parts at (value s.registers 12) ≡ true → s.left ≡ byte ∷ rest → sum_word s.pc 4 ≡ next
       → Leads 1 s (record (stepped next s) {
         registers = put 10 1 s.registers;
@@ -276,7 +278,7 @@ module _ {code : Code} {s : Machine} (stands : Stands code s) where
 
   -- at the end of the input it tells that
   pub leads-read_end : {next : ℕ} → code s.pc ≡ Some Ecall
-      → value s.registers 17 ≡ 63 → value s.registers 10 ≡ 0 → value s.registers 12 ≢ 0
+      → value s.registers 17 ≡ READ → value s.registers 10 ≡ STANDARD_INPUT → value s.registers 12 ≢ 0
       → can_store s.parts (value s.registers 11) (value s.registers 12) ≡ true → s.left ≡ [] → sum_word s.pc 4 ≡ next
       → Leads 1 s (record (stepped next s) { registers = put 10 0 s.registers; trace = s.trace ++ input_end ∷ [] })
   leads-read_end {next} here number file some allowed left_is next_is =
@@ -285,7 +287,7 @@ module _ {code : Code} {s : Machine} (stands : Stands code s) where
       ∙ ap goes (reads-some next s some ∙ rw left_is refl))
 
   -- an exit ends the run, with the lowest 8 bits of x10
-  pub step-exit : {number next : ℕ} → code s.pc ≡ Some Ecall → value s.registers 17 ≡ 93 → value s.registers 10 % 256 ≡ number → sum_word s.pc 4 ≡ next
-      → step s ≡ record { machine = stepped next s; ending = exited number }
+  pub step-exit : {number next : ℕ} → code s.pc ≡ Some Ecall → value s.registers 17 ≡ EXIT → value s.registers 10 % 256 ≡ number → sum_word s.pc 4 ≡ next
+      → step s ≡ record { processor = stepped next s; ending = exited number }
   step-exit {number} {next} here call number_is next_is =
       calls-at here next_is ∙ calls-exit next (number_at s.memory s.pc 4) s call ∙ rw number_is refl

@@ -8,6 +8,8 @@ pub mod Fits
 pub mod Instructions
 pub mod Memory
 pub mod Parts
+pub mod ImageAgreements
+pub mod ProcessorMachines
 pub mod Products
 pub mod Reading
 pub mod Runs

@@ -1,4 +1,4 @@
--- Code that stands in a machine: an instruction at each of its addresses, which may be fetched and which no store can change.
+-- What the code of a list has, and that code which stands in a machine stands after every step, and is what the next step executes.
 use Rattle.std.proofs.Common.{◌≡◌, ◌≢◌, ◌≤◌, ◌<◌, ℕ, zero, suc, ◌+◌, ◌-◌, ◌*◌, ◌/◌, ◌%◌, ◌^◌, inl, inr, List, [], ◌∷◌, ◌++◌, length, Option, Some, None, Bool, true, false, ◌&&◌, if◌then◌else◌, nat_eq, nat_le, refl, sym, ap, ◌∙◌, subst, arith}
 use Rattle.std.proofs.lemmas.Bool.Decides.{nat_tests}
 use Rattle.std.specs.List.{slice_get}
@@ -6,23 +6,16 @@ use Rattle.rv_isa.specs.declared.act.Effect.{Effect}
 use Rattle.rv_isa.specs.declared.instr.Instr.{Instr}
 use Rattle.rv_isa.specs.Read.{read}
 use Rattle.rv_isa.specs.Operands.{rd_of}
-use Rattle.rv_isa.specs.Bytes.{number_at}
+use Rattle.rv_isa.specs.Bytes.{Apart, number_at}
 use Rattle.rv_isa.specs.Arithmetic.{sum_word}
-use Rattle.rv_isa.specs.Machine.{Machine, Ending, going, exited, trapped, After, value, can_fetch, can_store}
-use Rattle.rv_isa.specs.Execution.{acts, effect_at, decodes, step, resumes, run, Leads}
+use Rattle.rv_isa.specs.Processor.{Processor, Ending, going, exited, trapped, Progress, value, can_fetch, can_store}
+use Rattle.rv_isa.specs.InstructionSet.{resumes}
+use Rattle.rv_isa.specs.Execution.{rv32im, acts, effect_at, decodes, step, run, Leads}
+use Rattle.rv_isa.specs.Standing.{Code, Has, code_of, Stands}
 use Rattle.rv_isa.proofs.Runs.{run-zero, run-suc, Leads-run}
 use Rattle.rv_isa.proofs.Steps.{step-fetched, decodes-some, executes-aligned}
 use Rattle.rv_isa.proofs.Cases.{step-by, step-parts}
-use Rattle.rv_isa.proofs.Memory.{Apart, number_at-apart, number_at-with_bytes_apart}
-
--- the instruction at each address, where there is one
-abbrev pub Code : Type 0
-Code = ℕ → Option Instr
-
--- these instructions stand one after the other from an address on
-abbrev pub Has : Code → ℕ → List Instr → Type 0
-Has code at [] = Unit {0}
-Has code at (i ∷ is) = (code at ≡ Some i) × Has code (at + 4) is
+use Rattle.rv_isa.proofs.Memory.{number_at-apart, number_at-with_bytes_apart}
 
 module _ (code : Code) where
   pub Has-front : (at : ℕ) (front back : List Instr) → Has code at (front ++ back) → Has code at front
@@ -64,11 +57,6 @@ module _ (code : Code) where
             subst (λ a. code a ≡ slice_get is k) e (each (suc k) (omega arith))),
       )
 
--- the code of one list that stands from an address on
-abbrev pub code_of : ℕ → List Instr → Code
-code_of start is at =
-    if nat_le start at && nat_eq ((at - start) % 4) 0 then slice_get is ((at - start) / 4) else None
-
 pub code_of-get : (start : ℕ) (is : List Instr) (k : ℕ) → code_of start is (start + 4 * k) ≡ slice_get is k
 code_of-get start is k =
     let from : nat_le start (start + 4 * k) ≡ true = grind (arith, nat_tests) in
@@ -79,14 +67,6 @@ code_of-get start is k =
 
 pub code_of-Has : (start : ℕ) (is : List Instr) → Has (code_of start is) start is
 code_of-Has start is = Has-by (code_of start is) start is (λ k below. code_of-get start is k)
-
--- the code stands in the machine: at whole words, each as the machine reads it, where it may be fetched and out of the reach of stores
-pub record Stands (code : Code) (s : Machine) : Type 0 where
-  pub aligned : (at : ℕ) (i : Instr) → code at ≡ Some i → at % 4 ≡ 0
-  pub below : (at : ℕ) (i : Instr) → code at ≡ Some i → at < 2 ^ 32
-  pub fetched : (at : ℕ) (i : Instr) → code at ≡ Some i → can_fetch s.parts at 4 ≡ true
-  pub holds : (at : ℕ) (i : Instr) → code at ≡ Some i → read (number_at s.memory at 4) ≡ Some i
-  pub kept : (at : ℕ) (i : Instr) → code at ≡ Some i → (x count : ℕ) → can_store s.parts x count ≡ true → 0 < count → Apart x count at 4
 
 -- ---- code of a list
 
@@ -114,7 +94,7 @@ inside_apart x count start size k at is below (inl before) = inl (omega arith)
 inside_apart x count start size k at is below (inr behind) = inr (omega arith)
 
 -- where it may be fetched from, and where the words of its places are those of its instructions, the code of a list stands
-pub Stands-code_of : (start : ℕ) (is : List Instr) (s : Machine) → start % 4 ≡ 0 → start + 4 * length is ≤ 2 ^ 32
+pub Stands-code_of : (start : ℕ) (is : List Instr) (s : Processor) → start % 4 ≡ 0 → start + 4 * length is ≤ 2 ^ 32
     → ((k : ℕ) (i : Instr) → slice_get is k ≡ Some i → (can_fetch s.parts (start + 4 * k) 4 ≡ true) × (read (number_at s.memory (start + 4 * k) 4) ≡ Some i))
     → ((x count : ℕ) → can_store s.parts x count ≡ true → 0 < count → Apart x count start (4 * length is))
     → Stands (code_of start is) s
@@ -135,7 +115,7 @@ Stands-code_of start is s aligned below each kept = record {
 -- ---- the machines in which it stands
 
 -- it stands in each machine of the same parts with the same words where the code is
-pub Stands-same : {code : Code} {s : Machine} (t : Machine) → Stands code s → t.parts ≡ s.parts → ((at : ℕ) (i : Instr) → code at ≡ Some i → number_at t.memory at 4 ≡ number_at s.memory at 4) → Stands code t
+pub Stands-same : {code : Code} {s : Processor} (t : Processor) → Stands code s → t.parts ≡ s.parts → ((at : ℕ) (i : Instr) → code at ≡ Some i → number_at t.memory at 4 ≡ number_at s.memory at 4) → Stands code t
 Stands-same {code} {s} t stands parts words = record {
   aligned = stands.aligned;
   below = stands.below;
@@ -154,9 +134,9 @@ one_byte x count at some (inr above) = inr (omega arith)
 not-none : (n : ℕ) → n ≢ 0 → 0 < n
 not-none n some = omega arith
 
-module _ {code : Code} {s : Machine} (stands : Stands code s) where
-  pub step-words : (at : ℕ) (i : Instr) → code at ≡ Some i → number_at (step s).machine.memory at 4 ≡ number_at s.memory at 4
-  step-words at i here = step-by (λ after. number_at after.machine.memory at 4 ≡ number_at s.memory at 4) s record {
+module _ {code : Code} {s : Processor} (stands : Stands code s) where
+  pub step-words : (at : ℕ) (i : Instr) → code at ≡ Some i → number_at (step s).processor.memory at 4 ≡ number_at s.memory at 4
+  step-words at i here = step-by rv32im (λ after. number_at after.processor.memory at 4 ≡ number_at s.memory at 4) s record {
     trap = λ cause word. refl;
     nothing = λ next. refl;
     set = λ rd v next. refl;
@@ -170,29 +150,29 @@ module _ {code : Code} {s : Machine} (stands : Stands code s) where
     exit = λ next. refl;
   }
 
-  pub Stands-step : Stands code (step s).machine
-  Stands-step = Stands-same (step s).machine stands (step-parts s) step-words
+  pub Stands-step : Stands code (step s).processor
+  Stands-step = Stands-same (step s).processor stands (step-parts rv32im s) step-words
 
 -- ---- a run
 
-Stands-resumes : (code : Code) (e : Ending) (s : Machine) (f : Machine → After) → Stands code s → Stands code (f s).machine → Stands code (resumes e s f).machine
+Stands-resumes : (code : Code) (e : Ending) (s : Processor) (f : Processor → Progress) → Stands code s → Stands code (f s).processor → Stands code (resumes e s f).processor
 Stands-resumes code going s f here there = there
 Stands-resumes code (exited n) s f here there = here
 Stands-resumes code (trapped c p w) s f here there = here
 
-pub Stands-run : {code : Code} (n : ℕ) (s : Machine) → Stands code s → Stands code (run n s).machine
-Stands-run {code} zero s stands = rw (run-zero s) stands
+pub Stands-run : {code : Code} (n : ℕ) (s : Processor) → Stands code s → Stands code (run n s).processor
+Stands-run {code} zero s stands = rw (run-zero rv32im s) stands
 Stands-run {code} (suc n) s stands =
     let next = Stands-step stands in
-    rw (run-suc n s) (Stands-resumes code (step s).ending (step s).machine (run n) next (Stands-run n (step s).machine next))
+    rw (run-suc rv32im n s) (Stands-resumes code (step s).ending (step s).processor (run n) next (Stands-run n (step s).processor next))
 
-pub Stands-leads : {code : Code} {n : ℕ} {s t : Machine} → Leads n s t → Stands code s → Stands code t
+pub Stands-leads : {code : Code} {n : ℕ} {s t : Processor} → Leads n s t → Stands code s → Stands code t
 Stands-leads {code} {n} {s} {t} leads stands =
-    subst (λ after. Stands code after.machine) (Leads-run leads) (Stands-run n s stands)
+    subst (λ after. Stands code after.processor) (Leads-run leads) (Stands-run n s stands)
 
 -- ---- the next instruction
 
-module _ {code : Code} {s : Machine} (stands : Stands code s) where
+module _ {code : Code} {s : Processor} (stands : Stands code s) where
   -- the address after one of the code's, where it too is one of the code's
   pub next-is : (at : ℕ) (i : Instr) → code (at + 4) ≡ Some i → sum_word at 4 ≡ at + 4
   next-is at i there = let below = stands.below (at + 4) i there in omega arith

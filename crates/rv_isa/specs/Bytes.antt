@@ -1,6 +1,6 @@
 -- Numbers as bytes in a memory, the lowest byte first.
 -- The RISC-V Instruction Set Manual, Volume I: Unprivileged ISA, 1.5 Base Instruction-Length Encoding (instructions are little-endian) and 2.6 Load and Store Instructions.
-use Rattle.std.specs.Prelude.{ℕ, zero, suc, ◌+◌, ◌-◌, ◌*◌, List, [], ◌∷◌, length, slice_index, ◌&&◌, if◌then◌else◌, nat_le, nat_lt}
+use Rattle.std.specs.Prelude.{ℕ, zero, suc, ◌+◌, ◌-◌, ◌*◌, ◌≤◌, ◌⊎◌, List, [], ◌∷◌, length, slice_index, ◌&&◌, if◌then◌else◌, nat_le, nat_lt}
 use Rattle.std.specs.Int.{bytes_low_first}
 
 -- the number that bytes spell
@@ -28,3 +28,7 @@ number_at memory at count = little_endian (bytes_at memory at count)
 
 unfoldable pub with_number : ℕ → ℕ → ℕ → (ℕ → ℕ) → ℕ → ℕ
 with_number at count number memory = with_bytes at (lowest_bytes count number) memory
+
+-- two ranges of addresses, each by its first one and their number, share none
+abbrev pub Apart : ℕ → ℕ → ℕ → ℕ → Type 0
+Apart at count other size = (other + size ≤ at) ⊎ (at + count ≤ other)

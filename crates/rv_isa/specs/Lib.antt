@@ -5,10 +5,15 @@ pub mod Table
 pub mod Extension
 pub mod Read
 pub mod Operands
+pub mod Words
 pub mod Arithmetic
+pub mod Effects
 pub mod Meaning
 pub mod Bytes
-pub mod Machine
+pub mod Processor
 pub mod Environment
+pub mod InstructionSet
 pub mod Execution
+pub mod ProcessorMachine
 pub mod FreeCells
+pub mod Standing

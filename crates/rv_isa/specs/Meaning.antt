@@ -1,39 +1,39 @@
 -- What each instruction does, over the values of its registers: one row for each. Words are numbers below 2^32.
 -- The RISC-V Instruction Set Manual, Volume I: Unprivileged ISA, 2.4 Integer Computational Instructions, 2.5 Control Transfer Instructions, 2.6 Load and Store Instructions, 2.7 Memory Ordering Instructions, 2.8 Environment Call and Breakpoints, and the chapter '"M" Standard Extension for Integer Multiplication and Division'.
-use Rattle.std.specs.Prelude.{ℕ, ◌-◌, ◌%◌, Bool, true, false, not, if◌then◌else◌, nat_eq, nat_lt, int_lt, bit_and, bit_or, bit_xor}
+use Rattle.std.specs.Prelude.{◌≡◌, ◌⊎◌, ℕ, ◌-◌, ◌%◌, Bool, true, false, not, if◌then◌else◌, nat_eq, nat_lt, int_lt, bit_and, bit_or, bit_xor}
 use Rattle.rv_isa.specs.declared.immediate.Immediate.{Immediate}
 use Rattle.rv_isa.specs.declared.immediate.BranchOffset.{BranchOffset}
 use Rattle.rv_isa.specs.declared.act.Act.{Act}
-use Rattle.rv_isa.specs.declared.act.Act.TheVariants.{Nothing, Set, Load, Store, Call, Break}
+use Rattle.rv_isa.specs.declared.act.Act.TheVariants.{Nothing, Call, Break}
 use Rattle.rv_isa.specs.declared.act.Effect.{Effect}
 use Rattle.rv_isa.specs.declared.instr.Instr.{Instr}
 use Rattle.rv_isa.specs.declared.instr.Instr.TheVariants.{Lui, Auipc, Jal, Jalr, Beq, Bne, Blt, Bge, Bltu, Bgeu, Lb, Lh, Lw, Lbu, Lhu, Sb, Sh, Sw, Addi, Slti, Sltiu, Xori, Ori, Andi, Slli, Srli, Srai, Add, Sub, Sll, Slt, Sltu, Xor, Srl, Sra, Or, And, Fence, Ecall, Ebreak, Mul, Mulh, Mulhsu, Mulhu, Div, Divu, Rem, Remu}
+use Rattle.std.specs.Int.{w32}
+use Rattle.rv_isa.specs.Effects.{goes_on_in, sets_in, jumps_in, branches_in, loads_in, stores_in}
 use Rattle.rv_isa.specs.Arithmetic.{signed, bit_of, sum_word, difference_word, shift_left, shift_right_logical, shift_right_arithmetic, product_word, upper_signed, upper_signed_unsigned, upper_unsigned, quotient_signed, quotient_unsigned, remainder_signed, remainder_unsigned}
 
--- the act, and then the next instruction in memory
+-- the forms of Effects, at the width of 32 bits
 abbrev pub goes_on : ℕ → Act → Effect
-goes_on pc act = record { next = sum_word pc 4; act = act }
+goes_on pc act = goes_on_in w32 pc act
 
--- rd becomes the value
 abbrev pub sets : ℕ → ℕ → Effect
-sets pc value = goes_on pc (Set value)
+sets pc value = sets_in w32 pc value
 
--- 2.5: rd becomes the address of the instruction after the jump
 abbrev pub jumps : ℕ → ℕ → Effect
-jumps pc target = record { next = target; act = Set (sum_word pc 4) }
+jumps pc target = jumps_in w32 pc target
 
--- 2.5: to pc plus the offset where the test holds
 abbrev pub branches : ℕ → Bool → BranchOffset → Effect
-branches pc test offset =
-    record { next = if test then sum_word pc offset.word else sum_word pc 4; act = Nothing }
+branches pc test offset = branches_in w32 pc test offset.word
 
--- 2.6: `width` bytes from rs1 plus the immediate, and whether the value is sign-extended
 abbrev pub loads : ℕ → ℕ → Immediate → ℕ → Bool → Effect
-loads pc a imm width signed = goes_on pc (Load (sum_word a imm.word) width signed)
+loads pc a imm width signed = loads_in w32 pc a imm.word width signed
 
--- 2.6: the lowest `width` bytes of rs2 to rs1 plus the immediate
 abbrev pub stores : ℕ → ℕ → ℕ → Immediate → ℕ → Effect
-stores pc a b imm width = goes_on pc (Store (sum_word a imm.word) width b)
+stores pc a b imm width = stores_in w32 pc a b imm.word width
+
+-- the numbers of bytes that loads and stores move
+abbrev pub IsWidth : ℕ → Type 0
+IsWidth count = (count ≡ 1) ⊎ ((count ≡ 2) ⊎ (count ≡ 4))
 
 -- where the instruction stands at pc, rs1 holds a and rs2 holds b
 abbrev pub effect_of : Instr → ℕ → ℕ → ℕ → Effect

@@ -1,11 +1,13 @@
-//! The instructions of RV32IM: their words and what each does.
+//! The instructions of RV32IM: their words and what each does; and the numbers of the environment that they run in.
 #![tactic(auto)]
 
 mod act;
+mod agreement;
 mod arithmetic;
 mod code;
 mod decoding;
 mod encoding;
+pub mod environment;
 mod immediate;
 mod instr;
 mod meaning;
@@ -14,6 +16,7 @@ mod register;
 mod tests;
 
 pub use act::{Act, Effect};
+pub use agreement::{AgreedImage, agreed_image_agrees};
 pub use decoding::decode;
 pub use encoding::encode;
 pub use immediate::{BranchOffset, Immediate, JumpOffset, ShiftAmount, UpperImmediate};

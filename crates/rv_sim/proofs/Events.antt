@@ -1,8 +1,10 @@
--- Events in two parts: what they take, put and leave.
-use Rattle.std.proofs.Common.{◌≡◌, ℕ, List, [], ◌∷◌, ◌++◌, Bool, true, false, Option, Some, None, option_map, refl, sym, ap, subst, ◌∙◌, append_assoc, append-nil}
-use Rattle.kk_base.specs.Trace.{Event, output, input, input_end, output_of, input_of, TakesFrom}
-use Rattle.kk_base.proofs.Traces.{TakesFrom-join, output_of-append, once-join}
-use Rattle.rv_sim.specs.Devices.{Supply, GivesContent, Gives}
+-- What events take, put and leave, in two parts, is what they do together.
+use Rattle.std.proofs.Common.{◌≡◌, ◌<◌, ℕ, List, [], ◌∷◌, ◌++◌, Bool, true, false, Option, Some, None, option_map, refl, sym, ap, subst, ◌∙◌, append_assoc, append-nil}
+use Rattle.std.proofs.lemmas.List.Elements.{All-nil}
+use Rattle.kk_base.specs.Source.{SourceState}
+use Rattle.kk_base.specs.Trace.{Event, output, input, input_end, output_of, TakesFrom}
+use Rattle.kk_base.proofs.Traces.{TakesFrom-join, TakesBytes-append, output_of-append, once-join}
+use Rattle.rv_sim.specs.Devices.{GivesContent, GivesEvents}
 
 -- a source, told or not
 content-none : (left : Option (List ℕ)) → GivesContent [] left left
@@ -17,13 +19,14 @@ content-join es fs None (Some mid) after first second = absurd first
 content-join es fs (Some before) None after first second = absurd first
 content-join es fs (Some before) (Some mid) None first second = second
 
-pub Gives-none : (s : Supply) → Gives [] s s
-Gives-none s = record { content = content-none s.left; once = λ e. e }
+pub GivesEvents-none : (s : SourceState) → GivesEvents [] s s
+GivesEvents-none s = record { content = content-none s.left; once = λ e. e; bytes = All-nil (λ byte. byte < 256) }
 
-pub Gives-join : (es fs : List Event) (before mid after : Supply) → Gives es before mid → Gives fs mid after → Gives (es ++ fs) before after
-Gives-join es fs before mid after first second = record {
+pub GivesEvents-join : (es fs : List Event) (before mid after : SourceState) → GivesEvents es before mid → GivesEvents fs mid after → GivesEvents (es ++ fs) before after
+GivesEvents-join es fs before mid after first second = record {
   content = content-join es fs before.left mid.left after.left first.content second.content;
   once = once-join es fs before.ended mid.ended after.ended first.once second.once;
+  bytes = TakesBytes-append es fs first.bytes second.bytes;
 }
 
 -- a sink, told or not

@@ -1,14 +1,16 @@
 -- The definitions, tried on small cases.
-use Rattle.std.proofs.Common.{◌≡◌, ℕ, List, [], ◌∷◌, ◌++◌, replicate, true, false, Some, None, refl, sym, ap, ◌∙◌, arith, append-nil}
+use Rattle.std.proofs.Common.{◌≡◌, ◌<◌, ℕ, List, [], ◌∷◌, ◌++◌, replicate, true, false, Some, None, refl, sym, ap, ◌∙◌, arith, append-nil}
+use Rattle.std.proofs.lemmas.List.Elements.{All-nil}
 use Rattle.kk_base.specs.Trace.{Event, input, input_end, EndsOnce}
-use Rattle.rv_isa.specs.Machine.{going, exited}
-use Rattle.rv_isa.specs.Execution.{go_on, run, step, decodes, executes, acts}
+use Rattle.rv_isa.specs.Processor.{going, exited}
+use Rattle.rv_isa.specs.InstructionSet.{go_on, acts_over, decodes_over, executes_over, run_over, step_over}
+use Rattle.rv_isa.specs.Execution.{run}
 use Rattle.rv_isa.specs.Environment.{calls}
 use Rattle.rv_isa.specs.Bytes.{number_at, bytes_at}
 use Rattle.rv_isa.specs.Read.{read}
-use Rattle.rv_sim.specs.Simulation.{Simulation, after_of}
+use Rattle.rv_sim.specs.Simulation.{Simulation, progress_of}
 use Rattle.rv_sim.specs.declared.halt.Halt.TheVariants.{Exit}
-use Rattle.rv_sim.specs.Devices.{GivesContent, AsksNext, PutsNext, Runs}
+use Rattle.rv_sim.specs.Devices.{GivesContent, NextAsks, NextPuts, HasRun}
 
 -- ---- sources
 
@@ -48,19 +50,19 @@ exiting = calling 5 93
 abbrev at_exit : Simulation
 at_exit = record exiting { pc = 0x10004; executed = 3; ending = exited 5 }
 
-comes_to_exit : (left : List ℕ) (trace : List Event) → go_on (after_of exiting left trace) (run 4) ≡ after_of at_exit left trace
-unfolding run step decodes executes acts calls number_at bytes_at read
+comes_to_exit : (left : List ℕ) (trace : List Event) → go_on (progress_of exiting left trace) (run 4) ≡ progress_of at_exit left trace
+unfolding run_over step_over decodes_over executes_over acts_over calls number_at bytes_at read
 comes_to_exit left trace = refl
 
 -- one instruction of a budget of four, over devices that tell their content
-exits : Runs (Exit 5) 4 exiting at_exit (record { left = Some (7 ∷ []); ended = false }) (record { left = Some (7 ∷ []); ended = false }) (Some (1 ∷ [])) (Some (1 ∷ []))
+exits : HasRun (Exit 5) 4 exiting at_exit (record { left = Some (7 ∷ []); ended = false; faults = 0 }) (record { left = Some (7 ∷ []); ended = false; faults = 0 }) (record { held = Some (1 ∷ []); faults = 0 }) (record { held = Some (1 ∷ []); faults = 0 })
 exits = record {
   events = [];
   cut = [];
-  given = record { content = refl; once = λ e. e };
+  given = record { content = refl; once = λ e. e; bytes = All-nil (λ byte. byte < 256) };
   held = refl;
   comes = λ left rest trace same.
-      comes_to_exit left trace ∙ ap (λ (xs : List ℕ). after_of at_exit xs trace) same ∙ ap (λ (es : List Event). after_of at_exit rest es) (sym (append-nil trace));
+      comes_to_exit left trace ∙ ap (λ (xs : List ℕ). progress_of at_exit xs trace) same ∙ ap (λ (es : List Event). progress_of at_exit rest es) (sym (append-nil trace));
   stays = λ ended. refl;
   ending = refl;
   faulted = refl;
@@ -70,14 +72,14 @@ exits = record {
 }
 
 -- a read asks for a byte
-asks : AsksNext (calling 0 63)
-unfolding step decodes executes acts calls number_at bytes_at read
+asks : NextAsks (calling 0 63)
+unfolding step_over decodes_over executes_over acts_over calls number_at bytes_at read
 asks [] trace = refl
 asks (byte ∷ rest) trace = refl
 
 -- a write puts the byte at x11, of which nothing was taken
-puts : PutsNext [] (calling 1 64)
-unfolding step decodes executes acts calls number_at bytes_at read
+puts : NextPuts [] (calling 1 64)
+unfolding step_over decodes_over executes_over acts_over calls number_at bytes_at read
 puts = record {
   piece = 0x73 ∷ [];
   some = omega arith;

@@ -1,4 +1,4 @@
--- The place of an area that allows an access.
+-- An area that allows an access is found exactly where the access is allowed.
 use Rattle.std.proofs.Common.{◌≡◌, ℕ, ◌+◌, ◌<◌, List, [], ◌∷◌, map, length, get_or, Bool, true, false, ◌||◌, Option, Some, None, IfSome, HoldsAt, position, refl, cond, is_some, ap, ◌∙◌, sym}
 use Rattle.std.specs.List.{list_any}
 use Rattle.std.proofs.lemmas.List.Folds.{list_any_at}

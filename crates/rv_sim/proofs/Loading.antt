@@ -1,17 +1,18 @@
--- The parts of an image as areas of a memory.
+-- A machine whose areas are an image's parts, with zeros behind their bytes, is at the image's start.
 use Rattle.std.proofs.Common.{◌≡◌, ℕ, zero, suc, ◌-◌, List, [], ◌∷◌, ◌++◌, map, length, replicate, slice_index, Bool, true, false, not, ◌||◌, ◌&&◌, IsTrue, refl, sym, ap, ◌∙◌, arith}
 use Rattle.std.specs.List.{list_any}
+use Rattle.std.proofs.lemmas.Bool.{true≢false}
 use Rattle.std.proofs.lemmas.Bool.Decides.{nat_tests}
 use Rattle.kk_base.specs.Memory as memory
 use Rattle.kk_base.specs.Memory.{covers, byte_loaded}
-use Rattle.rv_isa.specs.Machine.{bare, lies_in_part, going, goes, start}
+use Rattle.rv_isa.specs.Processor.{bare, lies_in_part, going, goes, start}
 use Rattle.elf_image.specs.declared.part.Part.{Part}
 use Rattle.elf_image.specs.Parts.{loaded, memory_of, share_address, are_apart}
 use Rattle.rv_sim.specs.Areas.{filled, AreApart}
 use Rattle.rv_sim.specs.Registers.{registers_of}
-use Rattle.rv_sim.specs.Simulation.{after_of}
+use Rattle.rv_sim.specs.Simulation.{progress_of}
 use Rattle.rv_sim.proofs.Parts.{are_apart-same}
-use Rattle.rv_sim.proofs.Reading.{and-right}
+use Rattle.rv_isa.proofs.Cases.{and-right}
 use Rattle.rv_sim.proofs.Zeros.{index-zeros}
 
 pub bare-filled : (ps : List memory.Part) → map bare (map filled ps) ≡ map bare ps
@@ -32,9 +33,6 @@ byte_loaded-filled_at (p ∷ ps) x =
 
 pub byte_loaded-filled : (ps : List memory.Part) → byte_loaded (map filled ps) ≡ byte_loaded ps
 byte_loaded-filled ps = λ i x. byte_loaded-filled_at ps x i
-
-true≢false : true ≡ false → ⊥
-true≢false e = cc
 
 or-false-left : (a b : Bool) → (a || b) ≡ false → a ≡ false
 or-false-left true b e = e
@@ -80,5 +78,5 @@ are_apart-filled ps apart = are_apart-same (memory_of ps) (map filled (memory_of
 
 -- a machine that holds the parts of an image, with its registers zero, is at the image's start
 pub starts : (registers : List ℕ) (held ps : List memory.Part) (entry : ℕ) (input : List ℕ) → registers_of registers ≡ (λ _. 0) → held ≡ map filled ps
-    → after_of (record { registers = registers; pc = entry; parts = held; executed = 0; ending = going; faulted = false }) input [] ≡ goes (start ps entry input)
+    → progress_of (record { registers = registers; pc = entry; parts = held; executed = 0; ending = going; faulted = false }) input [] ≡ goes (start ps entry input)
 starts registers held ps entry input zeros is = rw (zeros, is, byte_loaded-filled ps, bare-filled ps) refl

@@ -1,19 +1,16 @@
--- The bytes of parts that share no address.
+-- Of parts that share no address, each holds its own bytes in the memory, also after bytes were put in one of them.
 use Rattle.std.proofs.Common.{◌≡◌, ◌≤◌, ◌<◌, ℕ, zero, suc, ◌+◌, ◌-◌, List, [], ◌∷◌, ◌++◌, map, length, get_or, set, take, drop, slice_index, slice_range, Bool, true, false, if◌then◌else◌, inl, inr, refl, sym, ap, subst, ◌∙◌, arith}
 use Rattle.std.proofs.lemmas.Bool.Decides.{nat_tests}
-use Rattle.std.proofs.lemmas.Bool.{cases_lt}
+use Rattle.std.proofs.lemmas.Bool.{cases_lt, false≢true}
 use Rattle.std.proofs.lemmas.List.Folds.{list_any_at}
 use Rattle.kk_base.specs.Memory.{Part, covers, byte_loaded}
-use Rattle.rv_isa.specs.Machine.{bare, lies_in_part}
+use Rattle.rv_isa.specs.Processor.{bare, lies_in_part}
 use Rattle.rv_isa.specs.Bytes.{bytes_at, with_bytes}
 use Rattle.rv_isa.proofs.Bytes.{with_bytes-inside, with_bytes-below, with_bytes-above}
 use Rattle.std.proofs.lemmas.List.Edits.{length-between, get_or-between}
-use Rattle.rv_sim.proofs.Finding.{list_any-map}
+use Rattle.rv_sim.proofs.Stepping.{lies_in_part-bare}
 use Rattle.rv_sim.proofs.Puts.{index-put_below, index-put_inside, index-put_above}
 use Rattle.rv_sim.specs.Areas.{AreApart}
-
-false≢true : false ≡ true → ⊥
-false≢true e = cc
 
 -- an address of one of the parts holds that part's byte
 pub byte_loaded-at : (parts : List Part) (i : ℕ) (d : Part) (x : ℕ) → AreApart parts → i < length parts → covers (get_or parts i d) x 1 ≡ true → byte_loaded parts x ≡ slice_index (get_or parts i d).bytes (x - (get_or parts i d).start)
@@ -160,16 +157,13 @@ byte_loaded-put_this parts i p new at bytes apart within is full some covered sa
     byte_loaded-put parts i p new at bytes apart within (rw is full) some (rw is covered) (rw is same) (rw is put)
 
 -- only the addresses of parts say whether they are apart
-lies_in_part-bare : (ps : List Part) (x : ℕ) → lies_in_part (map bare ps) x 1 ≡ lies_in_part ps x 1
-lies_in_part-bare ps x = list_any-map (λ part. covers part x 1) bare ps
-
 are_apart-bare : (ps : List Part) → AreApart ps → AreApart (map bare ps)
 are_apart-bare [] apart = tt
-are_apart-bare (p ∷ ps) apart = (λ x e. lies_in_part-bare ps x ∙ apart.0 x e, are_apart-bare ps apart.1)
+are_apart-bare (p ∷ ps) apart = (λ x e. lies_in_part-bare ps x 1 ∙ apart.0 x e, are_apart-bare ps apart.1)
 
 are_apart-from_bare : (ps : List Part) → AreApart (map bare ps) → AreApart ps
 are_apart-from_bare [] apart = tt
-are_apart-from_bare (p ∷ ps) apart = (λ x e. sym (lies_in_part-bare ps x) ∙ apart.0 x e, are_apart-from_bare ps apart.1)
+are_apart-from_bare (p ∷ ps) apart = (λ x e. sym (lies_in_part-bare ps x 1) ∙ apart.0 x e, are_apart-from_bare ps apart.1)
 
 pub are_apart-same : (ps qs : List Part) → map bare qs ≡ map bare ps → AreApart ps → AreApart qs
 are_apart-same ps qs same apart = are_apart-from_bare qs (subst AreApart (sym same) (are_apart-bare ps apart))

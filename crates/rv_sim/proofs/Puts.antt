@@ -1,4 +1,4 @@
--- Lists in which a part was replaced by another of its length.
+-- A list in which a part was replaced by another of its length has the new items there, and its own elsewhere.
 use Rattle.std.proofs.Common.{◌≡◌, ◌≤◌, ◌<◌, ℕ, ◌+◌, ◌-◌, List, ◌++◌, length, take, drop, slice_index, arith}
 use Rattle.std.proofs.lemmas.Grind.{common_steps}
 

@@ -1,4 +1,4 @@
--- What is read from the areas of a memory.
+-- What is read from an area is what the memory holds there, and what is put in one is what the memory then holds.
 use Rattle.std.proofs.Common.{◌≡◌, ◌<◌, ℕ, ◌+◌, ◌-◌, List, map, length, get_or, set, take, drop, ◌++◌, slice_range, Bool, true, false, ◌&&◌, if◌then◌else◌, Some, inl, inr, refl, sym, ap, ◌∙◌}
 use Rattle.std.proofs.lemmas.List.{get_or-map, map-set}
 use Rattle.std.proofs.Math.ListN.{length-map}
@@ -6,15 +6,13 @@ use Rattle.std.proofs.Math.Seq.{map-set_same}
 use Rattle.kk_base.specs.Memory.{covers, byte_loaded}
 use Rattle.rv_isa.specs.Bytes.{little_endian, lowest_bytes, bytes_at, with_bytes, number_at, with_number}
 use Rattle.std.specs.Int.{to_le_bytes, w32}
-use Rattle.rv_isa.specs.Machine.{bare}
+use Rattle.rv_isa.specs.Meaning.{IsWidth}
+use Rattle.rv_isa.specs.Processor.{bare}
 use Rattle.rv_sim.specs.declared.area.Access.{Access}
 use Rattle.rv_sim.specs.declared.area.Area.{Area}
-use Rattle.rv_sim.specs.Areas.{part_of, parts_of, permits, allows, AreApart, IsWidth}
+use Rattle.rv_sim.specs.Areas.{part_of, parts_of, permits, allows, AreApart}
+use Rattle.rv_isa.proofs.Cases.{and-right}
 use Rattle.rv_sim.proofs.Parts.{bytes_at-this, byte_loaded-put_this, are_apart-same}
-
-pub and-right : (a b : Bool) → (a && b) ≡ true → b ≡ true
-and-right true b e = e
-and-right false b e = cc
 
 pub covered : (access : Access) (at count : ℕ) (area : Area) → allows access at count area ≡ true → covers (part_of area) at count ≡ true
 covered access at count area allowed = and-right (permits access (part_of area)) (covers (part_of area) at count) allowed

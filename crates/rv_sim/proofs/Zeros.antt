@@ -1,4 +1,4 @@
--- Lists of zeros.
+-- A list of zeros has 0 at each place.
 use Rattle.std.proofs.Common.{◌≡◌, ℕ, zero, suc, slice_index, replicate, refl}
 
 pub index-zeros : (n x : ℕ) → slice_index (replicate n 0) x ≡ 0

@@ -1,7 +1,8 @@
--- The parts of a machine's memory, with the bytes that they hold.
-use Rattle.std.specs.Prelude.{◌≡◌, ℕ, ◌-◌, ◌⊎◌, List, [], ◌∷◌, ◌++◌, length, replicate, map, Bool, true, false, ◌&&◌}
+-- The parts of a machine's memory, with the bytes that they hold. Private functions alone cite these.
+use Rattle.std.specs.Prelude.{◌≡◌, ℕ, ◌-◌, List, [], ◌∷◌, ◌++◌, length, replicate, map, Bool, true, false, ◌&&◌}
 use Rattle.kk_base.specs.Memory.{Part, covers}
-use Rattle.rv_isa.specs.Machine.{can_fetch, can_load, can_store, lies_in_part}
+use Rattle.rv_isa.specs.Processor.{can_fetch, can_load, can_store, lies_in_part}
+use Rattle.rv_isa.specs.Meaning.{IsWidth}
 use Rattle.rv_isa.specs.declared.act.Act.{Act}
 use Rattle.rv_isa.specs.declared.act.Act.TheVariants as act
 use Rattle.rv_sim.specs.declared.area.Access.{Access}
@@ -50,10 +51,7 @@ AreApart [] = Unit {0}
 AreApart (part ∷ parts) =
     ((at : ℕ) → covers part at 1 ≡ true → lies_in_part parts at 1 ≡ false) × AreApart parts
 
--- the numbers of bytes that loads and stores move
-abbrev pub IsWidth : ℕ → Type 0
-IsWidth width = (width ≡ 1) ⊎ ((width ≡ 2) ⊎ (width ≡ 4))
-
+-- an act moves as many bytes as loads and stores do
 abbrev pub MovesWidth : Act → Type 0
 MovesWidth (act.Load at width signed) = IsWidth width
 MovesWidth (act.Store at width value) = IsWidth width

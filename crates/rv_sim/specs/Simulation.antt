@@ -2,14 +2,10 @@
 use Rattle.std.specs.Prelude.{◌≡◌, ℕ, List, map, Bool}
 use Rattle.kk_base.specs.Memory.{Part, byte_loaded}
 use Rattle.kk_base.specs.Trace.{Event}
-use Rattle.rv_isa.specs.Machine.{Machine, bare, Ending, going, exited, trapped, After}
-use Rattle.rv_isa.specs.Environment.{calls}
-use Rattle.rv_isa.specs.Execution.{step}
+use Rattle.rv_isa.specs.Processor.{Processor, bare, Ending, going, exited, trapped, Progress}
 use Rattle.rv_sim.specs.Registers.{registers_of}
 use Rattle.rv_sim.specs.declared.halt.Phase.{Phase}
 use Rattle.rv_sim.specs.declared.halt.Phase.TheVariants.{Going, Exited, Trapped}
-use Rattle.rv_sim.specs.declared.halt.Turn.{Turn}
-use Rattle.rv_sim.specs.declared.halt.Turn.TheVariants.{Over, Call}
 
 -- the registers by number, the parts with all the bytes that they hold, how many instructions were executed, whether the machine has ended, and
 -- whether a device has failed
@@ -22,8 +18,8 @@ pub record Simulation : Type 0 where
   pub faulted : Bool
 
 -- the machine, with what is left of its input and what was done on the outside
-abbrev pub machine_of : Simulation → List ℕ → List Event → Machine
-machine_of held left trace = record {
+abbrev pub processor_of : Simulation → List ℕ → List Event → Processor
+processor_of held left trace = record {
   registers = registers_of held.registers;
   pc = held.pc;
   memory = byte_loaded held.parts;
@@ -34,22 +30,10 @@ machine_of held left trace = record {
 }
 
 -- what its run has come to
-abbrev pub after_of : Simulation → List ℕ → List Event → After
-after_of held left trace = record { machine = machine_of held left trace; ending = held.ending }
+abbrev pub progress_of : Simulation → List ℕ → List Event → Progress
+progress_of held left trace = record { processor = processor_of held left trace; ending = held.ending }
 
 abbrev pub ending_of : Phase → Ending
 ending_of Going = going
 ending_of (Exited number) = exited number
 ending_of (Trapped cause pc word) = trapped cause pc word
-
--- an instruction that is over has done `what` the machine does, and no device failed; one that calls the environment has changed nothing, and
--- what it does is the call
-abbrev pub Does : (Machine → After) → Turn → Simulation → Simulation → Type 0
-Does what Over old new =
-    ((left : List ℕ) (trace : List Event) → after_of new left trace ≡ what (machine_of old left trace)) × (new.faulted ≡ old.faulted)
-Does what (Call next word) old new =
-    (new ≡ old) × ((left : List ℕ) (trace : List Event) → what (machine_of old left trace) ≡ calls next word (machine_of old left trace))
-
--- this is what the next instruction does
-abbrev pub NextDoes : (Machine → After) → Simulation → Type 0
-NextDoes what s = (left : List ℕ) (trace : List Event) → step (machine_of s left trace) ≡ what (machine_of s left trace)

@@ -30,7 +30,7 @@ pub struct Area {
 
 impl Area {
     ghost use Rattle.elf_image.specs.Parts.{loaded, end_of};
-    ghost use Rattle.rv_isa.specs.Machine.{bare};
+    ghost use Rattle.rv_isa.specs.Processor.{bare};
     ghost use Rattle.rv_sim.specs.Areas.{part_of, allows, filled};
 
     /// The area of a part of an image: the part's bytes, and zeros behind them.

@@ -1,14 +1,20 @@
-ghost use Rattle.std.specs.Prelude.{◌≡◌, ℕ, ◌+◌, ◌*◌, ◌%◌, ◌<◌, ◌^◌, List, [], true, false, Option, IfOk};
+ghost use Rattle.std.specs.Prelude.{◌≡◌, ℕ, ◌+◌, ◌*◌, ◌%◌, ◌<◌, ◌≤◌, ◌^◌, List, [], length, true, false, Option, IfOk};
 ghost use Rattle.std.specs.Bool.{then_some};
-ghost use Rattle.rv_isa.specs.Machine.{start, going, exited, goes, traps, value, put, can_load, can_store};
+ghost use Rattle.kk_base.specs.Faults.{Rises};
+ghost use Rattle.kk_base.specs.Source.{SourceState};
+ghost use Rattle.kk_base.specs.Sink.{SinkState};
+ghost use Rattle.rv_isa.specs.Processor.{start, going, exited, goes, traps, value, put, can_load, can_store};
 ghost use Rattle.rv_isa.specs.Environment.{stepped, calls, reads, writes};
-ghost use Rattle.rv_isa.specs.Execution.{acts, executes, step, widened};
-ghost use Rattle.rv_isa.specs.FreeCells.{free_cells};
+ghost use Rattle.rv_isa.specs.Arithmetic.{widened};
+ghost use Rattle.rv_isa.specs.Execution.{acts, executes, step};
+ghost use Rattle.rv_isa.specs.FreeCells.{free_chain, border_size, free_cells};
 ghost use Rattle.elf_image.specs.Parts.{memory_of};
-ghost use Rattle.rv_sim.specs.Areas.{IsWidth, MovesWidth};
-ghost use Rattle.rv_sim.specs.Devices.{Supply, CountsFault, is_input, is_output, is_input_fault, is_output_fault, halt_of, answer_of, Runs};
+ghost use Rattle.rv_isa.specs.Meaning.{IsWidth};
+ghost use Rattle.rv_sim.specs.Turns.{TurnDoes, NextDoes, is_input, is_output, answer_of};
+ghost use Rattle.rv_sim.specs.Areas.{MovesWidth};
+ghost use Rattle.rv_sim.specs.Devices.{is_input_fault, is_output_fault, halt_of, HasRun};
 ghost use Rattle.rv_sim.specs.Registers.{registers_of};
-ghost use Rattle.rv_sim.specs.Simulation.{machine_of, after_of, Does, NextDoes};
+ghost use Rattle.rv_sim.specs.Simulation.{processor_of, progress_of};
 
 use crate::area::Access;
 use crate::halt::{Device, Halt, Phase, Turn};
@@ -16,34 +22,13 @@ use crate::memory::Memory;
 use crate::registers::Registers;
 use elf_image::Image;
 use kk_base::{Next, NoMemory, Put, Sink, Source};
+use rv_isa::environment::{
+    ACCESS_FAULT, CELL_SIZE, EXIT, FETCH_FAULT, ILLEGAL_INSTRUCTION, MISALIGNED_ACCESS,
+    MISALIGNED_TARGET, READ, STANDARD_INPUT, STANDARD_OUTPUT, UNKNOWN_CALL, WRITE,
+};
 use rv_isa::{Act, Effect, Instr, Register, decode, effect};
 use std::alloc::Global;
 use std::marker::Model;
-
-/// A word that is no instruction's, or EBREAK.
-const NO_INSTRUCTION: u8 = 1;
-/// A fetch where none is allowed.
-const FETCH_FAULT: u8 = 2;
-/// A transfer to an address that is no multiple of 4.
-const MISALIGNED_TARGET: u8 = 3;
-/// A load or a store where none is allowed.
-const ACCESS_FAULT: u8 = 4;
-/// A load or a store at an address that is no multiple of its width.
-const MISALIGNED_ACCESS: u8 = 5;
-/// An ECALL that is no call of the environment.
-const NO_CALL: u8 = 6;
-
-/// The calls of the environment, as Linux numbers them.
-const READ: u32 = 63;
-
-const WRITE: u32 = 64;
-
-const EXIT: u32 = 93;
-
-/// The files that are read and written, as POSIX numbers them.
-const STANDARD_INPUT: u32 = 0;
-
-const STANDARD_OUTPUT: u32 = 1;
 
 /// A machine that executes an image.
 #[derive(Debug, Drop)]
@@ -72,7 +57,7 @@ impl Machine {
         ensures start { IfOk result
             (λ machine.
             (input : List ℕ)
-            → after_of machine input []
+            → progress_of machine input []
             ≡ goes (start (memory_of image.now.parts) image.now.entry input)) }
         ensures whole { IfOk result (λ machine. machine.faulted ≡ false) }
         ensures fresh { IfOk result (λ machine. machine.executed ≡ 0) }
@@ -93,12 +78,10 @@ impl Machine {
     pub fn run<I: Source, O: Sink>(&mut self, steps: u64, input: &mut I, out: &mut O) -> Halt
         requires whole { self.old.faulted ≡ false }
         requires room { self.old.executed + steps < 2 ^ 64 }
-        ensures input_faults { CountsFault (is_input_fault result) (I.faults input.old) (I.faults input.new) }
-        ensures output_faults { CountsFault (is_output_fault result) (O.faults out.old) (O.faults out.new) }
-        ensures ran { Runs result steps self.old self.new
-            (record { left = I.left input.old; ended = I.ended input.old })
-            (record { left = I.left input.new; ended = I.ended input.new })
-            (O.held out.old) (O.held out.new) }
+        ensures input_faults { Rises (is_input_fault result) (I.state input.old).faults (I.state input.new).faults }
+        ensures output_faults { Rises (is_output_fault result) (O.state out.old).faults (O.state out.new).faults }
+        ensures ran { HasRun result steps self.old self.new
+            (I.state input.old) (I.state input.new) (O.state out.old) (O.state out.new) }
     {
         let mut left = steps;
         while left > 0 && self.phase == Phase::Going {
@@ -145,10 +128,19 @@ impl Machine {
         self.executed += 1;
     }
 
-    /// How many free cells the image has: the length of the chain from x8 through the first word of each cell, at most
-    /// `cells`.
+    /// How many free cells the image has: those on the chain from x8 through the first word of each, and those from x18 on
+    /// below x19; at most `cells` in all.
     pub fn free_cells(&self, cells: u32) -> u32
-        ensures { result ≡ free_cells cells (machine_of self.now [] []) }
+        ensures { result ≡ free_cells cells (processor_of self.now [] []) }
+    {
+        let chained = self.free_chain(cells);
+        chained + self.border_size().min(cells - chained)
+    }
+
+    /// How many cells the chain from x8 through the first word of each has, at most `cells`.
+    fn free_chain(&self, cells: u32) -> u32
+        ensures value { result ≡ length (free_chain cells (processor_of self.now [] [])) }
+        ensures within { result ≤ cells }
     {
         let mut at = self.registers.get(Register::S0);
         let mut count = 0;
@@ -162,17 +154,30 @@ impl Machine {
         count
     }
 
+    /// How many cells lie from x18 on below x19: none where one of the two is no multiple of a cell's size, or x18 is above
+    /// x19.
+    fn border_size(&self) -> u32
+        ensures { result
+            ≡ border_size (value (registers_of self.now.registers) 18) (value (registers_of self.now.registers) 19) }
+    {
+        let low = self.registers.get(Register::S2);
+        let high = self.registers.get(Register::S3);
+        if low % CELL_SIZE == 0 && high % CELL_SIZE == 0 && low <= high {
+            (high - low) / CELL_SIZE
+        } else {
+            0
+        }
+    }
+
     /// Executes the next instruction. Answers the device that failed, if one did; then nothing was executed.
     fn step<I: Source, O: Sink>(&mut self, input: &mut I, out: &mut O) -> Option<Device>
         requires whole { self.old.faulted ≡ false }
         requires going { self.old.ending ≡ going }
         requires room { self.old.executed + 1 < 2 ^ 64 }
-        ensures input_faults { CountsFault (is_input result) (I.faults input.old) (I.faults input.new) }
-        ensures output_faults { CountsFault (is_output result) (O.faults out.old) (O.faults out.new) }
-        ensures ran { Runs (answer_of result self.new.ending) 1 self.old self.new
-            (record { left = I.left input.old; ended = I.ended input.old })
-            (record { left = I.left input.new; ended = I.ended input.new })
-            (O.held out.old) (O.held out.new) }
+        ensures input_faults { Rises (is_input result) (I.state input.old).faults (I.state input.new).faults }
+        ensures output_faults { Rises (is_output result) (O.state out.old).faults (O.state out.new).faults }
+        ensures ran { HasRun (answer_of result self.new.ending) 1 self.old self.new
+            (I.state input.old) (I.state input.new) (O.state out.old) (O.state out.new) }
     {
         match self.advance() {
             Turn::Over => None,
@@ -180,7 +185,7 @@ impl Machine {
         }
     }
 
-    /// Does what an ECALL asks for. Answers the device that failed, if one did; then nothing was executed.
+    /// TurnDoes what an ECALL asks for. Answers the device that failed, if one did; then nothing was executed.
     fn call<I: Source, O: Sink>(
         &mut self,
         next: u32,
@@ -192,12 +197,10 @@ impl Machine {
         requires going { self.old.ending ≡ going }
         requires room { self.old.executed + 1 < 2 ^ 64 }
         requires calls { NextDoes (calls next word) self.old }
-        ensures input_faults { CountsFault (is_input result) (I.faults input.old) (I.faults input.new) }
-        ensures output_faults { CountsFault (is_output result) (O.faults out.old) (O.faults out.new) }
-        ensures ran { Runs (answer_of result self.new.ending) 1 self.old self.new
-            (record { left = I.left input.old; ended = I.ended input.old })
-            (record { left = I.left input.new; ended = I.ended input.new })
-            (O.held out.old) (O.held out.new) }
+        ensures input_faults { Rises (is_input result) (I.state input.old).faults (I.state input.new).faults }
+        ensures output_faults { Rises (is_output result) (O.state out.old).faults (O.state out.new).faults }
+        ensures ran { HasRun (answer_of result self.new.ending) 1 self.old self.new
+            (I.state input.old) (I.state input.new) (O.state out.old) (O.state out.new) }
     {
         let file = self.registers.get(Register::A0);
         let at = self.registers.get(Register::A1);
@@ -214,7 +217,7 @@ impl Machine {
                 None
             }
             _ => {
-                self.trap(NO_CALL, word);
+                self.trap(UNKNOWN_CALL, word);
                 None
             }
         }
@@ -229,11 +232,11 @@ impl Machine {
         requires allowed { can_store self.old.parts (value (registers_of self.old.registers) 11)
             (value (registers_of self.old.registers) 12)
             ≡ true }
-        ensures faults { CountsFault result (I.faults input.old) (I.faults input.new) }
-        ensures ran { (held : Option (List ℕ))
-            → Runs (answer_of (then_some result Device.Input) self.new.ending) 1 self.old self.new
-            (record { left = I.left input.old; ended = I.ended input.old })
-            (record { left = I.left input.new; ended = I.ended input.new }) held held }
+        ensures faults { Rises result (I.state input.old).faults (I.state input.new).faults }
+        ensures ran { (sink : SinkState)
+            → HasRun (answer_of (then_some result Device.Input) self.new.ending) 1 self.old self.new
+            (I.state input.old)
+            (I.state input.new) sink sink }
     {
         if self.registers.get(Register::A2) == 0 {
             self.set(Register::A0, 0, next);
@@ -266,10 +269,10 @@ impl Machine {
         requires allowed { can_load self.old.parts (value (registers_of self.old.registers) 11)
             (value (registers_of self.old.registers) 12)
             ≡ true }
-        ensures faults { CountsFault result (O.faults out.old) (O.faults out.new) }
-        ensures ran { (supply : Supply)
-            → Runs (answer_of (then_some result Device.Output) self.new.ending) 1 self.old self.new
-            supply supply (O.held out.old) (O.held out.new) }
+        ensures faults { Rises result (O.state out.old).faults (O.state out.new).faults }
+        ensures ran { (source : SourceState)
+            → HasRun (answer_of (then_some result Device.Output) self.new.ending) 1 self.old self.new
+            source source (O.state out.old) (O.state out.new) }
     {
         let at = self.registers.get(Register::A1);
         let count = self.registers.get(Register::A2);
@@ -286,8 +289,8 @@ impl Machine {
     /// The run has ended by an exit with the lowest 8 bits of x10.
     fn exit(&mut self, next: u32)
         requires room { self.old.executed + 1 < 2 ^ 64 }
-        ensures { Does
-            (λ s. record { machine = stepped next s; ending = exited (value s.registers 10 % 256) })
+        ensures { TurnDoes
+            (λ s. record { processor = stepped next s; ending = exited (value s.registers 10 % 256) })
             Turn.Over self.old self.new }
     {
         self.phase = Phase::Exited((self.registers.get(Register::A0) % 256) as u8);
@@ -298,7 +301,7 @@ impl Machine {
     fn advance(&mut self) -> Turn
         requires going { self.old.ending ≡ going }
         requires room { self.old.executed + 1 < 2 ^ 64 }
-        ensures { Does step result self.old self.new }
+        ensures { TurnDoes step result self.old self.new }
     {
         let Some(word) = self.memory.fetch(self.pc) else {
             self.trap(FETCH_FAULT, 0);
@@ -307,7 +310,7 @@ impl Machine {
         match decode(word) {
             Some(instr) => self.execute(instr, word),
             None => {
-                self.trap(NO_INSTRUCTION, word);
+                self.trap(ILLEGAL_INSTRUCTION, word);
                 Turn::Over
             }
         }
@@ -317,7 +320,7 @@ impl Machine {
     fn execute(&mut self, instr: Instr, word: u32) -> Turn
         requires going { self.old.ending ≡ going }
         requires room { self.old.executed + 1 < 2 ^ 64 }
-        ensures { Does (λ s. executes s word instr) result self.old self.new }
+        ensures { TurnDoes (λ s. executes s word instr) result self.old self.new }
     {
         let operands = instr.operands();
         let a = self.registers.get(operands.rs1);
@@ -330,12 +333,12 @@ impl Machine {
         self.act(effect, operands.rd, word)
     }
 
-    /// Does what an instruction asks for, up to a call of the environment.
+    /// TurnDoes what an instruction asks for, up to a call of the environment.
     fn act(&mut self, effect: Effect, rd: Register, word: u32) -> Turn
         requires going { self.old.ending ≡ going }
         requires room { self.old.executed + 1 < 2 ^ 64 }
         requires width { MovesWidth effect.act }
-        ensures { Does (acts effect.act rd.number effect.next word) result self.old self.new }
+        ensures { TurnDoes (acts effect.act rd.number effect.next word) result self.old self.new }
     {
         let next = effect.next;
         match effect.act {
@@ -344,14 +347,14 @@ impl Machine {
             Act::Load { at, width, signed } => self.load_number(rd, at, width, signed, next, word),
             Act::Store { at, width, value } => self.store_number(at, width, value, next, word),
             Act::Call => return Turn::Call { next, word },
-            Act::Break => self.trap(NO_INSTRUCTION, word),
+            Act::Break => self.trap(ILLEGAL_INSTRUCTION, word),
         }
         Turn::Over
     }
 
     /// The run has ended by a trap at this instruction.
     fn trap(&mut self, cause: u8, word: u32)
-        ensures { Does (traps cause word) Turn.Over self.old self.new }
+        ensures { TurnDoes (traps cause word) Turn.Over self.old self.new }
     {
         self.phase = Phase::Trapped {
             cause,
@@ -364,7 +367,7 @@ impl Machine {
     fn set(&mut self, register: Register, word: u32, next: u32)
         requires going { self.old.ending ≡ going }
         requires room { self.old.executed + 1 < 2 ^ 64 }
-        ensures { Does (λ s. goes (record (stepped next s) { registers = put register.number word s.registers }))
+        ensures { TurnDoes (λ s. goes (record (stepped next s) { registers = put register.number word s.registers }))
             Turn.Over self.old self.new }
     {
         self.registers.set(register, word);
@@ -376,7 +379,7 @@ impl Machine {
         requires going { self.old.ending ≡ going }
         requires room { self.old.executed + 1 < 2 ^ 64 }
         requires width { IsWidth width }
-        ensures { Does (acts (Act.Load at width signed) rd.number next word) Turn.Over self.old self.new }
+        ensures { TurnDoes (acts (Act.Load at width signed) rd.number next word) Turn.Over self.old self.new }
     {
         if at % u32::from(width) != 0 {
             self.trap(MISALIGNED_ACCESS, word);
@@ -393,7 +396,7 @@ impl Machine {
         requires going { self.old.ending ≡ going }
         requires room { self.old.executed + 1 < 2 ^ 64 }
         requires width { IsWidth width }
-        ensures { (rd : ℕ) → Does (acts (Act.Store at width value) rd next word) Turn.Over self.old self.new }
+        ensures { (rd : ℕ) → TurnDoes (acts (Act.Store at width value) rd next word) Turn.Over self.old self.new }
     {
         if at % u32::from(width) != 0 {
             self.trap(MISALIGNED_ACCESS, word);

@@ -2,9 +2,10 @@ ghost use Rattle.std.specs.Prelude.{◌≡◌, ℕ, ◌^◌, ◌<◌, ◌∷◌,
 ghost use Rattle.std.specs.Bool.{OnTrue, OnFalse};
 ghost use Rattle.kk_base.specs.Memory.{covers, byte_loaded};
 ghost use Rattle.rv_isa.specs.Bytes.{little_endian, number_at, bytes_at, with_number, with_bytes};
-ghost use Rattle.rv_isa.specs.Machine.{bare, lies_in_part, can_fetch, can_load, can_store};
+ghost use Rattle.rv_isa.specs.Meaning.{IsWidth};
+ghost use Rattle.rv_isa.specs.Processor.{bare, lies_in_part, can_fetch, can_load, can_store};
 ghost use Rattle.elf_image.specs.Parts.{memory_of, are_apart, are_in_reach, are_filled};
-ghost use Rattle.rv_sim.specs.Areas.{filled, part_of, parts_of, allows, can, AreApart, IsWidth};
+ghost use Rattle.rv_sim.specs.Areas.{filled, part_of, parts_of, allows, can, AreApart};
 
 use crate::area::{Access, Area};
 use elf_image::Parts;

@@ -1,5 +1,5 @@
 ghost use Rattle.std.specs.Prelude.{◌≡◌};
-ghost use Rattle.rv_isa.specs.Machine.{value, put};
+ghost use Rattle.rv_isa.specs.Processor.{value, put};
 ghost use Rattle.rv_sim.specs.Registers.{registers_of};
 
 use rv_isa::Register;

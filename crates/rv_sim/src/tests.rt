@@ -51,11 +51,7 @@ impl Tape {
 }
 
 impl Source for Tape {
-    ghost left = { λ _. None };
-
-    ghost ended = { λ tape. nat_le (length tape.bytes.now) tape.at };
-
-    ghost faults = { λ tape. tape.faults };
+    ghost state = { λ tape. record { left = None; ended = nat_le (length tape.bytes.now) tape.at; faults = tape.faults } };
 
     fn next(&mut self) -> Next {
         self.calls = self.calls.saturating_add(1);
@@ -94,9 +90,7 @@ impl Paper {
 }
 
 impl Sink for Paper {
-    ghost held = { λ _. None };
-
-    ghost faults = { λ paper. paper.faults };
+    ghost state = { λ paper. record { held = None; faults = paper.faults } };
 
     fn put(&mut self, piece: &[u8]) -> Put {
         self.calls = self.calls.saturating_add(1);
@@ -493,8 +487,12 @@ fn free_cells(rt: HostRuntime) -> Result<(), Fail> {
     let s0_memory = 0x0001_1437; // lui s0, 0x11
     let s0_plus_1 = 0x0014_0413; // addi s0, s0, 1
     let own = 0x0084_2023; // sw s0, 0(s0)
-    // The words, at most so many cells, and how many are on the chain after them.
-    let cases: [(&[u32], u32, u32); 7] = [
+    let s2_low = 0x0002_0937; // lui s2, 0x20
+    let s2_high = 0x0002_2937; // lui s2, 0x22
+    let s3_end = 0x0002_19b7; // lui s3, 0x21
+    let s3_plus_1 = 0x0019_8993; // addi s3, s3, 1
+    // The words, at most so many cells, and how many are free after them.
+    let cases: [(&[u32], u32, u32); 12] = [
         (&[NOP], 10, 0),
         (&[s0_memory], 10, 1),
         (&[s0_memory], 0, 0),
@@ -509,6 +507,12 @@ fn free_cells(rt: HostRuntime) -> Result<(), Fail> {
             10,
             0,
         ),
+        // Never used: alone, behind a chain, as many as are asked for; and none where x18 is above x19 or one is no cell's.
+        (&[s2_low, s3_end], 1000, 128),
+        (&[s0_memory, s2_low, s3_end], 1000, 129),
+        (&[s0_memory, s2_low, s3_end], 10, 10),
+        (&[s2_high, s3_end], 10, 0),
+        (&[s2_low, s3_end, s3_plus_1], 10, 0),
     ];
     for (words, cells, expected) in cases {
         let mut machine = machine(rt.alloc(), 5, words, 8)?;

@@ -2,7 +2,7 @@ use Rattle.std.proofs.Common.{sym, ap, ◌∙◌}
 use Rattle.rv_isa.specs.Execution.{executes, decodes, step}
 use Rattle.rv_isa.proofs.Steps.{decodes-none, decodes-some}
 use Rattle.rv_sim.specs.contracts.machine.Machine.{the_view}
-use Rattle.rv_sim.specs.Simulation.{machine_of}
+use Rattle.rv_sim.specs.Simulation.{processor_of}
 use Rattle.rv_sim.proofs.Stepping.{does-same, fetches, fetches_nothing}
 use Rattle.rv_sim.proofs.machine.Machine.advance.Goals as goal
 
@@ -21,7 +21,7 @@ returns-in-Some-decode c =
     rw (← c.self.view_is)
     (does-same (λ s. executes s c.in-Some.word c.in-Some-decode.instr) step c.execute.result (the_view c.self.inside) c.execute.new.self
     (λ left trace.
-    let s = machine_of (the_view c.self.inside) left trace in
+    let s = processor_of (the_view c.self.inside) left trace in
     sym (fetches (the_view c.self.inside) left trace c.in-Some.word (sym c.in-Some.is ∙ c.fetch.ensures.word)
     ∙ ap (decodes s c.in-Some.word) (sym c.decode.ensures.reads ∙ c.in-Some-decode.is)
     ∙ decodes-some s c.in-Some.word c.in-Some-decode.instr))
@@ -33,7 +33,7 @@ returns-in-None c = (
       rw (← c.self.view_is)
       (rw c.fetch.ensures.stays at (c.trap-in-None.ensures.0 left trace)
       ∙ sym (fetches (the_view c.self.inside) left trace c.in-Some.word (sym c.in-Some.is ∙ c.fetch.ensures.word)
-      ∙ ap (decodes (machine_of (the_view c.self.inside) left trace) c.in-Some.word) (sym c.decode.ensures.reads ∙ c.in-None.is)
-      ∙ decodes-none (machine_of (the_view c.self.inside) left trace) c.in-Some.word)),
+      ∙ ap (decodes (processor_of (the_view c.self.inside) left trace) c.in-Some.word) (sym c.decode.ensures.reads ∙ c.in-None.is)
+      ∙ decodes-none (processor_of (the_view c.self.inside) left trace) c.in-Some.word)),
   rw (← c.self.view_is) c.trap-in-None.ensures.1,
 )

@@ -1,6 +1,6 @@
 use Rattle.std.proofs.Common.{◌≡◌, ◌≢◌, arith, rules}
 use Rattle.rv_sim.specs.contracts.machine.Machine.{the_view}
-use Rattle.rv_isa.specs.Machine.{value}
+use Rattle.rv_isa.specs.Processor.{value}
 use Rattle.rv_sim.specs.Registers.{registers_of}
 use Rattle.rv_sim.proofs.Stepping.{can_store-one}
 use Rattle.rv_sim.proofs.Calling.{read-none, read-byte, read-end, read-failed}
@@ -21,7 +21,7 @@ returns-in-Byte-clause-ran g c = λ held.
     rw (← c.self.view_is)
     (read-byte (the_view c.self.inside) c.set-in-Byte.new.self c.args.next (rw (← c.self.view_is) at c.requires.going) (rw (← c.self.view_is) at c.requires.whole)
     (rw (← c.self.view_is) at c.requires.reads) some c.in-Byte.byte c.store_byte.new.self (rw c.get-at.ensures at c.store_byte.ensures.stored) c.store_byte.ensures.areas
-    c.set-in-Byte.ensures _ _ held c.in-Byte.ensures.content c.in-Byte.ensures.keeps)
+    c.set-in-Byte.ensures _ _ held c.in-Byte.ensures.content c.in-Byte.ensures.keeps c.in-Byte.ensures.bytes)
 
 pub returns-in-End-clause-ran : goal.returns-in-End-clause-ran
 returns-in-End-clause-ran g c = λ held.

@@ -1,7 +1,7 @@
 use Rattle.std.proofs.Common.{sym, ap, ◌∙◌, rules}
 use Rattle.rv_isa.proofs.Acts.{acts-store_misaligned}
 use Rattle.rv_sim.specs.contracts.machine.Machine.{the_view}
-use Rattle.rv_sim.specs.Simulation.{machine_of}
+use Rattle.rv_sim.specs.Simulation.{processor_of}
 use Rattle.rv_sim.proofs.Stepping.{stores, stores_nothing}
 use Rattle.rv_sim.proofs.machine.Machine.store_number.Goals as goal
 
@@ -9,7 +9,7 @@ pub returns-then-at-from-ne0 : goal.returns-then-at-from-ne0
 returns-then-at-from-ne0 c = λ rd. (
   λ left trace.
       c.trap.ensures.0 left trace
-      ∙ sym (acts-store_misaligned rd c.args.next c.args.word (machine_of c.args.self.now left trace) c.args.at c.args.width c.args.value (search rules)),
+      ∙ sym (acts-store_misaligned rd c.args.next c.args.word (processor_of c.args.self.now left trace) c.args.at c.args.width c.args.value (search rules)),
   c.trap.ensures.1,
 )
 

@@ -1,7 +1,7 @@
 use Rattle.std.proofs.Common.{◌≡◌, ap, ◌∙◌, arith, rules}
 use Rattle.kk_base.specs.Memory.{byte_loaded}
 use Rattle.rv_isa.specs.Bytes.{bytes_at}
-use Rattle.rv_isa.specs.Machine.{value}
+use Rattle.rv_isa.specs.Processor.{value}
 use Rattle.rv_sim.specs.Registers.{registers_of}
 use Rattle.rv_sim.specs.contracts.machine.Machine.{the_view}
 use Rattle.rv_sim.proofs.Calling.{write-none, write-all, write-failed}
@@ -23,9 +23,9 @@ returns-clause-ran g c = λ left.
           let spells : w.bytes.result.now ≡ bytes_at (byte_loaded c.args.self.now.parts) (value (registers_of c.args.self.now.registers) 11) c.get-count.result
           = rw (← c.self.view_is) (rw c.get-at.ensures at w.bytes.ensures) in
           write-all c.args.self.now c.set.new.self c.args.next c.get-count.result counted c.requires.going c.requires.whole c.requires.writes c.set.ensures w.bytes.result.now left _ _
-          (omega arith) spells (ap g.O.Sink.held w.out-is ∙ w.in_default.ensures.content)
+          (omega arith) spells (ap (λ o. (g.O.Sink.state o).held) w.out-is ∙ w.in_default.ensures.content)
       | else-count-gt0 w ↦
           rw w.out-is
-          (write-none c.args.self.now c.set.new.self c.args.next c.get-count.result counted c.requires.going c.requires.whole c.requires.writes c.set.ensures left (g.O.Sink.held c.args.out.now)
+          (write-none c.args.self.now c.set.new.self c.args.next c.get-count.result counted c.requires.going c.requires.whole c.requires.writes c.set.ensures left (g.O.Sink.state c.args.out.now)
           (omega arith))
     ]

@@ -1,5 +1,5 @@
 use Rattle.std.proofs.Common.{◌≡◌, None, true, sym, arith, rules}
-use Rattle.rv_isa.specs.Machine.{lies_in_part}
+use Rattle.rv_isa.specs.Processor.{lies_in_part}
 use Rattle.rv_sim.specs.declared.area.Access.TheVariants.{Inspect}
 use Rattle.rv_sim.specs.Areas.{parts_of}
 use Rattle.rv_sim.proofs.Reading.{number_at-area, where_true}

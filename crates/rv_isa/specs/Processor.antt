@@ -1,4 +1,4 @@
--- A machine that executes the instructions of RV32IM, and what a run of it comes to.
+-- A processor with its memory and what it has done on the outside, and what a run of it comes to.
 -- The RISC-V Instruction Set Manual, Volume I: Unprivileged ISA, 1.2 RISC-V Software Execution Environments and Harts, 1.4 Memory and 2.1 Programmers' Model for Base Integer ISA.
 use Rattle.std.specs.Prelude.{ℕ, List, [], map, Bool, ◌&&◌, if◌then◌else◌, nat_eq}
 use Rattle.std.specs.List.{list_any}
@@ -7,7 +7,7 @@ use Rattle.kk_base.specs.Trace.{Event}
 
 -- the registers x0 to x31 and the address of the next instruction; the memory by bytes, and the parts of the addresses with what may be done
 -- in them; what is left of the input; how many instructions were executed; and what was done on the outside
-pub record Machine : Type 0 where
+pub record Processor : Type 0 where
   pub registers : ℕ → ℕ
   pub pc : ℕ
   pub memory : ℕ → ℕ
@@ -38,12 +38,12 @@ can_store parts at count = list_any (λ part. part.writable && covers part at co
 abbrev pub lies_in_part : List Part → ℕ → ℕ → Bool
 lies_in_part parts at count = list_any (λ part. covers part at count) parts
 
--- a part without its bytes, which a machine holds in its memory
+-- a part without its bytes, which a processor holds in its memory
 abbrev pub bare : Part → Part
 bare part = record part { bytes = [] }
 
--- the machine at its start: it stands at the entry, its registers are 0, and its memory is as loaded
-abbrev pub start : List Part → ℕ → List ℕ → Machine
+-- the processor at its start: it stands at the entry, its registers are 0, and its memory is as loaded
+abbrev pub start : List Part → ℕ → List ℕ → Processor
 start parts entry input = record {
   registers = λ x. 0;
   pc = entry;
@@ -62,15 +62,15 @@ pub data Ending : Type 0 where
   trapped : (cause pc word : ℕ) → Ending
 
 -- what a run has come to
-pub record After : Type 0 where
-  pub machine : Machine
+pub record Progress : Type 0 where
+  pub processor : Processor
   pub ending : Ending
 
-abbrev pub goes : Machine → After
-goes machine = record { machine = machine; ending = going }
+abbrev pub goes : Processor → Progress
+goes processor = record { processor = processor; ending = going }
 
-abbrev pub traps : ℕ → ℕ → Machine → After
-traps cause word machine = record { machine = machine; ending = trapped cause machine.pc word }
+abbrev pub traps : ℕ → ℕ → Processor → Progress
+traps cause word processor = record { processor = processor; ending = trapped cause processor.pc word }
 
 -- how many instructions one step has executed, by what it has come to: an exit is executed, and a trap is not
 abbrev pub counted : Ending → ℕ

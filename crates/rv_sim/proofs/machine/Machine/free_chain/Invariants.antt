@@ -1,9 +1,9 @@
 use Rattle.std.proofs.Common.{◌≡◌, ◌≤◌, ◌+◌, ◌-◌, map, length}
 use Rattle.kk_base.specs.Memory.{byte_loaded}
-use Rattle.rv_isa.specs.Machine.{bare, value}
+use Rattle.rv_isa.specs.Processor.{bare, value}
 use Rattle.rv_isa.specs.FreeCells.{chain}
 use Rattle.rv_sim.specs.Registers.{registers_of}
-use Rattle.rv_sim.proofs.machine.Machine.free_cells.Given as goal
+use Rattle.rv_sim.proofs.machine.Machine.free_chain.Given as goal
 
 abbrev pub invariant-loop-count : goal.invariant-loop-count
 invariant-loop-count l = record {

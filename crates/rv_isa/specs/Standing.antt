@@ -1,0 +1,30 @@
+-- Code that stands in a machine's memory: what a run that executes it rests on.
+use Rattle.std.specs.Prelude.{◌≡◌, ℕ, ◌+◌, ◌-◌, ◌/◌, ◌%◌, ◌^◌, ◌<◌, List, [], ◌∷◌, Option, Some, None, true, ◌&&◌, if◌then◌else◌, nat_eq, nat_le}
+use Rattle.std.specs.List.{slice_get}
+use Rattle.rv_isa.specs.declared.instr.Instr.{Instr}
+use Rattle.rv_isa.specs.Read.{read}
+use Rattle.rv_isa.specs.Bytes.{Apart, number_at}
+use Rattle.rv_isa.specs.Processor.{Processor, can_fetch, can_store}
+
+-- the instruction at each address, where there is one
+abbrev pub Code : Type 0
+Code = ℕ → Option Instr
+
+-- these instructions are the code's from an address on, one after the other
+abbrev pub Has : Code → ℕ → List Instr → Type 0
+Has code at [] = Unit {0}
+Has code at (i ∷ is) = (code at ≡ Some i) × Has code (at + 4) is
+
+-- the code of one list of instructions, from an address on, and nothing else
+abbrev pub code_of : ℕ → List Instr → Code
+code_of start is at =
+    if nat_le start at && nat_eq ((at - start) % 4) 0 then slice_get is ((at - start) / 4) else None
+
+-- the code stands in the machine: at addresses of words, each instruction as the machine reads it, where it may be fetched, and where no store
+-- of at least one byte reaches it. So it stands after every step too
+pub record Stands (code : Code) (s : Processor) : Type 0 where
+  pub aligned : (at : ℕ) (i : Instr) → code at ≡ Some i → at % 4 ≡ 0
+  pub below : (at : ℕ) (i : Instr) → code at ≡ Some i → at < 2 ^ 32
+  pub fetched : (at : ℕ) (i : Instr) → code at ≡ Some i → can_fetch s.parts at 4 ≡ true
+  pub holds : (at : ℕ) (i : Instr) → code at ≡ Some i → read (number_at s.memory at 4) ≡ Some i
+  pub kept : (at : ℕ) (i : Instr) → code at ≡ Some i → (x count : ℕ) → can_store s.parts x count ≡ true → 0 < count → Apart x count at 4
