@@ -3,7 +3,7 @@ use Rattle.std.proofs.Common.{◌≡◌, ◌↔◌, ℕ, ◌+◌, ◌≤◌, Lis
 use Rattle.kk_base.specs.Trace.{IsPrefix}
 use Rattle.kk_base.specs.Machines.{Machine, trace, weight_of, ending_after, WeighsEach, ending_made, mapped}
 use Rattle.kk_base.specs.Agreements.{IsFollowedBy, Does, Agree}
-use Rattle.kk_base.proofs.Machines.{trace_grows, ending_stays, trace_stays, Within, steps_within, trace-mapped, IsPrefix-flat_map}
+use Rattle.kk_base.proofs.Machines.{trace_grows, ending_stays, trace_stays, SameWithin, steps_within, trace-mapped, IsPrefix-flat_map}
 
 pub prefix_through : {E : Type 0} (xs ys zs : List E) → IsPrefix xs ys → IsPrefix ys zs → IsPrefix xs zs
 prefix_through xs ys zs a b = (a.0 ++ b.0, sym (append_assoc xs a.0 b.0) ∙ rw a.1 b.1)
@@ -75,7 +75,7 @@ pub agree_in_steps : {S T E W : Type 0} (upper : Machine S E W) (lower : Machine
     → WeighsEach lower → Agree upper lower credit up s t → IsFollowedBy upper lower (λ n. weight_of upper n s + credit) s t
 agree_in_steps upper lower credit up s t each agree =
     let done : (n : ℕ) → Does lower (weight_of upper n s + credit) (trace upper n s) (ending_after upper n s) t = agree.downwards in
-    let few : (n : ℕ) → Within lower (done n).steps (weight_of upper n s + credit) t = λ n. steps_within lower each (done n).steps (weight_of upper n s + credit) t (done n).weighs in
+    let few : (n : ℕ) → SameWithin lower (done n).steps (weight_of upper n s + credit) t = λ n. steps_within lower each (done n).steps (weight_of upper n s + credit) t (done n).weighs in
     let same : (n : ℕ) → trace lower (few n).steps t ≡ trace upper n s = λ n. (few n).trace_is ∙ (done n).events_are in
     let ended : (n : ℕ) (w : _) → ending_after upper n s ≡ Some w → ending_after lower (few n).steps t ≡ Some w = λ n w e. ap lower.ending (few n).state_is ∙ (done n).ending_is ∙ e in
     record {

@@ -76,20 +76,20 @@ weight_of-at_most machine c most zero s = omega (arith, mul-zero c)
 weight_of-at_most machine c most (suc n) s = omega (arith, most s, weight_of-at_most machine c most n (machine.step s).1, mul-suc c n)
 
 -- some steps come to the same as n steps, and are at most so many as these weigh
-pub record Within {S E W : Type 0} (machine : Machine S E W) (n most : ℕ) (s : S) : Type 0 where
+pub record SameWithin {S E W : Type 0} (machine : Machine S E W) (n most : ℕ) (s : S) : Type 0 where
   pub steps : ℕ
   pub within : steps ≤ most
   pub trace_is : trace machine steps s ≡ trace machine n s
   pub state_is : state machine steps s ≡ state machine n s
 
-pub steps_within : {S E W : Type 0} (machine : Machine S E W) → WeighsEach machine → (n most : ℕ) (s : S) → weight_of machine n s ≤ most → Within machine n most s
+pub steps_within : {S E W : Type 0} (machine : Machine S E W) → WeighsEach machine → (n most : ℕ) (s : S) → weight_of machine n s ≤ most → SameWithin machine n most s
 steps_within machine each zero most s weighs = record { steps = 0; within = omega arith; trace_is = refl; state_is = refl }
 steps_within {S} {E} {W} machine each (suc n) most s weighs =
-    let by : (how : Option W) → machine.ending s ≡ how → Within machine (suc n) most s
-    = λ how. elim how as (λ how. machine.ending s ≡ how → Within machine (suc n) most s) [
+    let by : (how : Option W) → machine.ending s ≡ how → SameWithin machine (suc n) most s
+    = λ how. elim how as (λ how. machine.ending s ≡ how → SameWithin machine (suc n) most s) [
       | None ↦ λ goes_on.
           let some : 1 ≤ machine.weight s = each s goes_on in
-          let rest : Within machine n (most - 1) (machine.step s).1 = steps_within machine each n (most - 1) (machine.step s).1 (omega arith) in
+          let rest : SameWithin machine n (most - 1) (machine.step s).1 = steps_within machine each n (most - 1) (machine.step s).1 (omega arith) in
           record {
             steps = suc rest.steps;
             within = omega (arith, rest.within);

@@ -39,15 +39,6 @@ input_of-append (input_end ∷ es) fs = input_of-append es fs
 pub TakesBytes-append : (es fs : List Event) → TakesBytes es → TakesBytes fs → TakesBytes (es ++ fs)
 TakesBytes-append es fs first second = rw (input_of-append es fs) (All-append (λ byte. byte < 256) (input_of es) (input_of fs) first second)
 
--- what is taken and what is left are what there was
-pub TakesFrom-input : (es : List Event) (before after : List ℕ) → TakesFrom es before after → before ≡ input_of es ++ after
-TakesFrom-input [] before after takes = takes
-TakesFrom-input (output piece ∷ es) before after takes = TakesFrom-input es before after takes
-TakesFrom-input (input byte ∷ es) [] after takes = absurd takes
-TakesFrom-input (input byte ∷ es) (x ∷ xs) after takes = rw takes.0 (ap (λ rest. x ∷ rest) (TakesFrom-input es xs after takes.1))
-TakesFrom-input (input_end ∷ es) [] after takes = TakesFrom-input es [] after takes
-TakesFrom-input (input_end ∷ es) (x ∷ xs) after takes = absurd takes
-
 -- ---- the end of the input
 
 -- a source that may have met its end no later
