@@ -1,4 +1,6 @@
 mod ImageRuns
 mod Lines
 mod Numbers
+mod Rows
+mod Stores
 mod TakenLines

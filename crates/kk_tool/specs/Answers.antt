@@ -14,7 +14,7 @@ use Rattle.rv_sim.specs.declared.halt.Halt.{Halt}
 use Rattle.kk_tool.specs.declared.answer.Answer.{Answer}
 use Rattle.kk_tool.specs.declared.answer.Answer.TheVariants.{Done, Usage, Refused, NoMemory, FileFault, Ran}
 use Rattle.kk_tool.specs.Answer.{status_of}
-use Rattle.kk_tool.specs.Commands.{Command, check, build, run, file_of}
+use Rattle.kk_tool.specs.Requests.{Request, check, build, run, file_of}
 use Rattle.kk_tool.specs.ImageRuns.{RunsImage}
 use Rattle.kk_tool.specs.Line.{line_of}
 use Rattle.kk_tool.specs.Outside.{Outside, KeepsFiles, KeepsStreams, KeepsAll, FailsToRead, FailsToWrite, WritesAlone, Puts}
@@ -30,25 +30,25 @@ pub record IsImageOf (file : List ℕ) (cells depth : ℕ) (store : StoreState) 
   pub has_text : HasText file text store
   pub built : IsBuilt text cells depth image
 
--- these bytes are the image that a command builds
-abbrev pub IsCommandImage : Option Command → StoreState → List ℕ → Type 0
-IsCommandImage (Some (build file out cells depth)) store image = IsImageOf file cells depth store image
-IsCommandImage (Some (run file cells depth steps)) store image = IsImageOf file cells depth store image
-IsCommandImage _ store image = ⊥
+-- these bytes are the image that is asked for
+abbrev pub IsRequestedImage : Option Request → StoreState → List ℕ → Type 0
+IsRequestedImage (Some (build file out cells depth)) store image = IsImageOf file cells depth store image
+IsRequestedImage (Some (run file cells depth steps)) store image = IsImageOf file cells depth store image
+IsRequestedImage _ store image = ⊥
 
 -- The answers that the words of a line may have, with what each does to the outside. There is no other.
-pub data Answers (before after : Outside) : Option Command → Answer → Type 0 where
+pub data Answers (before after : Outside) : Option Request → Answer → Type 0 where
   -- the words are no command
   usage : KeepsAll before after → Answers before after None Usage
   -- memory was refused, before anything was written or run
-  no_memory : (command : Option Command) → KeepsFiles before.files after.files → KeepsStreams before after
-      → (after.image ≡ before.image) ⊎ IsCommandImage command before.files after.image → Answers before after command NoMemory
+  no_memory : (request : Option Request) → KeepsFiles before.files after.files → KeepsStreams before after
+      → (after.image ≡ before.image) ⊎ IsRequestedImage request before.files after.image → Answers before after request NoMemory
   -- FILE could not be read
-  unread : (command : Command) (name : Bor (List ℕ)) → name.now ≡ file_of command
-      → FailsToRead (file_of command) before.files after.files → KeepsStreams before after → after.image ≡ before.image → Answers before after (Some command) (FileFault name)
+  unread : (request : Request) (name : Bor (List ℕ)) → name.now ≡ file_of request
+      → FailsToRead (file_of request) before.files after.files → KeepsStreams before after → after.image ≡ before.image → Answers before after (Some request) (FileFault name)
   -- the text is refused, for its first failure
-  refused : (command : Command) (text : List ℕ) (refusal : Refusal) → HasText (file_of command) text before.files → IsRefusalOf text refusal
-      → KeepsAll before after → Answers before after (Some command) (Refused refusal)
+  refused : (request : Request) (text : List ℕ) (refusal : Refusal) → HasText (file_of request) text before.files → IsRefusalOf text refusal
+      → KeepsAll before after → Answers before after (Some request) (Refused refusal)
   -- check: the text is accepted
   checked : (file text : List ℕ) (program : ProgramTree) → HasText file text before.files → IsProgramOf text program
       → KeepsAll before after → Answers before after (Some (check file)) Done
@@ -68,9 +68,9 @@ abbrev pub answer_of_refusal : Refusal → Answer
 answer_of_refusal refusal = if wants_memory refusal then NoMemory else Refused refusal
 
 -- a line ends with a status: that of an answer, whose line was put; or where putting the line failed, an output fault
-pub record Ends (command : Option Command) (status : Status) (before after : Outside) (err err' : SinkState) : Type 0 where
+pub record Ends (request : Option Request) (status : Status) (before after : Outside) (err err' : SinkState) : Type 0 where
   pub answer : Answer
-  pub answers : Answers before after command answer
+  pub answers : Answers before after request answer
   pub whole : Bool
   pub line : Puts whole (line_of answer) err err'
   pub told : status ≡ (if whole then status_of answer else Ended.OutputFault)

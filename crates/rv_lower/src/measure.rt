@@ -1,6 +1,8 @@
 //! How much an expression's code takes.
 
 ghost use Rattle.std.specs.Prelude.{◌≡◌, ◌+◌, ◌*◌, ◌^◌, ◌<◌, ◌≤◌, length, map};
+ghost use Rattle.kk_base.specs.Limits.{greatest_of};
+ghost use Rattle.kk_base.specs.declared.limit.LimitKind.TheVariants.{FunctionNodes};
 ghost use Rattle.kk_syntax.specs.Trees.{expr_tree, trees_of};
 ghost use Rattle.kk_syntax.specs.Shapes.{nodes_of, nodes_of_all};
 ghost use Rattle.rv_lower.specs.Size.{words_of, words_of_all, constants_of, constants_of_all, slots_of, slots_of_all, operator_words as words_of_operator, piece_bytes as bytes_of_piece, piece_words as words_of_piece};
@@ -48,7 +50,7 @@ impl Size {
 /// The recursion is as deep as the expression.
 #[cycle(measure)]
 pub fn measure(expr: &Expr) -> Size
-    requires { nodes_of (expr_tree expr.now) ≤ 480 }
+    requires { nodes_of (expr_tree expr.now) ≤ greatest_of FunctionNodes }
     ensures words { result.words ≡ words_of (expr_tree expr.now) }
     ensures constants { result.constants ≡ constants_of (expr_tree expr.now) }
     ensures few_words { result.words ≤ 7 * nodes_of (expr_tree expr.now) }
@@ -76,7 +78,7 @@ pub fn measure(expr: &Expr) -> Size
 /// What the code of several expressions takes.
 #[cycle(measure)]
 fn measure_each(exprs: &[Expr]) -> Size
-    requires { nodes_of_all (trees_of (map expr_tree exprs.now)) ≤ 480 }
+    requires { nodes_of_all (trees_of (map expr_tree exprs.now)) ≤ greatest_of FunctionNodes }
     ensures words { result.words ≡ words_of_all (trees_of (map expr_tree exprs.now)) }
     ensures constants { result.constants ≡ constants_of_all (trees_of (map expr_tree exprs.now)) }
     ensures few_words { result.words ≤ 7 * nodes_of_all (trees_of (map expr_tree exprs.now)) }
@@ -97,7 +99,7 @@ fn measure_each(exprs: &[Expr]) -> Size
 /// The recursion is as deep as the expression.
 #[cycle(slots)]
 pub fn slots(expr: &Expr) -> u32
-    requires { nodes_of (expr_tree expr.now) ≤ 480 }
+    requires { nodes_of (expr_tree expr.now) ≤ greatest_of FunctionNodes }
     ensures slots { result ≡ slots_of (expr_tree expr.now) }
     ensures few { result ≤ nodes_of (expr_tree expr.now) }
 {
@@ -113,7 +115,7 @@ pub fn slots(expr: &Expr) -> u32
 /// The slots that the code of several expressions takes, one after the other.
 #[cycle(slots)]
 fn slots_of_each(exprs: &[Expr]) -> u32
-    requires { nodes_of_all (trees_of (map expr_tree exprs.now)) ≤ 480 }
+    requires { nodes_of_all (trees_of (map expr_tree exprs.now)) ≤ greatest_of FunctionNodes }
     ensures slots { result ≡ slots_of_all (trees_of (map expr_tree exprs.now)) }
     ensures few { result ≤ nodes_of_all (trees_of (map expr_tree exprs.now)) }
 {

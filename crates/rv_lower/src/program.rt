@@ -1,4 +1,6 @@
-ghost use Rattle.std.specs.Prelude.{◌≡◌, ◌+◌, ◌<◌, ◌≤◌, IfOk, Some, slice_get, vec_len};
+ghost use Rattle.std.specs.Prelude.{◌≡◌, ◌+◌, ◌^◌, ◌<◌, ◌≤◌, IfOk, Some, slice_get, vec_len};
+ghost use Rattle.kk_base.specs.Limits.{greatest_of};
+ghost use Rattle.kk_base.specs.declared.limit.LimitKind.TheVariants.{FunctionNodes};
 ghost use Rattle.kk_syntax.specs.Trees.{expr_tree};
 ghost use Rattle.kk_syntax.specs.Shapes.{nodes_of};
 ghost use Rattle.kk_syntax.specs.declared.tree.Function.{Function};
@@ -16,8 +18,6 @@ use kk_syntax::Program;
 use rv_isa::{Instr, JumpOffset, Register};
 use std::alloc::Global;
 
-/// The address of the text part.
-const TEXT_AT: u32 = 0x1_0000;
 /// Instructions of the routines.
 const ROUTINE_WORDS: u32 = PRINT_NUMBER_WORDS + READ_BYTE_WORDS;
 /// Instructions before those of the body: the entry's and the routines'.
@@ -28,9 +28,10 @@ const WORDS_BEHIND: u32 = 3;
 /// The instructions of a program's `main`, which print what it prints and exit with 0.
 ///
 /// Asks for a body within the limits. The constants follow the instructions, and their addresses in the code are those
-/// that they have where the text part begins at 0x10000.
-pub fn lower(alloc: Global, program: &Program) -> Result<Asm, NoMemory>
-    requires { (function : Function) → slice_get program.now.functions.items program.now.main ≡ Some function → nodes_of (expr_tree function.body) ≤ 480 }
+/// that they have where the text part begins at `text_at`.
+pub fn lower(alloc: Global, program: &Program, text_at: u32) -> Result<Asm, NoMemory>
+    requires few_nodes { (function : Function) → slice_get program.now.functions.items program.now.main ≡ Some function → nodes_of (expr_tree function.body) ≤ greatest_of FunctionNodes }
+    requires low { text_at < 2 ^ 31 }
     ensures some_words { IfOk result (λ asm. 0 < vec_len asm.instructions) }
     ensures few_words { IfOk result (λ asm. vec_len asm.instructions ≤ 4096) }
     ensures few_constants { IfOk result (λ asm. vec_len asm.constants ≤ 122880) }
@@ -40,7 +41,7 @@ pub fn lower(alloc: Global, program: &Program) -> Result<Asm, NoMemory>
     let size = measure(body);
     let memory = frame_bytes(slots(body));
     let words = WORDS_BEFORE + size.words + WORDS_BEHIND;
-    let constants_at = TEXT_AT + 4 * words;
+    let constants_at = text_at + 4 * words;
     let memory_at = (constants_at + size.constants).next_multiple_of(0x1000);
     let mut code = Code {
         instructions: Vec::new(alloc),

@@ -1,4 +1,6 @@
 ghost use Rattle.std.specs.Prelude.{◌≤◌};
+ghost use Rattle.kk_base.specs.Limits.{greatest_of};
+ghost use Rattle.kk_base.specs.declared.limit.LimitKind.TheVariants.{FunctionNodes};
 ghost use Rattle.kk_syntax.specs.Shapes.{nodes_of};
 ghost use Rattle.kk_syntax.specs.Trees.{expr_tree};
 
@@ -11,13 +13,13 @@ use std::test::Fail;
 
 /// The instructions of a program of a `main` with this body.
 fn instructions_of(alloc: Global, body: Expr) -> Result<Vec<Instr>, NoMemory>
-    requires { nodes_of (expr_tree body) ≤ 480 }
+    requires { nodes_of (expr_tree body) ≤ greatest_of FunctionNodes }
 {
     let name = Name::new(String::from_str(alloc, "main")?);
     let mut functions = Vec::new(alloc);
     functions.push(Function { name, at: 4, body })?;
     let program = Program { functions, main: 0 };
-    Ok(lower(alloc, &program)?.instructions)
+    Ok(lower(alloc, &program, 0)?.instructions)
 }
 
 /// A number takes three instructions; a read calls its routine by three, and stores the value.

@@ -1,4 +1,4 @@
--- The commands, and the words that are one: those that clap takes for the line below, whose numbers are in their ranges.
+-- What the program is asked for, and the words that ask for it: those that clap takes for the line below, whose numbers are in their ranges.
 use Rattle.std.specs.Prelude.{ℕ, ◌^◌, ◌-◌, List, [], ◌∷◌, Bool, true, false, not, ◌&&◌, ◌==◌, nat_le, nat_lt, if◌then◌else◌, length, slice_index, Option, Some, None, option_map, option_and_then, codes, bytes_eq}
 use Rattle.std.specs.List.{list_all}
 use Rattle.std.specs.Char.{is_ascii_digit}
@@ -10,13 +10,13 @@ use Rattle.kk_tool.specs.declared.command.Command.{Command as Read}
 use Rattle.kk_tool.specs.declared.command.Command.TheVariants as OfRead
 
 -- what the program is asked for: to judge the text in a file; to build its image into another; to build its image and run it
-pub data Command : Type 0 where
-  check : (file : List ℕ) → Command
-  build : (file out : List ℕ) (cells depth : ℕ) → Command
-  run : (file : List ℕ) (cells depth steps : ℕ) → Command
+pub data Request : Type 0 where
+  check : (file : List ℕ) → Request
+  build : (file out : List ℕ) (cells depth : ℕ) → Request
+  run : (file : List ℕ) (cells depth steps : ℕ) → Request
 
 -- the file whose text it reads
-abbrev pub file_of : Command → Text
+abbrev pub file_of : Request → Text
 file_of (check file) = file
 file_of (build file out cells depth) = file
 file_of (run file cells depth steps) = file
@@ -87,18 +87,18 @@ depth_in rows = option_in 4096 1 greatest_depth (first_of (codes "depth") rows)
 abbrev pub steps_in : List Row → Option ℕ
 steps_in rows = option_in 1000000000 0 (2 ^ 63 - 1) (first_of (codes "steps") rows)
 
--- ---- the command of the words
+-- ---- what the words ask for
 
 infixl 10 ◌>>=◌
 abbrev pub ◌>>=◌ : {A B : Type 0} → Option A → (A → Option B) → Option B
 o >>= f = option_and_then f o
 
-abbrev pub check_in : List Row → Option Command
+abbrev pub check_in : List Row → Option Request
 check_in rows = do
   file ← first_of (codes "file") rows
   Some (check file)
 
-abbrev pub build_in : List Row → Option Command
+abbrev pub build_in : List Row → Option Request
 build_in rows = do
   file ← first_of (codes "file") rows
   out ← first_of (codes "out") rows
@@ -106,7 +106,7 @@ build_in rows = do
   depth ← depth_in rows
   Some (build file out cells depth)
 
-abbrev pub run_in : List Row → Option Command
+abbrev pub run_in : List Row → Option Request
 run_in rows = do
   file ← first_of (codes "file") rows
   cells ← cells_in rows
@@ -114,24 +114,24 @@ run_in rows = do
   steps ← steps_in rows
   Some (run file cells depth steps)
 
--- the command of a name and the matches of its arguments
-abbrev pub command_named : Text → List Row → Option Command
-command_named name rows =
+-- what a command of this name asks for, by the matches of its arguments
+abbrev pub request_named : Text → List Row → Option Request
+request_named name rows =
     if bytes_eq name (codes "check") then check_in rows
     else if bytes_eq name (codes "build") then build_in rows
     else if bytes_eq name (codes "run") then run_in rows
     else None
 
-abbrev pub entered_command : Option (Text × List Row) → Option Command
-entered_command None = None
-entered_command (Some entered) = command_named entered.0 entered.1
+abbrev pub entered_request : Option (Text × List Row) → Option Request
+entered_request None = None
+entered_request (Some entered) = request_named entered.0 entered.1
 
--- the command of the words of a line, of which the first is the program's name
-abbrev pub command_of : List Text → Option Command
-command_of words = if is_empty (fault_of line_app words) then entered_command (subcommand_of line_app words) else None
+-- what the words of a line ask for, of which the first is the program's name
+abbrev pub request_of : List Text → Option Request
+request_of words = if is_empty (fault_of line_app words) then entered_request (subcommand_of line_app words) else None
 
--- the command that was read
-abbrev pub command_read : Read → Command
-command_read (OfRead.Check file) = check file.now
-command_read (OfRead.Build file out sizes) = build file.now out.now sizes.cells sizes.depth
-command_read (OfRead.Run file sizes steps) = run file.now sizes.cells sizes.depth steps
+-- what a command that was read asks for
+abbrev pub request_read : Read → Request
+request_read (OfRead.Check file) = check file.now
+request_read (OfRead.Build file out sizes) = build file.now out.now sizes.cells sizes.depth
+request_read (OfRead.Run file sizes steps) = run file.now sizes.cells sizes.depth steps
