@@ -11,7 +11,7 @@ use Rattle.elf_image.specs.declared.part.Part.{Part}
 use Rattle.elf_image.specs.Fields.{headers_of, is_load, loads_of, entry_of, table_offset_of, header_size_of, header_count_of}
 use Rattle.elf_image.specs.Parts.{end_of, greatest_end, share_address, are_apart, are_in_reach, are_filled, is_executable_at, is_entry}
 use Rattle.elf_image.specs.Loaded.{part_of, parts_of, is_inside, has_headers, has_segments, greatest_file, reason_of, IsLoaded}
-use Rattle.elf_image.specs.Reading.{place_of, IsFileHeader, HasLoads, HasSegments}
+use Rattle.elf_image.specs.Reading.{extent_of, IsFileHeader, HasLoads, HasSegments}
 use Rattle.elf_image.proofs.Gathered.{list_any-map}
 
 -- ---- the program headers
@@ -85,34 +85,34 @@ segments_are file loads seen segments has inside same are =
     }
 
 -- the bytes of a segment do not matter to whether it shares addresses
-apart-parts : (file : List ℕ) (hs : List ProgramHeader) → are_apart (map (part_of file) hs) ≡ are_apart (map place_of hs)
+apart-parts : (file : List ℕ) (hs : List ProgramHeader) → are_apart (map (part_of file) hs) ≡ are_apart (map extent_of hs)
 apart-parts file [] = refl
 apart-parts file (h ∷ hs) =
-    let front : list_any (share_address (part_of file h)) (map (part_of file) hs) ≡ list_any (share_address (place_of h)) (map place_of hs) =
-    list_any-map (share_address (part_of file h)) (part_of file) hs ∙ sym (list_any-map (share_address (place_of h)) place_of hs) in
+    let front : list_any (share_address (part_of file h)) (map (part_of file) hs) ≡ list_any (share_address (extent_of h)) (map extent_of hs) =
+    list_any-map (share_address (part_of file h)) (part_of file) hs ∙ sym (list_any-map (share_address (extent_of h)) extent_of hs) in
     rw (front, apart-parts file hs) refl
 
 pub apart_tells : (file : List ℕ) (segments seen : List ProgramHeader) (apart : Bool) → HasSegments file segments → seen ≡ segments
-    → apart ≡ are_apart (map place_of seen) → are_apart (parts_of file) ≡ apart
+    → apart ≡ are_apart (map extent_of seen) → are_apart (parts_of file) ≡ apart
 apart_tells file segments seen apart has same told =
-    ap are_apart has.parts_are ∙ apart-parts file segments ∙ ap (λ (hs : List ProgramHeader). are_apart (map place_of hs)) (sym same) ∙ sym told
+    ap are_apart has.parts_are ∙ apart-parts file segments ∙ ap (λ (hs : List ProgramHeader). are_apart (map extent_of hs)) (sym same) ∙ sym told
 
 pub reach_tells : (file : List ℕ) (segments seen : List ProgramHeader) (reach : Bool) → HasSegments file segments → seen ≡ segments
-    → reach ≡ list_all (λ h. nat_le (end_of (place_of h)) greatest_end) seen → are_in_reach (parts_of file) ≡ reach
+    → reach ≡ list_all (λ h. nat_le (end_of (extent_of h)) greatest_end) seen → are_in_reach (parts_of file) ≡ reach
 reach_tells file segments seen reach has same told =
     ap are_in_reach has.parts_are
     ∙ list_all-map (λ p. nat_le (end_of p) greatest_end) (part_of file) segments
-    ∙ ap (λ (hs : List ProgramHeader). list_all (λ h. nat_le (end_of (place_of h)) greatest_end) hs) (sym same)
+    ∙ ap (λ (hs : List ProgramHeader). list_all (λ h. nat_le (end_of (extent_of h)) greatest_end) hs) (sym same)
     ∙ sym told
 
 pub entry_tells : (file : List ℕ) (header : FileHeader) (segments seen : List ProgramHeader) (executable : Bool) → IsFileHeader header file → HasSegments file segments → seen ≡ segments
-    → executable ≡ list_any (λ h. is_executable_at (place_of h) header.entry) seen → is_entry (parts_of file) (entry_of file) ≡ (nat_eq (header.entry % 4) 0 && executable)
+    → executable ≡ list_any (λ h. is_executable_at (extent_of h) header.entry) seen → is_entry (parts_of file) (entry_of file) ≡ (nat_eq (header.entry % 4) 0 && executable)
 entry_tells file header segments seen executable says has same told =
     let at : ℕ = header.entry in
     let found : list_any (λ p. is_executable_at p at) (parts_of file) ≡ executable =
     ap (list_any (λ p. is_executable_at p at)) has.parts_are
     ∙ list_any-map (λ p. is_executable_at p at) (part_of file) segments
-    ∙ ap (list_any (λ h. is_executable_at (place_of h) at)) (sym same)
+    ∙ ap (list_any (λ h. is_executable_at (extent_of h) at)) (sym same)
     ∙ sym told in
     subst (λ (n : ℕ). is_entry (parts_of file) n ≡ (nat_eq (at % 4) 0 && executable)) says.entry_is (ap (λ (b : Bool). nat_eq (at % 4) 0 && b) found)
 

@@ -5,7 +5,7 @@ use Rattle.std.proofs.lemmas.List.{drop_more, length-drop, take_all}
 use Rattle.elf_image.specs.declared.header.ProgramHeader.{ProgramHeader}
 use Rattle.elf_image.specs.Fields.{header_of, headers_of, is_load}
 use Rattle.elf_image.specs.Parts.{are_apart, share_address}
-use Rattle.elf_image.specs.Reading.{place_of}
+use Rattle.elf_image.specs.Reading.{extent_of}
 
 filter-taken : {X : Type 0} (p : X → Bool) (x : X) (xs : List X) → p x ≡ true → filter p (x ∷ xs) ≡ x ∷ filter p xs
 filter-taken p x xs e = rw e refl
@@ -52,29 +52,29 @@ list_any-map p f [] = refl
 list_any-map p f (x ∷ xs) = ap (λ (b : Bool). p (f x) || b) (list_any-map p f xs)
 
 -- the first of the segments left shares no address with the others
-apart-cons : (h : ProgramHeader) (hs : List ProgramHeader) → are_apart (map place_of (h ∷ hs)) ≡ (not (list_any (λ g. share_address (place_of h) (place_of g)) hs) && are_apart (map place_of hs))
-apart-cons h hs = ap (λ (b : Bool). not b && are_apart (map place_of hs)) (list_any-map (share_address (place_of h)) place_of hs)
+apart-cons : (h : ProgramHeader) (hs : List ProgramHeader) → are_apart (map extent_of (h ∷ hs)) ≡ (not (list_any (λ g. share_address (extent_of h) (extent_of g)) hs) && are_apart (map extent_of hs))
+apart-cons h hs = ap (λ (b : Bool). not b && are_apart (map extent_of hs)) (list_any-map (share_address (extent_of h)) extent_of hs)
 
 -- the segments from one on, as the one and those behind it
 apart-at : (hs : List ProgramHeader) (i : ℕ) (d : ProgramHeader) → i < length hs
-    → are_apart (map place_of (drop i hs)) ≡ (not (list_any (λ g. share_address (place_of (get_or hs i d)) (place_of g)) (take (length hs - (i + 1)) (drop (i + 1) hs))) && are_apart (map place_of (drop (i + 1) hs)))
+    → are_apart (map extent_of (drop i hs)) ≡ (not (list_any (λ g. share_address (extent_of (get_or hs i d)) (extent_of g)) (take (length hs - (i + 1)) (drop (i + 1) hs))) && are_apart (map extent_of (drop (i + 1) hs)))
 apart-at hs i d lt =
     let h : ProgramHeader = get_or hs i d in
     let whole : take (length hs - (i + 1)) (drop (i + 1) hs) ≡ drop (i + 1) hs = take_all (length hs - (i + 1)) (drop (i + 1) hs) (omega (arith, length-drop (i + 1) hs)) in
-    ap (λ (gs : List ProgramHeader). are_apart (map place_of gs)) (drop_more hs i d lt)
+    ap (λ (gs : List ProgramHeader). are_apart (map extent_of gs)) (drop_more hs i d lt)
     ∙ apart-cons h (drop (i + 1) hs)
-    ∙ ap (λ (gs : List ProgramHeader). not (list_any (λ g. share_address (place_of h) (place_of g)) gs) && are_apart (map place_of (drop (i + 1) hs))) (sym whole)
+    ∙ ap (λ (gs : List ProgramHeader). not (list_any (λ g. share_address (extent_of h) (extent_of g)) gs) && are_apart (map extent_of (drop (i + 1) hs))) (sym whole)
 
 -- a segment that shares no address with those behind it says nothing
 pub apart_goes_on : (hs : List ProgramHeader) (i : ℕ) (d : ProgramHeader) (any : Bool) → i < length hs
-    → any ≡ list_any (λ g. share_address (place_of (get_or hs i d)) (place_of g)) (take (length hs - (i + 1)) (drop (i + 1) hs)) → any ≡ false
-    → are_apart (map place_of hs) ≡ are_apart (map place_of (drop i hs)) → are_apart (map place_of hs) ≡ are_apart (map place_of (drop (i + 1) hs))
+    → any ≡ list_any (λ g. share_address (extent_of (get_or hs i d)) (extent_of g)) (take (length hs - (i + 1)) (drop (i + 1) hs)) → any ≡ false
+    → are_apart (map extent_of hs) ≡ are_apart (map extent_of (drop i hs)) → are_apart (map extent_of hs) ≡ are_apart (map extent_of (drop (i + 1) hs))
 apart_goes_on hs i d any lt told none so_far =
-    so_far ∙ apart-at hs i d lt ∙ ap (λ (b : Bool). not b && are_apart (map place_of (drop (i + 1) hs))) (sym told ∙ none)
+    so_far ∙ apart-at hs i d lt ∙ ap (λ (b : Bool). not b && are_apart (map extent_of (drop (i + 1) hs))) (sym told ∙ none)
 
 -- and one that shares an address with one of them says all
 pub apart_ends : (hs : List ProgramHeader) (i : ℕ) (d : ProgramHeader) (any : Bool) → i < length hs
-    → any ≡ list_any (λ g. share_address (place_of (get_or hs i d)) (place_of g)) (take (length hs - (i + 1)) (drop (i + 1) hs)) → any ≡ true
-    → are_apart (map place_of hs) ≡ are_apart (map place_of (drop i hs)) → false ≡ are_apart (map place_of hs)
+    → any ≡ list_any (λ g. share_address (extent_of (get_or hs i d)) (extent_of g)) (take (length hs - (i + 1)) (drop (i + 1) hs)) → any ≡ true
+    → are_apart (map extent_of hs) ≡ are_apart (map extent_of (drop i hs)) → false ≡ are_apart (map extent_of hs)
 apart_ends hs i d any lt told some so_far =
-    sym (so_far ∙ apart-at hs i d lt ∙ ap (λ (b : Bool). not b && are_apart (map place_of (drop (i + 1) hs))) (sym told ∙ some))
+    sym (so_far ∙ apart-at hs i d lt ∙ ap (λ (b : Bool). not b && are_apart (map extent_of (drop (i + 1) hs))) (sym told ∙ some))

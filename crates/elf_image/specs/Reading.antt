@@ -8,8 +8,8 @@ use Rattle.elf_image.specs.Fields.{entry_of, table_offset_of, header_size_of, he
 use Rattle.elf_image.specs.Loaded.{part_of, parts_of, is_elf, is_rv32, is_executable, is_inside, has_headers, has_segments}
 
 -- a segment as a part, its bytes aside
-abbrev pub place_of : ProgramHeader → Part
-place_of h = record { vaddr = h.vaddr; memsz = h.memsz; flags = h.flags; bytes = [] }
+abbrev pub extent_of : ProgramHeader → Part
+extent_of h = record { vaddr = h.vaddr; memsz = h.memsz; flags = h.flags; bytes = [] }
 
 -- the file meets the first four conditions, and this is what its header says
 pub record IsFileHeader (header : FileHeader) (file : List ℕ) : Type 0 where

@@ -3,7 +3,7 @@ ghost use Rattle.kk_base.specs.Memory.{covers};
 ghost use Rattle.elf_image.specs.Fields.{header_of, is_load};
 ghost use Rattle.elf_image.specs.Parts.{loaded, share_address, is_executable_at};
 ghost use Rattle.elf_image.specs.Loaded.{part_of, is_inside, IsReason};
-ghost use Rattle.elf_image.specs.Reading.{place_of, IsFileHeader};
+ghost use Rattle.elf_image.specs.Reading.{extent_of, IsFileHeader};
 
 use crate::bad_image::BadImage;
 use crate::field::{half, word};
@@ -133,16 +133,16 @@ impl ProgramHeader {
 
     /// Two segments share an address.
     pub fn overlaps(&self, other: &ProgramHeader) -> bool
-        ensures value { result ≡ share_address (place_of self.now) (place_of other.now) }
+        ensures value { result ≡ share_address (extent_of self.now) (extent_of other.now) }
         // Some address lies in both.
-        ensures shared { IsTrue result ↔ ((at : ℕ) × IsTrue (covers (loaded (place_of self.now)) at 1) × IsTrue (covers (loaded (place_of other.now)) at 1)) }
+        ensures shared { IsTrue result ↔ ((at : ℕ) × IsTrue (covers (loaded (extent_of self.now)) at 1) × IsTrue (covers (loaded (extent_of other.now)) at 1)) }
     {
         u64::from(self.vaddr.max(other.vaddr)) < self.end().min(other.end())
     }
 
     /// The address lies in the segment, which may be executed.
     pub fn is_executable_at(&self, at: u32) -> bool
-        ensures { result ≡ is_executable_at (place_of self.now) at }
+        ensures { result ≡ is_executable_at (extent_of self.now) at }
     {
         self.vaddr <= at && u64::from(at) < self.end() && self.flags & Part::EXECUTE != 0
     }

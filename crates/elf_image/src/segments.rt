@@ -3,7 +3,7 @@ ghost use Rattle.std.specs.List.{list_all, list_any};
 ghost use Rattle.elf_image.specs.Fields.{headers_of, is_load};
 ghost use Rattle.elf_image.specs.Parts.{are_apart, share_address, is_executable_at, end_of, greatest_end};
 ghost use Rattle.elf_image.specs.Loaded.{part_of, is_inside};
-ghost use Rattle.elf_image.specs.Reading.{place_of};
+ghost use Rattle.elf_image.specs.Reading.{extent_of};
 
 use crate::header::{PROGRAM_HEADER_SIZE, ProgramHeader};
 use crate::image::GREATEST_END;
@@ -56,7 +56,7 @@ pub fn without_empty(alloc: Global, loads: &[ProgramHeader]) -> Result<Vec<Progr
 
 /// No two segments share an address.
 pub fn are_apart(segments: &[ProgramHeader]) -> bool
-    ensures { result ≡ are_apart (map place_of segments.now) }
+    ensures { result ≡ are_apart (map extent_of segments.now) }
 {
     for (i, segment) in segments.iter().enumerate() {
         if overlaps_any(segment, &segments[i + 1..]) {
@@ -68,21 +68,21 @@ pub fn are_apart(segments: &[ProgramHeader]) -> bool
 
 /// A segment shares an address with one of some others.
 fn overlaps_any(segment: &ProgramHeader, others: &[ProgramHeader]) -> bool
-    ensures { result ≡ list_any (λ other. share_address (place_of segment.now) (place_of other)) others.now }
+    ensures { result ≡ list_any (λ other. share_address (extent_of segment.now) (extent_of other)) others.now }
 {
     others.iter().any(|other| segment.overlaps(other))
 }
 
 /// No segment ends above the greatest address.
 pub fn are_in_reach(segments: &[ProgramHeader]) -> bool
-    ensures { result ≡ list_all (λ h. nat_le (end_of (place_of h)) greatest_end) segments.now }
+    ensures { result ≡ list_all (λ h. nat_le (end_of (extent_of h)) greatest_end) segments.now }
 {
     segments.iter().all(|segment| segment.end() <= GREATEST_END)
 }
 
 /// The address lies in a segment, which may be executed.
 pub fn is_executable_at(segments: &[ProgramHeader], at: u32) -> bool
-    ensures { result ≡ list_any (λ h. is_executable_at (place_of h) at) segments.now }
+    ensures { result ≡ list_any (λ h. is_executable_at (extent_of h) at) segments.now }
 {
     segments.iter().any(|segment| segment.is_executable_at(at))
 }

@@ -9,28 +9,11 @@ use Rattle.rv_isa.specs.declared.instr.Instr.{Instr}
 use Rattle.rv_isa.specs.declared.instr.Instr.TheVariants.{Bne, Addi, Add, Ecall}
 use Rattle.rv_isa.specs.Processor.{Processor, going, exited, value, put}
 use Rattle.rv_isa.specs.Execution.{run, Leads}
+use Rattle.rv_isa.proofs.Examples.{x0, x5, x6, x7, minus_one, back_four}
 use Rattle.rv_isa.proofs.Runs.{Leads-none, Leads-then, Leads-ended}
 use Rattle.rv_isa.specs.Standing.{Code, Has, Stands}
 use Rattle.rv_isa.proofs.Standing.{Stands-leads, next-is}
 use Rattle.rv_isa.proofs.Instructions.{leads-addi, leads-add, leads-bne_taken, leads-bne_not_taken, step-exit}
-
-abbrev x0 : Register
-x0 = record { number = 0; in_range = lit< tt }
-
-abbrev x5 : Register
-x5 = record { number = 5; in_range = lit< tt }
-
-abbrev x6 : Register
-x6 = record { number = 6; in_range = lit< tt }
-
-abbrev x7 : Register
-x7 = record { number = 7; in_range = lit< tt }
-
-abbrev minus_one : Immediate
-minus_one = record { word = 2 ^ 32 - 1; in_range = (lit< tt, lit< tt) }
-
-abbrev back_four : BranchOffset
-back_four = record { word = 2 ^ 32 - 4; in_range = (lit< tt, lit< tt, refl) }
 
 abbrev two : Immediate
 two = record { word = 2; in_range = (lit< tt, lit< tt) }

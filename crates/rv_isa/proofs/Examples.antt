@@ -1,5 +1,6 @@
 -- The definitions on worked words and at the edges of the arithmetic, by computation.
-use Rattle.std.proofs.Common.{◌≡◌, ◌-◌, ◌^◌, refl, lit<, Some, false}
+use Rattle.std.proofs.Common.{◌≡◌, ℕ, ◌-◌, ◌^◌, [], ◌∷◌, refl, lit<, Some, true, false, nat_eq, if◌then◌else◌}
+use Rattle.std.specs.Int.{w64}
 use Rattle.rv_isa.specs.declared.register.Register.{Register}
 use Rattle.rv_isa.specs.declared.immediate.Immediate.{Immediate}
 use Rattle.rv_isa.specs.declared.immediate.BranchOffset.{BranchOffset}
@@ -8,38 +9,42 @@ use Rattle.rv_isa.specs.declared.immediate.UpperImmediate.{UpperImmediate}
 use Rattle.rv_isa.specs.declared.act.Act.TheVariants.{Nothing, Set, Load}
 use Rattle.rv_isa.specs.declared.instr.Instr.TheVariants.{Lui, Jal, Jalr, Beq, Blt, Lbu, Sw, Addi, Add, Fence, Mul, Div}
 use Rattle.rv_isa.specs.Arithmetic.{shift_left, shift_right_logical, shift_right_arithmetic, upper_signed, upper_signed_unsigned, upper_unsigned, quotient_signed, quotient_unsigned, remainder_signed, remainder_unsigned}
+use Rattle.rv_isa.specs.Words.{widened_in, sum_in, shift_left_in, quotient_signed_in}
 use Rattle.rv_isa.specs.Meaning.{effect_of}
+use Rattle.rv_isa.specs.Bytes.{bytes_at, number_at}
+use Rattle.rv_isa.specs.Processor.{Processor}
+use Rattle.rv_isa.specs.FreeCells.{free_list}
 use Rattle.rv_isa.specs.Read.{read}
 use Rattle.rv_isa.specs.Table.{IsWord}
 
-abbrev x0 : Register
+abbrev pub x0 : Register
 x0 = record { number = 0; in_range = lit< tt }
 
-abbrev x1 : Register
+abbrev pub x1 : Register
 x1 = record { number = 1; in_range = lit< tt }
 
-abbrev x2 : Register
+abbrev pub x2 : Register
 x2 = record { number = 2; in_range = lit< tt }
 
-abbrev x3 : Register
+abbrev pub x3 : Register
 x3 = record { number = 3; in_range = lit< tt }
 
-abbrev x5 : Register
+abbrev pub x5 : Register
 x5 = record { number = 5; in_range = lit< tt }
 
-abbrev x6 : Register
+abbrev pub x6 : Register
 x6 = record { number = 6; in_range = lit< tt }
 
-abbrev x7 : Register
+abbrev pub x7 : Register
 x7 = record { number = 7; in_range = lit< tt }
 
-abbrev x10 : Register
+abbrev pub x10 : Register
 x10 = record { number = 10; in_range = lit< tt }
 
-abbrev x11 : Register
+abbrev pub x11 : Register
 x11 = record { number = 11; in_range = lit< tt }
 
-abbrev x12 : Register
+abbrev pub x12 : Register
 x12 = record { number = 12; in_range = lit< tt }
 
 abbrev five : Immediate
@@ -48,10 +53,10 @@ five = record { word = 5; in_range = (lit< tt, lit< tt) }
 abbrev eight : Immediate
 eight = record { word = 8; in_range = (lit< tt, lit< tt) }
 
-abbrev minus_one : Immediate
+abbrev pub minus_one : Immediate
 minus_one = record { word = 2 ^ 32 - 1; in_range = (lit< tt, lit< tt) }
 
-abbrev back_four : BranchOffset
+abbrev pub back_four : BranchOffset
 back_four = record { word = 2 ^ 32 - 4; in_range = (lit< tt, lit< tt, refl) }
 
 abbrev ahead_eight : JumpOffset
@@ -150,3 +155,38 @@ jump_even = refl
 -- addresses wrap
 load_wraps : effect_of (Lbu x1 x2 minus_one) 0x10000 0 0 ≡ record { next = 0x10004; act = Load (2 ^ 32 - 1) 1 false }
 load_wraps = refl
+
+-- ---- words of 64 bits
+
+-- sums wrap; by 65 places is by one; the sign goes into the upper half; and the least number divided by -1 is itself
+wide_words : (sum_in w64 (2 ^ 64 - 1) 1 ≡ 0) × (shift_left_in w64 3 65 ≡ 6) × (widened_in w64 4 true (2 ^ 31) ≡ 2 ^ 64 - 2 ^ 31) × (quotient_signed_in w64 (2 ^ 63) (2 ^ 64 - 1) ≡ 2 ^ 63)
+wide_words = (refl, refl, refl, refl)
+
+-- ---- free cells: one on the chain from 0x11000, and those between two addresses
+
+abbrev with_cells : ℕ → ℕ → Processor
+with_cells low high = record {
+  registers = λ x. if nat_eq x 8 then 0x11000 else if nat_eq x 18 then low else if nat_eq x 19 then high else 0;
+  pc = 0;
+  memory = λ x. 0;
+  parts = record { start = 0x11000; size = 32; readable = true; writable = true; executable = false; bytes = [] } ∷ [];
+  left = [];
+  executed = 0;
+  trace = [];
+}
+
+chain_then_border : free_list 10 (with_cells 0x20000 0x20040) ≡ 0x11000 ∷ 0x20000 ∷ 0x20020 ∷ []
+unfolding bytes_at number_at
+chain_then_border = refl
+
+at_most_two : free_list 2 (with_cells 0x20000 0x20040) ≡ 0x11000 ∷ 0x20000 ∷ []
+unfolding bytes_at number_at
+at_most_two = refl
+
+none_above_the_end : free_list 10 (with_cells 0x20040 0x20000) ≡ 0x11000 ∷ []
+unfolding bytes_at number_at
+none_above_the_end = refl
+
+none_between_cells : free_list 10 (with_cells 0x20010 0x20040) ≡ 0x11000 ∷ []
+unfolding bytes_at number_at
+none_between_cells = refl

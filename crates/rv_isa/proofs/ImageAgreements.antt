@@ -1,9 +1,9 @@
 -- Where a machine agrees with the processor's, from a state that has told nothing yet, the processor's runs agree with it.
-use Rattle.std.proofs.Common.{◌≡◌, ◌≢◌, ◌↔◌, ℕ, ◌+◌, ◌≤◌, List, [], ◌++◌, Option, Some, None, refl, sym, ap, ◌∙◌, flat_map, append-nil, arith}
+use Rattle.std.proofs.Common.{◌≡◌, ◌≢◌, ◌↔◌, ℕ, ◌+◌, ◌≤◌, List, [], ◌++◌, Option, Some, None, refl, sym, ap, ◌∙◌, option_map, flat_map, append-nil, arith}
 use Rattle.kk_base.specs.Trace.{Event, IsPrefix}
 use Rattle.kk_base.specs.Machines.{Machine, trace, weight_of, ending_after, WeighsEach, ending_made, mapped}
 use Rattle.kk_base.specs.Agreements.{IsFollowedBy, Does, Agree}
-use Rattle.kk_base.proofs.Machines.{trace-mapped, weight_of-mapped, ending_after-mapped}
+use Rattle.kk_base.proofs.Machines.{trace-mapped}
 use Rattle.kk_base.proofs.Agreements.{follows_later, agree_in_steps, agree_end, agree_whole}
 use Rattle.rv_isa.specs.Processor.{Processor, Ending, going, exited, trapped, Progress, goes}
 use Rattle.rv_isa.specs.InstructionSet.{InstructionSet, run_over}
@@ -47,13 +47,12 @@ module _ {I S E W : Type 0} (set : InstructionSet I) (upper : Machine S E W) (to
   seen-is n = trace-mapped told (λ end. exited (exit_of end)) upper n s
 
   ending-is : (n : ℕ) (end : W) → ending_after upper n s ≡ Some end → ending_after seen n s ≡ Some (exited (exit_of end))
-  ending-is n end is = ending_after-mapped told (λ end. exited (exit_of end)) upper n s ∙ ap (λ how. elim how as (λ _. Option Ending) [ None ↦ None | Some w ↦ Some (exited (exit_of w)) ]) is
+  ending-is n end is = ap (option_map (λ (end : W). exited (exit_of end))) is
 
   -- an ending that is seen is one of the upper machine
   ending-of : (n : ℕ) (e : Ending) → ending_after seen n s ≡ Some e → (end : W) × (ending_after upper n s ≡ Some end) × (exited (exit_of end) ≡ e)
   ending-of n e is =
-      let is_made = sym (ending_after-mapped told (λ end. exited (exit_of end)) upper n s) ∙ is in
-      let made = ending_made (λ end. exited (exit_of end)) (ending_after upper n s) e is_made in
+      let made = ending_made (λ end. exited (exit_of end)) (ending_after upper n s) e is in
       (made.0, made.1, same-some (exited (exit_of made.0)) e (sym (ending-is n made.0 made.1) ∙ is))
 
   -- a run that has ended is one whose ending is seen of the upper machine
@@ -102,7 +101,7 @@ module _ {I S E W : Type 0} (set : InstructionSet I) (upper : Machine S E W) (to
       = agree_in_steps seen (processor_machine set) credit up s (goes t) (each-weighs set) agree in
       let later : IsFollowedBy seen (processor_machine set) within s (goes t)
       = follows_later seen (processor_machine set) (λ n. weight_of seen n s + credit) within s (goes t) follows
-      (λ n. rw (weight_of-mapped told (λ end. exited (exit_of end)) upper n s) (enough n)) in
+      enough in
       record {
         goes_on = λ n. rw (trace-is (within n), ← seen-is n) (later.prefix n);
         ends = λ n end is. ends-exit (run_over set (within n) t).ending (exit_of end) (sym (ending-run set (within n) t) ∙ later.ending n (exited (exit_of end)) (ending-is n end is));

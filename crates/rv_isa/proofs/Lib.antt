@@ -1,4 +1,4 @@
-mod Examples
+pub mod Examples
 mod ExampleRuns
 pub mod Acts
 pub mod Bits

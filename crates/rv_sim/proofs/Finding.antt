@@ -8,17 +8,17 @@ use Rattle.std.specs.List.{position_from}
 use Rattle.rv_sim.specs.declared.area.Access.{Access}
 use Rattle.rv_sim.specs.declared.area.Access.TheVariants.{Fetch, Load, Store, Inspect}
 use Rattle.rv_sim.specs.declared.area.Area.{Area}
-use Rattle.rv_sim.specs.Areas.{part_of, parts_of, allows, can}
+use Rattle.rv_sim.specs.Areas.{part_of_area, parts_of_areas, allows, can}
 
 pub list_any-map : {X Y : Type 0} (p : Y → Bool) (f : X → Y) (xs : List X) → list_any p (map f xs) ≡ list_any (λ x. p (f x)) xs
 list_any-map p f [] = refl
 list_any-map p f (x ∷ xs) = ap (λ b. p (f x) || b) (list_any-map p f xs)
 
-pub can-is : (access : Access) (areas : List Area) (at count : ℕ) → can access (parts_of areas) at count ≡ list_any (allows access at count) areas
-can-is Fetch areas at count = list_any-map _ part_of areas
-can-is Load areas at count = list_any-map _ part_of areas
-can-is Store areas at count = list_any-map _ part_of areas
-can-is Inspect areas at count = list_any-map _ part_of areas
+pub can-is : (access : Access) (areas : List Area) (at count : ℕ) → can access (parts_of_areas areas) at count ≡ list_any (allows access at count) areas
+can-is Fetch areas at count = list_any-map _ part_of_area areas
+can-is Load areas at count = list_any-map _ part_of_area areas
+can-is Store areas at count = list_any-map _ part_of_area areas
+can-is Inspect areas at count = list_any-map _ part_of_area areas
 
 any-position_from : {X : Type 0} (p : X → Bool) (i : ℕ) (xs : List X) → list_any p xs ≡ is_some (position_from p i xs)
 any-position_from p i [] = refl
@@ -30,7 +30,7 @@ pub any-position : {X : Type 0} (p : X → Bool) (xs : List X) → list_any p xs
 any-position p xs = any-position_from p 0 xs ∙ ap is_some (sym (position_from-zero p xs))
 
 -- what the place of the first area that allows an access says
-pub finds-first : (access : Access) (areas : List Area) (at count : ℕ) (found : Option ℕ) → found ≡ position (allows access at count) areas → is_some found ≡ can access (parts_of areas) at count
+pub finds-first : (access : Access) (areas : List Area) (at count : ℕ) (found : Option ℕ) → found ≡ position (allows access at count) areas → is_some found ≡ can access (parts_of_areas areas) at count
 finds-first access areas at count found is = ap is_some is ∙ sym (any-position (allows access at count) areas) ∙ sym (can-is access areas at count)
 
 pub finds-place : (access : Access) (areas : List Area) (at count : ℕ) (found : Option ℕ) → found ≡ position (allows access at count) areas → IfSome found (λ i. (i < length areas) × HoldsAt (λ area. allows access at count area ≡ true) areas i)
@@ -42,7 +42,7 @@ finds-place access (area ∷ areas) at count (Some i) is = (
 )
 
 -- one area that allows an access is enough
-pub finds-last : (access : Access) (areas : List Area) (at count i : ℕ) (d : Area) → i < length areas → allows access at count (get_or areas i d) ≡ true → true ≡ can access (parts_of areas) at count
+pub finds-last : (access : Access) (areas : List Area) (at count i : ℕ) (d : Area) → i < length areas → allows access at count (get_or areas i d) ≡ true → true ≡ can access (parts_of_areas areas) at count
 finds-last access areas at count i d within allowed =
     sym (can-is access areas at count ∙ list_any_at (allows access at count) areas i d within allowed)
 

@@ -10,29 +10,29 @@ use Rattle.rv_isa.specs.Meaning.{IsWidth}
 use Rattle.rv_isa.specs.Processor.{bare}
 use Rattle.rv_sim.specs.declared.area.Access.{Access}
 use Rattle.rv_sim.specs.declared.area.Area.{Area}
-use Rattle.rv_sim.specs.Areas.{part_of, parts_of, permits, allows, AreApart}
+use Rattle.rv_sim.specs.Areas.{part_of_area, parts_of_areas, permits, allows, AreApart}
 use Rattle.rv_isa.proofs.Cases.{and-right}
 use Rattle.rv_sim.proofs.Parts.{bytes_at-this, byte_loaded-put_this, are_apart-same}
 
-pub covered : (access : Access) (at count : ℕ) (area : Area) → allows access at count area ≡ true → covers (part_of area) at count ≡ true
-covered access at count area allowed = and-right (permits access (part_of area)) (covers (part_of area) at count) allowed
+pub covered : (access : Access) (at count : ℕ) (area : Area) → allows access at count area ≡ true → covers (part_of_area area) at count ≡ true
+covered access at count area allowed = and-right (permits access (part_of_area area)) (covers (part_of_area area) at count) allowed
 
-pub part_at : (areas : List Area) (i : ℕ) (area : Area) → i < length areas → area ≡ get_or areas i area → get_or (parts_of areas) i (part_of area) ≡ part_of area
-part_at areas i area within is = get_or-map part_of areas i area (part_of area) within ∙ ap part_of (sym is)
+pub part_at : (areas : List Area) (i : ℕ) (area : Area) → i < length areas → area ≡ get_or areas i area → get_or (parts_of_areas areas) i (part_of_area area) ≡ part_of_area area
+part_at areas i area within is = get_or-map part_of_area areas i area (part_of_area area) within ∙ ap part_of_area (sym is)
 
-pub within-parts : (areas : List Area) (i : ℕ) → i < length areas → i < length (parts_of areas)
+pub within-parts : (areas : List Area) (i : ℕ) → i < length areas → i < length (parts_of_areas areas)
 within-parts areas i within = rw length-map within
 
 -- an area that covers a range has its bytes
-pub bytes_at-area : (areas : List Area) (i : ℕ) (area : Area) (at count : ℕ) → AreApart (parts_of areas) → i < length areas → area ≡ get_or areas i area → 0 < count
-    → covers (part_of area) at count ≡ true → bytes_at (byte_loaded (parts_of areas)) at count ≡ slice_range area.bytes.items (at - area.start) (at - area.start + count)
+pub bytes_at-area : (areas : List Area) (i : ℕ) (area : Area) (at count : ℕ) → AreApart (parts_of_areas areas) → i < length areas → area ≡ get_or areas i area → 0 < count
+    → covers (part_of_area area) at count ≡ true → bytes_at (byte_loaded (parts_of_areas areas)) at count ≡ slice_range area.bytes.items (at - area.start) (at - area.start + count)
 bytes_at-area areas i area at count apart within is some covers_it =
-    bytes_at-this (parts_of areas) i (part_of area) at count apart (within-parts areas i within) (part_at areas i area within is) refl some covers_it
+    bytes_at-this (parts_of_areas areas) i (part_of_area area) at count apart (within-parts areas i within) (part_at areas i area within is) refl some covers_it
 
 -- the number in a range that an access is allowed to
-pub number_at-area : (access : Access) (areas : List Area) (i : ℕ) (area : Area) (at count n : ℕ) (bytes : List ℕ) → AreApart (parts_of areas) → i < length areas → area ≡ get_or areas i area → 0 < count
+pub number_at-area : (access : Access) (areas : List Area) (i : ℕ) (area : Area) (at count n : ℕ) (bytes : List ℕ) → AreApart (parts_of_areas areas) → i < length areas → area ≡ get_or areas i area → 0 < count
     → allows access at count area ≡ true → bytes ≡ slice_range area.bytes.items (at - area.start) (at - area.start + count) → n ≡ little_endian bytes
-    → Some n ≡ Some (number_at (byte_loaded (parts_of areas)) at count)
+    → Some n ≡ Some (number_at (byte_loaded (parts_of_areas areas)) at count)
 unfolding number_at
 number_at-area access areas i area at count n bytes apart within is some allowed are spelled =
     ap Some (spelled ∙ ap little_endian (are ∙ sym (bytes_at-area areas i area at count apart within is some (covered access at count area allowed))))
@@ -42,23 +42,23 @@ where_true true x y z is same = same
 where_true false x y z is same = cc
 
 -- an area in whose place another is put
-pub parts_of-set : (areas : List Area) (i : ℕ) (new : Area) → parts_of (set areas i new) ≡ set (parts_of areas) i (part_of new)
-parts_of-set areas i new = map-set part_of areas i new
+pub parts_of_areas-set : (areas : List Area) (i : ℕ) (new : Area) → parts_of_areas (set areas i new) ≡ set (parts_of_areas areas) i (part_of_area new)
+parts_of_areas-set areas i new = map-set part_of_area areas i new
 
-module _ (areas : List Area) (i : ℕ) (old new : Area) (at : ℕ) (bytes : List ℕ) (apart : AreApart (parts_of areas)) (within : i < length areas) (is : old ≡ get_or areas i old)
-    (stays : bare (part_of new) ≡ bare (part_of old)) where
-  pub bare-put : map bare (parts_of (set areas i new)) ≡ map bare (parts_of areas)
-  bare-put = ap (map bare) (parts_of-set areas i new) ∙ map-set_same bare (parts_of areas) i (part_of new) (part_of old) (stays ∙ ap bare (sym (part_at areas i old within is)))
+module _ (areas : List Area) (i : ℕ) (old new : Area) (at : ℕ) (bytes : List ℕ) (apart : AreApart (parts_of_areas areas)) (within : i < length areas) (is : old ≡ get_or areas i old)
+    (stays : bare (part_of_area new) ≡ bare (part_of_area old)) where
+  pub bare-put : map bare (parts_of_areas (set areas i new)) ≡ map bare (parts_of_areas areas)
+  bare-put = ap (map bare) (parts_of_areas-set areas i new) ∙ map-set_same bare (parts_of_areas areas) i (part_of_area new) (part_of_area old) (stays ∙ ap bare (sym (part_at areas i old within is)))
 
-  pub are_apart-put : AreApart (parts_of (set areas i new))
-  are_apart-put = are_apart-same (parts_of areas) (parts_of (set areas i new)) bare-put apart
+  pub are_apart-put : AreApart (parts_of_areas (set areas i new))
+  are_apart-put = are_apart-same (parts_of_areas areas) (parts_of_areas (set areas i new)) bare-put apart
 
-  pub byte_loaded-put_area : 0 < length bytes → covers (part_of old) at (length bytes) ≡ true
+  pub byte_loaded-put_area : 0 < length bytes → covers (part_of_area old) at (length bytes) ≡ true
       → new.bytes.items ≡ take (at - old.start) old.bytes.items ++ (bytes ++ drop (at - old.start + length bytes) old.bytes.items)
-      → byte_loaded (parts_of (set areas i new)) ≡ with_bytes at bytes (byte_loaded (parts_of areas))
+      → byte_loaded (parts_of_areas (set areas i new)) ≡ with_bytes at bytes (byte_loaded (parts_of_areas areas))
   byte_loaded-put_area some covers_it put =
-      ap byte_loaded (parts_of-set areas i new)
-      ∙ byte_loaded-put_this (parts_of areas) i (part_of old) (part_of new) at bytes apart (within-parts areas i within) (part_at areas i old within is) refl some covers_it stays put
+      ap byte_loaded (parts_of_areas-set areas i new)
+      ∙ byte_loaded-put_this (parts_of_areas areas) i (part_of_area old) (part_of_area new) at bytes apart (within-parts areas i within) (part_at areas i old within is) refl some covers_it stays put
 
 -- the first bytes of a word are those of a narrower number
 lowest-one : (width word : ℕ) → width ≡ 1 → take width (to_le_bytes w32 word) ≡ lowest_bytes width word

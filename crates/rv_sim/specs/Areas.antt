@@ -10,8 +10,8 @@ use Rattle.rv_sim.specs.declared.area.Access.TheVariants.{Fetch, Load, Store, In
 use Rattle.rv_sim.specs.declared.area.Area.{Area}
 
 -- an area as a part: its bytes are all that it holds
-abbrev pub part_of : Area → Part
-part_of area = record {
+abbrev pub part_of_area : Area → Part
+part_of_area area = record {
   start = area.start;
   size = length area.bytes.items;
   readable = area.readable;
@@ -20,8 +20,8 @@ part_of area = record {
   bytes = area.bytes.items;
 }
 
-abbrev pub parts_of : List Area → List Part
-parts_of areas = map part_of areas
+abbrev pub parts_of_areas : List Area → List Part
+parts_of_areas areas = map part_of_area areas
 
 -- a part with zeros behind the bytes that it is loaded with
 abbrev pub filled : Part → Part
@@ -36,7 +36,7 @@ permits Inspect part = true
 
 -- it may be made in an area, to the addresses from `at`, `count` of them
 abbrev pub allows : Access → ℕ → ℕ → Area → Bool
-allows access at count area = permits access (part_of area) && covers (part_of area) at count
+allows access at count area = permits access (part_of_area area) && covers (part_of_area area) at count
 
 -- it may be made to these addresses
 abbrev pub can : Access → List Part → ℕ → ℕ → Bool

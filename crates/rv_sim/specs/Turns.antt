@@ -22,10 +22,10 @@ is_output (Some Output) = true
 is_output _ = false
 
 -- the answer of a run of one instruction, at which a device has failed or none
-abbrev pub answer_of : Option Device → Ending → Halt
-answer_of None ending = halt_of ending
-answer_of (Some Input) ending = InputFault
-answer_of (Some Output) ending = OutputFault
+abbrev pub answer_at : Option Device → Ending → Halt
+answer_at None ending = halt_of ending
+answer_at (Some Input) ending = InputFault
+answer_at (Some Output) ending = OutputFault
 
 -- an instruction that is over has done `what` the machine does, and no device failed; one that calls the environment has changed nothing, and
 -- what it does is the call

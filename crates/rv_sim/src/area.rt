@@ -31,13 +31,13 @@ pub struct Area {
 impl Area {
     ghost use Rattle.elf_image.specs.Parts.{loaded, end_of};
     ghost use Rattle.rv_isa.specs.Processor.{bare};
-    ghost use Rattle.rv_sim.specs.Areas.{part_of, allows, filled};
+    ghost use Rattle.rv_sim.specs.Areas.{part_of_area, allows, filled};
 
     /// The area of a part of an image: the part's bytes, and zeros behind them.
     pub fn from_part(alloc: Global, part: &Part) -> Result<Area, NoMemory>
         requires in_reach { end_of part.now ≤ 2 ^ 32 }
         requires filled { length part.now.bytes ≤ part.now.memsz }
-        ensures { IfOk result (λ area. part_of area ≡ filled (loaded part.now)) }
+        ensures { IfOk result (λ area. part_of_area area ≡ filled (loaded part.now)) }
     {
         let bytes = padded(alloc, part.bytes.as_slice(), part.memsz as usize)?;
         Ok(Area {
@@ -65,7 +65,7 @@ impl Area {
 
     /// All of the addresses from `at`, `count` of them, lie in the area. No addresses lie in any area.
     pub fn covers(&self, at: u32, count: u32) -> bool
-        ensures { result ≡ covers (part_of self.now) at count }
+        ensures { result ≡ covers (part_of_area self.now) at count }
     {
         let start = u64::from(self.start);
         let first = u64::from(at);
@@ -76,7 +76,7 @@ impl Area {
     /// The bytes from `at` on, `count` of them.
     pub fn slice(&self, at: u32, count: u32) -> &[u8]
         requires some { 0 < count }
-        requires inside { covers (part_of self.now) at count ≡ true }
+        requires inside { covers (part_of_area self.now) at count ≡ true }
         ensures { result.now ≡ slice_range self.now.bytes.items (at - self.now.start) (at - self.now.start + count) }
     {
         let first = (at - self.start) as usize;
@@ -86,8 +86,8 @@ impl Area {
     /// Puts bytes from `at` on.
     pub fn put(&mut self, at: u32, bytes: &[u8])
         requires some { 0 < length bytes.now }
-        requires inside { covers (part_of self.old) at (length bytes.now) ≡ true }
-        ensures stays { bare (part_of self.new) ≡ bare (part_of self.old) }
+        requires inside { covers (part_of_area self.old) at (length bytes.now) ≡ true }
+        ensures stays { bare (part_of_area self.new) ≡ bare (part_of_area self.old) }
         ensures bytes { let first = at - self.old.start in
             self.new.bytes.items
             ≡ take first self.old.bytes.items ++ (bytes.now ++ drop (first + length bytes.now) self.old.bytes.items) }

@@ -10,7 +10,7 @@ ghost use Rattle.rv_isa.specs.Execution.{acts, executes, step};
 ghost use Rattle.rv_isa.specs.FreeCells.{free_chain, border_size, free_cells};
 ghost use Rattle.elf_image.specs.Parts.{memory_of};
 ghost use Rattle.rv_isa.specs.Meaning.{IsWidth};
-ghost use Rattle.rv_sim.specs.Turns.{TurnDoes, NextDoes, is_input, is_output, answer_of};
+ghost use Rattle.rv_sim.specs.Turns.{TurnDoes, NextDoes, is_input, is_output, answer_at};
 ghost use Rattle.rv_sim.specs.Areas.{MovesWidth};
 ghost use Rattle.rv_sim.specs.Devices.{is_input_fault, is_output_fault, halt_of, HasRun};
 ghost use Rattle.rv_sim.specs.Registers.{registers_of};
@@ -176,7 +176,7 @@ impl Machine {
         requires room { self.old.executed + 1 < 2 ^ 64 }
         ensures input_faults { Rises (is_input result) (I.state input.old).faults (I.state input.new).faults }
         ensures output_faults { Rises (is_output result) (O.state out.old).faults (O.state out.new).faults }
-        ensures ran { HasRun (answer_of result self.new.ending) 1 self.old self.new
+        ensures ran { HasRun (answer_at result self.new.ending) 1 self.old self.new
             (I.state input.old) (I.state input.new) (O.state out.old) (O.state out.new) }
     {
         match self.advance() {
@@ -199,7 +199,7 @@ impl Machine {
         requires calls { NextDoes (calls next word) self.old }
         ensures input_faults { Rises (is_input result) (I.state input.old).faults (I.state input.new).faults }
         ensures output_faults { Rises (is_output result) (O.state out.old).faults (O.state out.new).faults }
-        ensures ran { HasRun (answer_of result self.new.ending) 1 self.old self.new
+        ensures ran { HasRun (answer_at result self.new.ending) 1 self.old self.new
             (I.state input.old) (I.state input.new) (O.state out.old) (O.state out.new) }
     {
         let file = self.registers.get(Register::A0);
@@ -234,7 +234,7 @@ impl Machine {
             ≡ true }
         ensures faults { Rises result (I.state input.old).faults (I.state input.new).faults }
         ensures ran { (sink : SinkState)
-            → HasRun (answer_of (then_some result Device.Input) self.new.ending) 1 self.old self.new
+            → HasRun (answer_at (then_some result Device.Input) self.new.ending) 1 self.old self.new
             (I.state input.old)
             (I.state input.new) sink sink }
     {
@@ -271,7 +271,7 @@ impl Machine {
             ≡ true }
         ensures faults { Rises result (O.state out.old).faults (O.state out.new).faults }
         ensures ran { (source : SourceState)
-            → HasRun (answer_of (then_some result Device.Output) self.new.ending) 1 self.old self.new
+            → HasRun (answer_at (then_some result Device.Output) self.new.ending) 1 self.old self.new
             source source (O.state out.old) (O.state out.new) }
     {
         let at = self.registers.get(Register::A1);

@@ -5,7 +5,7 @@ ghost use Rattle.rv_isa.specs.Bytes.{little_endian, number_at, bytes_at, with_nu
 ghost use Rattle.rv_isa.specs.Meaning.{IsWidth};
 ghost use Rattle.rv_isa.specs.Processor.{bare, lies_in_part, can_fetch, can_load, can_store};
 ghost use Rattle.elf_image.specs.Parts.{memory_of, are_apart, are_in_reach, are_filled};
-ghost use Rattle.rv_sim.specs.Areas.{filled, part_of, parts_of, allows, can, AreApart};
+ghost use Rattle.rv_sim.specs.Areas.{filled, part_of_area, parts_of_areas, allows, can, AreApart};
 
 use crate::area::{Access, Area};
 use elf_image::Parts;
@@ -26,20 +26,20 @@ pub struct Memory {
 impl Model for Memory {
     ghost use Rattle.std.specs.Prelude.{List};
     ghost use Rattle.kk_base.specs.Memory.{Part};
-    ghost use Rattle.rv_sim.specs.Areas.{parts_of, AreApart};
+    ghost use Rattle.rv_sim.specs.Areas.{parts_of_areas, AreApart};
 
     ghost Value = { List Part };
 
-    ghost view = { λ m. parts_of m.areas.items };
+    ghost view = { λ m. parts_of_areas m.areas.items };
 
-    ghost invariant = { λ m. AreApart (parts_of m.areas.items) };
+    ghost invariant = { λ m. AreApart (parts_of_areas m.areas.items) };
 }
 
 impl Memory {
     /// The memory of these areas.
     pub fn new(areas: Vec<Area>) -> Self
-        requires { AreApart (parts_of areas.items) }
-        ensures { result ≡ parts_of areas.items }
+        requires { AreApart (parts_of_areas areas.items) }
+        ensures { result ≡ parts_of_areas areas.items }
     {
         Memory {
             areas,
@@ -171,7 +171,7 @@ fn number(bytes: &[u8]) -> u32
 
 /// The place of an area that allows an access to the addresses from `at`, `count` of them. `last` is tried first.
 fn find(areas: &[Area], last: usize, access: Access, at: u32, count: u32) -> Option<usize>
-    ensures found { is_some result ≡ can access (parts_of areas.now) at count }
+    ensures found { is_some result ≡ can access (parts_of_areas areas.now) at count }
     ensures place { IfSome result
         (λ i. (i < length areas.now) × HoldsAt (λ area. allows access at count area ≡ true) areas.now i) }
 {
@@ -193,12 +193,12 @@ fn find_first(areas: &[Area], access: Access, at: u32, count: u32) -> Option<usi
 /// Puts the lowest `width` bytes of a word from `at` on in an area that covers them.
 fn put_number(areas: &mut [Area], place: usize, at: u32, width: u8, word: u32)
     requires width { IsWidth width }
-    requires apart { AreApart (parts_of areas.old) }
+    requires apart { AreApart (parts_of_areas areas.old) }
     requires within { place < length areas.old }
-    requires inside { HoldsAt (λ area. covers (part_of area) at width ≡ true) areas.old place }
-    ensures put { byte_loaded (parts_of areas.new) ≡ with_number at width word (byte_loaded (parts_of areas.old)) }
-    ensures areas { map bare (parts_of areas.new) ≡ map bare (parts_of areas.old) }
-    ensures still_apart { AreApart (parts_of areas.new) }
+    requires inside { HoldsAt (λ area. covers (part_of_area area) at width ≡ true) areas.old place }
+    ensures put { byte_loaded (parts_of_areas areas.new) ≡ with_number at width word (byte_loaded (parts_of_areas areas.old)) }
+    ensures areas { map bare (parts_of_areas areas.new) ≡ map bare (parts_of_areas areas.old) }
+    ensures still_apart { AreApart (parts_of_areas areas.new) }
 {
     let bytes = word.to_le_bytes();
     put(areas, place, at, &bytes[..usize::from(width)]);
@@ -207,12 +207,12 @@ fn put_number(areas: &mut [Area], place: usize, at: u32, width: u8, word: u32)
 /// Puts bytes from `at` on in an area that covers them.
 fn put(areas: &mut [Area], place: usize, at: u32, bytes: &[u8])
     requires some { 0 < length bytes.now }
-    requires apart { AreApart (parts_of areas.old) }
+    requires apart { AreApart (parts_of_areas areas.old) }
     requires within { place < length areas.old }
-    requires inside { HoldsAt (λ area. covers (part_of area) at (length bytes.now) ≡ true) areas.old place }
-    ensures put { byte_loaded (parts_of areas.new) ≡ with_bytes at bytes.now (byte_loaded (parts_of areas.old)) }
-    ensures areas { map bare (parts_of areas.new) ≡ map bare (parts_of areas.old) }
-    ensures still_apart { AreApart (parts_of areas.new) }
+    requires inside { HoldsAt (λ area. covers (part_of_area area) at (length bytes.now) ≡ true) areas.old place }
+    ensures put { byte_loaded (parts_of_areas areas.new) ≡ with_bytes at bytes.now (byte_loaded (parts_of_areas areas.old)) }
+    ensures areas { map bare (parts_of_areas areas.new) ≡ map bare (parts_of_areas areas.old) }
+    ensures still_apart { AreApart (parts_of_areas areas.new) }
 {
     areas[place].put(at, bytes);
 }

@@ -1,6 +1,6 @@
 use Rattle.std.proofs.Common.{◌≡◌, ◌≢◌, ◌+◌, ◌-◌, refl, sym, ap, ◌∙◌, Some, arith, rules}
 use Rattle.rv_isa.specs.Processor.{going}
-use Rattle.rv_sim.specs.Turns.{answer_of}
+use Rattle.rv_sim.specs.Turns.{answer_at}
 use Rattle.rv_sim.specs.declared.halt.Halt.TheVariants.{InputFault, OutputFault}
 use Rattle.rv_sim.specs.Devices.{halt_of}
 use Rattle.rv_sim.proofs.Running.{HasRun-none, HasRun-same, HasRun-then, HasRun-more, HasRun-ended, halt_of-no_fault}
@@ -20,7 +20,7 @@ pub loop-left-preserved : goal.loop-left-preserved
 loop-left-preserved g c =
     let ongoing : c.loop-left.self.ending ≡ going = search rules in
     let so_far = HasRun-same (ap halt_of ongoing) refl c.loop-left.invariant.ran in
-    let one = HasRun-same (ap (λ d. answer_of d c.step.new.self.ending) c.in-None.is) refl c.step.ensures.ran in
+    let one = HasRun-same (ap (λ d. answer_at d c.step.new.self.ending) c.in-None.is) refl c.step.ensures.ran in
     record {
       whole = one.faulted ∙ halt_of-no_fault c.step.new.self.ending;
       within = omega arith;
@@ -33,7 +33,7 @@ pub returns-in-Some-Input-clause-ran : goal.returns-in-Some-Input-clause-ran
 returns-in-Some-Input-clause-ran g c =
     let ongoing : c.loop-left.self.ending ≡ going = search rules in
     let so_far = HasRun-same (ap halt_of ongoing) refl c.loop-left.invariant.ran in
-    let one = HasRun-same (ap (λ d. answer_of d c.step.new.self.ending) (c.in-Some-Input.is ∙ ap Some c.in-Some-Input.field-0-is)) refl c.step.ensures.ran in
+    let one = HasRun-same (ap (λ d. answer_at d c.step.new.self.ending) (c.in-Some-Input.is ∙ ap Some c.in-Some-Input.field-0-is)) refl c.step.ensures.ran in
     HasRun-more InputFault (c.args.steps - c.loop-left.left + 1) c.args.steps _ _ _ _ _ _ (λ same. cc) (omega arith)
     (HasRun-then InputFault (c.args.steps - c.loop-left.left) 1 _ _ _ _ _ _ _ _ _ so_far one)
 
@@ -41,7 +41,7 @@ pub returns-in-Some-Output-clause-ran : goal.returns-in-Some-Output-clause-ran
 returns-in-Some-Output-clause-ran g c =
     let ongoing : c.loop-left.self.ending ≡ going = search rules in
     let so_far = HasRun-same (ap halt_of ongoing) refl c.loop-left.invariant.ran in
-    let one = HasRun-same (ap (λ d. answer_of d c.step.new.self.ending) (c.in-Some-Output.is ∙ ap Some c.in-Some-Output.field-0-is)) refl c.step.ensures.ran in
+    let one = HasRun-same (ap (λ d. answer_at d c.step.new.self.ending) (c.in-Some-Output.is ∙ ap Some c.in-Some-Output.field-0-is)) refl c.step.ensures.ran in
     HasRun-more OutputFault (c.args.steps - c.loop-left.left + 1) c.args.steps _ _ _ _ _ _ (λ same. cc) (omega arith)
     (HasRun-then OutputFault (c.args.steps - c.loop-left.left) 1 _ _ _ _ _ _ _ _ _ so_far one)
 
