@@ -10,7 +10,7 @@ ghost use Rattle.kk_syntax.specs.Trees.{expr_tree};
 ghost use Rattle.kk_back.specs.Images.{IsCompiled};
 
 use byteorder::{ByteOrder, LittleEndian};
-use elf_image::{Image, TEXT_START};
+use elf_image::Image;
 use kk_base::{Bytes, NoMemory};
 use kk_syntax::Program;
 use rv_isa::{Instr, encode};
@@ -29,7 +29,7 @@ pub fn image(alloc: Global, program: &Program, _cells: u32, _depth: u32) -> Resu
         instructions,
         constants,
         memory,
-    } = lower(alloc, program, TEXT_START)?;
+    } = lower(alloc, program)?;
     let mut text = words(alloc, instructions.as_slice())?;
     text.extend_from_slice(constants.as_slice())?;
     Image::program(alloc, Bytes::from_vec(text), memory)

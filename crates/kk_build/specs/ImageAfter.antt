@@ -1,7 +1,8 @@
 -- What the image in a file comes to by the table of instructions.
 use Rattle.std.specs.Prelude.{ℕ, List}
-pub use Rattle.rv_isa.specs.Processor.{Ending, Progress}
-use Rattle.rv_isa.specs.Execution.{image_after}
+pub use Rattle.rv_isa.specs.Processor.{Processor, Ending, going, exited, trapped, Progress, goes, start}
+pub use Rattle.rv_isa.specs.InstructionSet.{go_on}
+pub use Rattle.rv_isa.specs.Execution.{step, run, image_after}
 use Rattle.elf_image.specs.Fields.{entry_of}
 use Rattle.elf_image.specs.Loaded.{loaded_parts}
 

@@ -6,7 +6,7 @@ ghost use Rattle.kk_syntax.specs.Trees.{expr_tree};
 
 use crate::lower;
 use kk_base::{Name, NoMemory};
-use kk_syntax::{Expr, Function, Program};
+use kk_syntax::{Expr, Fun, Program, Ty};
 use rv_isa::Instr;
 use std::alloc::Global;
 use std::test::Fail;
@@ -17,9 +17,21 @@ fn instructions_of(alloc: Global, body: Expr) -> Result<Vec<Instr>, NoMemory>
 {
     let name = Name::new(String::from_str(alloc, "main")?);
     let mut functions = Vec::new(alloc);
-    functions.push(Function { name, at: 4, body })?;
-    let program = Program { functions, main: 0 };
-    Ok(lower(alloc, &program, 0)?.instructions)
+    functions.push(Fun {
+        name,
+        at: 4,
+        variables: 0,
+        parameters: Vec::new(alloc),
+        result: Ty::Unit,
+        body,
+    })?;
+    let program = Program {
+        types: Vec::new(alloc),
+        constructors: Vec::new(alloc),
+        functions,
+        main: 0,
+    };
+    Ok(lower(alloc, &program)?.instructions)
 }
 
 /// A number takes three instructions; a read calls its routine by three, and stores the value.

@@ -1,5 +1,13 @@
+use Rattle.std.proofs.Common.{◌≡◌, List, ℕ, None, subst, sym}
+use Rattle.elf_image.specs.Loaded.{reason_of}
 use Rattle.kk_tool.proofs.Rows.{image_ran, image_idle}
 use Rattle.kk_tool.proofs.perform.run_file.Goals as goal
+
+-- the image that was built can be loaded
+pub run_image-requires : goal.run_image-requires
+run_image-requires g c =
+    let P : List ℕ → Type 0 = λ bytes. reason_of bytes ≡ None in
+    subst P (sym c.as_slice.ensures) c.in-Ok.ensures.built.built.is_image.loads.sound
 
 pub returns-in-Ok-run_image : goal.returns-in-Ok-run_image
 returns-in-Ok-run_image g c =
