@@ -61,8 +61,8 @@ module _ (store store' : StoreState) (input : SourceState) (out : SinkState) (im
       checked file text program has (subst P same accepted) (all_kept kept)
 
 -- what becomes of an image that was built: it is written, or it could not be, or it is run
-module _ (first second third : StoreState) (kept : KeepsFiles first second) (image image' : List ℕ) (file : List ℕ) (cells depth : ℕ) (made : IsImageOf file cells depth first image') where
-  module _ (input : SourceState) (output : SinkState) where
+module _ (first second : StoreState) (kept : KeepsFiles first second) (image image' : List ℕ) (file : List ℕ) (cells depth : ℕ) (made : IsImageOf file cells depth first image') where
+  module _ (third : StoreState) (input : SourceState) (output : SinkState) where
     pub image_written : (out slice : List ℕ) (call : StoreCall) → slice ≡ image' → SameOthers out second.files third.files × HasFile out slice third.files → Counts false second.faults third.faults → Remembers false call second.last_failed third.last_failed
         → Answers (outside first input output image) (outside third input output image') (Some (build file out cells depth)) Done
     image_written out slice call same wrote counts remembers =

@@ -55,16 +55,11 @@ impl<'a> Line<'a> {
         Line { pieces }
     }
 
-    /// Puts the parts of the line in order, up to the first put that fails. False where one failed.
+    /// Puts the line. False where a put failed, and only the beginning of the line was put.
     pub fn put<E: Sink>(&self, err: &mut E) -> bool
         ensures { Puts result (joined self.now.pieces.items) (E.state err.old) (E.state err.new) }
     {
-        for piece in self.pieces.as_slice() {
-            if !put_piece(err, piece) {
-                return false;
-            }
-        }
-        true
+        put_pieces(err, self.pieces.as_slice())
     }
 }
 
@@ -256,6 +251,18 @@ fn limit_line<'a>(limit: Limit) -> Line<'a>
         Piece::Number(limit.count),
         Piece::Text("\n"),
     ])
+}
+
+/// Puts the parts of a line in order, up to the first put that fails.
+fn put_pieces<E: Sink>(err: &mut E, pieces: &[Piece<'_>]) -> bool
+    ensures { Puts result (joined pieces.now) (E.state err.old) (E.state err.new) }
+{
+    for piece in pieces {
+        if !put_piece(err, piece) {
+            return false;
+        }
+    }
+    true
 }
 
 fn put_piece<E: Sink>(err: &mut E, piece: &Piece<'_>) -> bool

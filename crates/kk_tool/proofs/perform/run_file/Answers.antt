@@ -11,8 +11,8 @@ run_image-requires g c =
 
 pub returns-in-Ok-run_image : goal.returns-in-Ok-run_image
 returns-in-Ok-run_image g c =
-    image_ran _ _ _ c.in-Ok.ensures.kept _ _ c.args.file.now c.args.sizes.cells c.args.sizes.depth c.in-Ok.ensures.built _ _ _ _ c.args.steps c.as_slice.result.now c.in-Ok-run_image.halt c.as_slice.ensures c.in-Ok-run_image.ensures.ran
+    image_ran _ _ c.in-Ok.ensures.kept _ _ c.args.file.now c.args.sizes.cells c.args.sizes.depth c.in-Ok.ensures.built _ _ _ _ c.args.steps c.as_slice.result.now c.in-Ok-run_image.halt c.as_slice.ensures c.in-Ok-run_image.ensures.ran
 
 pub returns-in-Err-run_image : goal.returns-in-Err-run_image
 returns-in-Err-run_image g c =
-    image_idle _ _ _ c.in-Ok.ensures.kept _ _ c.args.file.now c.args.sizes.cells c.args.sizes.depth c.in-Ok.ensures.built _ _ _ _ c.args.steps c.in-Err-run_image.ensures.input_kept c.in-Err-run_image.ensures.out_kept
+    image_idle _ _ c.in-Ok.ensures.kept _ _ c.args.file.now c.args.sizes.cells c.args.sizes.depth c.in-Ok.ensures.built _ _ _ _ c.args.steps c.in-Err-run_image.ensures.input_kept c.in-Err-run_image.ensures.out_kept
