@@ -74,8 +74,7 @@ module _ (file : List ℕ) (entry : ℕ) (parts : List Part) (loaded : IsLoaded 
     runs_image OutputFault ran in_faults out_faults =
         let count = new.executed - old.executed in
         let put = ran.fails in
-        so_far OutputFault ran in_faults out_faults count ran.comes
-        (
+        so_far OutputFault ran in_faults out_faults count ran.comes (
           fewer new.executed old.executed steps nothing ran.executed,
           record {
             piece = put.piece;

@@ -9,15 +9,15 @@ use Rattle.kk_base.specs.declared.outside.StoreCall.{StoreCall}
 use Rattle.kk_base.specs.declared.outside.StoreCall.TheVariants.{Reading, Writing}
 use Rattle.kk_base.specs.declared.refusal.Refusal.{Refusal}
 use Rattle.kk_front.specs.Judgement.{IsProgramOf, IsRefusalOf, Refuses, wants_memory}
-use Rattle.kk_build.specs.Built.{ProgramTree}
+use Rattle.kk_build.specs.Built.{ProgramTree, IsBuilt}
 use Rattle.rv_sim.specs.declared.halt.Halt.{Halt}
 use Rattle.kk_tool.specs.declared.answer.Answer.{Answer}
-use Rattle.kk_tool.specs.declared.answer.Answer.TheVariants.{Done, Refused, NoMemory, FileFault, Ran}
-use Rattle.kk_tool.specs.Answers.{HasText, IsImageOf, Answers, no_memory, unread, refused, checked, built, unwritten, ran, answer_of_refusal}
+use Rattle.kk_tool.specs.declared.answer.Answer.TheVariants.{Done, Usage, Refused, NoMemory, FileFault, Ran}
+use Rattle.kk_tool.specs.Answers.{HasText, IsImageOf, Answers, usage, no_memory, unread, refused, checked, built, unwritten, ran, answer_of_refusal}
 use Rattle.kk_tool.specs.Requests.{Request, check, build, run, file_of}
 use Rattle.kk_tool.specs.ImageRuns.{RunsImage}
 use Rattle.kk_tool.specs.Outside.{Outside, KeepsFiles, KeepsStreams, KeepsAll}
-use Rattle.kk_tool.proofs.Stores.{then_kept, then_written, then_unwritten}
+use Rattle.kk_tool.proofs.Stores.{same_files, then_kept, then_written, then_unwritten}
 
 abbrev outside : StoreState → SourceState → SinkState → List ℕ → Outside
 outside files input out image = record { files = files; input = input; out = out; image = image }
@@ -59,6 +59,24 @@ module _ (store store' : StoreState) (input : SourceState) (out : SinkState) (im
   text_accepted file text slice program same has kept accepted =
       let P : List ℕ → Type 0 = λ t. IsProgramOf t program in
       checked file text program has (subst P same accepted) (all_kept kept)
+
+pub image_built : (store : StoreState) (file text slice : List ℕ) (cells depth : ℕ) (image : List ℕ) → slice ≡ text → HasText file text store → IsBuilt slice cells depth image → IsImageOf file cells depth store image
+image_built store file text slice cells depth image same has made =
+    let P : List ℕ → Type 0 = λ t. IsBuilt t cells depth image in
+    record { text = text; has_text = has; built = subst P same made }
+
+-- words that are no command, and words for which memory was refused
+module _ (store : StoreState) (input : SourceState) (out : SinkState) (image : List ℕ) where
+  nothing_changed : KeepsFiles store store
+  nothing_changed = record { files = same_files store.files; last_failed = refl; faults = refl }
+
+  pub no_command : (request : Option Request) → None ≡ request → Answers (outside store input out image) (outside store input out image) request Usage
+  no_command request none =
+      let P : Option Request → Type 0 = λ r. Answers (outside store input out image) (outside store input out image) r Usage in
+      subst P none (usage (all_kept store store input out image nothing_changed))
+
+  pub no_words : (request : Option Request) → Answers (outside store input out image) (outside store input out image) request NoMemory
+  no_words request = no_memory request nothing_changed (same_streams store store input out image image) (inl refl)
 
 -- what becomes of an image that was built: it is written, or it could not be, or it is run
 module _ (first second : StoreState) (kept : KeepsFiles first second) (image image' : List ℕ) (file : List ℕ) (cells depth : ℕ) (made : IsImageOf file cells depth first image') where

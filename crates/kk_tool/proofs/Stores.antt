@@ -6,6 +6,10 @@ use Rattle.kk_base.specs.declared.outside.StoreCall.{StoreCall}
 use Rattle.kk_base.specs.declared.outside.StoreCall.TheVariants.{Writing}
 use Rattle.kk_tool.specs.Outside.{KeepsFiles, FailsToWrite, WritesAlone}
 
+pub same_files : (files : Option Files) → SameFiles files files
+same_files None = tt
+same_files (Some files) = λ name. refl
+
 same_twice : (a b c : Option Files) → SameFiles a b → SameFiles b c → SameFiles a c
 same_twice None None None h g = tt
 same_twice None None (Some c) h g = absurd g

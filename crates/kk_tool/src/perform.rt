@@ -109,11 +109,7 @@ fn run_file<'a, F: Store, I: Source, O: Sink>(
 }
 
 /// The text in a file, of which no more is read than tells whether it is too long; or the answer where it cannot be had.
-fn read_text<'a, F: Store>(
-    alloc: Global,
-    file: &'a str,
-    files: &mut F,
-) -> Result<Bytes, Answer<'a>>
+fn read_text<'a, F: Store>(alloc: Global, file: &'a str, files: &mut F) -> Result<Bytes, Answer<'a>>
     ensures text { IfOk result (λ text. HasText file.now text (F.state files.old)) }
     ensures kept { OnOk result (KeepsFiles (F.state files.old) (F.state files.new)) }
     ensures err { IfErr result (λ answer. (input : SourceState) (out : SinkState) (image : List ℕ) (request : Request) → file_of request ≡ file.now → Answers

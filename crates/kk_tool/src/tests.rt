@@ -101,7 +101,11 @@ static ROWS: [Row; 15] = [
     Row {
         line: "kokarv check a.kk",
         text: "fun main() { println(1) }",
-        refused: Refused { files: 1, out: 0, err: 0 },
+        refused: Refused {
+            files: 1,
+            out: 0,
+            err: 0,
+        },
         status: Status::FileFault,
         out: "",
         err: "file fault: a.kk\n",
@@ -110,7 +114,11 @@ static ROWS: [Row; 15] = [
     Row {
         line: "kokarv build a.kk -o a.elf",
         text: "fun main() { println(1) }",
-        refused: Refused { files: 2, out: 0, err: 0 },
+        refused: Refused {
+            files: 2,
+            out: 0,
+            err: 0,
+        },
         status: Status::FileFault,
         out: "",
         err: "file fault: a.elf\n",
@@ -119,7 +127,11 @@ static ROWS: [Row; 15] = [
     Row {
         line: "kokarv run a.kk",
         text: "fun main() { println(1); println(2) }",
-        refused: Refused { files: 0, out: 2, err: 0 },
+        refused: Refused {
+            files: 0,
+            out: 2,
+            err: 0,
+        },
         status: Status::OutputFault,
         out: "1\n",
         err: "output fault\n",
@@ -128,7 +140,11 @@ static ROWS: [Row; 15] = [
     Row {
         line: "kokarv run a.kk",
         text: "fun main() { println(1); println(\"a\") }",
-        refused: Refused { files: 0, out: 3, err: 1 },
+        refused: Refused {
+            files: 0,
+            out: 3,
+            err: 1,
+        },
         status: Status::Done,
         out: "1\na\n",
         err: "",
@@ -138,7 +154,11 @@ static ROWS: [Row; 15] = [
     Row {
         line: "kokarv run a.kk",
         text: "fun main() { print(\"\"); print(\"x\") }",
-        refused: Refused { files: 0, out: 1, err: 0 },
+        refused: Refused {
+            files: 0,
+            out: 1,
+            err: 0,
+        },
         status: Status::OutputFault,
         out: "",
         err: "output fault\n",
@@ -147,7 +167,11 @@ static ROWS: [Row; 15] = [
     Row {
         line: "kokarv run a.kk",
         text: "fun main() { print(1) }",
-        refused: Refused { files: 0, out: 1, err: 1 },
+        refused: Refused {
+            files: 0,
+            out: 1,
+            err: 1,
+        },
         status: Status::OutputFault,
         out: "",
         err: "",
@@ -156,7 +180,11 @@ static ROWS: [Row; 15] = [
     Row {
         line: "kokarv check a.kk",
         text: "",
-        refused: Refused { files: 0, out: 0, err: 2 },
+        refused: Refused {
+            files: 0,
+            out: 0,
+            err: 2,
+        },
         status: Status::OutputFault,
         out: "",
         err: "refused: name ",
@@ -165,7 +193,11 @@ static ROWS: [Row; 15] = [
     Row {
         line: "kokarv help",
         text: "",
-        refused: Refused { files: 0, out: 0, err: 1 },
+        refused: Refused {
+            files: 0,
+            out: 0,
+            err: 1,
+        },
         status: Status::OutputFault,
         out: "",
         err: "",

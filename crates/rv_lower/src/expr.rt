@@ -86,11 +86,7 @@ fn lower_each(code: &mut Code, exprs: &[Expr], slot: u32) -> Result<(), NoMemory
 
 /// The code of statements, one after the other.
 #[cycle(lower)]
-fn lower_statements(
-    code: &mut Code,
-    statements: &[Statement],
-    slot: u32,
-) -> Result<(), NoMemory>
+fn lower_statements(code: &mut Code, statements: &[Statement], slot: u32) -> Result<(), NoMemory>
     requires slots { slot + slots_of_statements (map statement_tree statements.now) ≤ MOST_SLOTS }
     requires room { code.old.constants_at + vec_len code.old.constants + constants_of_statements (map statement_tree statements.now) < 2 ^ 32 }
     ensures { OnOk result (Grows (words_of_statements (map statement_tree statements.now)) (constants_of_statements (map statement_tree statements.now)) code.old code.new) }

@@ -91,9 +91,17 @@ fn sources_give_bytes_and_tell_faults(rt: HostRuntime) -> Result<(), Fail> {
     let mut file = StreamSource::new(File::open(&rt, "source.bin")?);
     let mut resumed = StreamSource::new(Resumed { calls: 0 });
     let mut broken = StreamSource::new(Broken { calls: 0 });
-    check_source(&rt, &mut file, &[Next::Byte(b'a'), Next::Byte(b'b'), Next::End]);
+    check_source(
+        &rt,
+        &mut file,
+        &[Next::Byte(b'a'), Next::Byte(b'b'), Next::End],
+    );
     check_source(&rt, &mut resumed, &[Next::End, Next::End]);
-    check_source(&rt, &mut broken, &[Next::Byte(1), Next::Byte(2), Next::Failed, Next::Failed]);
+    check_source(
+        &rt,
+        &mut broken,
+        &[Next::Byte(1), Next::Byte(2), Next::Failed, Next::Failed],
+    );
     std::fs::remove_file(&rt, "source.bin")?;
     Ok(())
 }
@@ -102,8 +110,16 @@ fn sources_give_bytes_and_tell_faults(rt: HostRuntime) -> Result<(), Fail> {
 fn sinks_take_pieces_and_tell_faults(rt: HostRuntime) -> Result<(), Fail> {
     let mut file = StreamSink::new(File::create(&rt, "sink.bin")?);
     let mut broken = StreamSink::new(Broken { calls: 0 });
-    check_sink(&rt, &mut file, &[("one ", Put::All), ("", Put::All), ("two", Put::All)]);
-    check_sink(&rt, &mut broken, &[("three", Put::Failed(2)), ("four", Put::Failed(0))]);
+    check_sink(
+        &rt,
+        &mut file,
+        &[("one ", Put::All), ("", Put::All), ("two", Put::All)],
+    );
+    check_sink(
+        &rt,
+        &mut broken,
+        &[("three", Put::Failed(2)), ("four", Put::Failed(0))],
+    );
     let written = std::fs::read(&rt, "sink.bin")?;
     assert_eq!(rt; written.as_slice(), b"one two".as_slice());
     std::fs::remove_file(&rt, "sink.bin")?;
