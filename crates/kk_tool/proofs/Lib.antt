@@ -1,3 +1,4 @@
+mod Complete
 mod ImageRuns
 mod Lines
 mod Numbers

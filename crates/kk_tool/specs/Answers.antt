@@ -1,6 +1,7 @@
 -- The answers of the commands, and the causes of each.
-use Rattle.std.specs.Prelude.{◌≡◌, ◌⊎◌, ℕ, ◌+◌, List, take, Bool, if◌then◌else◌, Option, Some, None}
+use Rattle.std.specs.Prelude.{◌≡◌, ◌⊎◌, ℕ, ◌+◌, List, take, Bool, true, false, if◌then◌else◌, Option, Some, None}
 use Rattle.std.specs.Borrow.{Bor}
+use Rattle.kk_base.specs.Faults.{Rose}
 use Rattle.kk_base.specs.Limits.{greatest_of}
 use Rattle.kk_base.specs.Sink.{SinkState}
 use Rattle.kk_base.specs.Store.{Files, StoreState}
@@ -67,10 +68,28 @@ pub data Answers (before after : Outside) : Option Request → Answer → Type 0
 abbrev pub answer_of_refusal : Refusal → Answer
 answer_of_refusal refusal = if wants_memory refusal then NoMemory else Refused refusal
 
--- a line ends with a status: that of an answer, whose line was put; or where putting the line failed, an output fault
-pub record Ends (request : Option Request) (status : Status) (before after : Outside) (err err' : SinkState) : Type 0 where
-  pub answer : Answer
-  pub answers : Answers before after request answer
+-- an answer ends a command with its status, where its line was put; or where putting the line failed, with an output fault
+pub record EndsWith (answer : Answer) (status : Status) (err err' : SinkState) : Type 0 where
   pub whole : Bool
   pub line : Puts whole (line_of answer) err err'
   pub told : status ≡ (if whole then status_of answer else Ended.OutputFault)
+
+-- the words of a line end with a status, by one of their answers
+pub record Ends (request : Option Request) (status : Status) (before after : Outside) (err err' : SinkState) : Type 0 where
+  pub answer : Answer
+  pub answers : Answers before after request answer
+  pub ends : EndsWith answer status err err'
+
+-- no count of faults rose; one at its last value reads as risen
+pub record Faultless (before after : Outside) (err err' : SinkState) : Type 0 where
+  pub files : ¬ Rose before.files.faults after.files.faults
+  pub input : ¬ Rose before.input.faults after.input.faults
+  pub out : ¬ Rose before.out.faults after.out.faults
+  pub line : ¬ Rose err.faults err'.faults
+
+-- the status of a fault of a device
+abbrev pub is_fault : Status → Bool
+is_fault Ended.FileFault = true
+is_fault Ended.InputFault = true
+is_fault Ended.OutputFault = true
+is_fault _ = false
