@@ -1,5 +1,5 @@
 -- No count of a text within its limit reaches a number's end.
-use Rattle.std.proofs.Common.{◌≡◌, ℕ, ◌+◌, ◌-◌, ◌^◌, ◌≤◌, suc, min, nat_lt, Bool, true, false, cond, List, [], ◌∷◌, ◌++◌, length, map, Some, None, refl, sym, ap, ◌∙◌, subst, length-append, arith}
+use Rattle.std.proofs.Common.{◌≡◌, ℕ, ◌+◌, ◌-◌, ◌^◌, ◌≤◌, suc, min, nat_lt, Bool, true, false, cond, List, [], ◌∷◌, ◌++◌, length, map, Some, None, refl, sym, ap, ◌∙◌, length-append, arith}
 use Rattle.std.specs.Prelude.{All, Ok, Err}
 use Rattle.std.proofs.lemmas.Bool.Decides.{nat_tests}
 use Rattle.std.proofs.lemmas.List.Elements.{All-nil, All-cons, All-head}
@@ -7,7 +7,7 @@ use Rattle.kk_base.specs.declared.error.ParseError.{ParseError}
 use Rattle.kk_base.specs.declared.error.ParseError.TheVariants.{Unexpected, TooDeep, NoMemory}
 use Rattle.kk_base.specs.declared.limit.Limit.{Limit}
 use Rattle.kk_base.specs.declared.limit.LimitKind.TheVariants.{FunctionNodes}
-use Rattle.kk_syntax.specs.declared.tree.Function.{Function}
+use Rattle.kk_syntax.specs.declared.program.Fun.{Fun}
 use Rattle.kk_syntax.specs.Programs.{FunctionTree, function_tree, ProgramTree}
 use Rattle.kk_syntax.specs.Shapes.{nodes_of}
 use Rattle.kk_syntax.specs.Trees.{expr_tree}
@@ -53,14 +53,13 @@ not_above : (n : ℕ) → nat_lt 480 n ≡ false → n ≤ 480
 not_above n h = grind (arith, nat_tests)
 
 -- a program without a function that is too large
-pub all_few : (functions : List Function) → too_many_nodes (map function_tree functions) ≡ None → All (λ f. nodes_of (expr_tree f.body) ≤ 480) functions
+pub all_few : (functions : List Fun) → too_many_nodes (map function_tree functions) ≡ None → All (λ f. nodes_of (expr_tree f.body) ≤ 480) functions
 all_few [] e = All-nil (λ f. nodes_of (expr_tree f.body) ≤ 480)
 all_few (f ∷ fs) e = by (nat_lt 480 (nodes_of (expr_tree f.body))) refl (λ d. all_few fs d) e
   where
-    by : (b : Bool) → nat_lt 480 (nodes_of (expr_tree f.body)) ≡ b → (too_many_nodes (map function_tree fs) ≡ None → All (λ (g : Function). nodes_of (expr_tree g.body) ≤ 480) fs) → cond b (Some (nodes_of (expr_tree f.body))) (too_many_nodes (map function_tree fs)) ≡ None → All (λ (g : Function). nodes_of (expr_tree g.body) ≤ 480) (f ∷ fs)
+    by : (b : Bool) → nat_lt 480 (nodes_of (expr_tree f.body)) ≡ b → (too_many_nodes (map function_tree fs) ≡ None → All (λ (g : Fun). nodes_of (expr_tree g.body) ≤ 480) fs) → cond b (Some (nodes_of (expr_tree f.body))) (too_many_nodes (map function_tree fs)) ≡ None → All (λ (g : Fun). nodes_of (expr_tree g.body) ≤ 480) (f ∷ fs)
     by true is rest e = cc
     by false is rest e = All-cons (λ g. nodes_of (expr_tree g.body) ≤ 480) f fs (not_above (nodes_of (expr_tree f.body)) is) (rest e)
 
--- a bound on the nodes of a tree's functions holds of the program's
-pub fewer : (most : ℕ) (written functions : List FunctionTree) → functions ≡ written → most ≤ 65536 → All (λ f. nodes_of f.body ≤ most) written → All (λ f. nodes_of f.body ≤ 65536) functions
-fewer most written functions same small few = subst (λ fs. All (λ f. nodes_of f.body ≤ 65536) fs) (sym same) (λ k d lt. let within = few k d lt in omega arith)
+pub fewer : (most : ℕ) (functions : List FunctionTree) → most ≤ 65536 → All (λ f. nodes_of f.body ≤ most) functions → All (λ f. nodes_of f.body ≤ 65536) functions
+fewer most functions small few = λ k d lt. let within = few k d lt in omega arith

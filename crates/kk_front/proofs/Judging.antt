@@ -13,14 +13,15 @@ use Rattle.kk_base.specs.declared.limit.Limit.{Limit}
 use Rattle.kk_base.specs.declared.limit.LimitKind.TheVariants.{Source}
 use Rattle.kk_base.specs.declared.refusal.Refusal.{Refusal}
 use Rattle.kk_base.specs.declared.refusal.Refusal.TheVariants as OfText
-use Rattle.kk_syntax.specs.declared.tree.Program.{Program}
+use Rattle.kk_syntax.specs.declared.program.Program.{Program}
 use Rattle.kk_syntax.specs.declared.tree.Tree.{Tree}
-use Rattle.kk_syntax.specs.Programs.{function_tree, ProgramTree, program_tree, WrittenTree, written_tree}
-use Rattle.kk_syntax.specs.Shapes.{nodes_of}
+use Rattle.kk_syntax.specs.Programs.{ProgramTree, program_tree}
+use Rattle.kk_syntax.specs.Surface.{WrittenTree, written_declaration, written_tree}
+use Rattle.kk_syntax.specs.WrittenNodes.{nodes_in}
 use Rattle.kk_syntax.specs.TokenList.{TokenList}
 use Rattle.kk_lexer.specs.Readings.{IsReadAs, IsReading, UnlessNoMemory, EachTextIsRead}
 use Rattle.kk_parser.specs.Parses.{in_u32, ParsesAs, AnswersParse, EachListIsParsed}
-use Rattle.kk_names.specs.Names.{ResolvesAs, AnswersNames, EachTreeIsResolved}
+use Rattle.kk_names.specs.Names.{ResolvesAs, AnswersNames, KeepsNodes, EachTreeIsResolved}
 use Rattle.kk_mono.specs.Counts.{CountsAs, AnswersCounts, EachProgramIsCounted}
 use Rattle.kk_front.specs.Chain.{Then, stops, goes_on, ToldAs, Checking}
 use Rattle.kk_front.specs.Judgement.{ChecksLength, JudgedAs, IsProgramOf, Refuses, IsRefusalOf, wants_memory, EachTextIsJudged}
@@ -179,10 +180,10 @@ module _ (text : List ℕ) (short : ChecksLength text (Ok tt)) where
         pub accepted_judged : AnswersCounts program (Ok tt) → IsProgramOf text (program_tree program)
         accepted_judged h = behind_names _ (only_told_ok OfText.Over (Checking CountsAs) (program_tree program) (program_tree program) (only_checking_ok CountsAs (program_tree program) h))
 
-        pub large_judged : (limit : Limit) → All (λ f. nodes_of f.body ≤ length tokens.items) (map function_tree tree.functions.items) → AnswersCounts program (Err limit) → Refuses text (OfText.Over limit)
-        large_judged limit small h e =
+        pub large_judged : (limit : Limit) → All (λ d. nodes_in d ≤ length tokens.items) (map written_declaration tree.declarations.items) → KeepsNodes (written_tree tree).declarations (program_tree program).functions → AnswersCounts program (Err limit) → Refuses text (OfText.Over limit)
+        large_judged limit small keeps h e =
             let P : Limit → Type 0 = λ x. IsRefusalOf text (OfText.Over x) in
-            let within : All (λ f. nodes_of f.body ≤ 65536) (map function_tree program.functions.items) = fewer (length tokens.items) (map function_tree tree.functions.items) (map function_tree program.functions.items) resolved.holds.0 (omega arith) small in
+            let within = fewer (length tokens.items) (program_tree program).functions (omega arith) (keeps (length tokens.items) small) in
             let told : h.0 ≡ limit = sym (h.2 ∙ limit_told (program_tree program) h.0 within h.1.holds) in
             subst P told (behind_names _ (only_told_err OfText.Over (Checking CountsAs) (program_tree program) h.0 (only_checking_err CountsAs (program_tree program) h.0 h.1)))
 

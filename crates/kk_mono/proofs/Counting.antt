@@ -6,7 +6,7 @@ use Rattle.std.proofs.lemmas.Bool.Decides.{nat_tests}
 use Rattle.kk_base.specs.Exactly.{IsOnly, ExactlyOne}
 use Rattle.kk_base.specs.declared.limit.Limit.{Limit}
 use Rattle.kk_base.specs.declared.limit.LimitKind.TheVariants.{FunctionNodes}
-use Rattle.kk_syntax.specs.declared.tree.Program.{Program}
+use Rattle.kk_syntax.specs.declared.program.Program.{Program}
 use Rattle.kk_syntax.specs.Programs.{ProgramTree, function_tree, program_tree}
 use Rattle.kk_mono.specs.Counts.{too_many_nodes, CountsAs, EachProgramIsCounted, in_u64, AnswersCounts, told_limit}
 

@@ -4,7 +4,7 @@ use Rattle.kk_base.specs.Exactly.{IsOnly, ExactlyOne}
 use Rattle.kk_base.specs.Limits.{greatest_of}
 use Rattle.kk_base.specs.declared.limit.Limit.{Limit}
 use Rattle.kk_base.specs.declared.limit.LimitKind.TheVariants.{FunctionNodes}
-use Rattle.kk_syntax.specs.declared.tree.Program.{Program}
+use Rattle.kk_syntax.specs.declared.program.Program.{Program}
 use Rattle.kk_syntax.specs.Programs.{FunctionTree, ProgramTree, program_tree}
 use Rattle.kk_syntax.specs.Shapes.{nodes_of}
 

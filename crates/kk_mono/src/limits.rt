@@ -4,7 +4,7 @@ ghost use Rattle.kk_syntax.specs.Programs.{function_tree};
 ghost use Rattle.kk_mono.specs.Counts.{too_many_nodes, told_limit, AnswersCounts, EachProgramIsCounted};
 
 use kk_base::{Limit, LimitKind};
-use kk_syntax::{Function, Program, nodes};
+use kk_syntax::{Fun, Program, nodes};
 
 /// Checks that no function has more nodes than the limit allows; the first that has is told. A count stays at a `u64`'s
 /// last value where it is larger. Takes no memory.
@@ -20,7 +20,7 @@ pub fn each_program_is_counted()
 {
 }
 
-fn first_large(functions: &[Function]) -> Result<(), Limit>
+fn first_large(functions: &[Fun]) -> Result<(), Limit>
     ensures { result_err result
         ≡ option_map told_limit (too_many_nodes (map function_tree functions.now)) }
 {

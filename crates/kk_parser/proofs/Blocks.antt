@@ -1,9 +1,10 @@
 -- The statements of a block, as they are read one by one.
-use Rattle.std.proofs.Common.{◌≡◌, List, [], ◌∷◌, ◌++◌, Some, ap, sym, append_assoc}
+use Rattle.std.proofs.Common.{◌≡◌, List, [], ◌∷◌, ◌++◌, Some, refl, ap, sym, append_assoc}
 use Rattle.std.proofs.lemmas.List.{append-nil}
-use Rattle.kk_syntax.specs.Trees.{Tree}
+use Rattle.kk_syntax.specs.Surface.{Written, WrittenStatement, block_of, sequence}
+use Rattle.kk_syntax.specs.declared.tree.SurfaceBinder.TheVariants.{Nothing}
 use Rattle.kk_syntax.specs.declared.token.Symbol.TheVariants.{Semicolon, CloseBrace}
-use Rattle.kk_parser.specs.Grammar.{those_given, all_but_last, last_of, block_of}
+use Rattle.kk_parser.specs.Grammar.{those_given, in_order}
 use Rattle.kk_parser.specs.Kinds.{symbol}
 use Rattle.kk_parser.specs.Phrases.{Phrase, PhraseValue, token, optional, many, ◌▸◌, rule, statement}
 
@@ -15,12 +16,17 @@ one_more = token (symbol Semicolon) ▸ optional (rule statement)
 abbrev pub and_more : Phrase
 and_more = many one_more ▸ token (symbol CloseBrace)
 
+-- an expression as a statement
+abbrev pub as_statement : Written → WrittenStatement
+as_statement t = record { binder = Nothing; value = t }
+
 -- the block, from the statements before one, that one, and what stands behind it
-abbrev pub block_from : List Tree → Tree → PhraseValue and_more → Tree
-block_from before value v = block_of (before ++ all_but_last value (those_given v.0)) (last_of value (those_given v.0))
+abbrev pub block_from : List WrittenStatement → Written → PhraseValue and_more → Written
+block_from before value v = block_of before (in_order value (those_given v.0))
 
-pub block_from-some : (before : List Tree) (value next : Tree) (v : PhraseValue and_more) → block_from before value ((tt, Some next) ∷ v.0, v.1) ≡ block_from (before ++ value ∷ []) next v
-block_from-some before value next v = ap (λ ts. block_of ts (last_of next (those_given v.0))) (sym (append_assoc before (value ∷ []) (all_but_last next (those_given v.0))))
+block_of-push : (before : List WrittenStatement) (value : Written) (last : Written) → block_of before (sequence Nothing value last) ≡ block_of (before ++ as_statement value ∷ []) last
+block_of-push [] value last = refl
+block_of-push (s ∷ ss) value last = ap (λ t. sequence s.binder s.value t) (block_of-push ss value last)
 
-pub block_from-none : (before : List Tree) (value : Tree) → block_of (before ++ []) value ≡ block_of before value
-block_from-none before value = ap (λ ts. block_of ts value) (append-nil before)
+pub block_from-some : (before : List WrittenStatement) (value next : Written) (v : PhraseValue and_more) → block_from before value ((tt, Some next) ∷ v.0, v.1) ≡ block_from (before ++ as_statement value ∷ []) next v
+block_from-some before value next v = block_of-push before value (in_order next (those_given v.0))

@@ -4,7 +4,7 @@ use Rattle.std.proofs.lemmas.Bool.{and_parts, cases_lt}
 use Rattle.std.specs.Prelude.{Result, Ok, Err}
 use Rattle.kk_base.specs.declared.error.ParseError.{ParseError}
 use Rattle.kk_base.specs.declared.error.ParseError.TheVariants.{Unexpected, TooDeep}
-use Rattle.kk_syntax.specs.Programs.{WrittenTree}
+use Rattle.kk_syntax.specs.Surface.{WrittenTree}
 use Rattle.kk_syntax.specs.TokenList.{TokenList}
 use Rattle.kk_syntax.specs.declared.token.LocatedToken.{LocatedToken}
 use Rattle.kk_parser.specs.Kinds.{Kind, is_at}
@@ -221,8 +221,8 @@ fewer_read zero ts few q k us h less = absurd (omega arith)
 fewer_read (suc more) ts few q k us h less = read_starting (starts q h) k us (fewer_read more us (omega arith))
 
 outcome_of : (tokens : TokenList) → ReadOrFailed (rule program) 0 tokens.items → (outcome : Result WrittenTree ParseError) × ParsesAs tokens outcome
-outcome_of tokens (was_read functions m [] r) = (Ok (record { functions = functions; length = tokens.end.at }), (has_tree r, refl))
-outcome_of tokens (was_read functions m (t ∷ us) r) =
+outcome_of tokens (was_read declarations m [] r) = (Ok (record { declarations = declarations; length = tokens.end.at }), (has_tree r, refl))
+outcome_of tokens (was_read declarations m (t ∷ us) r) =
     let u = finds_unexpected r in
     (Err (Unexpected (length u.0) t.span.line t.span.column), (u.0, t ∷ us, u.1, u.2, (refl, refl, refl)))
 outcome_of tokens (has_failed (unexpected us) r) =

@@ -4,10 +4,9 @@ use Rattle.std.specs.Prelude.{All}
 use Rattle.std.proofs.lemmas.List.Elements.{All-nil, All-cons}
 use Rattle.kk_syntax.specs.declared.token.LocatedToken.{LocatedToken}
 use Rattle.kk_syntax.specs.declared.token.Symbol.TheVariants.{Semicolon}
-use Rattle.kk_syntax.specs.Programs.{FunctionTree}
-use Rattle.kk_syntax.specs.Shapes.{nodes_of, nodes_of_all}
-use Rattle.kk_syntax.specs.Trees.{Tree, binary, trees_of}
-use Rattle.kk_parser.specs.Grammar.{production, meaning, sum_operator, sum_operator_of, product_operator, product_operator_of, to_left, those_given, all_but_last, last_of, block_of}
+use Rattle.kk_syntax.specs.WrittenNodes.{written_nodes, nodes_in}
+use Rattle.kk_syntax.specs.Surface.{Written, binary, WrittenDeclaration}
+use Rattle.kk_parser.specs.Grammar.{production, meaning, sum_operator, sum_operator_of, product_operator, product_operator_of, to_left, those_given, in_order}
 use Rattle.kk_parser.specs.Kinds.{symbol}
 use Rattle.kk_parser.specs.Parses.{HasTree}
 use Rattle.kk_parser.specs.Phrases.{Nonterminal, program, main_function, block, statement, print, said, expr, add, mul, un, atom, Meant, Phrase, token, opener, ◌▸◌, either, many, optional, level, rule, PhraseValue}
@@ -18,23 +17,19 @@ abbrev summed : {A : Type 0} → (A → ℕ) → List A → ℕ
 summed f [] = 0
 summed f (x ∷ xs) = f x + summed f xs
 
-abbrev nodes_of_functions : List FunctionTree → ℕ
-nodes_of_functions [] = 0
-nodes_of_functions (f ∷ fs) = nodes_of f.body + nodes_of_functions fs
-
 -- the nodes of what a text of a nonterminal means
 abbrev nodes_meant : (x : Nonterminal) → Meant x → ℕ
-nodes_meant program functions = nodes_of_functions functions
-nodes_meant main_function f = nodes_of f.body
-nodes_meant block t = nodes_of t
-nodes_meant statement t = nodes_of t
-nodes_meant print t = nodes_of t
-nodes_meant said t = nodes_of t
-nodes_meant expr t = nodes_of t
-nodes_meant add t = nodes_of t
-nodes_meant mul t = nodes_of t
-nodes_meant un t = nodes_of t
-nodes_meant atom t = nodes_of t
+nodes_meant program declarations = summed nodes_in declarations
+nodes_meant main_function d = nodes_in d
+nodes_meant block t = written_nodes t
+nodes_meant statement t = written_nodes t
+nodes_meant print t = written_nodes t
+nodes_meant said t = written_nodes t
+nodes_meant expr t = written_nodes t
+nodes_meant add t = written_nodes t
+nodes_meant mul t = written_nodes t
+nodes_meant un t = written_nodes t
+nodes_meant atom t = written_nodes t
 
 -- the tokens of a phrase, those of a nonterminal counted by its nodes
 abbrev size : (p : Phrase) → PhraseValue p → ℕ
@@ -59,38 +54,29 @@ product_size (inr (inl a)) = refl
 product_size (inr (inr a)) = refl
 
 -- operators to the left
-sums_few : (left : Tree) (more : List (PhraseValue (sum_operator ▸ rule mul))) → nodes_of (to_left sum_operator_of left more) ≤ nodes_of left + size (many (sum_operator ▸ rule mul)) more
+sums_few : (left : Written) (more : List (PhraseValue (sum_operator ▸ rule mul))) → written_nodes (to_left sum_operator_of left more) ≤ written_nodes left + size (many (sum_operator ▸ rule mul)) more
 sums_few left [] = omega arith
 sums_few left ((a, right) ∷ more) = omega (arith, sums_few (binary (sum_operator_of a) left right) more, sum_size a)
 
-products_few : (left : Tree) (more : List (PhraseValue (product_operator ▸ rule un))) → nodes_of (to_left product_operator_of left more) ≤ nodes_of left + size (many (product_operator ▸ rule un)) more
+products_few : (left : Written) (more : List (PhraseValue (product_operator ▸ rule un))) → written_nodes (to_left product_operator_of left more) ≤ written_nodes left + size (many (product_operator ▸ rule un)) more
 products_few left [] = omega arith
 products_few left ((a, right) ∷ more) = omega (arith, products_few (binary (product_operator_of a) left right) more, product_size a)
 
 -- blocks
-given_few : (more : List (PhraseValue (token (symbol Semicolon) ▸ optional (rule statement)))) → summed nodes_of (those_given more) ≤ size (many (token (symbol Semicolon) ▸ optional (rule statement))) more
+given_few : (more : List (PhraseValue (token (symbol Semicolon) ▸ optional (rule statement)))) → summed written_nodes (those_given more) ≤ size (many (token (symbol Semicolon) ▸ optional (rule statement))) more
 given_few [] = omega arith
 given_few ((_, None) ∷ more) = omega (arith, given_few more)
 given_few ((_, Some t) ∷ more) = omega (arith, given_few more)
 
-listed : (ts : List Tree) → nodes_of_all (trees_of ts) ≡ summed nodes_of ts
-listed [] = refl
-listed (t ∷ ts) = ap (λ n. nodes_of t + n) (listed ts)
-
-block_nodes : (ts : List Tree) (value : Tree) → nodes_of (block_of ts value) ≡ summed nodes_of ts + nodes_of value
-block_nodes [] value = omega arith
-block_nodes (t ∷ ts) value = ap (λ n. n + nodes_of value) (listed (t ∷ ts))
-
-all_nodes : (first : Tree) (ts : List Tree) → summed nodes_of (all_but_last first ts) + nodes_of (last_of first ts) ≡ nodes_of first + summed nodes_of ts
-all_nodes first [] = omega arith
-all_nodes first (t ∷ ts) = omega (arith, all_nodes t ts)
+order_nodes : (first : Written) (ts : List Written) → written_nodes (in_order first ts) ≡ written_nodes first + summed written_nodes ts
+order_nodes first [] = omega arith
+order_nodes first (t ∷ ts) = omega (arith, order_nodes t ts)
 
 meant_few : (x : Nonterminal) (v : PhraseValue (production x)) → nodes_meant x (meaning x v) ≤ size (production x) v
 meant_few program (_, None) = omega arith
 meant_few program (_, Some (function, _)) = omega arith
 meant_few main_function (_, (at, (_, (_, body)))) = omega arith
-meant_few block (_, (_, (first, (more, _)))) =
-    omega (arith, block_nodes (all_but_last first (those_given more)) (last_of first (those_given more)), all_nodes first (those_given more), given_few more)
+meant_few block (_, (_, (first, (more, _)))) = omega (arith, order_nodes first (those_given more), given_few more)
 meant_few statement (inl t) = omega arith
 meant_few statement (inr t) = omega arith
 meant_few print (form, (_, (inl text, _))) = omega arith
@@ -117,13 +103,13 @@ spelled_few (by_presence r) = spelled_few r
 spelled_few (by_level r) = spelled_few r
 spelled_few (by_rule {x = x} {v = v} r) = omega (arith, spelled_few r, meant_few x v)
 
-each_few : (fs : List FunctionTree) (n : ℕ) → nodes_of_functions fs ≤ n → All (λ f. nodes_of f.body ≤ n) fs
-each_few [] n h = All-nil (λ f. nodes_of f.body ≤ n)
-each_few (f ∷ fs) n h = All-cons (λ f. nodes_of f.body ≤ n) f fs (omega arith) (each_few fs n (omega arith))
+each_few : (ds : List WrittenDeclaration) (n : ℕ) → summed nodes_in ds ≤ n → All (λ d. nodes_in d ≤ n) ds
+each_few [] n h = All-nil (λ d. nodes_in d ≤ n)
+each_few (d ∷ ds) n h = All-cons (λ e. nodes_in e ≤ n) d ds (omega arith) (each_few ds n (omega arith))
 
 tokens_of-length : (ts : List Marked) → length (tokens_of ts) ≡ length ts
 tokens_of-length [] = refl
 tokens_of-length (t ∷ ts) = omega (arith, tokens_of-length ts)
 
-pub few_nodes : {tokens : List LocatedToken} {functions : List FunctionTree} → HasTree tokens functions → All (λ f. nodes_of f.body ≤ length tokens) functions
-few_nodes {tokens} {functions} h = each_few functions (length tokens) (omega (arith, spelled_few h.program.1, tokens_of-length h.marked, ap length h.tokens_are))
+pub few_nodes : {tokens : List LocatedToken} {declarations : List WrittenDeclaration} → HasTree tokens declarations → All (λ d. nodes_in d ≤ length tokens) declarations
+few_nodes {tokens} {declarations} h = each_few declarations (length tokens) (omega (arith, spelled_few h.program.1, tokens_of-length h.marked, ap length h.tokens_are))

@@ -2,7 +2,7 @@
 use Rattle.std.proofs.Common.{◌≡◌, ℕ, ◌≤◌, List, [], ◌∷◌, ◌++◌, length, refl, sym, ap, ◌∙◌, subst, inl, inr, append_assoc, length-append, arith}
 use Rattle.std.proofs.lemmas.List.{append_cancel_right, append-nil}
 use Rattle.kk_syntax.specs.declared.token.LocatedToken.{LocatedToken}
-use Rattle.kk_syntax.specs.Programs.{FunctionTree}
+use Rattle.kk_syntax.specs.Surface.{WrittenDeclaration}
 use Rattle.kk_parser.specs.Phrases.{program, rule}
 use Rattle.kk_parser.specs.Spells.{Marked, tokens_of}
 use Rattle.kk_parser.specs.Reading.{ReadingFails, too_deep}
@@ -27,10 +27,10 @@ begun_goes_on before t more rest front b e =
     let s = split_marked front (before ++ t ∷ []) more (e ∙ sym (append_assoc before (t ∷ []) more)) in
     (s.0, (b.0, s.1 ++ b.1, subst (λ ts. SpellsProgram b.0 ts) (ap (λ ts. ts ++ b.1) s.2 ∙ append_assoc s.0 s.1 b.1) b.2), s.3)
 
-tree_goes_on : (before rest : List LocatedToken) (functions : List FunctionTree) → HasTree (before ++ rest) functions → GoesOn before rest
-tree_goes_on before [] functions h = (functions, h.marked, h.program, h.tokens_are ∙ append-nil before)
-tree_goes_on before (t ∷ rest) functions h =
-    begun_goes_on before t rest rest h.marked (functions, [], subst (λ ts. SpellsProgram functions ts) (sym (append-nil h.marked)) h.program) h.tokens_are
+tree_goes_on : (before rest : List LocatedToken) (declarations : List WrittenDeclaration) → HasTree (before ++ rest) declarations → GoesOn before rest
+tree_goes_on before [] declarations h = (declarations, h.marked, h.program, h.tokens_are ∙ append-nil before)
+tree_goes_on before (t ∷ rest) declarations h =
+    begun_goes_on before t rest rest h.marked (declarations, [], subst (λ ts. SpellsProgram declarations ts) (sym (append-nil h.marked)) h.program) h.tokens_are
 
 -- of two fronts of one list one goes on as the other's rest does
 data Fronts (xs ys us ws : List LocatedToken) : Type 0 where
@@ -149,20 +149,20 @@ one_too_deep before rest front later e d c =
     append_cancel_right before front later (ap (λ ts. before ++ ts) (sym g) ∙ e)
 
 pub program_law : OneProgram
-program_law functions others ts us p q e = one_program p q e
+program_law declarations others ts us p q e = one_program p q e
 
 -- of a tree, an unexpected token and one that opens a level too many, tokens have one alone, and at one place
 pub record OneAnswer : Type 0 where
-  pub tree_or_unexpected : (before rest : List LocatedToken) (functions : List FunctionTree) → HasTree (before ++ rest) functions → IsUnexpected before rest → ⊥
-  pub tree_or_too_deep : (before rest : List LocatedToken) (functions : List FunctionTree) → HasTree (before ++ rest) functions → IsTooDeep before rest → ⊥
+  pub tree_or_unexpected : (before rest : List LocatedToken) (declarations : List WrittenDeclaration) → HasTree (before ++ rest) declarations → IsUnexpected before rest → ⊥
+  pub tree_or_too_deep : (before rest : List LocatedToken) (declarations : List WrittenDeclaration) → HasTree (before ++ rest) declarations → IsTooDeep before rest → ⊥
   pub unexpected_or_too_deep : (before rest front later : List LocatedToken) → before ++ rest ≡ front ++ later → IsUnexpected before rest → IsTooDeep front later → ⊥
   pub one_unexpected : (before rest front later : List LocatedToken) → before ++ rest ≡ front ++ later → IsUnexpected before rest → IsUnexpected front later → before ≡ front
   pub one_too_deep : (before rest front later : List LocatedToken) → before ++ rest ≡ front ++ later → IsTooDeep before rest → IsTooDeep front later → before ≡ front
 
 pub answer_law : OneAnswer
 answer_law = record {
-  tree_or_unexpected = λ before rest functions h u. u.stuck (tree_goes_on before rest functions h);
-  tree_or_too_deep = λ before rest functions h d. never_both 200 (tree_found h).1 (too_deep_fails before rest d);
+  tree_or_unexpected = λ before rest declarations h u. u.stuck (tree_goes_on before rest declarations h);
+  tree_or_too_deep = λ before rest declarations h d. never_both 200 (tree_found h).1 (too_deep_fails before rest d);
   unexpected_or_too_deep = unexpected_or_too_deep;
   one_unexpected = one_unexpected;
   one_too_deep = one_too_deep;

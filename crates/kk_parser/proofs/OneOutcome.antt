@@ -6,7 +6,7 @@ use Rattle.kk_base.specs.declared.error.ParseError.{ParseError}
 use Rattle.kk_base.specs.declared.error.ParseError.TheVariants.{Unexpected, TooDeep, NoMemory}
 use Rattle.kk_base.specs.declared.span.Span.{Span}
 use Rattle.kk_syntax.specs.declared.token.LocatedToken.{LocatedToken}
-use Rattle.kk_syntax.specs.Programs.{FunctionTree, WrittenTree}
+use Rattle.kk_syntax.specs.Surface.{WrittenDeclaration, WrittenTree}
 use Rattle.kk_syntax.specs.TokenList.{TokenList}
 use Rattle.kk_parser.specs.Parses.{HasTree, RefusesTokens, Tells, next_place, ParsesAs}
 use Rattle.kk_parser.proofs.Laws.{program_law, answer_law}
@@ -15,18 +15,18 @@ append_left : {X : Type 0} (before rest later : List X) → before ++ rest ≡ b
 append_left [] rest later e = e
 append_left (x ∷ xs) rest later e = append_left xs rest later cc
 
-same_tree : (a b : WrittenTree) → a.functions ≡ b.functions → a.length ≡ b.length → a ≡ b
-same_tree a b functions length = ap (λ fs. record { functions = fs; length = a.length }) functions ∙ ap (λ n. record { functions = b.functions; length = n }) length
+same_tree : (a b : WrittenTree) → a.declarations ≡ b.declarations → a.length ≡ b.length → a ≡ b
+same_tree a b declarations length = ap (λ fs. record { declarations = fs; length = a.length }) declarations ∙ ap (λ n. record { declarations = b.declarations; length = n }) length
 
 one_tree : (tokens : TokenList) (a b : WrittenTree) → ParsesAs tokens (Ok a) → ParsesAs tokens (Ok b) → b ≡ a
 one_tree tokens a b x y =
-    same_tree b a (program_law b.functions a.functions y.0.marked x.0.marked y.0.program x.0.program (y.0.tokens_are ∙ sym x.0.tokens_are)) (y.1 ∙ sym x.1)
+    same_tree b a (program_law b.declarations a.declarations y.0.marked x.0.marked y.0.program x.0.program (y.0.tokens_are ∙ sym x.0.tokens_are)) (y.1 ∙ sym x.1)
 
 no_error : (tokens : TokenList) (tree : WrittenTree) (error : ParseError) → ParsesAs tokens (Ok tree) → ParsesAs tokens (Err error) → ⊥
 no_error tokens tree (Unexpected index line column) x y =
-    answer_law.tree_or_unexpected y.0 y.1 tree.functions (let P : List LocatedToken → Type 0 = λ ts. HasTree ts tree.functions in subst P (sym y.2) x.0) y.3
+    answer_law.tree_or_unexpected y.0 y.1 tree.declarations (let P : List LocatedToken → Type 0 = λ ts. HasTree ts tree.declarations in subst P (sym y.2) x.0) y.3
 no_error tokens tree (TooDeep index line column) x y =
-    answer_law.tree_or_too_deep y.0 y.1 tree.functions (let P : List LocatedToken → Type 0 = λ ts. HasTree ts tree.functions in subst P (sym y.2) x.0) y.3
+    answer_law.tree_or_too_deep y.0 y.1 tree.declarations (let P : List LocatedToken → Type 0 = λ ts. HasTree ts tree.declarations in subst P (sym y.2) x.0) y.3
 no_error tokens tree NoMemory x y = y
 
 -- of one list, errors at one token tell the same

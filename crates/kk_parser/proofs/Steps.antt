@@ -7,7 +7,7 @@ use Rattle.kk_syntax.specs.declared.token.LocatedToken.{LocatedToken}
 use Rattle.kk_syntax.specs.declared.token.Keyword.{Keyword}
 use Rattle.kk_syntax.specs.declared.token.Symbol.{Symbol}
 use Rattle.kk_syntax.specs.declared.token.Token.TheVariants as OfToken
-use Rattle.kk_syntax.specs.Trees.{Tree}
+use Rattle.kk_syntax.specs.Surface.{Written}
 use Rattle.kk_parser.specs.declared.fault.Fault.{Fault}
 use Rattle.kk_parser.specs.declared.fault.Fault.TheVariants.{Unexpected, TooDeep, NoMemory}
 use Rattle.kk_parser.specs.declared.parser.Parser.{Parser}
@@ -222,7 +222,7 @@ reads_on p q view part says (Ok x) start here next c e r = subst (λ v. Read p v
 reads_on p q view part says (Err e) start here next c d r = passed_on p q start here next c.failed e r
 
 -- one more operator and its operand on the right
-pub continues_left : (p a b : Phrase) (says : Tree → List (PhraseValue (a ▸ b)) → PhraseValue p) (left : Tree) (u : PhraseValue a) (v : PhraseValue b) (next_left : Tree) (start here mid next : Parser) → Continues p (many (a ▸ b)) (says left) start here → is_at (first (a ▸ b)) here.rest.now ≡ true → Read a u here mid → Read b v mid next → ((vs : List (PhraseValue (a ▸ b))) → says left ((u, v) ∷ vs) ≡ says next_left vs) → Continues p (many (a ▸ b)) (says next_left) start next
+pub continues_left : (p a b : Phrase) (says : Written → List (PhraseValue (a ▸ b)) → PhraseValue p) (left : Written) (u : PhraseValue a) (v : PhraseValue b) (next_left : Written) (start here mid next : Parser) → Continues p (many (a ▸ b)) (says left) start here → is_at (first (a ▸ b)) here.rest.now ≡ true → Read a u here mid → Read b v mid next → ((vs : List (PhraseValue (a ▸ b))) → says left ((u, v) ∷ vs) ≡ says next_left vs) → Continues p (many (a ▸ b)) (says next_left) start next
 continues_left p a b says left u v next_left start here mid next c h r s e = record {
   found = λ vs m us t. subst (λ w. Finds 200 p start.depth start.rest.now w m us) (e vs) (c.found ((u, v) ∷ vs) m us (finds_more h (finds_both r s) t));
   failed = λ f t. c.failed f (fails_more h (finds_both r s) t);

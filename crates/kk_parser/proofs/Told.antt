@@ -4,7 +4,7 @@ use Rattle.std.specs.Prelude.{Ok, Err, map}
 use Rattle.kk_base.specs.declared.span.Span.{Span}
 use Rattle.kk_syntax.specs.declared.token.LocatedToken.{LocatedToken}
 use Rattle.kk_syntax.specs.declared.tree.Tree.{Tree}
-use Rattle.kk_syntax.specs.Programs.{FunctionTree, function_tree, written_tree}
+use Rattle.kk_syntax.specs.Surface.{WrittenDeclaration, written_declaration, written_tree}
 use Rattle.kk_syntax.specs.TokenList.{TokenList}
 use Rattle.kk_parser.specs.declared.fault.Fault.{Fault}
 use Rattle.kk_parser.specs.declared.fault.Fault.TheVariants.{Unexpected, TooDeep, NoMemory}
@@ -24,16 +24,16 @@ tells before rest items place e = (passed_is before rest items e, refl, refl)
 
 module _ (tokens : TokenList) where
   -- all was read: it is the tree
-  pub found_all : (tree : Tree) (m : ℕ) (rest : List LocatedToken) → rest ≡ [] → tree.length ≡ tokens.end.at → Finds 200 (rule program) 0 tokens.items (map function_tree tree.functions.items) m rest → AnswersParse tokens (Ok tree)
-  found_all tree m rest e l r = only_outcome tokens (Ok (written_tree tree)) (has_tree (subst (λ us. Finds 200 (rule program) 0 tokens.items (map function_tree tree.functions.items) m us) e r), l)
+  pub found_all : (tree : Tree) (m : ℕ) (rest : List LocatedToken) → rest ≡ [] → tree.length ≡ tokens.end.at → Finds 200 (rule program) 0 tokens.items (map written_declaration tree.declarations.items) m rest → AnswersParse tokens (Ok tree)
+  found_all tree m rest e l r = only_outcome tokens (Ok (written_tree tree)) (has_tree (subst (λ us. Finds 200 (rule program) 0 tokens.items (map written_declaration tree.declarations.items) m us) e r), l)
 
   unexpected_refused : (before rest : List LocatedToken) → before ++ rest ≡ tokens.items → IsUnexpected before rest → AnswersParse tokens (Err (in_u32 (error_for Unexpected (length tokens.items - length rest) (next_place rest tokens.end))))
   unexpected_refused before rest e u = (error_for Unexpected (length tokens.items - length rest) (next_place rest tokens.end), only_outcome tokens _ (before, rest, e, u, tells before rest tokens.items (next_place rest tokens.end) e), refl)
 
   -- tokens were left
-  pub left_answered : (functions : List FunctionTree) (m : ℕ) (rest : List LocatedToken) → (rest ≡ [] → ⊥) → Finds 200 (rule program) 0 tokens.items functions m rest → AnswersParse tokens (Err (in_u32 (error_for Unexpected (length tokens.items - length rest) (next_place rest tokens.end))))
-  left_answered functions m [] h r = absurd (h refl)
-  left_answered functions m (t ∷ rest) h r = let u = finds_unexpected r in unexpected_refused u.0 (t ∷ rest) u.1 u.2
+  pub left_answered : (declarations : List WrittenDeclaration) (m : ℕ) (rest : List LocatedToken) → (rest ≡ [] → ⊥) → Finds 200 (rule program) 0 tokens.items declarations m rest → AnswersParse tokens (Err (in_u32 (error_for Unexpected (length tokens.items - length rest) (next_place rest tokens.end))))
+  left_answered declarations m [] h r = absurd (h refl)
+  left_answered declarations m (t ∷ rest) h r = let u = finds_unexpected r in unexpected_refused u.0 (t ∷ rest) u.1 u.2
 
   -- the reading failed
   pub fault_answered : (old new : Parser) (fault : Fault) → old.depth ≡ 0 → old.rest.now ≡ tokens.items → FailedBy fault (rule program) old new → AnswersParse tokens (Err (in_u32 (error_for fault (length tokens.items - length new.rest.now) (next_place new.rest.now tokens.end))))

@@ -2,7 +2,7 @@
 use Rattle.std.proofs.Common.{◌≡◌, ℕ, ◌+◌, true, List, [], ◌∷◌, ◌++◌, refl, sym, ap, ◌∙◌, subst, inl, inr, append_assoc, arith}
 use Rattle.std.proofs.lemmas.List.{append_cancel_right}
 use Rattle.kk_syntax.specs.declared.token.LocatedToken.{LocatedToken}
-use Rattle.kk_syntax.specs.Programs.{FunctionTree}
+use Rattle.kk_syntax.specs.Surface.{WrittenDeclaration}
 use Rattle.kk_parser.specs.Phrases.{program, Phrase, rule}
 use Rattle.kk_parser.specs.Spells.{Marked, tokens_of, Spells}
 use Rattle.kk_parser.specs.Reading.{Finds, Failure, unexpected, too_deep, ReadingFails}
@@ -46,33 +46,33 @@ reached (behind {x = x} h r) =
     record { rest = s.rest; cut = record { front = x ∷ c.front; marked = ap (λ ys. x ∷ ys) c.marked; tokens = ap (λ ys. x.token ∷ ys) c.tokens; shallow = (h, c.shallow) }; opened = s.opened }
 
 -- what is found whole has a tree
-pub has_tree : {functions : List FunctionTree} {m : ℕ} {ts : List LocatedToken} → Finds 200 (rule program) 0 ts functions m [] → HasTree ts functions
-has_tree {functions} {m} {ts} r =
+pub has_tree : {declarations : List WrittenDeclaration} {m : ℕ} {ts : List LocatedToken} → Finds 200 (rule program) 0 ts declarations m [] → HasTree ts declarations
+has_tree {declarations} {m} {ts} r =
     let s = spelled 200 r (omega arith) [] in
     let c = cut_front s.2 in
     record {
       marked = c.front;
       tokens_are = sym (c.tokens ∙ append_nil (tokens_of c.front));
       shallow = c.shallow;
-      program = (m, subst (λ xs. Spells (rule program) 0 functions m xs []) (c.marked ∙ append_nil c.front) s.1);
+      program = (m, subst (λ xs. Spells (rule program) 0 declarations m xs []) (c.marked ∙ append_nil c.front) s.1);
     }
 
 -- a program whose tokens go on behind some as others do at first
 record Continued (before us : List LocatedToken) : Type 0 where
-  pub functions : List FunctionTree
+  pub declarations : List WrittenDeclaration
   pub marked : List Marked
-  pub program : SpellsProgram functions marked
+  pub program : SpellsProgram declarations marked
   pub rest : List LocatedToken
   pub next : SameNext us rest
   pub tokens : tokens_of marked ≡ before ++ rest
 
 continued : (before us : List LocatedToken) → GoesOn before us → Continued before us
-continued before [] g = record { functions = g.0; marked = g.1; program = g.2; rest = []; next = no_next; tokens = g.3 ∙ sym (append_nil before) }
+continued before [] g = record { declarations = g.0; marked = g.1; program = g.2; rest = []; next = no_next; tokens = g.3 ∙ sym (append_nil before) }
 continued before (t ∷ us) g =
     let front = g.0 in
     let later = g.1.1 in
     record {
-      functions = g.1.0;
+      declarations = g.1.0;
       marked = front ++ later;
       program = g.1.2;
       rest = t ∷ tokens_of later;
@@ -91,7 +91,7 @@ turned_tokens before us rest other r =
     t.2 ∙ ap (λ front. front ++ rest) (sym (append_cancel_right before t.0 us t.1))
 
 -- the reading of a program
-pub program_read : {functions : List FunctionTree} {ts : List Marked} → SpellsProgram functions ts → (limit : ℕ) → (m : ℕ) × Read limit (rule program) 0 functions m ts []
+pub program_read : {declarations : List WrittenDeclaration} {ts : List Marked} → SpellsProgram declarations ts → (limit : ℕ) → (m : ℕ) × Read limit (rule program) 0 declarations m ts []
 program_read p limit = (p.0, read limit p.1 [] true refl (inr (refl, refl)) (omega arith))
 
 unmoved : {p : Phrase} {n : ℕ} {ts us : List LocatedToken} {f : Failure} → ts ≡ us → ReadingFails 200 p n ts f → ReadingFails 200 p n us f
@@ -110,11 +110,11 @@ no_rest t us (u ∷ rest) h e = cc e
 no_rest t us [] h e = elim h [ ]
 
 -- where a program is found before other tokens, no program goes on with the first of them
-stuck_finds : (before : List LocatedToken) (t : LocatedToken) (us : List LocatedToken) {functions : List FunctionTree} {m : ℕ} → Finds 200 (rule program) 0 (before ++ t ∷ us) functions m (t ∷ us) → GoesOn before (t ∷ us) → ⊥
-stuck_finds before t us {functions} {m} r g =
+stuck_finds : (before : List LocatedToken) (t : LocatedToken) (us : List LocatedToken) {declarations : List WrittenDeclaration} {m : ℕ} → Finds 200 (rule program) 0 (before ++ t ∷ us) declarations m (t ∷ us) → GoesOn before (t ∷ us) → ⊥
+stuck_finds before t us {declarations} {m} r g =
     let c = continued before (t ∷ us) g in
     let a = finds_alike 200 r c.next in
-    let s : Finds 200 (rule program) 0 (tokens_of c.marked) functions m c.rest = subst (λ x. Finds 200 (rule program) 0 x functions m c.rest) (turned_tokens before (t ∷ us) c.rest a.before a.turns ∙ sym c.tokens) a.finds in
+    let s : Finds 200 (rule program) 0 (tokens_of c.marked) declarations m c.rest = subst (λ x. Finds 200 (rule program) 0 x declarations m c.rest) (turned_tokens before (t ∷ us) c.rest a.before a.turns ∙ sym c.tokens) a.finds in
     elim (program_read c.program 200).1 [ inl w ↦ no_rest t us c.rest c.next ((same_finds 200 w.finds s).rest) | inr q ↦ never_both 200 s q.fails ]
 
 -- where the reading of a program fails since a token is unexpected, it is the first such token
@@ -137,8 +137,8 @@ fails_unexpected {ts} {us} r =
     )
 
 -- where the reading of a program leaves tokens, the first of them is unexpected
-pub finds_unexpected : {functions : List FunctionTree} {m : ℕ} {ts : List LocatedToken} {t : LocatedToken} {us : List LocatedToken} → Finds 200 (rule program) 0 ts functions m (t ∷ us) → (before : List LocatedToken) × (before ++ t ∷ us ≡ ts) × IsUnexpected before (t ∷ us)
-finds_unexpected {functions} {m} {ts} {t} {us} r =
+pub finds_unexpected : {declarations : List WrittenDeclaration} {m : ℕ} {ts : List LocatedToken} {t : LocatedToken} {us : List LocatedToken} → Finds 200 (rule program) 0 ts declarations m (t ∷ us) → (before : List LocatedToken) × (before ++ t ∷ us ≡ ts) × IsUnexpected before (t ∷ us)
+finds_unexpected {declarations} {m} {ts} {t} {us} r =
     let s = spelled 200 r (omega arith) [] in
     let c = cut_front s.2 in
     let before = tokens_of c.front in (
@@ -148,8 +148,8 @@ finds_unexpected {functions} {m} {ts} {t} {us} r =
         front = c.front;
         tokens_are = refl;
         shallow = c.shallow;
-        begins = (functions, [], (m, subst (λ xs. Spells (rule program) 0 functions m xs []) c.marked s.1));
-        stuck = stuck_finds before t us (subst (λ x. Finds 200 (rule program) 0 x functions m (t ∷ us)) c.tokens r);
+        begins = (declarations, [], (m, subst (λ xs. Spells (rule program) 0 declarations m xs []) c.marked s.1));
+        stuck = stuck_finds before t us (subst (λ x. Finds 200 (rule program) 0 x declarations m (t ∷ us)) c.tokens r);
       },
     )
 
@@ -161,16 +161,16 @@ fails_too_deep {ts} {us} r =
     let s = reached x.2 in
     (tokens_of s.cut.front, sym s.cut.tokens, deep b.value b.levels s.cut.front s.rest s.opened s.cut.shallow (subst (λ xs. Spells (rule program) 0 b.value b.levels xs []) s.cut.marked x.1))
   where
-    deep : (functions : List FunctionTree) (m : ℕ) (front rest : List Marked) → Opened 200 (too_deep us) rest → AtMost 200 front → Spells (rule program) 0 functions m (front ++ rest) [] → IsTooDeep (tokens_of front) us
-    deep functions m front [] o h s = absurd o
-    deep functions m front (x ∷ rest) o h s = record {
+    deep : (declarations : List WrittenDeclaration) (m : ℕ) (front rest : List Marked) → Opened 200 (too_deep us) rest → AtMost 200 front → Spells (rule program) 0 declarations m (front ++ rest) [] → IsTooDeep (tokens_of front) us
+    deep declarations m front [] o h s = absurd o
+    deep declarations m front (x ∷ rest) o h s = record {
       front = front;
       opener = x;
       later = o.1;
       tokens_are = refl;
       next_is = o.2;
       shallow = h;
-      begins = (functions, rest, (m, subst (λ xs. Spells (rule program) 0 functions m xs []) (sym (append_assoc front (x ∷ []) rest)) s));
+      begins = (declarations, rest, (m, subst (λ xs. Spells (rule program) 0 declarations m xs []) (sym (append_assoc front (x ∷ []) rest)) s));
       opens = o.0;
     }
 
@@ -183,16 +183,16 @@ too_many {limit} (all_within {us = us}) o h = here us o h
 too_many (one_within l r) o h = too_many r o h.1
 
 -- a program at whose tokens no more than `limit` levels are open is found
-program_found : (limit : ℕ) {functions : List FunctionTree} {ts : List Marked} → SpellsProgram functions ts → AtMost limit ts → (m : ℕ) × Finds limit (rule program) 0 (tokens_of ts) functions m []
+program_found : (limit : ℕ) {declarations : List WrittenDeclaration} {ts : List Marked} → SpellsProgram declarations ts → AtMost limit ts → (m : ℕ) × Finds limit (rule program) 0 (tokens_of ts) declarations m []
 program_found limit p h =
     let r = program_read p limit in
     (r.0, elim r.1 [ inl w ↦ w.finds | inr q ↦ absurd (too_many q.within q.opens h) ])
 
 -- what has a tree is found whole
-pub tree_found : {functions : List FunctionTree} {ts : List LocatedToken} → HasTree ts functions → (m : ℕ) × Finds 200 (rule program) 0 ts functions m []
-tree_found {functions} {ts} h =
+pub tree_found : {declarations : List WrittenDeclaration} {ts : List LocatedToken} → HasTree ts declarations → (m : ℕ) × Finds 200 (rule program) 0 ts declarations m []
+tree_found {declarations} {ts} h =
     let r = program_found 200 h.program h.shallow in
-    (r.0, subst (λ x. Finds 200 (rule program) 0 x functions r.0 []) h.tokens_are r.1)
+    (r.0, subst (λ x. Finds 200 (rule program) 0 x declarations r.0 []) h.tokens_are r.1)
 
 -- a number of levels that suffices
 abbrev summed : List Marked → ℕ
@@ -204,8 +204,8 @@ at_most_summed [] more = tt
 at_most_summed (t ∷ ts) more = (omega arith, subst (λ limit. AtMost limit ts) (omega arith) (at_most_summed ts (t.levels + more)))
 
 -- tokens spell one program, however deep it is nested
-pub one_program : {functions others : List FunctionTree} {ts us : List Marked} → SpellsProgram functions ts → SpellsProgram others us → tokens_of ts ≡ tokens_of us → functions ≡ others
-one_program {functions} {others} {ts} {us} p q e =
+pub one_program : {declarations others : List WrittenDeclaration} {ts us : List Marked} → SpellsProgram declarations ts → SpellsProgram others us → tokens_of ts ≡ tokens_of us → declarations ≡ others
+one_program {declarations} {others} {ts} {us} p q e =
     let limit = summed ts + summed us in
     let a = program_found limit p (at_most_summed ts (summed us)) in
     let b = program_found limit q (subst (λ limit. AtMost limit us) (omega arith) (at_most_summed us (summed ts))) in

@@ -1,14 +1,16 @@
 -- The grammar: the right side of each production, and what a text of it means.
-use Rattle.std.specs.Prelude.{List, [], ◌∷◌, Option, Some, None, codes}
+use Rattle.std.specs.Prelude.{ℕ, List, [], ◌∷◌, Option, Some, None, codes}
 use Rattle.std.proofs.Common.{inl, inr}
-use Rattle.kk_syntax.specs.Trees.{Tree, number as Number, unary, binary, print as Print, print_text, block as Block, trees_of}
+use Rattle.kk_syntax.specs.Surface.{Written, number as Number, unary, binary, call, print_text, sequence, no_written, written, function_declaration}
 use Rattle.kk_syntax.specs.declared.token.Keyword.TheVariants.{Fun}
 use Rattle.kk_syntax.specs.declared.token.Symbol.TheVariants.{OpenParenthesis, CloseParenthesis, OpenBrace, CloseBrace, Semicolon, Dot, Plus, Minus, Star, Slash, Percent, Tilde}
-use Rattle.kk_syntax.specs.declared.tree.BinaryOperator.{BinaryOperator}
-use Rattle.kk_syntax.specs.declared.tree.BinaryOperator.TheVariants.{Add, Subtract, Multiply, Divide, Remainder}
-use Rattle.kk_syntax.specs.declared.tree.PrintForm.{PrintForm}
-use Rattle.kk_syntax.specs.declared.tree.PrintForm.TheVariants as Form
-use Rattle.kk_syntax.specs.declared.tree.UnaryOperator.TheVariants.{Negate}
+use Rattle.kk_syntax.specs.declared.operator.BinaryOperator.{BinaryOperator}
+use Rattle.kk_syntax.specs.declared.operator.BinaryOperator.TheVariants.{Add, Subtract, Multiply, Divide, Remainder}
+use Rattle.kk_syntax.specs.declared.operator.PrintForm.{PrintForm}
+use Rattle.kk_syntax.specs.declared.operator.PrintForm.TheVariants as Form
+use Rattle.kk_syntax.specs.declared.tree.Identifier.{Identifier}
+use Rattle.kk_syntax.specs.declared.tree.SurfaceBinder.TheVariants.{Nothing}
+use Rattle.kk_syntax.specs.declared.operator.UnaryOperator.TheVariants.{Negate}
 use Rattle.kk_parser.specs.Kinds.{keyword, symbol, word, number, string}
 use Rattle.kk_parser.specs.Phrases.{Nonterminal, program, main_function, block, statement, print, said, expr, add, mul, un, atom, Meant, Phrase, token, opener, ◌▸◌, either, many, optional, level, rule, PhraseValue}
 
@@ -61,10 +63,19 @@ production un = either (opener (symbol Tilde) ▸ rule un) (rule atom)
 -- atom = number | "(" expr ")"
 production atom = either (token number) (bracketed (rule expr))
 
--- the form of a print
+-- the form of a print, and the byte where its word stands
 abbrev pub print_form : PhraseValue print_word → PrintForm
 print_form (inl at) = Form.Print
 print_form (inr at) = Form.PrintLine
+
+abbrev pub print_at : PhraseValue print_word → ℕ
+print_at (inl at) = at
+print_at (inr at) = at
+
+-- the word of a print
+abbrev pub print_name : PrintForm → List ℕ
+print_name Form.Print = codes "print"
+print_name Form.PrintLine = codes "println"
 
 -- the operator of a sum
 abbrev pub sum_operator_of : PhraseValue sum_operator → BinaryOperator
@@ -78,41 +89,31 @@ product_operator_of (inr (inl _)) = Divide
 product_operator_of (inr (inr _)) = Remainder
 
 -- operators of one level of precedence group to the left
-abbrev pub to_left : {A : Type 0} → (A → BinaryOperator) → Tree → List (A × Tree) → Tree
+abbrev pub to_left : {A : Type 0} → (A → BinaryOperator) → Written → List (A × Written) → Written
 to_left operator left [] = left
 to_left operator left ((a, right) ∷ more) = to_left operator (binary (operator a) left right) more
 
 -- the statements that stand behind semicolons
-abbrev pub those_given : List (Unit {0} × Option Tree) → List Tree
+abbrev pub those_given : List (Unit {0} × Option Written) → List Written
 those_given [] = []
 those_given ((_, None) ∷ more) = those_given more
 those_given ((_, Some t) ∷ more) = t ∷ those_given more
 
--- all but the last of some trees, the first given apart
-abbrev pub all_but_last : Tree → List Tree → List Tree
-all_but_last first [] = []
-all_but_last first (t ∷ ts) = first ∷ all_but_last t ts
-
--- the last of some trees, the first given apart
-abbrev pub last_of : Tree → List Tree → Tree
-last_of first [] = first
-last_of first (t ∷ ts) = last_of t ts
-
--- statements and the value behind them; a value without statements is no block
-abbrev pub block_of : List Tree → Tree → Tree
-block_of [] value = value
-block_of (t ∷ ts) value = Block (trees_of (t ∷ ts)) value
+-- statements one behind the other, of which the last is the value; a value alone is no block
+abbrev pub in_order : Written → List Written → Written
+in_order first [] = first
+in_order first (t ∷ ts) = sequence Nothing first (in_order t ts)
 
 -- what a text of a production means
 abbrev pub meaning : (x : Nonterminal) → PhraseValue (production x) → Meant x
 meaning program (_, None) = []
 meaning program (_, Some (function, _)) = function ∷ []
-meaning main_function (_, (at, (_, (_, body)))) = record { name = codes "main"; at = at; body = body }
-meaning block (_, (_, (first, (more, _)))) = block_of (all_but_last first (those_given more)) (last_of first (those_given more))
+meaning main_function (_, (at, (_, (_, body)))) = function_declaration (record { name = codes "main"; at = at }) [] [] None body
+meaning block (_, (_, (first, (more, _)))) = in_order first (those_given more)
 meaning statement (inl t) = t
 meaning statement (inr t) = t
 meaning print (form, (_, (inl text, _))) = print_text (print_form form) text
-meaning print (form, (_, (inr value, _))) = Print (print_form form) value
+meaning print (form, (_, (inr value, _))) = call (record { name = print_name (print_form form); at = print_at form }) (written value no_written)
 meaning said (text, (_, (form, _))) = print_text (print_form form) text
 meaning expr t = t
 meaning add (left, more) = to_left sum_operator_of left more

@@ -7,34 +7,34 @@ use Rattle.kk_base.specs.declared.error.ParseError.{ParseError}
 use Rattle.kk_base.specs.declared.error.ParseError.TheVariants.{Unexpected, TooDeep, NoMemory}
 use Rattle.kk_syntax.specs.declared.token.LocatedToken.{LocatedToken}
 use Rattle.kk_syntax.specs.declared.tree.Tree.{Tree}
-use Rattle.kk_syntax.specs.Programs.{FunctionTree, WrittenTree, written_tree}
+use Rattle.kk_syntax.specs.Surface.{WrittenDeclaration, WrittenTree, written_tree}
 use Rattle.kk_syntax.specs.TokenList.{TokenList}
 use Rattle.kk_parser.specs.Phrases.{program, rule}
 use Rattle.kk_parser.specs.Spells.{Marked, tokens_of, Spells}
 
--- marked tokens that are a program with these functions
-abbrev pub SpellsProgram : List FunctionTree → List Marked → Type 0
-SpellsProgram functions ts = (m : ℕ) × Spells (rule program) 0 functions m ts []
+-- marked tokens that are a program with these declarations
+abbrev pub SpellsProgram : List WrittenDeclaration → List Marked → Type 0
+SpellsProgram declarations ts = (m : ℕ) × Spells (rule program) 0 declarations m ts []
 
 -- marked tokens that begin a program
 abbrev pub BeginsProgram : List Marked → Type 0
-BeginsProgram front = (functions : List FunctionTree) × (rest : List Marked) × SpellsProgram functions (front ++ rest)
+BeginsProgram front = (declarations : List WrittenDeclaration) × (rest : List Marked) × SpellsProgram declarations (front ++ rest)
 
 -- no more than so many levels are open at each token
 abbrev pub AtMost : ℕ → List Marked → Type 0
 AtMost limit [] = Unit {0}
 AtMost limit (t ∷ ts) = (t.levels ≤ limit) × AtMost limit ts
 
--- the tokens are a program with these functions, within 200 open levels
-pub record HasTree (tokens : List LocatedToken) (functions : List FunctionTree) : Type 0 where
+-- the tokens are a program with these declarations, within 200 open levels
+pub record HasTree (tokens : List LocatedToken) (declarations : List WrittenDeclaration) : Type 0 where
   pub marked : List Marked
   pub tokens_are : tokens_of marked ≡ tokens
   pub shallow : AtMost 200 marked
-  pub program : SpellsProgram functions marked
+  pub program : SpellsProgram declarations marked
 
 -- behind these tokens some program goes on with the first of `rest`; where there is none, some program ends
 abbrev pub GoesOn : List LocatedToken → List LocatedToken → Type 0
-GoesOn before [] = (functions : List FunctionTree) × (ts : List Marked) × SpellsProgram functions ts × (tokens_of ts ≡ before)
+GoesOn before [] = (declarations : List WrittenDeclaration) × (ts : List Marked) × SpellsProgram declarations ts × (tokens_of ts ≡ before)
 GoesOn before (t ∷ rest) = (front : List Marked) × BeginsProgram front × (tokens_of front ≡ before ++ t ∷ [])
 
 -- The first of `rest` behind these tokens, or the end, is the first that is unexpected: the tokens before it begin a
@@ -81,7 +81,7 @@ in_u32 NoMemory = NoMemory
 -- What a list of tokens comes to: the tree that it spells, whose length is that of the text, or the first place at which
 -- it is no program.
 abbrev pub ParsesAs : TokenList → Result WrittenTree ParseError → Type 0
-ParsesAs tokens (Ok tree) = HasTree tokens.items tree.functions × (tree.length ≡ tokens.end.at)
+ParsesAs tokens (Ok tree) = HasTree tokens.items tree.declarations × (tree.length ≡ tokens.end.at)
 ParsesAs tokens (Err error) = RefusesTokens tokens.items tokens.end error
 
 -- an answer is what the tokens come to, as nothing else is, unless memory ran out
@@ -96,4 +96,4 @@ EachListIsParsed = (tokens : TokenList) → ExactlyOne (ParsesAs tokens)
 
 -- tokens spell one program, however deep it is nested
 abbrev pub OneProgram : Type 0
-OneProgram = (functions others : List FunctionTree) (ts us : List Marked) → SpellsProgram functions ts → SpellsProgram others us → tokens_of ts ≡ tokens_of us → functions ≡ others
+OneProgram = (declarations others : List WrittenDeclaration) (ts us : List Marked) → SpellsProgram declarations ts → SpellsProgram others us → tokens_of ts ≡ tokens_of us → declarations ≡ others

@@ -1,7 +1,7 @@
 -- The phrases of which the right sides of productions are made, as in extended Backus-Naur form.
 use Rattle.std.specs.Prelude.{List, Option, ◌⊎◌}
-use Rattle.kk_syntax.specs.Trees.{Tree}
-use Rattle.kk_syntax.specs.Programs.{FunctionTree}
+use Rattle.kk_syntax.specs.Surface.{Written}
+use Rattle.kk_syntax.specs.Surface.{WrittenDeclaration}
 use Rattle.kk_parser.specs.Kinds.{Kind, Said}
 
 -- the names on the left sides of productions
@@ -10,9 +10,9 @@ pub data Nonterminal : Type 0 where
 
 -- what the text of a nonterminal means
 abbrev pub Meant : Nonterminal → Type 0
-Meant program = List FunctionTree
-Meant main_function = FunctionTree
-Meant _ = Tree
+Meant program = List WrittenDeclaration
+Meant main_function = WrittenDeclaration
+Meant _ = Written
 
 infixr 20 ◌▸◌
 -- a token; a token that opens a level of nesting; a phrase and behind it another; one of two; none or more; none or

@@ -1,5 +1,5 @@
 -- How a phrase is read from the left with one token of lookahead, whatever the grammar: what is found, or where the
--- reading fails. The parser's own functions are stated by it; what it has to do with spelling is proved.
+-- reading fails. The parser's own declarations are stated by it; what it has to do with spelling is proved.
 use Rattle.std.specs.Prelude.{◌≡◌, ℕ, ◌+◌, ◌<◌, ◌≤◌, List, [], ◌∷◌, ◌++◌, Some, None, Bool, true, false, if◌then◌else◌, codes}
 use Rattle.std.proofs.Common.{inl, inr}
 use Rattle.kk_syntax.specs.declared.token.LocatedToken.{LocatedToken}

@@ -1,6 +1,6 @@
 ghost use Rattle.std.specs.Prelude.{◌≡◌, ◌≤◌, ◌∷◌, [], length, map, IfOk};
-ghost use Rattle.kk_syntax.specs.Trees.{expr_tree, print as OfPrint};
-ghost use Rattle.kk_parser.specs.Grammar.{print_word, print_form, no_arguments, block_of};
+ghost use Rattle.kk_syntax.specs.Surface.{written_expr, written_statement, block_of, call, written, no_written};
+ghost use Rattle.kk_parser.specs.Grammar.{print_word, print_form, print_at, print_name, no_arguments};
 ghost use Rattle.kk_parser.specs.Kinds.{string, is_at};
 ghost use Rattle.kk_parser.specs.Methods.{ReadsPhrase, ReadsFor, ReadsIfNext};
 ghost use Rattle.kk_parser.specs.Reading.{first};
@@ -8,14 +8,14 @@ ghost use Rattle.kk_parser.specs.Phrases.{token, optional, rule, block as OfBloc
 
 use crate::fault::Fault;
 use crate::parser::Parser;
-use kk_base::NoMemory;
-use kk_syntax::{Expr, PrintForm, StringLiteral, Symbol, Token};
+use kk_base::{Name, NoMemory};
+use kk_syntax::{Identifier, PrintForm, StringLiteral, SurfaceBinder, SurfaceExpr, SurfaceStatement, Symbol, Token};
 use std::alloc::Global;
 
 impl<'a> Parser<'a> {
     /// `block = "{" ;* statement { ";" [ statement ] } "}"`
-    pub fn block(&mut self) -> Result<Expr, Fault>
-        ensures reads { ReadsPhrase (rule OfBlock) expr_tree result self.old self.new }
+    pub fn block(&mut self) -> Result<SurfaceExpr, Fault>
+        ensures reads { ReadsPhrase (rule OfBlock) written_expr result self.old self.new }
         ensures left { length self.new.rest.now ≤ length self.old.rest.now }
     {
         self.open(Symbol::OpenBrace)?;
@@ -25,7 +25,10 @@ impl<'a> Parser<'a> {
         while self.is_at(Symbol::Semicolon) {
             self.advance();
             if self.is_at_statement() {
-                match statements.push(value) {
+                match statements.push(SurfaceStatement {
+                    binder: SurfaceBinder::Nothing,
+                    value,
+                }) {
                     Ok(()) => {}
                     Err(_) => return Err(Fault::NoMemory),
                 }
@@ -44,8 +47,8 @@ impl<'a> Parser<'a> {
     }
 
     /// `statement = said | print`: the levels end that it opens.
-    fn statement(&mut self) -> Result<Expr, Fault>
-        ensures reads { ReadsPhrase (rule OfStatement) expr_tree result self.old self.new }
+    fn statement(&mut self) -> Result<SurfaceExpr, Fault>
+        ensures reads { ReadsPhrase (rule OfStatement) written_expr result self.old self.new }
         ensures left { length self.new.rest.now ≤ length self.old.rest.now }
     {
         let depth = self.depth;
@@ -60,33 +63,33 @@ impl<'a> Parser<'a> {
     }
 
     /// `print = ( "print" | "println" ) "(" ( string | expr ) ")"`
-    fn print(&mut self) -> Result<Expr, Fault>
-        ensures reads { ReadsPhrase (rule PrintRule) expr_tree result self.old self.new }
+    fn print(&mut self) -> Result<SurfaceExpr, Fault>
+        ensures reads { ReadsPhrase (rule PrintRule) written_expr result self.old self.new }
         ensures left { length self.new.rest.now ≤ length self.old.rest.now }
     {
-        let form = self.print_form()?;
+        let (form, at) = self.print_word()?;
         self.open(Symbol::OpenParenthesis)?;
         if let Some(text) = self.string()? {
             self.expect(Symbol::CloseParenthesis)?;
-            return Ok(Expr::PrintText(form, text));
+            return Ok(SurfaceExpr::PrintText(form, text));
         }
         let value = self.expr()?;
         self.expect(Symbol::CloseParenthesis)?;
-        Ok(print_of(self.alloc, form, value)?)
+        Ok(print_call(self.alloc, form, at, value)?)
     }
 
     /// `said = string "." ( "print" | "println" ) [ "(" ")" ]`
-    fn said(&mut self) -> Result<Expr, Fault>
-        ensures reads { ReadsPhrase (rule OfSaid) expr_tree result self.old self.new }
+    fn said(&mut self) -> Result<SurfaceExpr, Fault>
+        ensures reads { ReadsPhrase (rule OfSaid) written_expr result self.old self.new }
         ensures left { length self.new.rest.now ≤ length self.old.rest.now }
     {
         let Some(text) = self.string()? else {
             return Err(Fault::Unexpected);
         };
         self.open(Symbol::Dot)?;
-        let form = self.print_form()?;
+        let (form, _) = self.print_word()?;
         self.no_arguments()?;
-        Ok(Expr::PrintText(form, text))
+        Ok(SurfaceExpr::PrintText(form, text))
     }
 
     /// `[ "(" ")" ]`
@@ -102,20 +105,20 @@ impl<'a> Parser<'a> {
         Ok(())
     }
 
-    /// `"print" | "println"`
-    fn print_form(&mut self) -> Result<PrintForm, Fault>
-        ensures reads { ReadsFor print_word print_form result self.old self.new }
+    /// `"print" | "println"`, with the byte where the word stands.
+    fn print_word(&mut self) -> Result<(PrintForm, u32), Fault>
+        ensures reads { ReadsFor print_word (λ word. (print_form word, print_at word)) result self.old self.new }
         ensures left { length self.new.rest.now ≤ length self.old.rest.now }
     {
-        let form = if self.is_at_word("print") {
-            PrintForm::Print
-        } else if self.is_at_word("println") {
-            PrintForm::PrintLine
-        } else {
-            return Err(Fault::Unexpected);
-        };
-        self.advance();
-        Ok(form)
+        if let Some(at) = self.word_at("print") {
+            self.advance();
+            return Ok((PrintForm::Print, at));
+        }
+        if let Some(at) = self.word_at("println") {
+            self.advance();
+            return Ok((PrintForm::PrintLine, at));
+        }
+        Err(Fault::Unexpected)
     }
 
     /// A copy of a string, where one is next.
@@ -138,24 +141,45 @@ impl<'a> Parser<'a> {
 }
 
 // Statements and the value behind them; a value without statements is no block.
-fn block_of(alloc: Global, statements: Vec<Expr>, value: Expr) -> Result<Expr, NoMemory>
-    ensures { IfOk result (λ e. expr_tree e ≡ block_of (map expr_tree statements.items) (expr_tree value)) }
+fn block_of(
+    alloc: Global,
+    statements: Vec<SurfaceStatement>,
+    value: SurfaceExpr,
+) -> Result<SurfaceExpr, NoMemory>
+    ensures { IfOk result (λ e. written_expr e ≡ block_of (map written_statement statements.items) (written_expr value)) }
 {
     if statements.is_empty() {
         return Ok(value);
     }
     match Box::new(alloc, value) {
-        Ok(value) => Ok(Expr::Block(statements, value)),
+        Ok(value) => Ok(SurfaceExpr::Block(statements, value)),
         Err(_) => Err(NoMemory),
     }
 }
 
-// A print of a number.
-fn print_of(alloc: Global, form: PrintForm, value: Expr) -> Result<Expr, NoMemory>
-    ensures { IfOk result (λ e. expr_tree e ≡ OfPrint form (expr_tree value)) }
+// The call that prints a number; its word stands at a byte.
+fn print_call(
+    alloc: Global,
+    form: PrintForm,
+    at: u32,
+    value: SurfaceExpr,
+) -> Result<SurfaceExpr, NoMemory>
+    ensures { IfOk result (λ e. written_expr e
+        ≡ call (record { name = print_name form; at = at }) (written (written_expr value) no_written)) }
 {
-    match Box::new(alloc, value) {
-        Ok(value) => Ok(Expr::Print(form, value)),
-        Err(_) => Err(NoMemory),
-    }
+    let name = print_name(alloc, form)?;
+    let mut arguments = Vec::new(alloc);
+    arguments.push(value)?;
+    Ok(SurfaceExpr::Call(Identifier { name, at }, arguments))
+}
+
+// The word of a print.
+fn print_name(alloc: Global, form: PrintForm) -> Result<Name, NoMemory>
+    ensures { IfOk result (λ name. name ≡ print_name form) }
+{
+    let spelling = match form {
+        PrintForm::Print => String::from_str(alloc, "print")?,
+        PrintForm::PrintLine => String::from_str(alloc, "println")?,
+    };
+    Ok(Name::new(spelling))
 }

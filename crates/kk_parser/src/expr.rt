@@ -1,5 +1,5 @@
 ghost use Rattle.std.specs.Prelude.{◌≡◌, ◌+◌, ◌≤◌, length, IsSome, IfOk, OnOk};
-ghost use Rattle.kk_syntax.specs.Trees.{expr_tree, unary as OfUnary, binary as OfBinary};
+ghost use Rattle.kk_syntax.specs.Surface.{written_expr, unary as OfUnary, binary as OfBinary};
 ghost use Rattle.kk_parser.specs.Grammar.{sum_operator, sum_operator_of, product_operator, product_operator_of};
 ghost use Rattle.kk_parser.specs.Kinds.{number};
 ghost use Rattle.kk_parser.specs.Methods.{ReadsPhrase, ReadsIfNext, TakesIfNext};
@@ -8,14 +8,14 @@ ghost use Rattle.kk_parser.specs.Phrases.{token, rule, expr as OfExpr, add as Of
 use crate::fault::Fault;
 use crate::parser::Parser;
 use kk_base::NoMemory;
-use kk_syntax::{BinaryOperator, Expr, Symbol, Token, UnaryOperator};
+use kk_syntax::{BinaryOperator, SurfaceExpr, Symbol, Token, UnaryOperator};
 use std::alloc::Global;
 
 impl<'a> Parser<'a> {
     /// `expr = add`: the levels end that it opens.
     #[cycle(expr)]
-    pub fn expr(&mut self) -> Result<Expr, Fault>
-        ensures reads { ReadsPhrase (rule OfExpr) expr_tree result self.old self.new }
+    pub fn expr(&mut self) -> Result<SurfaceExpr, Fault>
+        ensures reads { ReadsPhrase (rule OfExpr) written_expr result self.old self.new }
         ensures depth { OnOk result (self.new.depth ≡ self.old.depth) }
         ensures left { length self.new.rest.now ≤ length self.old.rest.now }
     {
@@ -27,8 +27,8 @@ impl<'a> Parser<'a> {
 
     /// `add = mul { ( "+" | "-" ) mul }`, to the left.
     #[cycle(expr)]
-    fn add(&mut self) -> Result<Expr, Fault>
-        ensures reads { ReadsPhrase (rule OfAdd) expr_tree result self.old self.new }
+    fn add(&mut self) -> Result<SurfaceExpr, Fault>
+        ensures reads { ReadsPhrase (rule OfAdd) written_expr result self.old self.new }
         ensures depth { OnOk result (self.old.depth ≤ self.new.depth) }
         ensures left { length self.new.rest.now ≤ length self.old.rest.now }
     {
@@ -42,8 +42,8 @@ impl<'a> Parser<'a> {
 
     /// `mul = un { ( "*" | "/" | "%" ) un }`, to the left.
     #[cycle(expr)]
-    fn mul(&mut self) -> Result<Expr, Fault>
-        ensures reads { ReadsPhrase (rule OfMul) expr_tree result self.old self.new }
+    fn mul(&mut self) -> Result<SurfaceExpr, Fault>
+        ensures reads { ReadsPhrase (rule OfMul) written_expr result self.old self.new }
         ensures depth { OnOk result (self.old.depth ≤ self.new.depth) }
         ensures left { length self.new.rest.now ≤ length self.old.rest.now }
     {
@@ -57,8 +57,8 @@ impl<'a> Parser<'a> {
 
     /// `un = "~" un | atom`
     #[cycle(expr)]
-    fn un(&mut self) -> Result<Expr, Fault>
-        ensures reads { ReadsPhrase (rule OfUn) expr_tree result self.old self.new }
+    fn un(&mut self) -> Result<SurfaceExpr, Fault>
+        ensures reads { ReadsPhrase (rule OfUn) written_expr result self.old self.new }
         ensures depth { OnOk result (self.old.depth ≤ self.new.depth) }
         ensures left { length self.new.rest.now ≤ length self.old.rest.now }
     {
@@ -72,13 +72,13 @@ impl<'a> Parser<'a> {
 
     /// `atom = number | "(" expr ")"`
     #[cycle(expr)]
-    fn atom(&mut self) -> Result<Expr, Fault>
-        ensures reads { ReadsPhrase (rule OfAtom) expr_tree result self.old self.new }
+    fn atom(&mut self) -> Result<SurfaceExpr, Fault>
+        ensures reads { ReadsPhrase (rule OfAtom) written_expr result self.old self.new }
         ensures depth { OnOk result (self.old.depth ≤ self.new.depth) }
         ensures left { length self.new.rest.now ≤ length self.old.rest.now }
     {
         if let Some(value) = self.number() {
-            return Ok(Expr::Number(value));
+            return Ok(SurfaceExpr::Number(value));
         }
         self.open(Symbol::OpenParenthesis)?;
         let inner = self.expr()?;
@@ -147,11 +147,11 @@ impl<'a> Parser<'a> {
 }
 
 // An operator on an operand.
-fn unary(alloc: Global, operator: UnaryOperator, operand: Expr) -> Result<Expr, NoMemory>
-    ensures { IfOk result (λ e. expr_tree e ≡ OfUnary operator (expr_tree operand)) }
+fn unary(alloc: Global, operator: UnaryOperator, operand: SurfaceExpr) -> Result<SurfaceExpr, NoMemory>
+    ensures { IfOk result (λ e. written_expr e ≡ OfUnary operator (written_expr operand)) }
 {
     match Box::new(alloc, operand) {
-        Ok(operand) => Ok(Expr::Unary(operator, operand)),
+        Ok(operand) => Ok(SurfaceExpr::Unary(operator, operand)),
         Err(_) => Err(NoMemory),
     }
 }
@@ -160,13 +160,13 @@ fn unary(alloc: Global, operator: UnaryOperator, operand: Expr) -> Result<Expr, 
 fn binary(
     alloc: Global,
     operator: BinaryOperator,
-    left: Expr,
-    right: Expr,
-) -> Result<Expr, NoMemory>
-    ensures { IfOk result (λ e. expr_tree e ≡ OfBinary operator (expr_tree left) (expr_tree right)) }
+    left: SurfaceExpr,
+    right: SurfaceExpr,
+) -> Result<SurfaceExpr, NoMemory>
+    ensures { IfOk result (λ e. written_expr e ≡ OfBinary operator (written_expr left) (written_expr right)) }
 {
     match (Box::new(alloc, left), Box::new(alloc, right)) {
-        (Ok(left), Ok(right)) => Ok(Expr::Binary(operator, left, right)),
+        (Ok(left), Ok(right)) => Ok(SurfaceExpr::Binary(operator, left, right)),
         _ => Err(NoMemory),
     }
 }

@@ -1,6 +1,6 @@
-ghost use Rattle.std.specs.Prelude.{◌≡◌, ℕ, ◌+◌, ◌<◌, ◌≤◌, ◌∷◌, [], length, IsTrue, OnOk};
+ghost use Rattle.std.specs.Prelude.{◌≡◌, ℕ, ◌+◌, ◌<◌, ◌≤◌, ◌∷◌, [], length, IsTrue, IsSome, OnOk};
 ghost use Rattle.kk_parser.specs.Grammar.{semicolons};
-ghost use Rattle.kk_parser.specs.Kinds.{keyword, symbol as OfSymbol, word, string, is_at};
+ghost use Rattle.kk_parser.specs.Kinds.{keyword, symbol as OfSymbol, word, string, next_says, is_at};
 ghost use Rattle.kk_parser.specs.Methods.{behind, Read, ReadsPhrase, Deepens};
 ghost use Rattle.kk_parser.specs.Phrases.{token, opener, PhraseValue};
 
@@ -52,15 +52,28 @@ impl<'a> Parser<'a> {
 
     /// Whether the next token is the name of this spelling.
     pub fn is_at_word(&self, spelling: &str) -> bool
-        ensures value { result ≡ is_at (word spelling.now ∷ []) self.now.rest.now }
-        ensures there { IsTrue result → 0 < length self.now.rest.now }
+        ensures { result ≡ is_at (word spelling.now ∷ []) self.now.rest.now }
+    {
+        self.word_at(spelling).is_some()
+    }
+
+    /// The byte of the next token, where it is the name of this spelling.
+    pub fn word_at(&self, spelling: &str) -> Option<u32>
+        ensures value { result ≡ next_says (word spelling.now) self.now.rest.now }
+        ensures there { IsSome result → 0 < length self.now.rest.now }
     {
         match self.rest.first() {
             Some(next) => match &next.token {
-                Token::Name(name) => name.as_str() == spelling,
-                _ => false,
+                Token::Name(name) => {
+                    if name.as_str() == spelling {
+                        Some(next.span.at)
+                    } else {
+                        None
+                    }
+                }
+                _ => None,
             },
-            None => false,
+            None => None,
         }
     }
 

@@ -1,6 +1,6 @@
-ghost use Rattle.std.specs.Prelude.{◌≡◌, ◌-◌, ◌≤◌, length, map, All, IfOk, codes};
-ghost use Rattle.kk_syntax.specs.Programs.{function_tree};
-ghost use Rattle.kk_syntax.specs.Shapes.{nodes_of};
+ghost use Rattle.std.specs.Prelude.{◌≡◌, ◌-◌, ◌≤◌, [], None, length, map, All, IfOk, codes};
+ghost use Rattle.kk_syntax.specs.Surface.{written_declaration, written_expr, function_declaration};
+ghost use Rattle.kk_syntax.specs.WrittenNodes.{nodes_in};
 ghost use Rattle.kk_parser.specs.Kinds.{word};
 ghost use Rattle.kk_parser.specs.Methods.{ReadsPhrase, ReadsFor, error_for};
 ghost use Rattle.kk_parser.specs.Parses.{AnswersParse, EachListIsParsed, OneProgram, in_u32, next_place};
@@ -8,8 +8,11 @@ ghost use Rattle.kk_parser.specs.Phrases.{token, rule, program as OfProgram, mai
 
 use crate::fault::Fault;
 use crate::parser::Parser;
-use kk_base::{Name, ParseError, Span};
-use kk_syntax::{Function, Keyword, LocatedToken, Symbol, Token, Tokens, Tree};
+use kk_base::{ParseError, Span};
+use kk_syntax::{
+    Declaration, FunctionDeclaration, Identifier, Keyword, LocatedToken, SurfaceExpr, Symbol, Token,
+    Tokens, Tree,
+};
 use std::alloc::Global;
 
 /// The tree that the tokens spell.
@@ -19,9 +22,9 @@ use std::alloc::Global;
 pub fn parse(alloc: Global, tokens: &Tokens) -> Result<Tree, ParseError>
     ensures parsed { AnswersParse tokens.now result }
 
-    // A body has no more nodes than the text has tokens.
+    // A declaration has no more nodes than the text has tokens.
     ensures few_nodes { IfOk result (λ tree.
-        All (λ function. nodes_of function.body ≤ length tokens.now.items) (map function_tree tree.functions.items)) }
+        All (λ declaration. nodes_in declaration ≤ length tokens.now.items) (map written_declaration tree.declarations.items)) }
 {
     let mut parser = Parser {
         alloc,
@@ -29,10 +32,10 @@ pub fn parse(alloc: Global, tokens: &Tokens) -> Result<Tree, ParseError>
         depth: 0,
     };
     match parser.program() {
-        Ok(functions) => {
+        Ok(declarations) => {
             if parser.rest.is_empty() {
                 Ok(Tree {
-                    functions,
+                    declarations,
                     length: tokens.end().at,
                 })
             } else {
@@ -79,42 +82,42 @@ fn error_at(fault: Fault, tokens: &Tokens, left: &[LocatedToken]) -> ParseError
 
 impl<'a> Parser<'a> {
     /// `program = ;* [ main_function ;* ]`
-    fn program(&mut self) -> Result<Vec<Function>, Fault>
-        ensures reads { ReadsPhrase (rule OfProgram) (λ functions. map function_tree functions.items) result self.old self.new }
+    fn program(&mut self) -> Result<Vec<Declaration>, Fault>
+        ensures reads { ReadsPhrase (rule OfProgram) (λ declarations. map written_declaration declarations.items) result self.old self.new }
         ensures left { length self.new.rest.now ≤ length self.old.rest.now }
     {
         self.skip_semicolons();
-        let mut functions = Vec::new(self.alloc);
+        let mut declarations = Vec::new(self.alloc);
         if !self.is_at_keyword(Keyword::Fun) {
-            return Ok(functions);
+            return Ok(declarations);
         }
         let function = self.main_function()?;
-        match functions.push(function) {
+        match declarations.push(function) {
             Ok(()) => {}
             Err(_) => return Err(Fault::NoMemory),
         }
         self.skip_semicolons();
-        Ok(functions)
+        Ok(declarations)
     }
 
     /// `main_function = "fun" "main" "(" ")" block`: the levels end that it opens.
-    fn main_function(&mut self) -> Result<Function, Fault>
-        ensures reads { ReadsPhrase (rule OfMain) function_tree result self.old self.new }
+    fn main_function(&mut self) -> Result<Declaration, Fault>
+        ensures reads { ReadsPhrase (rule OfMain) written_declaration result self.old self.new }
         ensures left { length self.new.rest.now ≤ length self.old.rest.now }
     {
         let depth = self.depth;
         self.expect_keyword(Keyword::Fun)?;
-        let (name, at) = self.main_name()?;
+        let name = self.main_name()?;
         self.open(Symbol::OpenParenthesis)?;
         self.expect(Symbol::CloseParenthesis)?;
         let body = self.block()?;
         self.depth = depth;
-        Ok(Function { name, at, body })
+        Ok(main_of(self.alloc, name, body))
     }
 
-    /// The name `main`, with the byte where it stands.
-    fn main_name(&mut self) -> Result<(Name, u32), Fault>
-        ensures reads { ReadsFor (token (word (codes "main"))) (λ at. (codes "main", at)) result self.old self.new }
+    /// The name `main`.
+    fn main_name(&mut self) -> Result<Identifier, Fault>
+        ensures reads { ReadsFor (token (word (codes "main"))) (λ at. record { name = codes "main"; at = at }) result self.old self.new }
         ensures left { length self.new.rest.now ≤ length self.old.rest.now }
     {
         match self.rest.first() {
@@ -126,11 +129,24 @@ impl<'a> Parser<'a> {
                     let name = name.copied(self.alloc)?;
                     let at = next.span.at;
                     self.advance();
-                    Ok((name, at))
+                    Ok(Identifier { name, at })
                 }
                 _ => Err(Fault::Unexpected),
             },
             None => Err(Fault::Unexpected),
         }
     }
+}
+
+// The declaration of a function without parameters and without a written type.
+fn main_of(alloc: Global, name: Identifier, body: SurfaceExpr) -> Declaration
+    ensures { written_declaration result ≡ function_declaration name [] [] None (written_expr body) }
+{
+    Declaration::Function(FunctionDeclaration {
+        name,
+        parameters: Vec::new(alloc),
+        effects: Vec::new(alloc),
+        result: None,
+        body,
+    })
 }

@@ -7,3 +7,4 @@ pub mod Surface
 pub mod TokenList
 pub mod Trees
 pub mod Types
+pub mod WrittenNodes

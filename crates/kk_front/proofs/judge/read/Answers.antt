@@ -15,15 +15,15 @@ returns-in-Err-parse-clause-err c =
 
 pub returns-in-Err-resolve-clause-err : goal.returns-in-Err-resolve-clause-err
 returns-in-Err-resolve-clause-err c =
-    unnamed_judged c.args.text.now c.in-Ok.ensures c.in-Ok-tokens.tokens c.in-Ok-tokens.ensures.reading c.in-Ok-tokens.ensures.few c.in-Ok-parse.tree c.in-Ok-parse.ensures.parsed c.in-Err-resolve.error c.in-Err-resolve.ensures
+    unnamed_judged c.args.text.now c.in-Ok.ensures c.in-Ok-tokens.tokens c.in-Ok-tokens.ensures.reading c.in-Ok-tokens.ensures.few c.in-Ok-parse.tree c.in-Ok-parse.ensures.parsed c.in-Err-resolve.error c.in-Err-resolve.ensures.resolved
 
 pub returns-in-Ok-check_nodes-clause-ok : goal.returns-in-Ok-check_nodes-clause-ok
 returns-in-Ok-check_nodes-clause-ok c =
-    accepted_judged c.args.text.now c.in-Ok.ensures c.in-Ok-tokens.tokens c.in-Ok-tokens.ensures.reading c.in-Ok-tokens.ensures.few c.in-Ok-parse.tree c.in-Ok-parse.ensures.parsed c.in-Ok-resolve.program c.in-Ok-resolve.ensures c.in-Ok-check_nodes.ensures
+    accepted_judged c.args.text.now c.in-Ok.ensures c.in-Ok-tokens.tokens c.in-Ok-tokens.ensures.reading c.in-Ok-tokens.ensures.few c.in-Ok-parse.tree c.in-Ok-parse.ensures.parsed c.in-Ok-resolve.program c.in-Ok-resolve.ensures.resolved c.in-Ok-check_nodes.ensures
 
 pub returns-in-Ok-check_nodes-clause-few_nodes : goal.returns-in-Ok-check_nodes-clause-few_nodes
 returns-in-Ok-check_nodes-clause-few_nodes c = all_few _ c.in-Ok-check_nodes.ensures.holds
 
 pub returns-clause-err : goal.returns-clause-err
 returns-clause-err c =
-    large_judged c.args.text.now c.in-Ok.ensures c.in-Ok-tokens.tokens c.in-Ok-tokens.ensures.reading c.in-Ok-tokens.ensures.few c.in-Ok-parse.tree c.in-Ok-parse.ensures.parsed c.in-Ok-resolve.program c.in-Ok-resolve.ensures c.in-Err-check_nodes.limit c.in-Ok-parse.ensures.few_nodes c.in-Err-check_nodes.ensures
+    large_judged c.args.text.now c.in-Ok.ensures c.in-Ok-tokens.tokens c.in-Ok-tokens.ensures.reading c.in-Ok-tokens.ensures.few c.in-Ok-parse.tree c.in-Ok-parse.ensures.parsed c.in-Ok-resolve.program c.in-Ok-resolve.ensures.resolved c.in-Err-check_nodes.limit c.in-Ok-parse.ensures.few_nodes c.in-Ok-resolve.ensures.keeps_nodes c.in-Err-check_nodes.ensures

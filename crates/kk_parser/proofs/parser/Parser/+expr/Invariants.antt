@@ -1,5 +1,5 @@
 use Rattle.std.proofs.Common.{◌≤◌, length, ◌+◌, ◌-◌, ◌*◌}
-use Rattle.kk_syntax.specs.Trees.{expr_tree}
+use Rattle.kk_syntax.specs.Surface.{written_expr}
 use Rattle.kk_parser.specs.Grammar.{sum_operator, sum_operator_of, product_operator, product_operator_of, to_left}
 use Rattle.kk_parser.specs.Phrases.{rule, add, mul, un, many, ◌▸◌}
 use Rattle.kk_parser.proofs.Steps.{Continues}
@@ -24,7 +24,7 @@ abbrev pub invariant-add-loop-left : goal.invariant-add-loop-left
 invariant-add-loop-left l = record {
   left : length l.self.rest.now ≤ length l.fn.self.rest.now;
   depth : l.fn.self.depth ≤ l.self.depth;
-  read : Continues (rule add) (many (sum_operator ▸ rule mul)) (to_left sum_operator_of (expr_tree l.left)) l.fn.self l.self;
+  read : Continues (rule add) (many (sum_operator ▸ rule mul)) (to_left sum_operator_of (written_expr l.left)) l.fn.self l.self;
 }
 
 abbrev pub decreases-add-loop-left : goal.decreases-add-loop-left
@@ -34,7 +34,7 @@ abbrev pub invariant-mul-loop-left : goal.invariant-mul-loop-left
 invariant-mul-loop-left l = record {
   left : length l.self.rest.now ≤ length l.fn.self.rest.now;
   depth : l.fn.self.depth ≤ l.self.depth;
-  read : Continues (rule mul) (many (product_operator ▸ rule un)) (to_left product_operator_of (expr_tree l.left)) l.fn.self l.self;
+  read : Continues (rule mul) (many (product_operator ▸ rule un)) (to_left product_operator_of (written_expr l.left)) l.fn.self l.self;
 }
 
 abbrev pub decreases-mul-loop-left : goal.decreases-mul-loop-left
