@@ -1,7 +1,7 @@
 -- What a memory holds after bytes were put in it: these bytes there, and elsewhere what it held; and which number the bytes of a number spell.
-use Rattle.std.proofs.Common.{◌≡◌, ◌≤◌, ◌<◌, ℕ, zero, suc, ◌+◌, ◌-◌, ◌*◌, ◌/◌, ◌%◌, ◌^◌, ◌⊎◌, inl, inr, List, [], ◌∷◌, length, slice_index, refl, sym, ap, ◌∙◌, arith}
+use Rattle.std.proofs.Common.{◌≡◌, ◌≤◌, ◌<◌, ℕ, zero, suc, ◌+◌, ◌-◌, ◌*◌, ◌/◌, ◌%◌, ◌^◌, inl, inr, List, [], ◌∷◌, length, slice_index, refl, sym, ap, ◌∙◌, arith}
 use Rattle.std.proofs.Common.{lit<}
-use Rattle.std.proofs.Math.Nat.{mod-one, div-one, pow-suc, div-div-eq-div-mul, mod-eq_of_lt}
+use Rattle.std.proofs.Math.Nat.{mod-one, div-one, pow-suc, div-div-eq-div-mul}
 use Rattle.std.proofs.Math.Arith.{mod-mul}
 use Rattle.std.proofs.lemmas.Bool.Decides.{nat_tests}
 use Rattle.std.specs.Int.{bytes_low_first, byte_at}

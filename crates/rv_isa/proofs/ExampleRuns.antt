@@ -1,9 +1,7 @@
 -- Runs of a few instructions, put together from what each of them leads to.
 use Rattle.std.proofs.Common.{◌≡◌, ◌≢◌, ◌<◌, ℕ, zero, suc, ◌+◌, ◌-◌, ◌*◌, ◌%◌, ◌^◌, List, [], ◌∷◌, Some, refl, sym, ap, ◌∙◌, lit<, arith}
 use Rattle.rv_isa.specs.declared.environment.TheConstants.{EXIT}
-use Rattle.rv_isa.specs.declared.register.Register.{Register}
 use Rattle.rv_isa.specs.declared.immediate.Immediate.{Immediate}
-use Rattle.rv_isa.specs.declared.immediate.BranchOffset.{BranchOffset}
 use Rattle.rv_isa.specs.Arithmetic.{sum_word}
 use Rattle.rv_isa.specs.declared.instr.Instr.{Instr}
 use Rattle.rv_isa.specs.declared.instr.Instr.TheVariants.{Bne, Addi, Add, Ecall}

@@ -1,5 +1,5 @@
 -- The effect of an instruction on words is of words, and a load or store is of one, two or four bytes.
-use Rattle.std.proofs.Common.{◌≡◌, ℕ, ◌-◌, ◌*◌, ◌%◌, ◌^◌, ◌<◌, ◌⊎◌, inl, inr, ℤ, pos, negsuc, Bool, true, false, if◌then◌else◌, nat_eq, int_div, int_rem, bit_and, refl, lit<, arith}
+use Rattle.std.proofs.Common.{ℕ, ◌-◌, ◌*◌, ◌%◌, ◌^◌, ◌<◌, inl, inr, ℤ, pos, negsuc, Bool, true, false, if◌then◌else◌, nat_eq, int_div, int_rem, bit_and, refl, lit<, arith}
 use Rattle.std.proofs.Math.Nat.{mod-lt, mod-le, div-le_self, lt_of_le_of_lt}
 use Rattle.std.proofs.lemmas.Nat.{and_le_l, or_of_32, xor_of_32, shr_le, mul-lt, div_below}
 use Rattle.rv_isa.specs.declared.immediate.Immediate.{Immediate}

@@ -1,11 +1,11 @@
 -- Where a machine agrees with the processor's, from a state that has told nothing yet, the processor's runs agree with it.
-use Rattle.std.proofs.Common.{◌≡◌, ◌≢◌, ◌↔◌, ℕ, ◌+◌, ◌≤◌, List, [], ◌++◌, Option, Some, None, refl, sym, ap, ◌∙◌, option_map, flat_map, append-nil, arith}
-use Rattle.kk_base.specs.Trace.{Event, IsPrefix}
+use Rattle.std.proofs.Common.{◌≡◌, ℕ, ◌+◌, ◌≤◌, List, [], ◌++◌, Some, None, refl, sym, ap, ◌∙◌, option_map, flat_map, append-nil, arith}
+use Rattle.kk_base.specs.Trace.{Event}
 use Rattle.kk_base.specs.Machines.{Machine, trace, weight_of, ending_after, WeighsEach, ending_made, mapped}
-use Rattle.kk_base.specs.Agreements.{IsFollowedBy, Does, Agree}
+use Rattle.kk_base.specs.Agreements.{IsFollowedBy, Agree}
 use Rattle.kk_base.proofs.Machines.{trace-mapped}
 use Rattle.kk_base.proofs.Agreements.{follows_later, agree_in_steps, agree_end, agree_whole}
-use Rattle.rv_isa.specs.Processor.{Processor, Ending, going, exited, trapped, Progress, goes}
+use Rattle.rv_isa.specs.Processor.{Processor, Ending, going, exited, trapped, goes}
 use Rattle.rv_isa.specs.InstructionSet.{InstructionSet, run_over}
 use Rattle.rv_isa.specs.ProcessorMachine.{ended, processor_machine, ExitsWell, ImageAgrees, ImageKeepsUp}
 use Rattle.rv_isa.proofs.ProcessorMachines.{trace-run, ending-run}

@@ -1,7 +1,7 @@
 -- The processor's machine does what runs do: its states, its traces and its endings are those of runs.
-use Rattle.std.proofs.Common.{◌≡◌, ◌≢◌, ℕ, zero, suc, List, [], ◌++◌, Option, Some, None, refl, sym, ap, ◌∙◌, append-nil}
-use Rattle.kk_base.specs.Trace.{Event, IsPrefix}
-use Rattle.kk_base.specs.Machines.{Machine, trace, state, ending_after}
+use Rattle.std.proofs.Common.{◌≡◌, ℕ, zero, suc, [], ◌++◌, refl, sym, ap, ◌∙◌, append-nil}
+use Rattle.kk_base.specs.Trace.{IsPrefix}
+use Rattle.kk_base.specs.Machines.{trace, state, ending_after}
 use Rattle.kk_base.proofs.Machines.{told_after, state_ended}
 use Rattle.rv_isa.specs.Processor.{Processor, Ending, going, exited, trapped, Progress, goes}
 use Rattle.rv_isa.specs.InstructionSet.{InstructionSet, step_over, resumes, go_on, run_over}

@@ -1,6 +1,6 @@
 -- The execution of the instructions of an instruction set, one after the other. RV32IM is the instance that Execution names.
 -- The RISC-V Instruction Set Manual, Volume I: Unprivileged ISA, 1.5 Base Instruction-Length Encoding, 1.6 Exceptions, Traps, and Interrupts, 2.2 Base Instruction Formats (misaligned targets) and 2.6 Load and Store Instructions. The numbers of the causes are this project's own.
-use Rattle.std.specs.Prelude.{◌≡◌, ℕ, zero, suc, ◌+◌, ◌%◌, ◌^◌, ◌<◌, List, Option, Some, None, Bool, true, not, if◌then◌else◌, nat_eq}
+use Rattle.std.specs.Prelude.{◌≡◌, ℕ, zero, suc, ◌+◌, ◌%◌, List, Option, Some, None, not, if◌then◌else◌, nat_eq}
 use Rattle.std.specs.Int.{Width}
 use Rattle.kk_base.specs.Memory.{Part}
 use Rattle.rv_isa.specs.declared.act.Act.{Act}

@@ -1,6 +1,6 @@
 -- What each instruction does, over the values of its registers: one row for each. Words are numbers below 2^32.
 -- The RISC-V Instruction Set Manual, Volume I: Unprivileged ISA, 2.4 Integer Computational Instructions, 2.5 Control Transfer Instructions, 2.6 Load and Store Instructions, 2.7 Memory Ordering Instructions, 2.8 Environment Call and Breakpoints, and the chapter '"M" Standard Extension for Integer Multiplication and Division'.
-use Rattle.std.specs.Prelude.{◌≡◌, ◌⊎◌, ℕ, ◌-◌, ◌%◌, Bool, true, false, not, if◌then◌else◌, nat_eq, nat_lt, int_lt, bit_and, bit_or, bit_xor}
+use Rattle.std.specs.Prelude.{◌≡◌, ◌⊎◌, ℕ, ◌-◌, ◌%◌, Bool, true, false, not, nat_eq, nat_lt, int_lt, bit_and, bit_or, bit_xor}
 use Rattle.rv_isa.specs.declared.immediate.Immediate.{Immediate}
 use Rattle.rv_isa.specs.declared.immediate.BranchOffset.{BranchOffset}
 use Rattle.rv_isa.specs.declared.act.Act.{Act}
