@@ -13,7 +13,8 @@ use Rattle.kk_build.specs.Built.{ProgramTree, IsBuilt}
 use Rattle.rv_sim.specs.declared.halt.Halt.{Halt}
 use Rattle.kk_tool.specs.declared.answer.Answer.{Answer}
 use Rattle.kk_tool.specs.declared.answer.Answer.TheVariants.{Done, Usage, Refused, NoMemory, FileFault, Ran}
-use Rattle.kk_tool.specs.Answers.{HasText, IsImageOf, Answers, usage, no_memory, unread, refused, checked, built, unwritten, ran, answer_of_refusal}
+use Rattle.kk_tool.specs.Answers.{HasText, IsImageOf, Answers, usage, no_memory, unread, refused, checked, built, unwritten, ran}
+use Rattle.kk_tool.specs.Internal.{answer_of_refusal}
 use Rattle.kk_tool.specs.Requests.{Request, check, build, run, file_of}
 use Rattle.kk_tool.specs.ImageRuns.{RunsImage}
 use Rattle.kk_tool.specs.Outside.{Outside, KeepsFiles, KeepsStreams, KeepsAll}

@@ -9,7 +9,7 @@ use Rattle.kk_base.specs.declared.limit.LimitKind.TheVariants.{Source}
 use Rattle.kk_base.specs.declared.refusal.Refusal.{Refusal}
 use Rattle.kk_base.specs.declared.status.Status.{Status}
 use Rattle.kk_base.specs.declared.status.Status.TheVariants as Ended
-use Rattle.kk_front.specs.Judgement.{IsProgramOf, IsRefusalOf, wants_memory}
+use Rattle.kk_front.specs.Judgement.{IsProgramOf, IsRefusalOf}
 use Rattle.kk_build.specs.Built.{ProgramTree, IsBuilt}
 use Rattle.rv_sim.specs.declared.halt.Halt.{Halt}
 use Rattle.kk_tool.specs.declared.answer.Answer.{Answer}
@@ -63,10 +63,6 @@ pub data Answers (before after : Outside) : Option Request → Answer → Type 0
   ran : (file : List ℕ) (cells depth steps : ℕ) (halt : Halt) → IsImageOf file cells depth before.files after.image
       → RunsImage after.image steps halt before.input after.input before.out after.out → KeepsFiles before.files after.files
       → Answers before after (Some (run file cells depth steps)) (Ran halt steps)
-
--- the answer to a text that is refused, or that was not judged for want of memory
-abbrev pub answer_of_refusal : Refusal → Answer
-answer_of_refusal refusal = if wants_memory refusal then NoMemory else Refused refusal
 
 -- an answer ends a command with its status, where its line was put; or where putting the line failed, with an output fault
 pub record EndsWith (answer : Answer) (status : Status) (err err' : SinkState) : Type 0 where

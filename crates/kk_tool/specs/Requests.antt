@@ -6,8 +6,6 @@ use Rattle.std.specs.Str.Parse.{digits_value}
 use Rattle.clap.specs.Words.{App, Row, Rule, Text, fault_of, first_of, new_app, new_rule, subcommand_of, with_rule, with_subcommand}
 use Rattle.clap.specs.Walk.{is_empty}
 use Rattle.kk_base.specs.Sizes.{greatest_cells, greatest_depth}
-use Rattle.kk_tool.specs.declared.command.Command.{Command as Read}
-use Rattle.kk_tool.specs.declared.command.Command.TheVariants as OfRead
 
 -- what the program is asked for: to judge the text in a file; to build its image into another; to build its image and run it
 pub data Request : Type 0 where
@@ -129,9 +127,3 @@ entered_request (Some entered) = request_named entered.0 entered.1
 -- what the words of a line ask for, of which the first is the program's name
 abbrev pub request_of : List Text → Option Request
 request_of words = if is_empty (fault_of line_app words) then entered_request (subcommand_of line_app words) else None
-
--- what a command that was read asks for
-abbrev pub request_read : Read → Request
-request_read (OfRead.Check file) = check file.now
-request_read (OfRead.Build file out sizes) = build file.now out.now sizes.cells sizes.depth
-request_read (OfRead.Run file sizes steps) = run file.now sizes.cells sizes.depth steps

@@ -1,6 +1,7 @@
 //! The line for the user that tells how a command ended.
 ghost use Rattle.std.specs.Prelude.{◌≡◌, ◌≤◌, length, [], Some, None, option_map, unwrap_or};
-ghost use Rattle.kk_tool.specs.Line.{bytes_of, joined, line_of, halt_line, refusal_line, lex_line, lex_place_of, parse_line, parse_line_of, parse_column_of, name_line, name_spelled_of, name_place_of, limit_line, no_memory_line, trap_line};
+ghost use Rattle.kk_tool.specs.Line.{line_of, halt_line, refusal_line, lex_line, lex_place_of, parse_line, parse_line_of, parse_column_of, name_line, name_spelled_of, name_place_of, limit_line, no_memory_line, trap_line};
+ghost use Rattle.kk_tool.specs.Internal.{bytes_of, joined};
 ghost use Rattle.kk_tool.specs.Outside.{Puts};
 
 use crate::answer::Answer;

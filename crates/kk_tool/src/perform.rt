@@ -5,8 +5,10 @@ ghost use Rattle.kk_base.specs.Limits.{greatest_of};
 ghost use Rattle.kk_base.specs.declared.limit.LimitKind.TheVariants.{Source};
 ghost use Rattle.kk_base.specs.Sink.{SinkState};
 ghost use Rattle.kk_base.specs.Source.{SourceState};
-ghost use Rattle.kk_tool.specs.Answers.{Answers, HasText, IsImageOf, answer_of_refusal};
-ghost use Rattle.kk_tool.specs.Requests.{Request, request_read, check, build, run, file_of};
+ghost use Rattle.kk_tool.specs.Answers.{Answers, HasText, IsImageOf};
+ghost use Rattle.kk_tool.specs.Internal.{answer_of_refusal};
+ghost use Rattle.kk_tool.specs.Requests.{Request, check, build, run, file_of};
+ghost use Rattle.kk_tool.specs.Internal.{request_read};
 ghost use Rattle.kk_tool.specs.ImageRuns.{RunsImage};
 ghost use Rattle.kk_tool.specs.Outside.{KeepsFiles};
 

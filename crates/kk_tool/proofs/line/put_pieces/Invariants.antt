@@ -1,5 +1,5 @@
 use Rattle.std.proofs.Common.{◌≡◌, ◌++◌, take, option_map}
-use Rattle.kk_tool.specs.Line.{joined}
+use Rattle.kk_tool.specs.Internal.{joined}
 use Rattle.kk_tool.proofs.line.put_pieces.Given as goal
 
 -- the pieces so far were put, and no call failed
