@@ -1,6 +1,1 @@
-fun main() {
-  println(7 / 0);
-  println(7 % 0);
-  println(-7 / 2);
-  println(-7 % 2)
-}
+fun main() { println(7 / 0); println(7 % 0); println(-7 / 2); println(-7 % 2) }

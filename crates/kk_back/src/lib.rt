@@ -1,13 +1,12 @@
 //! From a program to its image.
 #![tactic(auto)]
 
-ghost use Rattle.std.specs.Prelude.{◌≡◌, ◌*◌, ◌≤◌, IfOk, Some, slice_get, vec_len, length};
+ghost use Rattle.std.specs.Prelude.{◌≡◌, ◌*◌, ◌≤◌, All, IfOk, vec_len, length};
 ghost use Rattle.kk_base.specs.Limits.{greatest_of};
 ghost use Rattle.kk_base.specs.Sizes.{AreSizes};
 ghost use Rattle.kk_base.specs.declared.limit.LimitKind.TheVariants.{FunctionNodes};
 ghost use Rattle.kk_syntax.specs.Shapes.{nodes_of};
 ghost use Rattle.kk_syntax.specs.Trees.{expr_tree};
-ghost use Rattle.kk_syntax.specs.declared.tree.Function.{Function};
 ghost use Rattle.kk_back.specs.Images.{IsCompiled};
 
 use byteorder::{ByteOrder, LittleEndian};
@@ -18,13 +17,11 @@ use rv_isa::{Instr, encode};
 use rv_lower::{Asm, lower};
 use std::alloc::Global;
 
-/// The image of a program whose `main` has no more nodes than are allowed.
+/// The image of a program of whose functions none has more nodes than are allowed.
 ///
 /// No form of today's programs makes a cell or a call, so the image is the same for all sizes.
 pub fn image(alloc: Global, program: &Program, _cells: u32, _depth: u32) -> Result<Image, NoMemory>
-    requires few_nodes { (function : Function)
-        → slice_get program.now.functions.items program.now.main ≡ Some function
-        → nodes_of (expr_tree function.body) ≤ greatest_of FunctionNodes }
+    requires few_nodes { All (λ function. nodes_of (expr_tree function.body) ≤ greatest_of FunctionNodes) program.now.functions.items }
     requires sizes { AreSizes _cells _depth }
     ensures { IfOk result (λ image. IsCompiled image.entry image.parts) }
 {

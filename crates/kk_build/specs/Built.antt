@@ -1,6 +1,6 @@
 -- What is built of a text.
 use Rattle.std.specs.Prelude.{ℕ, List}
-use Rattle.kk_syntax.specs.Programs.{ProgramTree}
+pub use Rattle.kk_syntax.specs.Programs.{ProgramTree, program_tree}
 use Rattle.kk_front.specs.Judgement.{IsProgramOf}
 use Rattle.kk_build.specs.Images.{IsImageFile}
 

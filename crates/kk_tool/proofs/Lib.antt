@@ -1,6 +1,7 @@
-pub mod ImageRuns
-pub mod Judgements
-pub mod Lines
-pub mod Nodes
-pub mod Places
-pub mod Texts
+mod Complete
+mod ImageRuns
+mod Lines
+mod Numbers
+mod Rows
+mod Stores
+mod TakenLines

@@ -3,7 +3,9 @@ use Rattle.std.proofs.Common.{◌≡◌, ℕ, suc, ◌+◌, ◌<◌, List, ◌++
 use Rattle.std.proofs.lemmas.List.{take-append-drop, take-append-le}
 use Rattle.std.proofs.lemmas.List.Concat.{flat_map-append}
 use Rattle.std.proofs.Math.Seq.{take-append-add, drop-cons}
-use Rattle.kk_tool.specs.Outcome.{Puts, PutsPart, Rises}
+use Rattle.kk_base.specs.Faults.{Rises}
+use Rattle.kk_base.specs.Sink.{SinkState}
+use Rattle.kk_tool.specs.Outside.{Puts, PutsPart}
 
 -- a part of a piece that stands in a longer line is a part of the line
 put_part : (first second rest : List ℕ) (old mid new : Option (List ℕ)) → mid ≡ option_map (λ before. before ++ first) old → PutsPart second mid new → PutsPart (first ++ (second ++ rest)) old new
@@ -28,9 +30,10 @@ pieces_at f xs i d h =
     ap (flat_map f) (sym (take-append-drop i xs)) ∙ flat_map-append f (take i xs) (drop i xs) ∙ ap (λ ys. flat_map f (take i xs) ++ flat_map f ys) (drop-cons xs i d h)
 
 -- a piece whose put failed, after pieces that were put, is a line of which a part was put
-pub failed_at : {X : Type 0} (f : X → List ℕ) (xs : List X) (i : ℕ) (d : X) (old mid new : Option (List ℕ)) (before between now : ℕ) → i < length xs → mid ≡ option_map (λ held. held ++ flat_map f (take i xs)) old → between ≡ before → Puts false (f (get_or xs i d)) mid new between now → Puts false (flat_map f xs) old new before now
-failed_at f xs i d old mid new before between now h put same failed = record {
-  content = let P : List ℕ → Type 0 = λ line. PutsPart line old new in
-      subst P (sym (pieces_at f xs i d h)) (put_part (flat_map f (take i xs)) (f (get_or xs i d)) (flat_map f (drop (suc i) xs)) old mid new put failed.content);
-  faults = let P : ℕ → Type 0 = λ n. Rises true n now in subst P same failed.faults;
+pub failed_at : {X : Type 0} (f : X → List ℕ) (xs : List X) (i : ℕ) (d : X) (old mid new : SinkState) → i < length xs → mid.held ≡ option_map (λ held. held ++ flat_map f (take i xs)) old.held → mid.faults ≡ old.faults
+    → Puts false (f (get_or xs i d)) mid new → Puts false (flat_map f xs) old new
+failed_at f xs i d old mid new h put same failed = record {
+  content = let P : List ℕ → Type 0 = λ line. PutsPart line old.held new.held in
+      subst P (sym (pieces_at f xs i d h)) (put_part (flat_map f (take i xs)) (f (get_or xs i d)) (flat_map f (drop (suc i) xs)) old.held mid.held new.held put failed.content);
+  faults = let P : ℕ → Type 0 = λ n. Rises true n new.faults in subst P same failed.faults;
 }

@@ -4,7 +4,7 @@ use Rattle.clap.specs.declared.parser.matches.ArgMatches.{ArgMatches}
 use Rattle.clap.specs.Words.{App, Text, FailsBy, HasMatchesOf, fault_of, is_simple, is_simple_and_free, subcommand_of, subcommand_rows_of}
 use Rattle.clap.specs.Kinds.{Kinds}
 use Rattle.clap.specs.Walk.{is_empty}
-use Rattle.kk_tool.specs.Commands.{Command, line_app, command_of, entered_command}
+use Rattle.kk_tool.specs.Requests.{Request, line_app, request_of, entered_request}
 
 free : is_simple_and_free line_app ≡ true
 free = refl
@@ -17,10 +17,10 @@ pub record Tells (app : App) (words : List Text) (m : ArgMatches) : Type 0 where
   pub kinds : is_simple_and_free app ≡ true → fault_of app words ≡ []
   pub matches : HasMatchesOf app words m
 
-told : (words : List Text) (m : ArgMatches) → Tells line_app words m → entered_command (subcommand_rows_of m) ≡ command_of words
+told : (words : List Text) (m : ArgMatches) → Tells line_app words m → entered_request (subcommand_rows_of m) ≡ request_of words
 told words m tells =
-    ap entered_command (tells.matches simple).1
-    ∙ sym (ap (λ (kinds : Kinds). cond (is_empty kinds) (entered_command (subcommand_of line_app words)) None) (tells.kinds free))
+    ap entered_request (tells.matches simple).1
+    ∙ sym (ap (λ (kinds : Kinds). cond (is_empty kinds) (entered_request (subcommand_of line_app words)) None) (tells.kinds free))
 
-pub line_told : (app : App) (words : List Text) (m : ArgMatches) → app ≡ line_app → Tells app words m → entered_command (subcommand_rows_of m) ≡ command_of words
+pub line_told : (app : App) (words : List Text) (m : ArgMatches) → app ≡ line_app → Tells app words m → entered_request (subcommand_rows_of m) ≡ request_of words
 line_told app words m is tells = told words m (subst (λ (a : App). Tells a words m) is tells)

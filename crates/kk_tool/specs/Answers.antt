@@ -1,6 +1,7 @@
 -- The answers of the commands, and the causes of each.
-use Rattle.std.specs.Prelude.{◌≡◌, ◌⊎◌, ℕ, ◌+◌, List, take, Bool, if◌then◌else◌, Option, Some, None}
+use Rattle.std.specs.Prelude.{◌≡◌, ◌⊎◌, ℕ, ◌+◌, List, take, Bool, true, false, if◌then◌else◌, Option, Some, None}
 use Rattle.std.specs.Borrow.{Bor}
+use Rattle.kk_base.specs.Faults.{Rose}
 use Rattle.kk_base.specs.Limits.{greatest_of}
 use Rattle.kk_base.specs.Sink.{SinkState}
 use Rattle.kk_base.specs.Store.{Files, StoreState}
@@ -8,13 +9,13 @@ use Rattle.kk_base.specs.declared.limit.LimitKind.TheVariants.{Source}
 use Rattle.kk_base.specs.declared.refusal.Refusal.{Refusal}
 use Rattle.kk_base.specs.declared.status.Status.{Status}
 use Rattle.kk_base.specs.declared.status.Status.TheVariants as Ended
-use Rattle.kk_front.specs.Judgement.{ProgramTree, IsProgramOf, IsRefusalOf, wants_memory}
-use Rattle.kk_build.specs.Built.{IsBuilt}
+use Rattle.kk_front.specs.Judgement.{IsProgramOf, IsRefusalOf}
+use Rattle.kk_build.specs.Built.{ProgramTree, IsBuilt}
 use Rattle.rv_sim.specs.declared.halt.Halt.{Halt}
 use Rattle.kk_tool.specs.declared.answer.Answer.{Answer}
 use Rattle.kk_tool.specs.declared.answer.Answer.TheVariants.{Done, Usage, Refused, NoMemory, FileFault, Ran}
 use Rattle.kk_tool.specs.Answer.{status_of}
-use Rattle.kk_tool.specs.Commands.{Command, check, build, run, file_of}
+use Rattle.kk_tool.specs.Requests.{Request, check, build, run, file_of}
 use Rattle.kk_tool.specs.ImageRuns.{RunsImage}
 use Rattle.kk_tool.specs.Line.{line_of}
 use Rattle.kk_tool.specs.Outside.{Outside, KeepsFiles, KeepsStreams, KeepsAll, FailsToRead, FailsToWrite, WritesAlone, Puts}
@@ -30,25 +31,25 @@ pub record IsImageOf (file : List ℕ) (cells depth : ℕ) (store : StoreState) 
   pub has_text : HasText file text store
   pub built : IsBuilt text cells depth image
 
--- these bytes are the image that a command builds
-abbrev pub IsCommandImage : Option Command → StoreState → List ℕ → Type 0
-IsCommandImage (Some (build file out cells depth)) store image = IsImageOf file cells depth store image
-IsCommandImage (Some (run file cells depth steps)) store image = IsImageOf file cells depth store image
-IsCommandImage _ store image = ⊥
+-- these bytes are the image that is asked for
+abbrev pub IsRequestedImage : Option Request → StoreState → List ℕ → Type 0
+IsRequestedImage (Some (build file out cells depth)) store image = IsImageOf file cells depth store image
+IsRequestedImage (Some (run file cells depth steps)) store image = IsImageOf file cells depth store image
+IsRequestedImage _ store image = ⊥
 
 -- The answers that the words of a line may have, with what each does to the outside. There is no other.
-pub data Answers (before after : Outside) : Option Command → Answer → Type 0 where
+pub data Answers (before after : Outside) : Option Request → Answer → Type 0 where
   -- the words are no command
   usage : KeepsAll before after → Answers before after None Usage
   -- memory was refused, before anything was written or run
-  no_memory : (command : Option Command) → KeepsFiles before.files after.files → KeepsStreams before after
-      → (after.image ≡ before.image) ⊎ IsCommandImage command before.files after.image → Answers before after command NoMemory
+  no_memory : (request : Option Request) → KeepsFiles before.files after.files → KeepsStreams before after
+      → (after.image ≡ before.image) ⊎ IsRequestedImage request before.files after.image → Answers before after request NoMemory
   -- FILE could not be read
-  unread : (command : Command) (name : Bor (List ℕ)) → name.now ≡ file_of command
-      → FailsToRead (file_of command) before.files after.files → KeepsStreams before after → after.image ≡ before.image → Answers before after (Some command) (FileFault name)
+  unread : (request : Request) (name : Bor (List ℕ)) → name.now ≡ file_of request
+      → FailsToRead (file_of request) before.files after.files → KeepsStreams before after → after.image ≡ before.image → Answers before after (Some request) (FileFault name)
   -- the text is refused, for its first failure
-  refused : (command : Command) (text : List ℕ) (refusal : Refusal) → HasText (file_of command) text before.files → IsRefusalOf text refusal
-      → KeepsAll before after → Answers before after (Some command) (Refused refusal)
+  refused : (request : Request) (text : List ℕ) (refusal : Refusal) → HasText (file_of request) text before.files → IsRefusalOf text refusal
+      → KeepsAll before after → Answers before after (Some request) (Refused refusal)
   -- check: the text is accepted
   checked : (file text : List ℕ) (program : ProgramTree) → HasText file text before.files → IsProgramOf text program
       → KeepsAll before after → Answers before after (Some (check file)) Done
@@ -63,14 +64,28 @@ pub data Answers (before after : Outside) : Option Command → Answer → Type 0
       → RunsImage after.image steps halt before.input after.input before.out after.out → KeepsFiles before.files after.files
       → Answers before after (Some (run file cells depth steps)) (Ran halt steps)
 
--- the answer to a text that is refused, or that was not judged for want of memory
-abbrev pub answer_of_refusal : Refusal → Answer
-answer_of_refusal refusal = if wants_memory refusal then NoMemory else Refused refusal
-
--- a line ends with a status: that of an answer, whose line was put; or where putting the line failed, an output fault
-pub record Ends (command : Option Command) (status : Status) (before after : Outside) (err err' : SinkState) : Type 0 where
-  pub answer : Answer
-  pub answers : Answers before after command answer
+-- an answer ends a command with its status, where its line was put; or where putting the line failed, with an output fault
+pub record EndsWith (answer : Answer) (status : Status) (err err' : SinkState) : Type 0 where
   pub whole : Bool
   pub line : Puts whole (line_of answer) err err'
   pub told : status ≡ (if whole then status_of answer else Ended.OutputFault)
+
+-- the words of a line end with a status, by one of their answers
+pub record Ends (request : Option Request) (status : Status) (before after : Outside) (err err' : SinkState) : Type 0 where
+  pub answer : Answer
+  pub answers : Answers before after request answer
+  pub ends : EndsWith answer status err err'
+
+-- no count of faults rose; one at its last value reads as risen
+pub record Faultless (before after : Outside) (err err' : SinkState) : Type 0 where
+  pub files : ¬ Rose before.files.faults after.files.faults
+  pub input : ¬ Rose before.input.faults after.input.faults
+  pub out : ¬ Rose before.out.faults after.out.faults
+  pub line : ¬ Rose err.faults err'.faults
+
+-- the status of a fault of a device
+abbrev pub is_fault : Status → Bool
+is_fault Ended.FileFault = true
+is_fault Ended.InputFault = true
+is_fault Ended.OutputFault = true
+is_fault _ = false

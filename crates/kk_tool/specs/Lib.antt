@@ -1,6 +1,7 @@
 pub mod Answer
 pub mod Answers
-pub mod Commands
 pub mod ImageRuns
+pub mod Internal
 pub mod Line
 pub mod Outside
+pub mod Requests

@@ -1,5 +1,5 @@
 -- The line that tells an answer on the error sink. Numbers are decimal, and each line ends with a line feed.
-use Rattle.std.specs.Prelude.{ℕ, List, [], ◌∷◌, ◌++◌, codes, decimal, flat_map, nat_eq, Option, Some, None, if◌then◌else◌}
+use Rattle.std.specs.Prelude.{ℕ, List, [], ◌∷◌, ◌++◌, codes, decimal, nat_eq, Option, Some, None, if◌then◌else◌}
 use Rattle.kk_base.specs.Limits.{limit_word_of}
 use Rattle.kk_base.specs.Numbers.{lex_number_of, parse_number_of, name_number_of}
 use Rattle.kk_base.specs.declared.limit.Limit.{Limit}
@@ -15,18 +15,6 @@ use Rattle.rv_sim.specs.declared.halt.Halt.{Halt}
 use Rattle.rv_sim.specs.declared.halt.Halt.TheVariants as OfHalt
 use Rattle.kk_tool.specs.declared.answer.Answer.{Answer}
 use Rattle.kk_tool.specs.declared.answer.Answer.TheVariants.{Done, Usage, Refused, NoMemory, FileFault, Ran}
-use Rattle.kk_tool.specs.declared.line.Piece.{Piece}
-use Rattle.kk_tool.specs.declared.line.Piece.TheVariants.{Text, Bytes, Number}
-
--- the bytes of a part of a line
-abbrev pub bytes_of : Piece → List ℕ
-bytes_of (Text text) = text.now
-bytes_of (Bytes bytes) = bytes.now
-bytes_of (Number number) = decimal number
-
--- the bytes of some parts
-abbrev pub joined : List Piece → List ℕ
-joined pieces = flat_map bytes_of pieces
 
 abbrev pub line_feed : List ℕ
 line_feed = 10 ∷ []

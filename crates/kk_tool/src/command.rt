@@ -14,7 +14,9 @@ pub struct Sizes {
 #[derive(Clone, Copy, Debug, PartialEq, Eq)]
 pub enum Command<'a> {
     /// `check FILE`: judge the text in the file.
-    Check { file: &'a str },
+    Check {
+        file: &'a str,
+    },
     /// `build FILE -o OUT`: write the image of the text in the file to another file.
     Build {
         file: &'a str,

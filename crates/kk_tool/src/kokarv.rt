@@ -1,6 +1,6 @@
-ghost use Rattle.std.specs.Prelude.{map, string_bytes};
-ghost use Rattle.kk_tool.specs.Answers.{Answers, Ends};
-ghost use Rattle.kk_tool.specs.Commands.{command_of};
+ghost use Rattle.std.specs.Prelude.{◌≡◌, false, map, string_bytes};
+ghost use Rattle.kk_tool.specs.Answers.{Answers, Ends, EndsWith, Faultless, is_fault};
+ghost use Rattle.kk_tool.specs.Requests.{request_of};
 
 use crate::answer::Answer;
 use crate::perform::perform;
@@ -22,12 +22,24 @@ pub fn kokarv<F: Store, I: Source, O: Sink, E: Sink>(
     err: &mut E,
     image: &mut Bytes,
 ) -> Status
-    ensures { Ends (command_of (map string_bytes words.now)) result
+    ensures ends { Ends (request_of (map string_bytes words.now)) result
         (record { files = F.state files.old; input = I.state input.old; out = O.state out.old; image = image.old })
         (record { files = F.state files.new; input = I.state input.new; out = O.state out.new; image = image.new })
         (E.state err.old) (E.state err.new) }
+    // Where no count of faults rises, no fault is answered.
+    ensures complete { Faultless
+        (record { files = F.state files.old; input = I.state input.old; out = O.state out.old; image = image.old })
+        (record { files = F.state files.new; input = I.state input.new; out = O.state out.new; image = image.new })
+        (E.state err.old) (E.state err.new) → is_fault result ≡ false }
 {
     let answer = answer_words(alloc, words, files, input, out, image);
+    end_with(&answer, err)
+}
+
+/// Puts the line of an answer, and gives the status that the command ends with.
+fn end_with<E: Sink>(answer: &Answer<'_>, err: &mut E) -> Status
+    ensures { EndsWith answer.now result (E.state err.old) (E.state err.new) }
+{
     let is_told = match answer.line() {
         Some(line) => line.put(err),
         None => true,
@@ -50,7 +62,7 @@ fn answer_words<'a, F: Store, I: Source, O: Sink>(
     ensures { Answers
         (record { files = F.state files.old; input = I.state input.old; out = O.state out.old; image = image.old })
         (record { files = F.state files.new; input = I.state input.new; out = O.state out.new; image = image.new })
-        (command_of (map string_bytes words.now)) result }
+        (request_of (map string_bytes words.now)) result }
 {
     match command_in(alloc, words) {
         Ok(Some(command)) => perform(alloc, command, files, input, out, image),

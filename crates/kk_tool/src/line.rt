@@ -1,6 +1,7 @@
 //! The line for the user that tells how a command ended.
 ghost use Rattle.std.specs.Prelude.{◌≡◌, ◌≤◌, length, [], Some, None, option_map, unwrap_or};
-ghost use Rattle.kk_tool.specs.Line.{bytes_of, joined, line_of, halt_line, refusal_line, lex_line, lex_place_of, parse_line, parse_line_of, parse_column_of, name_line, name_spelled_of, name_place_of, limit_line, no_memory_line, trap_line};
+ghost use Rattle.kk_tool.specs.Line.{line_of, halt_line, refusal_line, lex_line, lex_place_of, parse_line, parse_line_of, parse_column_of, name_line, name_spelled_of, name_place_of, limit_line, no_memory_line, trap_line};
+ghost use Rattle.kk_tool.specs.Internal.{bytes_of, joined};
 ghost use Rattle.kk_tool.specs.Outside.{Puts};
 
 use crate::answer::Answer;
@@ -46,16 +47,20 @@ impl<'a> Line<'a> {
         Line { pieces: line }
     }
 
-    /// Puts the parts of the line in order, up to the first put that fails. False where one failed.
+    /// The line that is this text.
+    fn text(text: &'a str) -> Self
+        ensures { joined result.pieces.items ≡ text.entry.now }
+    {
+        let mut pieces = ArrayVec::new();
+        pieces.push(Piece::Text(text));
+        Line { pieces }
+    }
+
+    /// Puts the line. False where a put failed, and only the beginning of the line was put.
     pub fn put<E: Sink>(&self, err: &mut E) -> bool
         ensures { Puts result (joined self.now.pieces.items) (E.state err.old) (E.state err.new) }
     {
-        for piece in &self.pieces {
-            if !put_piece(err, piece) {
-                return false;
-            }
-        }
-        true
+        put_pieces(err, self.pieces.as_slice())
     }
 }
 
@@ -66,7 +71,7 @@ impl Answer<'_> {
     {
         match self {
             Answer::Done => None,
-            Answer::Usage => Some(Line::new(&[Piece::Text(USAGE)])),
+            Answer::Usage => Some(Line::text(USAGE)),
             Answer::Refused(refusal) => Some(refusal_line(refusal)),
             Answer::NoMemory => Some(no_memory_line()),
             Answer::FileFault { name } => Some(Line::new(&[
@@ -82,7 +87,7 @@ impl Answer<'_> {
 fn no_memory_line<'a>() -> Line<'a>
     ensures { joined result.pieces.items ≡ no_memory_line }
 {
-    Line::new(&[Piece::Text("no memory\n")])
+    Line::text("no memory\n")
 }
 
 fn halt_line<'a>(halt: Halt, steps: u64) -> Option<Line<'a>>
@@ -101,8 +106,8 @@ fn halt_line<'a>(halt: Halt, steps: u64) -> Option<Line<'a>>
             Piece::Text("\n"),
         ])),
         Halt::Trap { cause, pc, word } => Some(trap_line(cause, pc, word)),
-        Halt::InputFault => Some(Line::new(&[Piece::Text("input fault\n")])),
-        Halt::OutputFault => Some(Line::new(&[Piece::Text("output fault\n")])),
+        Halt::InputFault => Some(Line::text("input fault\n")),
+        Halt::OutputFault => Some(Line::text("output fault\n")),
     }
 }
 
@@ -247,6 +252,18 @@ fn limit_line<'a>(limit: Limit) -> Line<'a>
         Piece::Number(limit.count),
         Piece::Text("\n"),
     ])
+}
+
+/// Puts the parts of a line in order, up to the first put that fails.
+fn put_pieces<E: Sink>(err: &mut E, pieces: &[Piece<'_>]) -> bool
+    ensures { Puts result (joined pieces.now) (E.state err.old) (E.state err.new) }
+{
+    for piece in pieces {
+        if !put_piece(err, piece) {
+            return false;
+        }
+    }
+    true
 }
 
 fn put_piece<E: Sink>(err: &mut E, piece: &Piece<'_>) -> bool

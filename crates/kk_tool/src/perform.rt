@@ -1,10 +1,14 @@
 //! What the commands do.
-ghost use Rattle.std.specs.Prelude.{◌≡◌, ℕ, List, Some, None, IfOk, IfErr, OnOk, OnErr};
+ghost use Rattle.std.specs.Prelude.{◌≡◌, ℕ, ◌+◌, List, Some, None, IfOk, IfErr, OnOk, OnErr};
 ghost use Rattle.elf_image.specs.Loaded.{reason_of};
+ghost use Rattle.kk_base.specs.Limits.{greatest_of};
+ghost use Rattle.kk_base.specs.declared.limit.LimitKind.TheVariants.{Source};
 ghost use Rattle.kk_base.specs.Sink.{SinkState};
 ghost use Rattle.kk_base.specs.Source.{SourceState};
-ghost use Rattle.kk_tool.specs.Answers.{Answers, HasText, IsImageOf, answer_of_refusal};
-ghost use Rattle.kk_tool.specs.Commands.{Command, command_read, check, build, run, file_of};
+ghost use Rattle.kk_tool.specs.Answers.{Answers, HasText, IsImageOf};
+ghost use Rattle.kk_tool.specs.Internal.{answer_of_refusal};
+ghost use Rattle.kk_tool.specs.Requests.{Request, check, build, run, file_of};
+ghost use Rattle.kk_tool.specs.Internal.{request_read};
 ghost use Rattle.kk_tool.specs.ImageRuns.{RunsImage};
 ghost use Rattle.kk_tool.specs.Outside.{KeepsFiles};
 
@@ -29,7 +33,7 @@ pub fn perform<'a, F: Store, I: Source, O: Sink>(
     ensures { Answers
         (record { files = F.state files.old; input = I.state input.old; out = O.state out.old; image = image.old })
         (record { files = F.state files.new; input = I.state input.new; out = O.state out.new; image = image.new })
-        (Some (command_read command)) result }
+        (Some (request_read command.entry)) result }
 {
     match command {
         Command::Check { file } => check_file(alloc, file, files),
@@ -71,13 +75,13 @@ fn build_file<'a, F: Store>(
         (record { files = F.state files.new; input = input; out = output; image = image.new })
         (Some (build file.now out.now sizes.cells sizes.depth)) result }
 {
-    if let Err(answer) = build_image(alloc, file, sizes, files, image) {
-        return answer;
-    }
-    match files.write(out, image.as_slice()) {
-        Wrote::Done => Answer::Done,
-        Wrote::Failed => Answer::FileFault { name: out },
-        Wrote::NoMemory => Answer::NoMemory,
+    match build_image(alloc, file, sizes, files, image) {
+        Ok(()) => match files.write(out, image.as_slice()) {
+            Wrote::Done => Answer::Done,
+            Wrote::Failed => Answer::FileFault { name: out },
+            Wrote::NoMemory => Answer::NoMemory,
+        },
+        Err(answer) => answer,
     }
 }
 
@@ -97,34 +101,37 @@ fn run_file<'a, F: Store, I: Source, O: Sink>(
         (record { files = F.state files.new; input = I.state input.new; out = O.state out.new; image = image.new })
         (Some (run file.now sizes.cells sizes.depth steps)) result }
 {
-    if let Err(answer) = build_image(alloc, file, sizes, files, image) {
-        return answer;
-    }
-    match run_image(alloc, image.as_slice(), steps, input, out) {
-        Ok(halt) => Answer::Ran { halt, steps },
-        Err(NoMemory) => Answer::NoMemory,
+    match build_image(alloc, file, sizes, files, image) {
+        Ok(()) => match run_image(alloc, image.as_slice(), steps, input, out) {
+            Ok(halt) => Answer::Ran { halt, steps },
+            Err(NoMemory) => Answer::NoMemory,
+        },
+        Err(answer) => answer,
     }
 }
 
 /// The text in a file, of which no more is read than tells whether it is too long; or the answer where it cannot be had.
-fn read_text<'a, F: Store>(
-    alloc: Global,
-    file: &'a str,
-    files: &mut F,
-) -> Result<Bytes, Answer<'a>>
+fn read_text<'a, F: Store>(alloc: Global, file: &'a str, files: &mut F) -> Result<Bytes, Answer<'a>>
     ensures text { IfOk result (λ text. HasText file.now text (F.state files.old)) }
     ensures kept { OnOk result (KeepsFiles (F.state files.old) (F.state files.new)) }
-    ensures err { IfErr result (λ answer. (input : SourceState) (out : SinkState) (image : List ℕ) (command : Command) → file_of command ≡ file.now → Answers
+    ensures err { IfErr result (λ answer. (input : SourceState) (out : SinkState) (image : List ℕ) (request : Request) → file_of request ≡ file.now → Answers
         (record { files = F.state files.old; input = input; out = out; image = image })
         (record { files = F.state files.new; input = input; out = out; image = image })
-        (Some command) answer) }
+        (Some request) answer) }
 {
-    let at_most = LimitKind::Source.greatest() as usize + 1;
+    let at_most = most_read();
     match files.read(alloc, file, at_most) {
         Read::Bytes(text) => Ok(text),
         Read::Failed => Err(Answer::FileFault { name: file }),
         Read::NoMemory => Err(Answer::NoMemory),
     }
+}
+
+/// How many bytes of a text are read: one more than it may have.
+fn most_read() -> usize
+    ensures { result ≡ greatest_of Source + 1 }
+{
+    LimitKind::Source.greatest() as usize + 1
 }
 
 /// Makes `image` the image of the text in a file, or gives the answer where there is none.
@@ -137,10 +144,10 @@ fn build_image<'a, F: Store>(
 ) -> Result<(), Answer<'a>>
     ensures built { OnOk result (IsImageOf file.now sizes.cells sizes.depth (F.state files.old) image.new) }
     ensures kept { OnOk result (KeepsFiles (F.state files.old) (F.state files.new)) }
-    ensures err { IfErr result (λ answer. (input : SourceState) (out : SinkState) (command : Command) → file_of command ≡ file.now → Answers
+    ensures err { IfErr result (λ answer. (input : SourceState) (out : SinkState) (request : Request) → file_of request ≡ file.now → Answers
         (record { files = F.state files.old; input = input; out = out; image = image.old })
         (record { files = F.state files.new; input = input; out = out; image = image.new })
-        (Some command) answer) }
+        (Some request) answer) }
 {
     let text = match read_text(alloc, file, files) {
         Ok(text) => text,

@@ -1,9 +1,280 @@
-//! The program over devices in memory.
+//! The program over devices in memory, of which some fail.
 
-mod devices;
-mod endings;
-mod limits;
-mod prints;
-mod reads;
-mod refusals;
-mod tables;
+use crate::kokarv::kokarv;
+use kk_base::{Bytes, NoMemory, Status};
+use kk_memio::{MemSink, MemSource, MemStore};
+use std::alloc::{AllocError, Global};
+use std::process::Abort;
+
+/// The number, from 1, of the call that each device refuses; 0 where it refuses none.
+#[derive(Clone, Copy)]
+struct Refused {
+    files: u64,
+    out: u64,
+    err: u64,
+}
+
+/// A command where `a.kk` is the only file, and what it is to end with.
+#[derive(Clone, Copy)]
+struct Row<'a> {
+    line: &'a str,
+    text: &'a str,
+    refused: Refused,
+    status: Status,
+    out: &'a str,
+    err: &'a str,
+    /// Whether `a.elf` is written.
+    writes: bool,
+}
+
+const NONE: Refused = Refused {
+    files: 0,
+    out: 0,
+    err: 0,
+};
+
+static ROWS: [Row; 15] = [
+    Row {
+        line: "kokarv run a.kk",
+        text: "fun main() { println(1 + 2 * 3) }",
+        refused: NONE,
+        status: Status::Done,
+        out: "7\n",
+        err: "",
+        writes: false,
+    },
+    Row {
+        line: "kokarv check a.kk",
+        text: "fun main() { println(1 + 2 * 3) }",
+        refused: NONE,
+        status: Status::Done,
+        out: "",
+        err: "",
+        writes: false,
+    },
+    Row {
+        line: "kokarv build a.kk -o a.elf",
+        text: "fun main() { println(1 + 2 * 3) }",
+        refused: NONE,
+        status: Status::Done,
+        out: "",
+        err: "",
+        writes: true,
+    },
+    Row {
+        line: "kokarv build a.kk -o a.elf",
+        text: "fun main() { println(1 +) }",
+        refused: NONE,
+        status: Status::Refused,
+        out: "",
+        err: "refused: parse 1 at line 1 column 25\n",
+        writes: false,
+    },
+    Row {
+        line: "kokarv",
+        text: "",
+        refused: NONE,
+        status: Status::Usage,
+        out: "",
+        err: "usage: kokarv check FILE, build FILE -o OUT, run FILE, sim IMAGE, eval FILE, bench SEED SIZE\n",
+        writes: false,
+    },
+    Row {
+        line: "kokarv run b.kk",
+        text: "",
+        refused: NONE,
+        status: Status::FileFault,
+        out: "",
+        err: "file fault: b.kk\n",
+        writes: false,
+    },
+    Row {
+        line: "kokarv run a.kk --steps 3",
+        text: "fun main() { println(1) }",
+        refused: NONE,
+        status: Status::StepsSpent,
+        out: "",
+        err: "steps spent: 3\n",
+        writes: false,
+    },
+    // The first call of the store reads FILE, the second writes OUT.
+    Row {
+        line: "kokarv check a.kk",
+        text: "fun main() { println(1) }",
+        refused: Refused {
+            files: 1,
+            out: 0,
+            err: 0,
+        },
+        status: Status::FileFault,
+        out: "",
+        err: "file fault: a.kk\n",
+        writes: false,
+    },
+    Row {
+        line: "kokarv build a.kk -o a.elf",
+        text: "fun main() { println(1) }",
+        refused: Refused {
+            files: 2,
+            out: 0,
+            err: 0,
+        },
+        status: Status::FileFault,
+        out: "",
+        err: "file fault: a.elf\n",
+        writes: false,
+    },
+    Row {
+        line: "kokarv run a.kk",
+        text: "fun main() { println(1); println(2) }",
+        refused: Refused {
+            files: 0,
+            out: 2,
+            err: 0,
+        },
+        status: Status::OutputFault,
+        out: "1\n",
+        err: "output fault\n",
+        writes: false,
+    },
+    Row {
+        line: "kokarv run a.kk",
+        text: "fun main() { println(1); println(\"a\") }",
+        refused: Refused {
+            files: 0,
+            out: 3,
+            err: 1,
+        },
+        status: Status::Done,
+        out: "1\na\n",
+        err: "",
+        writes: false,
+    },
+    // An empty string is no put.
+    Row {
+        line: "kokarv run a.kk",
+        text: "fun main() { print(\"\"); print(\"x\") }",
+        refused: Refused {
+            files: 0,
+            out: 1,
+            err: 0,
+        },
+        status: Status::OutputFault,
+        out: "",
+        err: "output fault\n",
+        writes: false,
+    },
+    Row {
+        line: "kokarv run a.kk",
+        text: "fun main() { print(1) }",
+        refused: Refused {
+            files: 0,
+            out: 1,
+            err: 1,
+        },
+        status: Status::OutputFault,
+        out: "",
+        err: "",
+        writes: false,
+    },
+    Row {
+        line: "kokarv check a.kk",
+        text: "",
+        refused: Refused {
+            files: 0,
+            out: 0,
+            err: 2,
+        },
+        status: Status::OutputFault,
+        out: "",
+        err: "refused: name ",
+        writes: false,
+    },
+    Row {
+        line: "kokarv help",
+        text: "",
+        refused: Refused {
+            files: 0,
+            out: 0,
+            err: 1,
+        },
+        status: Status::OutputFault,
+        out: "",
+        err: "",
+        writes: false,
+    },
+];
+
+/// The devices of a command.
+#[derive(Drop)]
+struct Devices {
+    files: MemStore,
+    input: MemSource,
+    out: MemSink,
+    err: MemSink,
+    image: Bytes,
+}
+
+impl Devices {
+    /// Devices where `a.kk` is the only file.
+    fn new(alloc: Global, text: &str, refused: Refused) -> Result<Self, NoMemory> {
+        let mut files = MemStore::new(alloc, &[refused.files])?;
+        files.add_file("a.kk", text.as_bytes())?;
+        Ok(Devices {
+            files,
+            input: MemSource::new(alloc, b"", &[])?,
+            out: MemSink::new(alloc, 4096, &[refused.out])?,
+            err: MemSink::new(alloc, 4096, &[refused.err])?,
+            image: Bytes::new(alloc),
+        })
+    }
+
+    /// Does a command.
+    fn command(&mut self, alloc: Global, words: &[String]) -> Status {
+        kokarv(
+            alloc,
+            words,
+            &mut self.files,
+            &mut self.input,
+            &mut self.out,
+            &mut self.err,
+            &mut self.image,
+        )
+    }
+
+    /// Whether `a.elf` is the image, and there is one.
+    fn has_image(&self) -> bool {
+        match self.files.file_bytes("a.elf") {
+            Some(bytes) => !bytes.is_empty() && bytes == self.image.as_slice(),
+            None => false,
+        }
+    }
+}
+
+fn words_of(alloc: Global, line: &str) -> Result<Vec<String>, AllocError> {
+    let mut words = Vec::new(alloc);
+    for word in line.split_whitespace() {
+        words.push(String::from_str(alloc, word)?)?;
+    }
+    Ok(words)
+}
+
+/// Does the command of a row, and compares what it ends with.
+fn check_row(rt: &impl Abort, alloc: Global, row: &Row<'_>) -> Result<(), NoMemory> {
+    let words = words_of(alloc, row.line)?;
+    let mut devices = Devices::new(alloc, row.text, row.refused)?;
+    let status = devices.command(alloc, words.as_slice());
+    assert_eq!(rt; status, row.status);
+    assert_eq!(rt; devices.out.held_bytes(), row.out.as_bytes());
+    assert_eq!(rt; devices.err.held_bytes(), row.err.as_bytes());
+    assert_eq!(rt; devices.has_image(), row.writes);
+    Ok(())
+}
+
+#[test]
+fn answers_commands(rt: HostRuntime) -> Result<(), NoMemory> {
+    for row in &ROWS {
+        check_row(&rt, rt.alloc(), row)?;
+    }
+    Ok(())
+}

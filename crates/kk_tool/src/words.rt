@@ -1,7 +1,8 @@
 ghost use Rattle.std.specs.Prelude.{◌≡◌, ◌≤◌, map, string_bytes, IfOk, IfSome, option_map};
 ghost use Rattle.clap.specs.Words.{found_of, rows_of, first_of, subcommand_rows_of};
 ghost use Rattle.kk_base.specs.Sizes.{greatest_cells, greatest_depth};
-ghost use Rattle.kk_tool.specs.Commands.{command_of, command_named, command_read, entered_command, check_in, build_in, run_in, cells_in, depth_in, steps_in};
+ghost use Rattle.kk_tool.specs.Requests.{request_of, request_named, entered_request, check_in, build_in, run_in, cells_in, depth_in, steps_in};
+ghost use Rattle.kk_tool.specs.Internal.{request_read};
 
 use crate::application::application;
 use crate::command::{Command, Sizes};
@@ -22,7 +23,7 @@ const GREATEST_STEPS: u64 = 9_223_372_036_854_775_807;
 
 /// The command that the words of a line are; none where they are no command. The first word is the program's name.
 pub fn command_in<'a>(alloc: Global, words: &'a [String]) -> Result<Option<Command<'a>>, NoMemory>
-    ensures { IfOk result (λ read. option_map command_read read ≡ command_of (map string_bytes words.now)) }
+    ensures { IfOk result (λ read. option_map request_read read ≡ request_of (map string_bytes words.now)) }
 {
     let matches = match application(alloc)?.try_get_matches_from(words) {
         Ok(matches) => matches,
@@ -33,14 +34,14 @@ pub fn command_in<'a>(alloc: Global, words: &'a [String]) -> Result<Option<Comma
 }
 
 fn command_of<'a>(matches: &ArgMatches<'a>) -> Option<Command<'a>>
-    ensures { option_map command_read result ≡ entered_command (subcommand_rows_of matches.now) }
+    ensures { option_map request_read result ≡ entered_request (subcommand_rows_of matches.now) }
 {
     let (name, matches) = matches.subcommand()?;
     command_named(name, matches)
 }
 
 fn command_named<'a>(name: &str, matches: &ArgMatches<'a>) -> Option<Command<'a>>
-    ensures { option_map command_read result ≡ command_named name.now (rows_of (found_of matches.now)) }
+    ensures { option_map request_read result ≡ request_named name.now (rows_of (found_of matches.now)) }
 {
     match name {
         "check" => check_in(matches),
@@ -51,14 +52,14 @@ fn command_named<'a>(name: &str, matches: &ArgMatches<'a>) -> Option<Command<'a>
 }
 
 fn check_in<'a>(matches: &ArgMatches<'a>) -> Option<Command<'a>>
-    ensures { option_map command_read result ≡ check_in (rows_of (found_of matches.now)) }
+    ensures { option_map request_read result ≡ check_in (rows_of (found_of matches.now)) }
 {
     let file = value_of(matches, "file")?;
     Some(Command::Check { file })
 }
 
 fn build_in<'a>(matches: &ArgMatches<'a>) -> Option<Command<'a>>
-    ensures { option_map command_read result ≡ build_in (rows_of (found_of matches.now)) }
+    ensures { option_map request_read result ≡ build_in (rows_of (found_of matches.now)) }
 {
     let file = value_of(matches, "file")?;
     let out = value_of(matches, "out")?;
@@ -72,7 +73,7 @@ fn build_in<'a>(matches: &ArgMatches<'a>) -> Option<Command<'a>>
 }
 
 fn run_in<'a>(matches: &ArgMatches<'a>) -> Option<Command<'a>>
-    ensures { option_map command_read result ≡ run_in (rows_of (found_of matches.now)) }
+    ensures { option_map request_read result ≡ run_in (rows_of (found_of matches.now)) }
 {
     let file = value_of(matches, "file")?;
     let cells = cells_in(matches)?;

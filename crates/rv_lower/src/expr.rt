@@ -1,21 +1,22 @@
 //! The code of expressions: each leaves its value in the slot that is named, and uses that one and those above it.
 
 ghost use Rattle.std.specs.Prelude.{◌+◌, ◌^◌, ◌<◌, ◌≤◌, OnOk, map, vec_len};
-ghost use Rattle.kk_syntax.specs.Trees.{expr_tree, trees_of};
+ghost use Rattle.kk_syntax.specs.Trees.{expr_tree, trees_of, statement_tree};
 ghost use Rattle.rv_lower.specs.Growth.{Grows};
-ghost use Rattle.rv_lower.specs.Size.{words_of, words_of_all, constants_of, constants_of_all, slots_of, slots_of_all, operator_words, piece_bytes, piece_words};
+ghost use Rattle.rv_lower.specs.Size.{words_of, words_of_all, words_of_statements, constants_of, constants_of_all, constants_of_statements, slots_of, slots_of_all, slots_of_statements, form_slots, form_words, operator_words, piece_bytes, piece_words};
 ghost use Rattle.rv_lower.specs.declared.frame.TheConstants.{MOST_SLOTS};
 
 use crate::code::Code;
 use crate::frame::slot_offset;
 use crate::immediate::{forward, load_word, small};
 use crate::print::{PRINT_NUMBER_WORDS, write_piece};
+use elf_image::TEXT_START;
 use kk_base::NoMemory;
-use kk_syntax::{BinaryOperator, Expr, PrintForm, StringLiteral, UnaryOperator};
+use kk_syntax::{BinaryOperator, Expr, Form, PrintForm, Statement, StringLiteral, UnaryOperator};
 use rv_isa::{Immediate, Instr, Register};
 
 /// The address of the routine that prints a number: the entry's two instructions stand before it.
-pub const PRINT_NUMBER_AT: u32 = 0x1_0008;
+pub const PRINT_NUMBER_AT: u32 = TEXT_START + 8;
 /// The address of the routine that reads a byte, which is the next one.
 pub const READ_BYTE_AT: u32 = PRINT_NUMBER_AT + 4 * PRINT_NUMBER_WORDS;
 
@@ -41,7 +42,7 @@ fn store_slot(rs2: Register, slot: u32) -> Instr
     }
 }
 
-/// The code of an expression, its value to `slot`.
+/// The code of an expression, its value to `slot`. No text has the forms yet for which there is none.
 ///
 /// The recursion is as deep as the expression.
 #[cycle(lower)]
@@ -49,34 +50,25 @@ fn store_slot(rs2: Register, slot: u32) -> Instr
 pub fn lower_expr(code: &mut Code, expr: &Expr, slot: u32) -> Result<(), NoMemory>
     requires slots { slot + slots_of (expr_tree expr.now) ≤ MOST_SLOTS }
     requires room { code.old.constants_at + vec_len code.old.constants + constants_of (expr_tree expr.now) < 2 ^ 32 }
-    ensures in_frame { slot < MOST_SLOTS }
-    ensures grows { OnOk result (Grows (words_of (expr_tree expr.now)) (constants_of (expr_tree expr.now)) code.old code.new) }
+    ensures { OnOk result (Grows (words_of (expr_tree expr.now)) (constants_of (expr_tree expr.now)) code.old code.new) }
 {
     match expr {
         Expr::Number(number) => lower_number(code, *number, slot),
         Expr::ReadByte => read_to_slot(code, slot),
-        Expr::Unary(UnaryOperator::Negate, operand) => {
-            lower_expr(code, operand, slot)?;
-            negate_slot(code, slot)
-        }
-        Expr::Binary(operator, left, right) => {
-            lower_expr(code, left, slot)?;
-            lower_expr(code, right, slot + 1)?;
-            combine_slots(code, *operator, slot)
-        }
-        Expr::Print(form, operand) => {
-            lower_expr(code, operand, slot)?;
-            print_slot(code, *form, slot)
-        }
         Expr::PrintText(form, text) => print_text(code, *form, text),
+        Expr::Apply(form, arguments) => {
+            lower_each(code, arguments, slot)?;
+            apply(code, *form, slot)
+        }
         Expr::Block(statements, value) => {
-            lower_each(code, statements, slot)?;
+            lower_statements(code, statements, slot)?;
             lower_expr(code, value, slot)
         }
+        Expr::Unit | Expr::Variable(_) | Expr::If(_, _, _) | Expr::Match(_, _) => Ok(()),
     }
 }
 
-/// The code of several expressions, one after the other.
+/// The code of several expressions, one after the other, their values to the slots from `slot` on.
 #[cycle(lower)]
 #[tactic(auto, using(crate::proofs::Slots::one_slot))]
 fn lower_each(code: &mut Code, exprs: &[Expr], slot: u32) -> Result<(), NoMemory>
@@ -84,10 +76,38 @@ fn lower_each(code: &mut Code, exprs: &[Expr], slot: u32) -> Result<(), NoMemory
     requires room { code.old.constants_at + vec_len code.old.constants + constants_of_all (trees_of (map expr_tree exprs.now)) < 2 ^ 32 }
     ensures { OnOk result (Grows (words_of_all (trees_of (map expr_tree exprs.now))) (constants_of_all (trees_of (map expr_tree exprs.now))) code.old code.new) }
 {
+    let mut at = slot;
     for expr in exprs {
-        lower_expr(code, expr, slot)?;
+        lower_expr(code, expr, at)?;
+        at += 1;
     }
     Ok(())
+}
+
+/// The code of statements, one after the other.
+#[cycle(lower)]
+fn lower_statements(code: &mut Code, statements: &[Statement], slot: u32) -> Result<(), NoMemory>
+    requires slots { slot + slots_of_statements (map statement_tree statements.now) ≤ MOST_SLOTS }
+    requires room { code.old.constants_at + vec_len code.old.constants + constants_of_statements (map statement_tree statements.now) < 2 ^ 32 }
+    ensures { OnOk result (Grows (words_of_statements (map statement_tree statements.now)) (constants_of_statements (map statement_tree statements.now)) code.old code.new) }
+{
+    for statement in statements {
+        lower_expr(code, &statement.value, slot)?;
+    }
+    Ok(())
+}
+
+/// `slot = form (slot, slot + 1, ..)`
+fn apply(code: &mut Code, form: Form, slot: u32) -> Result<(), NoMemory>
+    requires { slot + form_slots form ≤ MOST_SLOTS }
+    ensures { OnOk result (Grows (form_words form) 0 code.old code.new) }
+{
+    match form {
+        Form::Unary(UnaryOperator::Negate) => negate_slot(code, slot),
+        Form::Binary(operator) => combine_slots(code, operator, slot),
+        Form::Print(form) => print_slot(code, form, slot),
+        Form::Unary(UnaryOperator::Not) | Form::Construct(_) | Form::Call(_) => Ok(()),
+    }
 }
 
 /// `slot = number`
@@ -161,6 +181,8 @@ fn operation(operator: BinaryOperator) -> Instr {
         BinaryOperator::Multiply => Instr::Mul { rd, rs1, rs2 },
         BinaryOperator::Divide => Instr::Div { rd, rs1, rs2 },
         BinaryOperator::Remainder => Instr::Rem { rd, rs1, rs2 },
+        // No text compares yet.
+        _ => Instr::Sub { rd, rs1, rs2 },
     }
 }
 

@@ -9,8 +9,8 @@ use rv_isa::Immediate;
 /// Bytes of the buffer: a sign, ten digits and a line feed fit.
 pub const BUFFER_BYTES: u32 = 16;
 
-/// The greatest number of slots of a frame.
-pub const MOST_SLOTS: u32 = 480;
+/// The greatest number of slots of a frame whose size is an immediate.
+pub const MOST_SLOTS: u32 = 507;
 
 /// The distance of a slot from the stack pointer.
 pub fn slot_offset(slot: u32) -> Immediate

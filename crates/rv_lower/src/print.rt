@@ -7,14 +7,8 @@ use crate::code::Code;
 use crate::frame::BUFFER_BYTES;
 use crate::immediate::{back, forward, minus_one, small};
 use kk_base::NoMemory;
+use rv_isa::environment::{EXIT, STANDARD_OUTPUT, WRITE};
 use rv_isa::{Immediate, Instr, Register};
-
-/// The environment's call that writes, by its number in x17.
-const WRITE: u32 = 64;
-/// The environment's call that exits.
-const EXIT: u32 = 93;
-/// The file that is written to.
-const STANDARD_OUTPUT: u32 = 1;
 
 /// `rd = number`, for a number from 0 to 2047.
 pub fn set_small(rd: Register, number: u32) -> Instr

@@ -1,7 +1,9 @@
 ghost use Rattle.std.specs.Prelude.{◌≡◌, ◌+◌, ◌<◌, ◌≤◌, IfOk, Some, slice_get, vec_len};
+ghost use Rattle.kk_base.specs.Limits.{greatest_of};
+ghost use Rattle.kk_base.specs.declared.limit.LimitKind.TheVariants.{FunctionNodes};
 ghost use Rattle.kk_syntax.specs.Trees.{expr_tree};
 ghost use Rattle.kk_syntax.specs.Shapes.{nodes_of};
-ghost use Rattle.kk_syntax.specs.declared.tree.Function.{Function};
+ghost use Rattle.kk_syntax.specs.declared.program.Fun.{Fun};
 
 use crate::asm::Asm;
 use crate::code::Code;
@@ -11,13 +13,12 @@ use crate::immediate::upper_part;
 use crate::measure::{measure, slots};
 use crate::print::{PRINT_NUMBER_WORDS, add_print_number, exit_done};
 use crate::read::{READ_BYTE_WORDS, read_byte};
+use elf_image::TEXT_START;
 use kk_base::NoMemory;
 use kk_syntax::Program;
 use rv_isa::{Instr, JumpOffset, Register};
 use std::alloc::Global;
 
-/// The address of the text part.
-const TEXT_AT: u32 = 0x1_0000;
 /// Instructions of the routines.
 const ROUTINE_WORDS: u32 = PRINT_NUMBER_WORDS + READ_BYTE_WORDS;
 /// Instructions before those of the body: the entry's and the routines'.
@@ -28,9 +29,9 @@ const WORDS_BEHIND: u32 = 3;
 /// The instructions of a program's `main`, which print what it prints and exit with 0.
 ///
 /// Asks for a body within the limits. The constants follow the instructions, and their addresses in the code are those
-/// that they have where the text part begins at 0x10000.
+/// that they have where the text part begins.
 pub fn lower(alloc: Global, program: &Program) -> Result<Asm, NoMemory>
-    requires { (function : Function) → slice_get program.now.functions.items program.now.main ≡ Some function → nodes_of (expr_tree function.body) ≤ 480 }
+    requires { (function : Fun) → slice_get program.now.functions.items program.now.main ≡ Some function → nodes_of (expr_tree function.body) ≤ greatest_of FunctionNodes }
     ensures some_words { IfOk result (λ asm. 0 < vec_len asm.instructions) }
     ensures few_words { IfOk result (λ asm. vec_len asm.instructions ≤ 4096) }
     ensures few_constants { IfOk result (λ asm. vec_len asm.constants ≤ 122880) }
@@ -40,7 +41,7 @@ pub fn lower(alloc: Global, program: &Program) -> Result<Asm, NoMemory>
     let size = measure(body);
     let memory = frame_bytes(slots(body));
     let words = WORDS_BEFORE + size.words + WORDS_BEHIND;
-    let constants_at = TEXT_AT + 4 * words;
+    let constants_at = TEXT_START + 4 * words;
     let memory_at = (constants_at + size.constants).next_multiple_of(0x1000);
     let mut code = Code {
         instructions: Vec::new(alloc),

@@ -2,12 +2,8 @@
 
 use crate::immediate::{forward, minus_one};
 use crate::print::{copy, set_small};
+use rv_isa::environment::{READ, STANDARD_INPUT};
 use rv_isa::{Immediate, Instr, Register};
-
-/// The environment's call that reads, by its number in x17.
-const READ: u32 = 63;
-/// The file that is read.
-const STANDARD_INPUT: u32 = 0;
 
 /// How many instructions the routine has.
 pub const READ_BYTE_WORDS: u32 = 9;

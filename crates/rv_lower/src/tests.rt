@@ -1,22 +1,36 @@
 ghost use Rattle.std.specs.Prelude.{◌≤◌};
+ghost use Rattle.kk_base.specs.Limits.{greatest_of};
+ghost use Rattle.kk_base.specs.declared.limit.LimitKind.TheVariants.{FunctionNodes};
 ghost use Rattle.kk_syntax.specs.Shapes.{nodes_of};
 ghost use Rattle.kk_syntax.specs.Trees.{expr_tree};
 
 use crate::lower;
 use kk_base::{Name, NoMemory};
-use kk_syntax::{Expr, Function, Program};
+use kk_syntax::{Expr, Fun, Program, Ty};
 use rv_isa::Instr;
 use std::alloc::Global;
 use std::test::Fail;
 
 /// The instructions of a program of a `main` with this body.
 fn instructions_of(alloc: Global, body: Expr) -> Result<Vec<Instr>, NoMemory>
-    requires { nodes_of (expr_tree body) ≤ 480 }
+    requires { nodes_of (expr_tree body) ≤ greatest_of FunctionNodes }
 {
     let name = Name::new(String::from_str(alloc, "main")?);
     let mut functions = Vec::new(alloc);
-    functions.push(Function { name, at: 4, body })?;
-    let program = Program { functions, main: 0 };
+    functions.push(Fun {
+        name,
+        at: 4,
+        variables: 0,
+        parameters: Vec::new(alloc),
+        result: Ty::Unit,
+        body,
+    })?;
+    let program = Program {
+        types: Vec::new(alloc),
+        constructors: Vec::new(alloc),
+        functions,
+        main: 0,
+    };
     Ok(lower(alloc, &program)?.instructions)
 }
 

@@ -1,6 +1,7 @@
 ghost use Rattle.std.specs.Prelude.{◌≡◌, None};
+ghost use Rattle.kk_base.specs.Source.{KeepsEnd, next_failed};
 
-use kk_base::{Next, Source};
+use kk_base::{FaultCount, Next, Source};
 use std::io::Read;
 
 /// A stream that is read, such as standard input, a byte at a time. Behind its first end it is not read again.
@@ -8,7 +9,7 @@ use std::io::Read;
 pub struct StreamSource<R: Drop> {
     stream: R,
     ended: bool,
-    faults: u64,
+    faults: FaultCount,
 }
 
 impl<R: Read + Drop> StreamSource<R> {
@@ -19,20 +20,15 @@ impl<R: Read + Drop> StreamSource<R> {
         StreamSource {
             stream,
             ended: false,
-            faults: 0,
+            faults: FaultCount::new(),
         }
     }
-}
 
-impl<R: Read + Drop> Source for StreamSource<R> {
-    ghost left = { λ _. None };
-
-    ghost ended = { λ source. source.ended };
-
-    ghost faults = { λ source. source.faults };
-
-    fn next(&mut self) -> Next {
-        let faults = self.faults;
+    /// Takes the next byte, where the stream has not ended before.
+    fn take(&mut self) -> Next
+        ensures ended { KeepsEnd result self.old.ended self.new.ended }
+        ensures faults { self.new.faults ≡ self.old.faults }
+    {
         if self.ended {
             return Next::End;
         }
@@ -43,10 +39,26 @@ impl<R: Read + Drop> Source for StreamSource<R> {
                 Next::End
             }
             Ok(_) => Next::Byte(byte[0]),
-            Err(_) => {
-                self.faults = faults.saturating_add(1);
-                Next::Failed
-            }
+            Err(_) => Next::Failed,
         }
+    }
+}
+
+impl<R: Read + Drop> Source for StreamSource<R> {
+    ghost state = { λ source. record { left = None; ended = source.ended; faults = source.faults } };
+
+    fn next(&mut self) -> Next {
+        let next = self.take();
+        self.faults.count_call(is_failed(next));
+        next
+    }
+}
+
+fn is_failed(next: Next) -> bool
+    ensures { result ≡ next_failed next }
+{
+    match next {
+        Next::Byte(_) | Next::End => false,
+        Next::Failed => true,
     }
 }

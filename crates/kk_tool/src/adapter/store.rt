@@ -1,27 +1,20 @@
-ghost use Rattle.std.specs.Prelude.{◌≡◌, true, Some, None, option_map};
+ghost use Rattle.std.specs.Prelude.{◌≡◌, None};
 ghost use Rattle.kk_base.specs.Faults.{Counts};
-ghost use Rattle.kk_tool.specs.Store.{call_of};
+ghost use Rattle.kk_base.specs.Store.{Remembers, read_failed, wrote_failed};
 
-use kk_base::{Bytes, Read, Store, Wrote};
+use kk_base::{Bytes, FaultCount, Name, Read, Store, StoreCall, Wrote};
 use std::alloc::Global;
 use std::fs::{File, Files};
 use std::io;
 use std::io::{ErrorKind, Write};
-
-/// A call on a store that failed, with the name that it was given.
-#[derive(Debug, Drop)]
-pub enum FailedCall {
-    Reading(String),
-    Writing(String),
-}
 
 /// The files of the system.
 #[derive(Drop)]
 pub struct FileStore<R: Drop> {
     alloc: Global,
     files: R,
-    faults: u64,
-    last_failed: Option<FailedCall>,
+    faults: FaultCount,
+    last_failed: Option<StoreCall>,
 }
 
 impl<R: Files + Drop> FileStore<R> {
@@ -33,18 +26,20 @@ impl<R: Files + Drop> FileStore<R> {
         FileStore {
             alloc,
             files,
-            faults: 0,
+            faults: FaultCount::new(),
             last_failed: None,
         }
     }
 
-    /// Counts a call that failed, and keeps it.
-    fn fail(&mut self, call: FailedCall)
-        ensures faults { Counts true self.old.faults self.new.faults }
-        ensures last_failed { option_map call_of self.new.last_failed ≡ Some (call_of call) }
+    /// Counts a call, and keeps it where it failed.
+    fn note(&mut self, failed: bool, call: StoreCall)
+        ensures faults { Counts failed self.old.faults self.new.faults }
+        ensures last_failed { Remembers failed call self.old.last_failed self.new.last_failed }
     {
-        self.faults = self.faults.saturating_add(1);
-        self.last_failed = Some(call);
+        self.faults.count_call(failed);
+        if failed {
+            self.last_failed = Some(call);
+        }
     }
 }
 
@@ -84,40 +79,52 @@ fn write_file<R: Files>(files: &R, name: &str, bytes: &[u8]) -> io::Result<()> {
 }
 
 impl<R: Files + Drop> Store for FileStore<R> {
-    ghost files = { λ _. None };
-
-    ghost faults = { λ store. store.faults };
-
-    ghost last_failed = { λ store. option_map call_of store.last_failed };
+    ghost state = { λ store. record { files = None; last_failed = store.last_failed; faults = store.faults } };
 
     fn read(&mut self, alloc: Global, name: &str, at_most: usize) -> Read {
-        let _faults = self.faults;
         // The name is kept where the call fails, so its room is taken before.
         let Ok(kept) = String::from_str(self.alloc, name) else {
+            self.faults.count_call(false);
             return Read::NoMemory;
         };
-        match read_file(alloc, &self.files, name, at_most) {
+        let read = match read_file(alloc, &self.files, name, at_most) {
             Ok(bytes) => Read::Bytes(Bytes::from_vec(bytes)),
             Err(error) if error.kind() == ErrorKind::OutOfMemory => Read::NoMemory,
-            Err(_) => {
-                self.fail(FailedCall::Reading(kept));
-                Read::Failed
-            }
-        }
+            Err(_) => Read::Failed,
+        };
+        self.note(is_read_failed(&read), StoreCall::Reading(Name::new(kept)));
+        read
     }
 
     fn write(&mut self, name: &str, bytes: &[u8]) -> Wrote {
-        let _faults = self.faults;
         let Ok(kept) = String::from_str(self.alloc, name) else {
+            self.faults.count_call(false);
             return Wrote::NoMemory;
         };
-        match write_file(&self.files, name, bytes) {
+        let wrote = match write_file(&self.files, name, bytes) {
             Ok(()) => Wrote::Done,
             Err(error) if error.kind() == ErrorKind::OutOfMemory => Wrote::NoMemory,
-            Err(_) => {
-                self.fail(FailedCall::Writing(kept));
-                Wrote::Failed
-            }
-        }
+            Err(_) => Wrote::Failed,
+        };
+        self.note(is_write_failed(wrote), StoreCall::Writing(Name::new(kept)));
+        wrote
+    }
+}
+
+fn is_read_failed(read: &Read) -> bool
+    ensures { result ≡ read_failed read.now }
+{
+    match read {
+        Read::Bytes(_) | Read::NoMemory => false,
+        Read::Failed => true,
+    }
+}
+
+fn is_write_failed(wrote: Wrote) -> bool
+    ensures { result ≡ wrote_failed wrote }
+{
+    match wrote {
+        Wrote::Done | Wrote::NoMemory => false,
+        Wrote::Failed => true,
     }
 }

@@ -86,41 +86,39 @@ fn check_read<S: Store>(
 }
 
 #[test]
-fn sources_give_bytes(rt: HostRuntime) -> Result<(), Fail> {
+fn sources_give_bytes_and_tell_faults(rt: HostRuntime) -> Result<(), Fail> {
     std::fs::write(&rt, "source.bin", b"ab")?;
-    let mut source = StreamSource::new(File::open(&rt, "source.bin")?);
+    let mut file = StreamSource::new(File::open(&rt, "source.bin")?);
+    let mut resumed = StreamSource::new(Resumed { calls: 0 });
+    let mut broken = StreamSource::new(Broken { calls: 0 });
     check_source(
         &rt,
-        &mut source,
-        &[Next::Byte(b'a'), Next::Byte(b'b'), Next::End, Next::End],
+        &mut file,
+        &[Next::Byte(b'a'), Next::Byte(b'b'), Next::End],
+    );
+    check_source(&rt, &mut resumed, &[Next::End, Next::End]);
+    check_source(
+        &rt,
+        &mut broken,
+        &[Next::Byte(1), Next::Byte(2), Next::Failed, Next::Failed],
     );
     std::fs::remove_file(&rt, "source.bin")?;
     Ok(())
 }
 
 #[test]
-fn sources_end_once(rt: HostRuntime) {
-    let mut source = StreamSource::new(Resumed { calls: 0 });
-    check_source(&rt, &mut source, &[Next::End, Next::End]);
-}
-
-#[test]
-fn sources_tell_faults(rt: HostRuntime) {
-    let mut source = StreamSource::new(Broken { calls: 0 });
-    check_source(
-        &rt,
-        &mut source,
-        &[Next::Byte(1), Next::Byte(2), Next::Failed, Next::Failed],
-    );
-}
-
-#[test]
-fn sinks_take_pieces(rt: HostRuntime) -> Result<(), Fail> {
-    let mut sink = StreamSink::new(File::create(&rt, "sink.bin")?);
+fn sinks_take_pieces_and_tell_faults(rt: HostRuntime) -> Result<(), Fail> {
+    let mut file = StreamSink::new(File::create(&rt, "sink.bin")?);
+    let mut broken = StreamSink::new(Broken { calls: 0 });
     check_sink(
         &rt,
-        &mut sink,
+        &mut file,
         &[("one ", Put::All), ("", Put::All), ("two", Put::All)],
+    );
+    check_sink(
+        &rt,
+        &mut broken,
+        &[("three", Put::Failed(2)), ("four", Put::Failed(0))],
     );
     let written = std::fs::read(&rt, "sink.bin")?;
     assert_eq!(rt; written.as_slice(), b"one two".as_slice());
@@ -129,29 +127,14 @@ fn sinks_take_pieces(rt: HostRuntime) -> Result<(), Fail> {
 }
 
 #[test]
-fn sinks_tell_faults(rt: HostRuntime) {
-    let mut sink = StreamSink::new(Broken { calls: 0 });
-    check_sink(
-        &rt,
-        &mut sink,
-        &[("three", Put::Failed(2)), ("four", Put::Failed(0))],
-    );
-}
-
-#[test]
-fn stores_keep_files(rt: HostRuntime) -> Result<(), Fail> {
+fn stores_keep_files_and_tell_faults(rt: HostRuntime) -> Result<(), Fail> {
     let mut store = FileStore::new(rt.alloc(), &rt);
     assert_eq!(rt; store.write("store.bin", b"some bytes"), Wrote::Done);
     check_read(&rt, rt.alloc(), &mut store, 4, b"some");
     check_read(&rt, rt.alloc(), &mut store, 100, b"some bytes");
+    let missing = store.read(rt.alloc(), "no/such/file", 4);
+    assert!(rt; matches!(&missing, FileRead::Failed));
+    assert_eq!(rt; store.write("no/such/folder", b""), Wrote::Failed);
     std::fs::remove_file(&rt, "store.bin")?;
     Ok(())
-}
-
-#[test]
-fn stores_tell_faults(rt: HostRuntime) {
-    let mut store = FileStore::new(rt.alloc(), &rt);
-    let read = store.read(rt.alloc(), "no/such/file", 4);
-    assert!(rt; matches!(&read, FileRead::Failed));
-    assert_eq!(rt; store.write("no/such/folder", b""), Wrote::Failed);
 }

@@ -5,7 +5,7 @@ use Rattle.kk_tool.proofs.words.command_in.Goals as goal
 pub returns : goal.returns
 returns c =
     c.command_of.ensures
-    ∙ line_told _ (map string_bytes c.args.words.now) c.in-Ok.matches c.in_ok-line.ensures.app record {
+    ∙ line_told _ (map string_bytes c.args.words.now) c.in-Ok.matches c.in_ok-application.ensures.app record {
       kinds = c.in-Ok.ensures.kinds;
       matches = c.in-Ok.ensures.matches;
     }

@@ -1,0 +1,109 @@
+-- How each command comes to its answers.
+use Rattle.std.proofs.Common.{◌≡◌, ℕ, List, Bool, true, false, cond, Option, Some, None, refl, sym, ap, subst, ◌∙◌, inl, inr}
+use Rattle.std.specs.Borrow.{Bor}
+use Rattle.kk_base.specs.Faults.{Counts}
+use Rattle.kk_base.specs.Sink.{SinkState}
+use Rattle.kk_base.specs.Source.{SourceState}
+use Rattle.kk_base.specs.Store.{StoreState, SameFiles, SameOthers, HasFile, Remembers}
+use Rattle.kk_base.specs.declared.outside.StoreCall.{StoreCall}
+use Rattle.kk_base.specs.declared.outside.StoreCall.TheVariants.{Reading, Writing}
+use Rattle.kk_base.specs.declared.refusal.Refusal.{Refusal}
+use Rattle.kk_front.specs.Judgement.{IsProgramOf, IsRefusalOf, Refuses, wants_memory}
+use Rattle.kk_build.specs.Built.{ProgramTree, IsBuilt}
+use Rattle.rv_sim.specs.declared.halt.Halt.{Halt}
+use Rattle.kk_tool.specs.declared.answer.Answer.{Answer}
+use Rattle.kk_tool.specs.declared.answer.Answer.TheVariants.{Done, Usage, Refused, NoMemory, FileFault, Ran}
+use Rattle.kk_tool.specs.Answers.{HasText, IsImageOf, Answers, usage, no_memory, unread, refused, checked, built, unwritten, ran}
+use Rattle.kk_tool.specs.Internal.{answer_of_refusal}
+use Rattle.kk_tool.specs.Requests.{Request, check, build, run, file_of}
+use Rattle.kk_tool.specs.ImageRuns.{RunsImage}
+use Rattle.kk_tool.specs.Outside.{Outside, KeepsFiles, KeepsStreams, KeepsAll}
+use Rattle.kk_tool.proofs.Stores.{same_files, then_kept, then_written, then_unwritten}
+
+abbrev outside : StoreState → SourceState → SinkState → List ℕ → Outside
+outside files input out image = record { files = files; input = input; out = out; image = image }
+
+module _ (store store' : StoreState) (input : SourceState) (out : SinkState) (image : List ℕ) where
+  same_streams : (image' : List ℕ) → KeepsStreams (outside store input out image) (outside store' input out image')
+  same_streams image' = record { input = refl; out = refl }
+
+  all_kept : KeepsFiles store store' → KeepsAll (outside store input out image) (outside store' input out image)
+  all_kept kept = record { files = kept; streams = same_streams image; image = refl }
+
+  pub read_failed : (file : Bor (List ℕ)) (request : Request) → file_of request ≡ file.now → SameFiles store.files store'.files → Counts true store.faults store'.faults → Remembers true (Reading file.now) store.last_failed store'.last_failed
+      → Answers (outside store input out image) (outside store' input out image) (Some request) (FileFault file)
+  read_failed file request is same counts remembers =
+      unread request file (sym is)
+      (record { fails = record { last_failed = remembers.told refl ∙ ap (λ (n : List ℕ). Some (Reading n)) (sym is); faults = counts.rises }; files = same })
+      (same_streams image) refl
+
+  pub no_room : (call : StoreCall) (request : Request) → SameFiles store.files store'.files → Counts false store.faults store'.faults → Remembers false call store.last_failed store'.last_failed
+      → Answers (outside store input out image) (outside store' input out image) (Some request) NoMemory
+  no_room call request same counts remembers =
+      no_memory (Some request) (record { files = same; last_failed = remembers.stays refl; faults = counts.rises }) (same_streams image) (inl refl)
+
+  by_want : (request : Request) (text : List ℕ) (refusal : Refusal) (wants : Bool) → wants_memory refusal ≡ wants → HasText (file_of request) text store → KeepsFiles store store' → Refuses text refusal
+      → Answers (outside store input out image) (outside store' input out image) (Some request) (cond wants NoMemory (Refused refusal))
+  by_want request text refusal true is has kept refuses = no_memory (Some request) kept (same_streams image) (inl refl)
+  by_want request text refusal false is has kept refuses = refused request text refusal has (refuses is) (all_kept kept)
+
+  pub text_refused : (file text slice : List ℕ) (refusal : Refusal) (answer : Answer) (request : Request) → file_of request ≡ file → slice ≡ text → answer ≡ answer_of_refusal refusal
+      → HasText file text store → KeepsFiles store store' → Refuses slice refusal → Answers (outside store input out image) (outside store' input out image) (Some request) answer
+  text_refused file text slice refusal answer request is same told has kept refuses =
+      let A : Answer → Type 0 = λ a. Answers (outside store input out image) (outside store' input out image) (Some request) a in
+      let H : List ℕ → Type 0 = λ name. HasText name text store in
+      let R : List ℕ → Type 0 = λ t. Refuses t refusal in
+      subst A (sym told) (by_want request text refusal (wants_memory refusal) refl (subst H (sym is) has) kept (subst R same refuses))
+
+  pub text_accepted : (file text slice : List ℕ) (program : ProgramTree) → slice ≡ text → HasText file text store → KeepsFiles store store' → IsProgramOf slice program
+      → Answers (outside store input out image) (outside store' input out image) (Some (check file)) Done
+  text_accepted file text slice program same has kept accepted =
+      let P : List ℕ → Type 0 = λ t. IsProgramOf t program in
+      checked file text program has (subst P same accepted) (all_kept kept)
+
+pub image_built : (store : StoreState) (file text slice : List ℕ) (cells depth : ℕ) (image : List ℕ) → slice ≡ text → HasText file text store → IsBuilt slice cells depth image → IsImageOf file cells depth store image
+image_built store file text slice cells depth image same has made =
+    let P : List ℕ → Type 0 = λ t. IsBuilt t cells depth image in
+    record { text = text; has_text = has; built = subst P same made }
+
+-- words that are no command, and words for which memory was refused
+module _ (store : StoreState) (input : SourceState) (out : SinkState) (image : List ℕ) where
+  nothing_changed : KeepsFiles store store
+  nothing_changed = record { files = same_files store.files; last_failed = refl; faults = refl }
+
+  pub no_command : (request : Option Request) → None ≡ request → Answers (outside store input out image) (outside store input out image) request Usage
+  no_command request none =
+      let P : Option Request → Type 0 = λ r. Answers (outside store input out image) (outside store input out image) r Usage in
+      subst P none (usage (all_kept store store input out image nothing_changed))
+
+  pub no_words : (request : Option Request) → Answers (outside store input out image) (outside store input out image) request NoMemory
+  no_words request = no_memory request nothing_changed (same_streams store store input out image image) (inl refl)
+
+-- what becomes of an image that was built: it is written, or it could not be, or it is run
+module _ (first second : StoreState) (kept : KeepsFiles first second) (image image' : List ℕ) (file : List ℕ) (cells depth : ℕ) (made : IsImageOf file cells depth first image') where
+  module _ (third : StoreState) (input : SourceState) (output : SinkState) where
+    pub image_written : (out slice : List ℕ) (call : StoreCall) → slice ≡ image' → SameOthers out second.files third.files × HasFile out slice third.files → Counts false second.faults third.faults → Remembers false call second.last_failed third.last_failed
+        → Answers (outside first input output image) (outside third input output image') (Some (build file out cells depth)) Done
+    image_written out slice call same wrote counts remembers =
+        let P : List ℕ → Type 0 = λ bytes. HasFile out bytes third.files in
+        built file out cells depth made (then_written call first second third kept out image' (wrote.0, subst P same wrote.1) counts remembers) (record { input = refl; out = refl })
+
+    pub image_unwritten : (out : Bor (List ℕ)) → SameOthers out.now second.files third.files → Counts true second.faults third.faults → Remembers true (Writing out.now) second.last_failed third.last_failed
+        → Answers (outside first input output image) (outside third input output image') (Some (build file out.now cells depth)) (FileFault out)
+    image_unwritten out others counts remembers =
+        unwritten file out.now cells depth out refl made (then_unwritten out.now first second third kept others counts remembers) (record { input = refl; out = refl })
+
+    pub image_left : (out : List ℕ) (call : StoreCall) → SameFiles second.files third.files → Counts false second.faults third.faults → Remembers false call second.last_failed third.last_failed
+        → Answers (outside first input output image) (outside third input output image') (Some (build file out cells depth)) NoMemory
+    image_left out call same counts remembers =
+        no_memory (Some (build file out cells depth)) (then_kept call first second third kept same counts remembers) (record { input = refl; out = refl }) (inr made)
+
+  module _ (input input' : SourceState) (output output' : SinkState) (steps : ℕ) where
+    pub image_ran : (slice : List ℕ) (halt : Halt) → slice ≡ image' → RunsImage slice steps halt input input' output output'
+        → Answers (outside first input output image) (outside second input' output' image') (Some (run file cells depth steps)) (Ran halt steps)
+    image_ran slice halt same runs =
+        let P : List ℕ → Type 0 = λ bytes. RunsImage bytes steps halt input input' output output' in
+        ran file cells depth steps halt made (subst P same runs) kept
+
+    pub image_idle : input' ≡ input → output' ≡ output → Answers (outside first input output image) (outside second input' output' image') (Some (run file cells depth steps)) NoMemory
+    image_idle same_input same_out = no_memory (Some (run file cells depth steps)) kept (record { input = same_input; out = same_out }) (inr made)

@@ -1,0 +1,4 @@
+fun main() {
+  println(7 / -2); println(7 % -2); println(-7 / -2); println(-7 % -2);
+  println(-7 / 0); println(-7 % 0); println(0 / 0)
+}

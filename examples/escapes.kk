@@ -1,0 +1,1 @@
+fun main() { print("a\n\r\t\\\"\'b") }

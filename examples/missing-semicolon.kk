@@ -1,0 +1,1 @@
+fun main() { print(1) print(2) }
