@@ -15,3 +15,4 @@ pub mod Owning
 pub mod Counted
 pub mod FreeCells
 pub mod Sound
+pub mod Credits

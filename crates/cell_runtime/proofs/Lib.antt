@@ -18,3 +18,4 @@ pub mod DropRows
 pub mod DropStates
 pub mod DropMoves
 pub mod DropRuns
+pub mod DropAfter
