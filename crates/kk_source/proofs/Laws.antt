@@ -63,11 +63,12 @@ same_after a b t e = ap (λ (x : List Event). record { trace = x; ending = a.end
 pub longer_trace : (setting : Setting) (input : List ℕ) (cells depth : ℕ) → setting.cells ≤ cells → setting.depth ≤ depth → (n : ℕ) → IsPrefix (source_after setting input n).trace (source_after (record setting { cells = cells; depth = depth }) input n).trace
 longer_trace setting input cells depth c d n =
     let large : Setting = record setting { cells = cells; depth = depth } in
-    let f = goes_further setting cells depth c d n (first_state setting input) in
-    (flat_map events_of f.prefix.0,
-    ap (λ (l : List Event). l ++ flat_map events_of f.prefix.0) (seen_trace setting input n)
-    ∙ (sym (flat_map-append events_of (trace (store_machine setting) n (first_state setting input)) f.prefix.0)
-    ∙ (ap (flat_map events_of) f.prefix.1 ∙ sym (seen_trace large input n))))
+    let f = goes_further setting cells depth c d n (first_state setting input) in (
+      flat_map events_of f.prefix.0,
+      ap (λ (l : List Event). l ++ flat_map events_of f.prefix.0) (seen_trace setting input n)
+          ∙ (sym (flat_map-append events_of (trace (store_machine setting) n (first_state setting input)) f.prefix.0)
+          ∙ (ap (flat_map events_of) f.prefix.1 ∙ sym (seen_trace large input n))),
+    )
 
 pub same_with_room : (setting : Setting) (input : List ℕ) (cells depth : ℕ) → setting.cells ≤ cells → setting.depth ≤ depth → (n : ℕ) → HasRoom (source_after setting input n).ending → source_after (record setting { cells = cells; depth = depth }) input n ≡ source_after setting input n
 same_with_room setting input cells depth c d n room =

@@ -87,9 +87,10 @@ one_more store vs (next ∷ way) goal l =
 found_reached : (rounds : ℕ) (store : Store) (vs : List Value) (goal : ℕ) → is_found rounds store vs goal ≡ true → Reached store vs goal
 found_reached zero store vs goal e = ([], any_among vs goal e)
 found_reached (suc rounds) store vs goal e =
-    elim (or_cases (list_any (is_place goal) vs) (is_found rounds store (fields_of_all store vs) goal) e)
-    [ inl here ↦ ([], any_among vs goal here)
-    | inr there ↦ let r = found_reached rounds store (fields_of_all store vs) goal there in one_more store vs r.0 goal r.1 ]
+    elim (or_cases (list_any (is_place goal) vs) (is_found rounds store (fields_of_all store vs) goal) e) [
+      | inl here ↦ ([], any_among vs goal here)
+      | inr there ↦ let r = found_reached rounds store (fields_of_all store vs) goal there in one_more store vs r.0 goal r.1
+    ]
 
 -- what is found at once is found in any number of rounds
 found_here : (rounds : ℕ) (store : Store) (vs : List Value) (goal : ℕ) → Among vs goal → is_found rounds store vs goal ≡ true

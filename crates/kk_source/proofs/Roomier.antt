@@ -111,10 +111,10 @@ module _ (setting : Setting) (cells depth : ℕ) (more_cells : setting.cells ≤
   further_stopped : (n : ℕ) (s next other : State) (notes : List Note) (w : End) → (store_machine setting).step s ≡ (notes, next) → (store_machine large).step s ≡ (notes, other) → ending_of next ≡ Some w → (HasRoom (Some w) → ⊥) → Further (suc n) s
   further_stopped n s next other notes w small_is large_is stops none =
       let small_trace : trace (store_machine setting) (suc n) s ≡ notes ++ [] =
-          ap (λ (p : List Note × State). p.0 ++ trace (store_machine setting) n p.1) small_is ∙ ap (λ (l : List Note). notes ++ l) (trace_ended (store_machine setting) n next w stops) in
+      ap (λ (p : List Note × State). p.0 ++ trace (store_machine setting) n p.1) small_is ∙ ap (λ (l : List Note). notes ++ l) (trace_ended (store_machine setting) n next w stops) in
       let large_trace : trace (store_machine large) (suc n) s ≡ notes ++ trace (store_machine large) n other = ap (λ (p : List Note × State). p.0 ++ trace (store_machine large) n p.1) large_is in
       let small_state : state (store_machine setting) (suc n) s ≡ next =
-          ap (λ (p : List Note × State). state (store_machine setting) n p.1) small_is ∙ state_ended (store_machine setting) n next w stops in
+      ap (λ (p : List Note × State). state (store_machine setting) n p.1) small_is ∙ state_ended (store_machine setting) n next w stops in
       let no_room : HasRoom (ending_after (store_machine setting) (suc n) s) → ⊥ = λ r. none (subst HasRoom stops (subst (λ t. HasRoom (ending_of t)) small_state r)) in
       record {
         prefix = (trace (store_machine large) n other, ap (λ (l : List Note). l ++ trace (store_machine large) n other) (small_trace ∙ append-nil notes) ∙ sym large_trace);

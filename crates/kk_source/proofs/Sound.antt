@@ -99,6 +99,7 @@ module _ (store : Store) (older : IsOlder store) where
 
   mutual
     unfolding MatchedWithin
+
     matched_within : (p : Pattern) (v : Value) (env : Environment) → Within (length store) v → BoundWithin (length store) env → MatchedWithin (length store) (matched store p v env)
     matched_within anything v env w e = e
     matched_within (variable x) v env w e = (w, e)
@@ -204,6 +205,7 @@ module _ (setting : Setting) where
     where
       longer : length from.store ≤ length (from.store ++ record { made_by = c; fields = v ∷ vs } ∷ [])
       longer = omega (arith, length-append {A = Cell})
+
       by_test : (full : Bool) → Sound (if full then at_end heap_full from else at_new_place c (v ∷ vs) (record from { frames = older }))
       by_test true = record { older = o; control = tt; frames = g }
       by_test false = record {
