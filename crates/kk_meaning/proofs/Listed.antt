@@ -103,12 +103,12 @@ pub below_newest : (frames : List Frame) (e n : ℕ) (frame : Frame) → HasEnvi
 below_newest frames e n frame h newest len = record {
   within = omega arith;
   calls = λ links.
-    ap (λ k. call_frames (map (frame_view links) (reverse (take k frames)))) len
-    ∙ (sym (one_not_counted links e frame (reverse (take (length frames - 1) frames)) h)
-    ∙ ap (λ fs. call_frames (map (frame_view links) fs)) (sym newest));
+      ap (λ k. call_frames (map (frame_view links) (reverse (take k frames)))) len
+      ∙ (sym (one_not_counted links e frame (reverse (take (length frames - 1) frames)) h)
+      ∙ ap (λ fs. call_frames (map (frame_view links) fs)) (sym newest));
   fits = λ k f.
-    subst (λ m. FramesFit k (reverse (take m frames))) (sym len)
-    (rest_fits k e frame (reverse (take (length frames - 1) frames)) h (subst (FramesFit k) newest f));
+      subst (λ m. FramesFit k (reverse (take m frames))) (sym len)
+      (rest_fits k e frame (reverse (take (length frames - 1) frames)) h (subst (FramesFit k) newest f));
 }
 
 -- the newest is another

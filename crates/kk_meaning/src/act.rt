@@ -23,12 +23,7 @@ use kk_syntax::{Form, Fun, Program};
 // In what follows `older` is the number of frames without that of the form, if the form has one.
 impl<'a> Machine<'a> {
     // A form has all its arguments.
-    pub fn finish(
-        &mut self,
-        form: Form,
-        values: Vec<Value>,
-        older: usize,
-    ) -> Result<Turn, NoMemory>
+    pub fn finish(&mut self, form: Form, values: Vec<Value>, older: usize) -> Result<Turn, NoMemory>
         requires fits { Fits self.old }
         requires store { IsOlder (configuration_of self.old).store }
         requires below { IsBelow older self.old.frames.items }

@@ -23,9 +23,7 @@ use std::alloc::Global;
 pub struct Meaning<'a> {
     machine: Machine<'a>,
     ghost fits: { Fits machine } by { Prim.hlevel (props, ControlFits-prop, FramesFit-prop) },
-    ghost sound: { Sound (configuration_of machine) } by {
-        Prim.hlevel (props, AllWithin-prop, ControlWithin-prop, FramesWithin-prop)
-    },
+    ghost sound: { Sound (configuration_of machine) } by { Prim.hlevel (props, AllWithin-prop, ControlWithin-prop, FramesWithin-prop) },
 }
 
 impl<'a> Meaning<'a> {
@@ -40,7 +38,10 @@ impl<'a> Meaning<'a> {
         ensures setting { IfOk result (λ meaning.
             setting_of meaning.machine
             ≡ record {
-                program = program_tree program.now; positions = positions_of positions.now; cells = cells; depth = depth
+              program = program_tree program.now;
+              positions = positions_of positions.now;
+              cells = cells;
+              depth = depth;
             }) }
         ensures start { IfOk result (λ meaning.
             configuration_of meaning.machine ≡ start (setting_of meaning.machine)) }

@@ -55,7 +55,11 @@ impl<'a> Machine<'a> {
                 negative,
                 environment,
             } => {
-                let branch = if value.is_true() { *positive } else { *negative };
+                let branch = if value.is_true() {
+                    *positive
+                } else {
+                    *negative
+                };
                 let environment = *environment;
                 self.frames.pop();
                 self.control = Control::Expression(branch, environment);
@@ -102,7 +106,9 @@ impl<'a> Machine<'a> {
         };
         match frame {
             Frame::Arguments {
-                values, left: rest, ..
+                values,
+                left: rest,
+                ..
             } => {
                 values.push(value)?;
                 *rest = left;

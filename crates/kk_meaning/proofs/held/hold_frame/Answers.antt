@@ -18,14 +18,14 @@ returns-in-Arguments c =
     let computed = map value_view c.in-Arguments.computed.items in
     let found = c.deref-in-Arguments.ensures.value ∙ found_plain _ _ _ left c.new-free.ensures.found c.new-free.ensures.bound c.in_ok-of_each-in-Arguments.ensures.found in
     let kept : map value_view c.extend_from_slice.new.self.items ≡ old ++ computed =
-        ap (map value_view) (c.in_ok-extend_from_slice-in-Arguments.ensures.items ∙ ap (λ l. c.args.values.now.items ++ l) c.deref.ensures.value)
-        ∙ map-append value_view c.args.values.now.items c.in-Arguments.computed.items in
+    ap (map value_view) (c.in_ok-extend_from_slice-in-Arguments.ensures.items ∙ ap (λ l. c.args.values.now.items ++ l) c.deref.ensures.value)
+    ∙ map-append value_view c.args.values.now.items c.in-Arguments.computed.items in
     on_ok c.hold_variables.result
     (λ is.
-        is ∙ (ap (λ (l : List Value). l ++ map look c.deref-in-Arguments.result.now) kept
-        ∙ (ap (λ l. (old ++ computed) ++ map look l) found
-        ∙ (append_assoc old computed (map look left)
-        ∙ ap (λ f. old ++ held (frame_view links f)) (sym c.in-Arguments.is)))))
+    is ∙ (ap (λ (l : List Value). l ++ map look c.deref-in-Arguments.result.now) kept
+    ∙ (ap (λ l. (old ++ computed) ++ map look l) found
+    ∙ (append_assoc old computed (map look left)
+    ∙ ap (λ f. old ++ held (frame_view links f)) (sym c.in-Arguments.is)))))
     c.hold_variables.ensures
 
 pub returns-in-Branches : goal.returns-in-Branches
@@ -34,8 +34,8 @@ returns-in-Branches c =
     let old = map value_view c.args.values.now.items in
     let look = value_of (environment_of links c.in-Branches.environment) in
     let found =
-        c.deref-in-Branches.ensures.value
-        ∙ found_two _ _ _ _ (free (expr_tree c.in-Branches.positive.now)) (free (expr_tree c.in-Branches.negative.now)) _ c.new-free.ensures.found c.new-free.ensures.bound c.in_ok-of_expr-in-Branches.ensures.bound c.in_ok-of_expr-in-Branches.ensures.found c.in_ok-of_expr-in-Branches-2.ensures.found in
+    c.deref-in-Branches.ensures.value
+    ∙ found_two _ _ _ _ (free (expr_tree c.in-Branches.positive.now)) (free (expr_tree c.in-Branches.negative.now)) _ c.new-free.ensures.found c.new-free.ensures.bound c.in_ok-of_expr-in-Branches.ensures.bound c.in_ok-of_expr-in-Branches.ensures.found c.in_ok-of_expr-in-Branches-2.ensures.found in
     on_ok c.hold_variables-in-Branches.result
     (λ is. is ∙ (ap (λ l. old ++ map look l) found ∙ ap (λ f. old ++ held (frame_view links f)) (sym c.in-Branches.is)))
     c.hold_variables-in-Branches.ensures

@@ -14,8 +14,8 @@ loop-row-preserved c = λ environment.
     let row = c.row-item.result in
     let p = pattern_tree row.pattern in
     let none : matched store p v environment ≡ None =
-        ap (λ l. matched store p v (pushed (map bound_view l) environment)) (sym c.new-bound.ensures.items)
-        ∙ (c.in_ok-matches.ensures environment ∙ ap (λ yes. cond yes (Some (pushed (map bound_view c.matches.new.bound.items) environment)) None) c.if-branch.false) in
+    ap (λ l. matched store p v (pushed (map bound_view l) environment)) (sym c.new-bound.ensures.items)
+    ∙ (c.in_ok-matches.ensures environment ∙ ap (λ yes. cond yes (Some (pushed (map bound_view c.matches.new.bound.items) environment)) None) c.if-branch.false) in
     sym (row_does_not store row (drop (c.loop-row.row-index + 1) c.args.rows.now) v environment none)
     ∙ (ap (λ rows. first_match store (rows_of (map row_tree rows)) v environment) (sym (rest_at c.args.rows.now c.loop-row.row-index row (omega arith) c.row-item.is))
     ∙ c.loop-row.invariant environment)

@@ -30,6 +30,6 @@ loop-added-preserved c =
       kept = take_longer links.items c.push.new.self.items _ c.args.kept longer c.in_ok-push.ensures.items ∙ inv.kept;
       room = omega (arith, c.in_ok-push.ensures.len, c.push.ensures.capacity);
       pushed =
-        pushed_one links.items c.push.new.self.items c.args.bound.now c.loop-added.added-index (vec_len links) c.len-newest.result c.loop-added.newest _ _ _
-        (omega arith) newest all (omega (arith, c.in_ok-push.ensures.len)) c.in_ok-push.ensures.items refl (ap (λ n. n - c.loop-added.newest) c.len.ensures) inv.pushed;
+          pushed_one links.items c.push.new.self.items c.args.bound.now c.loop-added.added-index (vec_len links) c.len-newest.result c.loop-added.newest _ _ _
+          (omega arith) newest all (omega (arith, c.in_ok-push.ensures.len)) c.in_ok-push.ensures.items refl (ap (λ n. n - c.loop-added.newest) c.len.ensures) inv.pushed;
     }

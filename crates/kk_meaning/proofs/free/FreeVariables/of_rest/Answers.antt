@@ -15,7 +15,7 @@ returns-clause-found c =
     let ss = map statement_tree c.args.rest.statements.now in
     let last = free (expr_tree c.args.rest.value.now) in
     let now : c.of_expr.new.self.found.items ≡ middle.found.items ++ without (first.bound.items ++ bound_by_statements ss) last =
-        c.in_ok-of_expr.ensures.found ∙ ap (λ (bs : List ℕ). middle.found.items ++ without bs last) c.in_ok-of_statements.ensures.bound in
+    c.in_ok-of_expr.ensures.found ∙ ap (λ (bs : List ℕ). middle.found.items ++ without bs last) c.in_ok-of_statements.ensures.bound in
     let whole = free_of_block ss (expr_tree c.args.rest.value.now) in
     found_block first.found.items middle.found.items _ first.bound.items (free_of_statements ss) (bound_by_statements ss) last c.in_ok-of_statements.ensures.found now
     ∙ (ap (λ (xs : List ℕ). first.found.items ++ without first.bound.items xs) (sym whole)

@@ -21,8 +21,8 @@ returns-in_default-clause-ok c =
     let environment = environment_of links c.args.environment in
     let rows = rows_of (map row_tree c.args.rows.now) in
     let none : first_match now.store rows (value_view c.args.value) environment ≡ None =
-        ap (λ l. first_match (map cell_view l) rows (value_view c.args.value) environment) (sym c.as_slice.ensures.value)
-        ∙ (c.in_ok-chosen.ensures environment ∙ ap (λ x. chosen_view x environment) c.in_default.is) in
+    ap (λ l. first_match (map cell_view l) rows (value_view c.args.value) environment) (sym c.as_slice.ensures.value)
+    ∙ (c.in_ok-chosen.ensures environment ∙ ap (λ x. chosen_view x environment) c.in_default.is) in
     stays_turn now c.requires.going
     ∙ sym (ap (turn_of now) (no_choice (setting_of self) (value_view c.args.value) now rows environment older (ap (map (frame_view links)) c.requires.newest) none))
 
@@ -40,10 +40,10 @@ returns-clause-fits c =
       control = c.in_ok-more.ensures.within;
       frames = subst (λ fs. FramesFit (vec_len more) (reverse fs)) (sym popped) (fits_more (vec_len links) (vec_len more) older longer fit);
       calls =
-        c.requires.fits.calls
-        ∙ (ap (λ fs. call_frames (map (frame_view links.items) fs)) c.requires.newest
-        ∙ (calls_alike links.items more.items older
-        ∙ ap (λ fs. call_frames (map (frame_view more.items) (reverse fs))) (sym popped)));
+          c.requires.fits.calls
+          ∙ (ap (λ fs. call_frames (map (frame_view links.items) fs)) c.requires.newest
+          ∙ (calls_alike links.items more.items older
+          ∙ ap (λ fs. call_frames (map (frame_view more.items) (reverse fs))) (sym popped)));
     }
 
 pub returns-clause-ok : goal.returns-clause-ok
@@ -60,8 +60,8 @@ returns-clause-ok c =
     let fit = (subst (FramesFit (vec_len links)) c.requires.newest c.requires.fits.frames).1 in
     let fit_kept = subst (λ n. FramesFit n older) (sym c.len-kept.ensures) fit in
     let match_is =
-        ap (λ l. first_match (map cell_view l) rows (value_view c.args.value) environment) (sym c.as_slice.ensures.value)
-        ∙ (c.in_ok-chosen.ensures environment ∙ ap (λ x. chosen_view x environment) c.in-Some.is) in
+    ap (λ l. first_match (map cell_view l) rows (value_view c.args.value) environment) (sym c.as_slice.ensures.value)
+    ∙ (c.in_ok-chosen.ensures environment ∙ ap (λ x. chosen_view x environment) c.in-Some.is) in
     choice_turn (setting_of self) (value_view c.args.value) (control_view links.items self.control) _ (map (frame_view links.items) older) (map cell_view self.store.items) _ _ _
     rows environment (record { body = expr_tree chosen.body.now; environment = pushed (map bound_view chosen.bound.items) environment })
     (ap (map (frame_view links.items)) c.requires.newest)

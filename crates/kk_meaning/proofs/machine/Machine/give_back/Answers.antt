@@ -11,7 +11,7 @@ returns-clause-fits c =
       control = tt;
       frames = subst (λ fs. FramesFit (vec_len links) (reverse fs)) (sym c.truncate.ensures.items) (c.requires.below.fits (vec_len links) c.requires.fits.frames);
       calls =
-        c.requires.fits.calls
-        ∙ (sym (c.requires.below.calls links.items)
-        ∙ ap (λ fs. call_frames (map (frame_view links.items) (reverse fs))) (sym c.truncate.ensures.items));
+          c.requires.fits.calls
+          ∙ (sym (c.requires.below.calls links.items)
+          ∙ ap (λ fs. call_frames (map (frame_view links.items) (reverse fs))) (sym c.truncate.ensures.items));
     }

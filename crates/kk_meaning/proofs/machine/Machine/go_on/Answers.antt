@@ -23,10 +23,10 @@ returns-in_ok-more-in-Some-clause-fits c =
       control = c.in_ok-more-in-Some.ensures.within;
       frames = subst (λ fs. FramesFit (vec_len more) (reverse fs)) (sym popped) (fits_more (vec_len links) (vec_len more) older longer fit);
       calls =
-        c.requires.fits.calls
-        ∙ (ap (λ fs. call_frames (map (frame_view links.items) fs)) c.requires.newest
-        ∙ (calls_alike links.items more.items older
-        ∙ ap (λ fs. call_frames (map (frame_view more.items) (reverse fs))) (sym popped)));
+          c.requires.fits.calls
+          ∙ (ap (λ fs. call_frames (map (frame_view links.items) fs)) c.requires.newest
+          ∙ (calls_alike links.items more.items older
+          ∙ ap (λ fs. call_frames (map (frame_view more.items) (reverse fs))) (sym popped)));
     }
 
 pub returns-in_ok-more-in-Some-clause-ok : goal.returns-in_ok-more-in-Some-clause-ok

@@ -22,9 +22,9 @@ returns-else-is_empty-clause-fits c =
     let all = links.ok.0 in
     let len : vec_len kept ≡ c.args.before = kept.ok.0 ∙ (ap length c.truncate.ensures ∙ front_length links.items c.args.before (omega (arith, fit.0))) in
     let counted : self.calls ≡ suc (call_frames (map (frame_view links.items) older)) =
-        c.requires.fits.calls
-        ∙ (ap (λ fs. call_frames (map (frame_view links.items) fs)) c.requires.newest.newest
-        ∙ call_counts links.items c.args.before frame older c.requires.newest.call) in
+    c.requires.fits.calls
+    ∙ (ap (λ fs. call_frames (map (frame_view links.items) fs)) c.requires.newest.newest
+    ∙ call_counts links.items c.args.before frame older c.requires.newest.call) in
     let alike = calls_alike links.items kept.items older ∙ ap (λ fs. call_frames (map (frame_view kept.items) (reverse fs))) (sym popped) in
     record {
       control = tt;
@@ -47,9 +47,9 @@ returns-else-is_empty-clause-turn c =
     seen.0
     (ap (map (frame_view links.items)) c.requires.newest.newest ∙ ap (λ f. f ∷ map (frame_view links.items) older) seen.1)
     (λ none.
-        let zero : vec_len c.pop.new.self ≡ 0 = c.pop.new.self.ok.0 ∙ (ap length popped ∙ nothing_left (frame_view links.items) (take (length items - 1) items) none) in
-        let wrong : false ≡ true = sym c.if-is_empty.false ∙ (c.is_empty.ensures ∙ ap (λ n. n == 0) zero) in
-        cc)
+    let zero : vec_len c.pop.new.self ≡ 0 = c.pop.new.self.ok.0 ∙ (ap length popped ∙ nothing_left (frame_view links.items) (take (length items - 1) items) none) in
+    let wrong : false ≡ true = sym c.if-is_empty.false ∙ (c.is_empty.ensures ∙ ap (λ n. n == 0) zero) in
+    cc)
     refl
     (ap (λ fs. map (frame_view kept.items) (reverse fs)) popped
     ∙ frames_agree kept.items links.items c.args.before older (agree_on_front kept.items links.items c.args.before (take_again links.items kept.items c.args.before c.truncate.ensures)) fit.1)

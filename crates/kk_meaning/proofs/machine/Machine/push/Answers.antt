@@ -26,12 +26,12 @@ returns-clause-fits c =
     let below = take c.args.older self.frames.items in
     let call = OfFrame.Call c.in_ok-lent.lent c.len-before.result in
     let all : reverse c.push.new.self.items ≡ call ∷ reverse below =
-        ap reverse c.in_ok-push.ensures.items
-        ∙ (one_newer c.truncate.new.self.items call
-        ∙ ap (λ l. call ∷ reverse l) (c.truncate.ensures.items ∙ ap (take c.args.older) c.reserve.ensures.items)) in
+    ap reverse c.in_ok-push.ensures.items
+    ∙ (one_newer c.truncate.new.self.items call
+    ∙ ap (λ l. call ∷ reverse l) (c.truncate.ensures.items ∙ ap (take c.args.older) c.reserve.ensures.items)) in
     let fit = subst (λ n. FramesFit n (reverse below)) (sym c.len-before.ensures) (c.requires.below.fits (vec_len links) c.requires.fits.frames) in
     let counted : self.calls ≡ call_frames (map (frame_view more.items) (reverse below)) =
-        c.requires.fits.calls ∙ (sym (c.requires.below.calls links.items) ∙ calls_alike links.items more.items (reverse below)) in
+    c.requires.fits.calls ∙ (sym (c.requires.below.calls links.items) ∙ calls_alike links.items more.items (reverse below)) in
     record {
       control = c.in_ok-environment.ensures.within;
       frames = subst (FramesFit (vec_len more)) (sym all) (c.in_ok-environment.ensures.longer, fit);
@@ -46,14 +46,14 @@ returns-clause-ok c =
     let below = take c.args.older self.frames.items in
     let call = OfFrame.Call c.in_ok-lent.lent c.len-before.result in
     let all : reverse c.push.new.self.items ≡ call ∷ reverse below =
-        ap reverse c.in_ok-push.ensures.items
-        ∙ (one_newer c.truncate.new.self.items call
-        ∙ ap (λ l. call ∷ reverse l) (c.truncate.ensures.items ∙ ap (take c.args.older) c.reserve.ensures.items)) in
+    ap reverse c.in_ok-push.ensures.items
+    ∙ (one_newer c.truncate.new.self.items call
+    ∙ ap (λ l. call ∷ reverse l) (c.truncate.ensures.items ∙ ap (take c.args.older) c.reserve.ensures.items)) in
     let fit = subst (λ n. FramesFit n (reverse below)) (sym c.len-before.ensures) (c.requires.below.fits (vec_len links) c.requires.fits.frames) in
     let counted : self.calls ≡ call_frames (frames_below c.args.older self) = c.requires.fits.calls ∙ sym (c.requires.below.calls links.items) in
     let environment : environment_of more.items c.in_ok-environment.environment ≡ _ =
-        c.in_ok-environment.ensures.environment
-        ∙ (ap (λ bs. pushed (map bound_view bs) []) c.as_slice.ensures.value ∙ c.in_ok-bound.ensures []) in
+    c.in_ok-environment.ensures.environment
+    ∙ (ap (λ bs. pushed (map bound_view bs) []) c.as_slice.ensures.value ∙ c.in_ok-bound.ensures []) in
     pushed_turn (setting_of self) c.args.function (function_tree c.args.fun.now) (map value_view c.args.values.now) (frames_below c.args.older self) _ (configuration_of self) _ _
     (omega arith)
     (ap (source.expression (function_tree c.args.fun.now).body) environment)

@@ -21,13 +21,13 @@ returns-clause-fits c =
     record {
       control = c.in_ok-environment.ensures.within;
       frames =
-        subst (λ fs. FramesFit (vec_len more) (reverse fs)) (sym c.truncate.ensures.items)
-        (subst (FramesFit (vec_len more)) (sym call.newest) (call_fits_back (vec_len more) c.args.before call.frame call.rest call.call c.in_ok-environment.ensures.longer fit.1));
+          subst (λ fs. FramesFit (vec_len more) (reverse fs)) (sym c.truncate.ensures.items)
+          (subst (FramesFit (vec_len more)) (sym call.newest) (call_fits_back (vec_len more) c.args.before call.frame call.rest call.call c.in_ok-environment.ensures.longer fit.1));
       calls =
-        c.requires.fits.calls
-        ∙ (sym (c.requires.below.calls links.items)
-        ∙ (calls_alike links.items more.items (reverse below)
-        ∙ ap (λ fs. call_frames (map (frame_view more.items) (reverse fs))) (sym c.truncate.ensures.items)));
+          c.requires.fits.calls
+          ∙ (sym (c.requires.below.calls links.items)
+          ∙ (calls_alike links.items more.items (reverse below)
+          ∙ ap (λ fs. call_frames (map (frame_view more.items) (reverse fs))) (sym c.truncate.ensures.items)));
     }
 
 pub returns-clause-ok : goal.returns-clause-ok
@@ -40,8 +40,8 @@ returns-clause-ok c =
     let fit = call_fits (vec_len links) c.args.before call.frame call.rest call.call (subst (FramesFit (vec_len links)) call.newest (c.requires.below.fits (vec_len links) c.requires.fits.frames)) in
     let fit_below = subst (FramesFit c.args.before) (sym call.newest) (call_fits_back c.args.before c.args.before call.frame call.rest call.call (omega arith) fit.1) in
     let environment : environment_of more.items c.in_ok-environment.environment ≡ _ =
-        c.in_ok-environment.ensures.environment
-        ∙ (ap (λ bs. pushed (map bound_view bs) []) c.as_slice.ensures.value ∙ c.in_ok-bound.ensures []) in
+    c.in_ok-environment.ensures.environment
+    ∙ (ap (λ bs. pushed (map bound_view bs) []) c.as_slice.ensures.value ∙ c.in_ok-bound.ensures []) in
     entered_turn (function_tree c.args.fun.now) (map value_view c.args.values.now) (configuration_of self) (frames_below c.args.older self) _ _ _
     (ap (source.expression (function_tree c.args.fun.now).body) environment)
     (ap (λ fs. map (frame_view more.items) (reverse fs)) c.truncate.ensures.items
