@@ -9,7 +9,10 @@ use kk_base::{Name, NameError, NoMemory};
 use kk_syntax::{Declaration, Fun, FunctionDeclaration, Program, Tree, Ty};
 use std::alloc::Global;
 
-/// The program of a tree, or the first of its names that has no meaning.
+/// The program of a tree that the grammar of today spells, or the error that there is no function `main`.
+///
+/// A tree may hold more forms than the grammar spells: variables, matches, declared types. These have no meaning yet, and
+/// stand for `()`; no text comes to one.
 pub fn resolve(alloc: Global, tree: Tree) -> Result<Program, NameError>
     ensures resolved { AnswersNames tree result }
     ensures keeps_nodes { IfOk result (λ program.
