@@ -4,8 +4,8 @@ use Rattle.std.specs.Prelude.{◌↔◌}
 use Rattle.std.specs.List.{flat_map}
 use Rattle.std.proofs.lemmas.Grind.{flat_map-append}
 use Rattle.kk_base.specs.Trace.{Event, TakesFrom, IsPrefix}
-use Rattle.kk_base.specs.Machines.{step_unless, trace, state, ending_after}
-use Rattle.kk_base.proofs.Machines.{trace-mapped, state-mapped}
+use Rattle.kk_base.specs.Machines.{Machine, step_unless, trace, state, ending_after, mapped}
+use Rattle.kk_base.proofs.Machines.{trace-mapped}
 use Rattle.kk_source.specs.State.{Setting, End, Value, State}
 use Rattle.kk_source.specs.Notes.{Note, events_of}
 use Rattle.kk_source.specs.Live.{is_live, Reached}
@@ -16,6 +16,11 @@ use Rattle.kk_source.proofs.Live.{live_reached, reached_live}
 use Rattle.kk_source.proofs.Sound.{LeadsTo, step_sound, start_sound}
 use Rattle.kk_source.proofs.Roomier.{Further, goes_further}
 use Rattle.kk_source.proofs.TakenInput.{Same, same_taken}
+
+-- a machine of which less is seen comes to the same states
+state-mapped : {S E F W V : Type 0} (events : E → List F) (seen : W → V) (machine : Machine S E W) (n : ℕ) (s : S) → state (mapped events seen machine) n s ≡ state machine n s
+state-mapped events seen machine zero s = refl
+state-mapped events seen machine (suc n) s = state-mapped events seen machine n (machine.step s).1
 
 -- sound states lead to sound ones
 performed_sound : (action : Action) (input : List ℕ) → LeadsTo Sound action → Sound (performed action input).1.machine
