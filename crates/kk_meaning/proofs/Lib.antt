@@ -1,4 +1,6 @@
+pub mod Environments
 pub mod Frames
+pub mod FreeVariables
+pub mod Marks
 pub mod Results
-pub mod Turns
-pub mod Values
+pub mod Views

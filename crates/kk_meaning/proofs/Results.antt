@@ -4,10 +4,7 @@ use Rattle.std.specs.Prelude.{FitsSigned, int_div, unsigned_abs}
 use Rattle.std.specs.Int.{w32, cast_signed, cast_unsigned, int_wrap, int_wrapping_div, int_wrapping_neg}
 use Rattle.std.proofs.lemmas.Int.{ints, to_z-of_z, wrapping_neg_is}
 use Rattle.std.proofs.Math.Nat.{div-le_self}
-use Rattle.kk_syntax.specs.declared.tree.UnaryOperator.{UnaryOperator}
-use Rattle.kk_syntax.specs.declared.tree.UnaryOperator.TheVariants.{Negate}
-use Rattle.kk_syntax.specs.Step.{unary_result}
-use Rattle.kk_syntax.specs.Arithmetic.{quotient_of}
+use Rattle.kk_source.specs.Arithmetic.{negation_of, quotient_of}
 
 -- the cast of a number that has at most 33 bits wraps it
 casts_wrap : (z : ℤ) → unsigned_abs z < 2 ^ 32 → cast_signed w32 (cast_unsigned w32 z) ≡ int_wrap w32 z
@@ -37,6 +34,6 @@ quotient_computed x y r f g k h e =
     let small : unsigned_abs (int_div x y) < 2 ^ 32 = omega (arith, ints, abs-int_div x y) in
     to_z-of_z w32 r k ∙ (e ∙ (simp (to_z-of_z w32 x f, to_z-of_z w32 y g) (casts_wrap (int_div x y) small ∙ sym (quotient_wraps x y h))))
 
-pub negation_computed : (op : UnaryOperator) (x r : ℤ) → FitsSigned w32 x → FitsSigned w32 r → r ≡ int_wrapping_neg w32 (cast_signed w32 (cast_unsigned w32 x)) → cast_signed w32 (cast_unsigned w32 r) ≡ unary_result op x
-negation_computed Negate x r f k e =
+pub negation_computed : (x r : ℤ) → FitsSigned w32 x → FitsSigned w32 r → r ≡ int_wrapping_neg w32 (cast_signed w32 (cast_unsigned w32 x)) → cast_signed w32 (cast_unsigned w32 r) ≡ negation_of x
+negation_computed x r f k e =
     to_z-of_z w32 r k ∙ (e ∙ (ap (int_wrapping_neg w32) (to_z-of_z w32 x f) ∙ wrapping_neg_is w32 x f))

@@ -1,2 +1,6 @@
+pub mod Frames
+pub mod FreeOf
+pub mod Machines
+pub mod Marks
 pub mod Turns
 pub mod View

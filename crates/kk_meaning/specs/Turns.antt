@@ -1,13 +1,14 @@
 -- The turns that the machine answers, by the steps of its definition.
 use Rattle.std.specs.Prelude.{◌≡◌, ℕ, List, [], ◌∷◌, Option, Some, None}
 use Rattle.kk_base.specs.Trace.{Event, output, input as taken, input_end}
-use Rattle.kk_syntax.specs.State.{Setting, End, ended, heap_full, stack_full, Control, stopped, Configuration}
-use Rattle.kk_syntax.specs.Step.{Action, goes, puts, takes}
-use Rattle.kk_syntax.specs.SourceAfter.{step}
+use Rattle.kk_source.specs.Notes.{seen}
+use Rattle.kk_source.specs.State.{Setting, End, ended, heap_full, stack_full, Control, stopped, Configuration}
+use Rattle.kk_source.specs.Step.{Action, goes, puts, takes, builds, calls}
+use Rattle.kk_source.specs.SourceAfter.{step}
 use Rattle.kk_meaning.specs.declared.turn.Turn.{Turn}
 use Rattle.kk_meaning.specs.declared.turn.Turn.TheVariants.{Went, Printed, WantsInput, Ended, HeapFull, StackFull}
 
--- the turn of a step without an event, by what the machine is at after it
+-- the turn of a step of which the world sees nothing, by what the machine is at after it
 abbrev pub quiet_turn : Control → Turn
 quiet_turn (stopped ended) = Ended
 quiet_turn (stopped heap_full) = HeapFull
@@ -20,18 +21,22 @@ abbrev pub turn_of : Configuration → Action → Turn × Configuration
 turn_of before (goes to) = (quiet_turn to.control, to)
 turn_of before (puts piece to) = (Printed piece, to)
 turn_of before (takes to) = (WantsInput, before)
+turn_of before (builds found to) = (quiet_turn to.control, to)
+turn_of before (calls found to) = (quiet_turn to.control, to)
 
 -- the step takes a byte of the input
 abbrev pub TakesByte : Action → Type 0
 TakesByte (goes to) = ⊥
 TakesByte (puts piece to) = ⊥
 TakesByte (takes to) = Unit {0}
+TakesByte (builds found to) = ⊥
+TakesByte (calls found to) = ⊥
 
 -- From a machine a step leads to another, where it is given the next byte of the input or, by no byte, its end: whatever
 -- comes behind that byte, the step takes it alone.
 abbrev pub Reads : Setting → Option ℕ → Configuration → Configuration → Type 0
-Reads setting (Some byte) from to = (rest : List ℕ) → step setting (record { machine = from; input = byte ∷ rest }) ≡ (taken byte ∷ [], record { machine = to; input = rest })
-Reads setting None from to = step setting (record { machine = from; input = [] }) ≡ (input_end ∷ [], record { machine = to; input = [] })
+Reads setting (Some byte) from to = (rest : List ℕ) → step setting (record { machine = from; input = byte ∷ rest }) ≡ (seen (taken byte) ∷ [], record { machine = to; input = rest })
+Reads setting None from to = step setting (record { machine = from; input = [] }) ≡ (seen input_end ∷ [], record { machine = to; input = [] })
 
 -- the turn of a print
 abbrev pub print_turn : List ℕ → Turn

@@ -1,54 +1,49 @@
--- The machine as it is kept, seen as the machine of its definition. No form of today binds a variable or makes a cell, so
--- environments and the store are empty.
-use Rattle.std.specs.Prelude.{[], map, reverse}
-use Rattle.kk_syntax.specs.Trees.{Tree, trees_of, expr_tree}
-use Rattle.kk_syntax.specs.Programs.{program_tree}
-use Rattle.kk_syntax.specs.State as source
-use Rattle.kk_syntax.specs.Step.{block_of}
+-- Values and bindings as they are kept, seen as those of the machine's definition.
+use Rattle.std.specs.Prelude.{ℕ, zero, suc, ◌-◌, List, [], ◌∷◌, Option, Some, None, slice_get, map}
+use Rattle.kk_syntax.specs.Trees.{expr_tree}
+use Rattle.kk_source.specs.State as source
+use Rattle.kk_source.specs.Matching.{Chosen as OfChosen}
 use Rattle.kk_meaning.specs.declared.value.Value.{Value}
 use Rattle.kk_meaning.specs.declared.value.Value.TheVariants as OfValue
-use Rattle.kk_meaning.specs.declared.frame.Form.{Form}
-use Rattle.kk_meaning.specs.declared.frame.Form.TheVariants as OfForm
-use Rattle.kk_meaning.specs.declared.frame.Block.{Block}
-use Rattle.kk_meaning.specs.declared.frame.Frame.{Frame}
-use Rattle.kk_meaning.specs.declared.frame.Frame.TheVariants as OfFrame
-use Rattle.kk_meaning.specs.declared.machine.Control.{Control}
-use Rattle.kk_meaning.specs.declared.machine.Control.TheVariants as OfControl
-use Rattle.kk_meaning.specs.declared.machine.Meaning.{Meaning}
+use Rattle.kk_meaning.specs.declared.binding.Bound.{Bound}
+use Rattle.kk_meaning.specs.declared.binding.Link.{Link}
+use Rattle.kk_meaning.specs.declared.cell.Cell.{Cell}
+use Rattle.kk_meaning.specs.declared.matching.Chosen.{Chosen}
 
 abbrev pub value_view : Value → source.Value
 value_view (OfValue.Integer number) = source.integer number
 value_view OfValue.Unit = source.unit
+value_view (OfValue.Constant of) = source.constant of
+value_view (OfValue.Place at) = source.place at
 
-abbrev pub form_view : Form → source.Form
-form_view (OfForm.Unary operator) = source.unary_form operator
-form_view (OfForm.Binary operator) = source.binary_form operator
-form_view (OfForm.Print form) = source.print_form form
+abbrev pub bound_view : Bound → source.Binding
+bound_view bound = record { variable = bound.variable; value = value_view bound.value }
 
-abbrev pub block_tree : Block → Tree
-block_tree block = block_of (trees_of (map expr_tree block.statements.now)) (expr_tree block.value.now)
+-- a link and the environment before it, by its index
+abbrev pub linked : ℕ → Option Link → (ℕ → source.Environment) → source.Environment
+linked at None before = []
+linked at (Some link) before = bound_view link.bound ∷ before (at - link.skips)
 
-abbrev pub frame_view : Frame → source.Frame
-frame_view (OfFrame.Arguments form values left) =
-    source.arguments (form_view form) (map value_view values.items) (map expr_tree left.now) []
-frame_view (OfFrame.Statement block) = source.statement (block_tree block) []
-frame_view OfFrame.Call = source.call []
+-- The environment of so many links, the newest one first: a link skips those before it that are not of its environment.
+-- No environment has more bindings than its number.
+abbrev pub environment_within : List Link → ℕ → ℕ → source.Environment
+environment_within links zero environment = []
+environment_within links (suc most) zero = []
+environment_within links (suc most) (suc at) = linked at (slice_get links at) (λ before. environment_within links most before)
 
-abbrev pub control_view : Control → source.Control
-control_view (OfControl.Expression expr) = source.expression (expr_tree expr.now) []
-control_view (OfControl.Block block) = source.expression (block_tree block) []
-control_view (OfControl.Value value) = source.value (value_view value)
-control_view OfControl.Ended = source.stopped source.ended
+abbrev pub environment_of : List Link → ℕ → source.Environment
+environment_of links environment = environment_within links environment environment
 
--- what it runs
-abbrev pub setting_of : Meaning → source.Setting
-setting_of meaning =
-    record { program = program_tree meaning.program.now; cells = meaning.cells; depth = meaning.depth }
+-- an environment with more bindings, the last of them newest
+abbrev pub pushed : List source.Binding → source.Environment → source.Environment
+pushed [] environment = environment
+pushed (b ∷ bs) environment = pushed bs (b ∷ environment)
 
--- the machine; its newest frame is kept last
-abbrev pub configuration_of : Meaning → source.Configuration
-configuration_of meaning = record {
-  control = control_view meaning.control;
-  frames = reverse (map frame_view meaning.frames.items);
-  store = [];
-}
+abbrev pub cell_view : Cell → source.Cell
+cell_view cell = record { made_by = cell.made_by; fields = map value_view cell.fields.items }
+
+-- a chosen row, its variables bound in an environment
+abbrev pub chosen_view : Option Chosen → source.Environment → Option OfChosen
+chosen_view None environment = None
+chosen_view (Some chosen) environment =
+    Some (record { body = expr_tree chosen.body.now; environment = pushed (map bound_view chosen.bound.items) environment })

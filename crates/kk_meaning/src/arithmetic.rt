@@ -1,29 +1,44 @@
 ghost use Rattle.std.specs.Prelude.{◌≡◌};
-ghost use Rattle.kk_syntax.specs.Step.{unary_result, binary_result};
-ghost use Rattle.kk_syntax.specs.Arithmetic.{quotient_of, remainder_of};
+ghost use Rattle.kk_source.specs.Arithmetic.{negation_of, quotient_of, remainder_of};
+ghost use Rattle.kk_source.specs.Step.{unary_result, number_result};
+ghost use Rattle.kk_meaning.specs.View.{value_view};
 
+use crate::value::Value;
 use kk_syntax::{BinaryOperator, UnaryOperator};
 
-/// An operator's result on one number.
-pub fn unary(operator: UnaryOperator, x: i32) -> i32
-    ensures { result ≡ unary_result operator x }
+/// An operator's result on one value.
+pub fn unary(operator: UnaryOperator, x: Value) -> Value
+    ensures { value_view result ≡ unary_result operator (value_view x) }
 {
     match operator {
-        UnaryOperator::Negate => x.wrapping_neg(),
+        UnaryOperator::Negate => Value::Integer(negation(x.integer())),
+        UnaryOperator::Not => Value::of_bool(!x.is_true()),
     }
 }
 
 /// An operator's result on two numbers. A quotient is rounded toward zero; by 0 it is 0, and leaves `x`.
-pub fn binary(operator: BinaryOperator, x: i32, y: i32) -> i32
-    ensures { result ≡ binary_result operator x y }
+pub fn binary(operator: BinaryOperator, x: i32, y: i32) -> Value
+    ensures { value_view result ≡ number_result operator x y }
 {
     match operator {
-        BinaryOperator::Add => x.wrapping_add(y),
-        BinaryOperator::Subtract => x.wrapping_sub(y),
-        BinaryOperator::Multiply => x.wrapping_mul(y),
-        BinaryOperator::Divide => quotient(x, y),
-        BinaryOperator::Remainder => remainder(x, y),
+        BinaryOperator::Add => Value::Integer(x.wrapping_add(y)),
+        BinaryOperator::Subtract => Value::Integer(x.wrapping_sub(y)),
+        BinaryOperator::Multiply => Value::Integer(x.wrapping_mul(y)),
+        BinaryOperator::Divide => Value::Integer(quotient(x, y)),
+        BinaryOperator::Remainder => Value::Integer(remainder(x, y)),
+        BinaryOperator::Equal => Value::of_bool(x == y),
+        BinaryOperator::NotEqual => Value::of_bool(x != y),
+        BinaryOperator::Less => Value::of_bool(x < y),
+        BinaryOperator::LessEqual => Value::of_bool(x <= y),
+        BinaryOperator::Greater => Value::of_bool(x > y),
+        BinaryOperator::GreaterEqual => Value::of_bool(x >= y),
     }
+}
+
+fn negation(x: i32) -> i32
+    ensures { result ≡ negation_of x }
+{
+    x.wrapping_neg()
 }
 
 fn quotient(x: i32, y: i32) -> i32

@@ -1,23 +1,14 @@
 use crate::value::Value;
-use kk_syntax::{BinaryOperator, Expr, PrintForm, UnaryOperator};
-
-/// What arguments are for.
-#[derive(Clone, Copy, Debug, PartialEq, Eq)]
-pub enum Form {
-    Unary(UnaryOperator),
-    Binary(BinaryOperator),
-    /// The print of a number.
-    Print(PrintForm),
-}
+use kk_syntax::{Expr, Form, Row, Statement};
 
 /// A block, or what is left of one behind its first statements.
 #[derive(Clone, Copy, Debug)]
 pub struct Block<'a> {
-    pub statements: &'a [Expr],
+    pub statements: &'a [Statement],
     pub value: &'a Expr,
 }
 
-/// What waits for a value.
+/// What waits for a value. Environments are those of `Bindings`.
 #[derive(Debug, Drop)]
 pub enum Frame<'a> {
     /// A form waits for an argument. It has the values of those before it; those behind it are left.
@@ -25,9 +16,22 @@ pub enum Frame<'a> {
         form: Form,
         values: Vec<Value>,
         left: &'a [Expr],
+        environment: usize,
     },
-    /// What is left of a block waits for the statement before it.
-    Statement(Block<'a>),
-    /// A call waits for its body.
-    Call,
+    /// An `if` waits for its condition.
+    Branches {
+        positive: &'a Expr,
+        negative: &'a Expr,
+        environment: usize,
+    },
+    /// A match waits for its scrutinee.
+    Rows { rows: &'a [Row], environment: usize },
+    /// What is left of a block waits for the statement before it, whose variable, if any, is still to be bound.
+    Statement {
+        variable: Option<u32>,
+        rest: Block<'a>,
+        environment: usize,
+    },
+    /// A call waits for its body. It keeps the values that it was lent, and knows how many bindings there were before.
+    Call { lent: Vec<Value>, before: usize },
 }

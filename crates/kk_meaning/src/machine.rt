@@ -1,114 +1,98 @@
-ghost use Rattle.std.specs.Prelude.{◌≡◌, List, [], ◌∷◌, ◌++◌, map, IfOk, OnErr};
-ghost use Rattle.kk_syntax.specs.Trees.{expr_tree};
-ghost use Rattle.kk_syntax.specs.Programs.{program_tree};
-ghost use Rattle.kk_syntax.specs.State.{Configuration, Setting, Value as OfValue, arguments, call, start, value as at, stopped, ended};
-ghost use Rattle.kk_syntax.specs.Step.{goes, at_value, part_step, expression_step, form_step, value_step, step_of};
-ghost use Rattle.kk_meaning.specs.View.{value_view, form_view, block_tree, setting_of, configuration_of};
-ghost use Rattle.kk_meaning.specs.Turns.{turn_of, TakesByte, Reads};
-ghost use Rattle.kk_meaning.specs.declared.turn.Turn.TheVariants.{WantsInput};
+ghost use Rattle.std.specs.Prelude.{◌≡◌, ◌≤◌, map, vec_len, IfOk, OnErr};
+ghost use Rattle.kk_syntax.specs.Trees.{expr_tree, trees_of, apply as applied};
+ghost use Rattle.kk_source.specs.Sound.{IsOlder};
+ghost use Rattle.kk_source.specs.Step.{goes, at_value, part_step, expression_step, step_of};
+ghost use Rattle.kk_meaning.specs.View.{value_view, environment_of};
+ghost use Rattle.kk_meaning.specs.Frames.{block_tree, frame_view};
+ghost use Rattle.kk_meaning.specs.Machines.{setting_of, configuration_of, Fits, HasEnvironment};
+ghost use Rattle.kk_meaning.specs.Turns.{turn_of};
 
-use crate::arithmetic::{binary, unary};
-use crate::frame::{Block, Form, Frame};
-use crate::print::{number_piece, piece};
+use crate::binding::Bindings;
+use crate::cell::Cell;
+use crate::frame::{Block, Frame};
+use crate::print::piece;
 use crate::turn::Turn;
-use crate::value::{Value, argument};
+use crate::value::Value;
 use kk_base::NoMemory;
-use kk_syntax::{Expr, Program};
+use kk_syntax::{Expr, Form, Positions, Program};
 use std::alloc::Global;
-use std::slice;
 
-/// What the machine is at.
+/// How the machine has come to its end.
+#[derive(Clone, Copy, Debug)]
+pub enum Stop {
+    Ended,
+    HeapFull,
+    StackFull,
+}
+
+/// What the machine is at: an expression, or what is left of a block, with its environment; a value; or its end.
 #[derive(Clone, Copy, Debug)]
 pub enum Control<'a> {
-    Expression(&'a Expr),
-    Block(Block<'a>),
+    Expression(&'a Expr, usize),
+    Rest(Block<'a>, usize),
     Value(Value),
-    Ended,
+    Stopped(Stop),
 }
 
 /// The store machine of a program.
 #[derive(Debug, Drop)]
-pub struct Meaning<'a> {
-    alloc: Global,
-    program: &'a Program,
-    cells: u32,
-    depth: u32,
-    control: Control<'a>,
+pub struct Machine<'a> {
+    pub alloc: Global,
+    pub program: &'a Program,
+    pub positions: &'a Positions,
+    pub cells: u32,
+    pub depth: u32,
+    pub control: Control<'a>,
     /// The newest frame is the last.
-    frames: Vec<Frame<'a>>,
+    pub frames: Vec<Frame<'a>>,
+    /// The number of call frames.
+    pub calls: usize,
+    pub bindings: Bindings,
+    pub store: Vec<Cell>,
 }
 
-impl<'a> Meaning<'a> {
-    /// The machine at its start, with so many cells in its heap and call frames in its stack.
-    pub fn start(
-        alloc: Global,
-        program: &'a Program,
-        cells: u32,
-        depth: u32,
-    ) -> Result<Self, NoMemory>
-        ensures setting { IfOk result (λ meaning.
-            setting_of meaning
-            ≡ record { program = program_tree program.now; cells = cells; depth = depth }) }
-        ensures start { IfOk result (λ meaning. configuration_of meaning ≡ start (setting_of meaning)) }
-    {
-        let mut frames = Vec::new(alloc);
-        frames.push(Frame::Call)?;
-        let body = &program.main_function().body;
-        Ok(Meaning {
-            alloc,
-            program,
-            cells,
-            depth,
-            control: Control::Expression(body),
-            frames,
-        })
-    }
-
-    /// One step. At the end there are no more: the same turn comes again. A step that takes a byte of the input is not
-    /// done: it is asked for by `WantsInput`, again and again until `give` does it. Where memory is refused the machine
-    /// is as it was.
+impl<'a> Machine<'a> {
+    /// One step. At the end there are no more: the same turn comes again.
     pub fn step(&mut self) -> Result<Turn, NoMemory>
+        requires fits { Fits self.old }
+        requires older { IsOlder (configuration_of self.old).store }
         ensures setting { setting_of self.new ≡ setting_of self.old }
+        ensures fits { Fits self.new }
         ensures ok { IfOk result (λ turn.
             (turn, configuration_of self.new)
             ≡ turn_of (configuration_of self.old) (step_of (setting_of self.old) (configuration_of self.old))) }
         ensures err { OnErr result (configuration_of self.new ≡ configuration_of self.old) }
-        ensures wanted { IfOk result (λ turn.
-            turn ≡ WantsInput
-            → TakesByte (step_of (setting_of self.new) (configuration_of self.new))) }
     {
         match self.control {
-            Control::Expression(expr) => self.evaluate(expr),
-            Control::Block(block) => self.enter(block),
+            Control::Expression(expr, environment) => self.evaluate(expr, environment),
+            Control::Rest(rest, environment) => self.enter(rest, environment),
             Control::Value(value) => self.resume(value),
-            Control::Ended => Ok(Turn::Ended),
+            Control::Stopped(Stop::Ended) => Ok(Turn::Ended),
+            Control::Stopped(Stop::HeapFull) => Ok(Turn::HeapFull),
+            Control::Stopped(Stop::StackFull) => Ok(Turn::StackFull),
         }
-    }
-
-    /// The next byte of the input, or by `None` its end: the step that `WantsInput` asked for. Its value is the byte, or
-    /// -1. Takes no memory.
-    pub fn give(&mut self, byte: Option<u8>)
-        requires wanted { TakesByte (step_of (setting_of self.old) (configuration_of self.old)) }
-        ensures setting { setting_of self.new ≡ setting_of self.old }
-        ensures step { Reads (setting_of self.old) byte (configuration_of self.old) (configuration_of self.new) }
-    {
-        self.control = Control::Value(Value::of_byte(byte));
     }
 
     // The step at an expression.
     #[cycle(evaluate)]
-    fn evaluate(&mut self, expr: &'a Expr) -> Result<Turn, NoMemory>
+    fn evaluate(&mut self, expr: &'a Expr, environment: usize) -> Result<Turn, NoMemory>
+        requires fits { Fits self.old }
+        requires within { environment ≤ vec_len self.old.bindings.links }
+        requires older { IsOlder (configuration_of self.old).store }
         ensures setting { setting_of self.new ≡ setting_of self.old }
+        ensures fits { Fits self.new }
         ensures ok { IfOk result (λ turn.
             (turn, configuration_of self.new)
-            ≡ turn_of (configuration_of self.old) (expression_step (setting_of self.old) (expr_tree expr.now) []
-            (configuration_of self.old))) }
+            ≡ turn_of (configuration_of self.old) (expression_step (setting_of self.old) (expr_tree expr.now)
+            (environment_of self.old.bindings.links.items environment) (configuration_of self.old))) }
         ensures err { OnErr result (configuration_of self.new ≡ configuration_of self.old) }
     {
         match expr {
-            Expr::Number(number) => {
-                self.control = Control::Value(Value::Integer(*number));
-                Ok(Turn::Went)
+            Expr::Number(number) => Ok(self.go_to(Value::Integer(*number))),
+            Expr::Unit => Ok(self.go_to(Value::Unit)),
+            Expr::Variable(variable) => {
+                let value = self.bindings.value_of(environment, *variable);
+                Ok(self.go_to(value))
             }
             Expr::ReadByte => Ok(Turn::WantsInput),
             Expr::PrintText(form, text) => {
@@ -116,148 +100,120 @@ impl<'a> Meaning<'a> {
                 self.control = Control::Value(Value::Unit);
                 Ok(Turn::of_print(piece))
             }
-            Expr::Unary(operator, operand) => self.wait(Form::Unary(*operator), operand, &[]),
-            Expr::Binary(operator, left, right) => {
-                self.wait(Form::Binary(*operator), left, slice::from_ref(&**right))
+            Expr::Apply(form, arguments) => self.apply(*form, arguments, environment),
+            Expr::If(condition, positive, negative) => {
+                let frame = Frame::Branches {
+                    positive,
+                    negative,
+                    environment,
+                };
+                self.wait(frame, condition, environment)
             }
-            Expr::Print(form, number) => self.wait(Form::Print(*form), number, &[]),
-            Expr::Block(statements, value) => self.enter(Block { statements, value }),
+            Expr::Match(scrutinee, rows) => {
+                let frame = Frame::Rows { rows, environment };
+                self.wait(frame, scrutinee, environment)
+            }
+            Expr::Block(statements, value) => self.enter(Block { statements, value }, environment),
         }
     }
 
-    // The step at a block.
+    // The step at what is left of a block.
     #[cycle(evaluate)]
-    fn enter(&mut self, block: Block<'a>) -> Result<Turn, NoMemory>
+    fn enter(&mut self, rest: Block<'a>, environment: usize) -> Result<Turn, NoMemory>
+        requires fits { Fits self.old }
+        requires within { environment ≤ vec_len self.old.bindings.links }
+        requires older { IsOlder (configuration_of self.old).store }
         ensures setting { setting_of self.new ≡ setting_of self.old }
+        ensures fits { Fits self.new }
         ensures ok { IfOk result (λ turn.
             (turn, configuration_of self.new)
-            ≡ turn_of (configuration_of self.old) (expression_step (setting_of self.old) (block_tree block.entry) []
-            (configuration_of self.old))) }
+            ≡ turn_of (configuration_of self.old) (expression_step (setting_of self.old) (block_tree rest.entry)
+            (environment_of self.old.bindings.links.items environment) (configuration_of self.old))) }
         ensures err { OnErr result (configuration_of self.new ≡ configuration_of self.old) }
     {
-        let Block { statements, value } = block;
+        let Block { statements, value } = rest;
         match statements.split_first() {
             Some((first, statements)) => {
-                self.frames
-                    .push(Frame::Statement(Block { statements, value }))?;
-                self.control = Control::Expression(first);
-                Ok(Turn::Went)
+                let frame = Frame::Statement {
+                    variable: first.binder.variable(),
+                    rest: Block { statements, value },
+                    environment,
+                };
+                self.wait(frame, &first.value, environment)
             }
-            None => self.evaluate(value),
+            None => self.evaluate(value, environment),
         }
     }
 
-    // A form waits for its first argument.
-    fn wait(&mut self, form: Form, first: &'a Expr, left: &'a [Expr]) -> Result<Turn, NoMemory>
+    // The step at a form with its arguments. Without arguments it acts at once.
+    fn apply(
+        &mut self,
+        form: Form,
+        arguments: &'a [Expr],
+        environment: usize,
+    ) -> Result<Turn, NoMemory>
+        requires fits { Fits self.old }
+        requires within { environment ≤ vec_len self.old.bindings.links }
+        requires older { IsOlder (configuration_of self.old).store }
         ensures setting { setting_of self.new ≡ setting_of self.old }
+        ensures fits { Fits self.new }
         ensures ok { IfOk result (λ turn.
             (turn, configuration_of self.new)
-            ≡ turn_of (configuration_of self.old) (part_step (expr_tree first.now) []
-            (arguments (form_view form) [] (map expr_tree left.now) [])
-            (configuration_of self.old))) }
+            ≡ turn_of (configuration_of self.old) (expression_step (setting_of self.old)
+            (applied form (trees_of (map expr_tree arguments.now)))
+            (environment_of self.old.bindings.links.items environment) (configuration_of self.old))) }
         ensures err { OnErr result (configuration_of self.new ≡ configuration_of self.old) }
     {
-        let values = Vec::new(self.alloc);
-        self.frames.push(Frame::Arguments { form, values, left })?;
-        self.control = Control::Expression(first);
+        match arguments.split_first() {
+            Some((first, left)) => {
+                let frame = Frame::Arguments {
+                    form,
+                    values: Vec::new(self.alloc),
+                    left,
+                    environment,
+                };
+                self.wait(frame, first, environment)
+            }
+            None => {
+                let older = self.frames.len();
+                self.finish(form, Vec::new(self.alloc), older)
+            }
+        }
+    }
+
+    // A form, an `if`, a match or a block waits for its first part.
+    fn wait(
+        &mut self,
+        frame: Frame<'a>,
+        first: &'a Expr,
+        environment: usize,
+    ) -> Result<Turn, NoMemory>
+        requires fits { Fits self.old }
+        requires within { environment ≤ vec_len self.old.bindings.links }
+        requires frame { HasEnvironment environment frame }
+        ensures setting { setting_of self.new ≡ setting_of self.old }
+        ensures fits { Fits self.new }
+        ensures ok { IfOk result (λ turn.
+            (turn, configuration_of self.new)
+            ≡ turn_of (configuration_of self.old) (part_step (expr_tree first.now)
+            (environment_of self.old.bindings.links.items environment)
+            (frame_view self.old.bindings.links.items frame) (configuration_of self.old))) }
+        ensures err { OnErr result (configuration_of self.new ≡ configuration_of self.old) }
+    {
+        self.frames.push(frame)?;
+        self.control = Control::Expression(first, environment);
         Ok(Turn::Went)
     }
 
-    // The step at a value: the newest frame has waited for it.
-    fn resume(&mut self, value: Value) -> Result<Turn, NoMemory>
-        requires { (configuration_of self.old).control ≡ at (value_view value) }
+    // The machine is at a value.
+    fn go_to(&mut self, value: Value) -> Turn
+        requires fits { Fits self.old }
         ensures setting { setting_of self.new ≡ setting_of self.old }
-        ensures ok { let before = configuration_of self.old in IfOk result (λ turn.
-            (turn, configuration_of self.new)
-            ≡ turn_of before (value_step (setting_of self.old) (value_view value) before.frames before)) }
-        ensures err { OnErr result (configuration_of self.new ≡ configuration_of self.old) }
+        ensures fits { Fits self.new }
+        ensures turn { (result, configuration_of self.new)
+            ≡ turn_of (configuration_of self.old) (goes (at_value (value_view value) (configuration_of self.old))) }
     {
-        let Some(frame) = self.frames.last_mut() else {
-            return Ok(self.end());
-        };
-        match frame {
-            Frame::Arguments { form, values, left } => {
-                match (*left).split_first() {
-                    Some((next, rest)) => {
-                        values.push(value)?;
-                        *left = rest;
-                        self.control = Control::Expression(next);
-                        Ok(Turn::Went)
-                    }
-                    None => {
-                        let (outcome, turn) = apply(self.alloc, *form, values.as_slice(), value)?;
-                        self.frames.pop();
-                        self.control = Control::Value(outcome);
-                        Ok(turn)
-                    }
-                }
-            }
-            Frame::Statement(block) => {
-                self.control = Control::Block(*block);
-                self.frames.pop();
-                Ok(Turn::Went)
-            }
-            Frame::Call => {
-                self.frames.pop();
-                Ok(self.after_call())
-            }
-        }
-    }
-
-    // A call has its value, and its frame is taken away: with the last one the run ends.
-    fn after_call(&mut self) -> Turn
-        ensures setting { setting_of self.new ≡ setting_of self.old }
-        ensures turn { let c = configuration_of self.old in
-            (before : Configuration) (v : OfValue) (lent : List OfValue) → c.control ≡ at v
-            → (result, configuration_of self.new)
-            ≡ turn_of before (value_step (setting_of self.old) v (call lent ∷ c.frames) c) }
-    {
-        if self.frames.is_empty() {
-            self.end()
-        } else {
-            Turn::Went
-        }
-    }
-
-    // The run has ended.
-    fn end(&mut self) -> Turn
-        ensures setting { setting_of self.new ≡ setting_of self.old }
-        ensures ended { (result, configuration_of self.new)
-            ≡ turn_of (configuration_of self.old) (goes (record (configuration_of self.old) { control = stopped ended })) }
-    {
-        self.control = Control::Ended;
-        Turn::Ended
-    }
-}
-
-// The value of a form, and the turn: its arguments are the values, with one more behind them.
-fn apply(
-    alloc: Global,
-    form: Form,
-    values: &[Value],
-    last: Value,
-) -> Result<(Value, Turn), NoMemory>
-    ensures { IfOk result (λ applied. (setting : Setting) (before c : Configuration) →
-        (applied.1, at_value (value_view applied.0) c)
-        ≡ turn_of before (form_step setting (form_view form)
-        (map value_view values.now ++ value_view last ∷ []) c)) }
-{
-    match form {
-        Form::Unary(operator) => {
-            let number = unary(operator, argument(values, last, 0));
-            Ok((Value::Integer(number), Turn::Went))
-        }
-        Form::Binary(operator) => {
-            let number = binary(
-                operator,
-                argument(values, last, 0),
-                argument(values, last, 1),
-            );
-            Ok((Value::Integer(number), Turn::Went))
-        }
-        Form::Print(form) => {
-            let piece = number_piece(alloc, form, argument(values, last, 0))?;
-            Ok((Value::Unit, Turn::of_print(piece)))
-        }
+        self.control = Control::Value(value);
+        Turn::Went
     }
 }

@@ -1,6 +1,8 @@
-ghost use Rattle.std.specs.Prelude.{◌≡◌, [], ◌∷◌, ◌++◌, map};
-ghost use Rattle.kk_syntax.specs.Step.{byte_value, integer_of, argument as argument_of};
+ghost use Rattle.std.specs.Prelude.{◌≡◌, map};
+ghost use Rattle.kk_source.specs.Step.{argument as argument_of, byte_value, integer_of, is_true, truth};
 ghost use Rattle.kk_meaning.specs.View.{value_view};
+
+use kk_syntax::Program;
 
 /// What an expression comes to.
 #[derive(Clone, Copy, Debug, PartialEq, Eq)]
@@ -8,6 +10,10 @@ pub enum Value {
     Integer(i32),
     /// `()`
     Unit,
+    /// A constructor without fields, by its number.
+    Constant(u32),
+    /// A cell of the store, by its index.
+    Place(usize),
 }
 
 impl Value {
@@ -21,27 +27,44 @@ impl Value {
         }
     }
 
-    /// The integer; 0 for `()`, of which no well typed program asks it.
+    /// `True` or `False`.
+    pub fn of_bool(holds: bool) -> Self
+        ensures { value_view result ≡ truth holds }
+    {
+        if holds {
+            Value::Constant(Program::TRUE)
+        } else {
+            Value::Constant(Program::FALSE)
+        }
+    }
+
+    /// Whether it is `True`.
+    pub fn is_true(self) -> bool
+        ensures { result ≡ is_true (value_view self) }
+    {
+        match self {
+            Value::Constant(constructor) => constructor == Program::TRUE,
+            Value::Integer(_) | Value::Unit | Value::Place(_) => false,
+        }
+    }
+
+    /// The integer; 0 for another value, of which no well typed program asks it.
     pub fn integer(self) -> i32
         ensures { result ≡ integer_of (value_view self) }
     {
         match self {
             Value::Integer(number) => number,
-            Value::Unit => 0,
+            Value::Unit | Value::Constant(_) | Value::Place(_) => 0,
         }
     }
 }
 
-/// One of a form's arguments as an integer: of the values, or the last one after them; 0 where there is none, which no
-/// well typed program has.
-pub fn argument(values: &[Value], last: Value, index: usize) -> i32
-    ensures { result ≡ argument_of index (map value_view values.now ++ value_view last ∷ []) }
+/// An argument, from 0; `()` where it is not there, as none of a resolved program is.
+pub fn argument(values: &[Value], index: usize) -> Value
+    ensures { value_view result ≡ argument_of index (map value_view values.now) }
 {
-    if index == values.len() {
-        return last.integer();
-    }
     match values.get(index) {
-        Some(value) => value.integer(),
-        None => 0,
+        Some(value) => *value,
+        None => Value::Unit,
     }
 }

@@ -1,4 +1,7 @@
 pub mod Builder
 mod Examples
+pub mod Laws
 pub mod Live
+pub mod Roomier
 pub mod Sound
+pub mod TakenInput

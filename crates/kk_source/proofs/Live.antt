@@ -54,7 +54,7 @@ among_split (v ∷ vs) ws at (inl here) = inl (inl here)
 among_split (v ∷ vs) ws at (inr there) =
     elim (among_split vs ws at there) [ inl a ↦ inl (inr a) | inr b ↦ inr b ]
 
-among_within : (n : ℕ) (vs : List Value) (at : ℕ) → AllWithin n vs → Among vs at → at < n
+pub among_within : (n : ℕ) (vs : List Value) (at : ℕ) → AllWithin n vs → Among vs at → at < n
 among_within n [] at w a = absurd a
 among_within n (v ∷ vs) at w (inl here) = subst (Within n) here w.0
 among_within n (v ∷ vs) at w (inr there) = among_within n vs at w.1 there
@@ -97,15 +97,15 @@ found_here zero store vs goal a = among_any vs goal a
 found_here (suc rounds) store vs goal a = or_left _ _ (among_any vs goal a)
 
 -- fields are only of cells that are there
-has_cell : (store : Store) (at goal : ℕ) → Among (fields_at store at) goal → at < length store
+pub has_cell : (store : Store) (at goal : ℕ) → Among (fields_at store at) goal → at < length store
 has_cell [] zero goal a = absurd a
 has_cell [] (suc at) goal a = absurd a
 has_cell (c ∷ store) zero goal a = omega arith
 has_cell (c ∷ store) (suc at) goal a = omega (arith, has_cell store at goal a)
 
-first_of : (store : Store) (vs : List Value) (way : List ℕ) (goal : ℕ) → Leads store vs way goal → (at : ℕ) × Among vs at
-first_of store vs [] goal l = (goal, l)
-first_of store vs (at ∷ way) goal l = (at, l.0)
+pub first_place : (store : Store) (vs : List Value) (way : List ℕ) (goal : ℕ) → Leads store vs way goal → (at : ℕ) × Among vs at
+first_place store vs [] goal l = (goal, l)
+first_place store vs (at ∷ way) goal l = (at, l.0)
 
 leads_widen : (store : Store) (vs ws : List Value) (way : List ℕ) (goal : ℕ) → ((at : ℕ) → Among vs at → Among ws at) → Leads store vs way goal → Leads store ws way goal
 leads_widen store vs ws [] goal more l = more goal l
@@ -130,7 +130,7 @@ module _ (store : Store) (older : IsOlder store) where
   reached_found : (rounds n : ℕ) (vs : List Value) (way : List ℕ) (goal : ℕ) → ((at : ℕ) → Among vs at → at < n) → n ≤ suc rounds → Leads store vs way goal → is_found rounds store vs goal ≡ true
   reached_found rounds n vs [] goal w le l = found_here rounds store vs goal l
   reached_found zero n vs (at ∷ way) goal w le l =
-      let first = first_of store (fields_at store at) way goal l.1 in
+      let first = first_place store (fields_at store at) way goal l.1 in
       let below = among_within at (fields_at store at) first.0 (older at) first.1 in
       absurd (omega (arith, w at l.0, below))
   reached_found (suc rounds) n vs (at ∷ way) goal w le l =
@@ -141,7 +141,7 @@ module _ (store : Store) (older : IsOlder store) where
   from_roots : (rounds : ℕ) (vs : List Value) (way : List ℕ) (goal : ℕ) → rounds ≡ length store → Leads store vs way goal → is_found rounds store vs goal ≡ true
   from_roots rounds vs [] goal all l = found_here rounds store vs goal l
   from_roots zero vs (at ∷ way) goal all l =
-      let first = first_of store (fields_at store at) way goal l.1 in
+      let first = first_place store (fields_at store at) way goal l.1 in
       absurd (omega (arith, has_cell store at first.0 first.1))
   from_roots (suc rounds) vs (at ∷ way) goal all l =
       or_right _ _

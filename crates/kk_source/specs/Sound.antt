@@ -1,5 +1,6 @@
 -- What is true of each state of a run: its values name cells that are there, and a cell's fields name older cells.
 use Rattle.std.specs.Prelude.{ℕ, ◌<◌, List, [], ◌∷◌, length}
+use Rattle.std.specs.Coded.{×_prop, Unit-prop, le_prop}
 use Rattle.kk_source.specs.State.{Value, integer, unit, constant, place, Store, Environment, Frame, arguments, branches, rows, statement, call, Control, expression, value, stopped, Configuration}
 use Rattle.kk_source.specs.Live.{fields_at}
 
@@ -40,3 +41,34 @@ pub record Sound (c : Configuration) : Type 0 where
   pub older : IsOlder c.store
   pub control : ControlWithin (length c.store) c.control
   pub frames : FramesWithin (length c.store) c.frames
+
+-- there is one way in which a state is sound
+pub Within-prop : (n : ℕ) (v : Value) → IsProp (Within n v)
+Within-prop n (integer number) = Unit-prop
+Within-prop n unit = Unit-prop
+Within-prop n (constant of) = Unit-prop
+Within-prop n (place at) = le_prop
+
+pub AllWithin-prop : (n : ℕ) (vs : List Value) → IsProp (AllWithin n vs)
+AllWithin-prop n [] = Unit-prop
+AllWithin-prop n (v ∷ vs) = ×_prop (Within-prop n v) (AllWithin-prop n vs)
+
+pub BoundWithin-prop : (n : ℕ) (environment : Environment) → IsProp (BoundWithin n environment)
+BoundWithin-prop n [] = Unit-prop
+BoundWithin-prop n (binding ∷ environment) = ×_prop (Within-prop n binding.value) (BoundWithin-prop n environment)
+
+pub FrameWithin-prop : (n : ℕ) (frame : Frame) → IsProp (FrameWithin n frame)
+FrameWithin-prop n (arguments form values left environment) = ×_prop (AllWithin-prop n values) (BoundWithin-prop n environment)
+FrameWithin-prop n (branches positive negative environment) = BoundWithin-prop n environment
+FrameWithin-prop n (rows of environment) = BoundWithin-prop n environment
+FrameWithin-prop n (statement variable rest environment) = BoundWithin-prop n environment
+FrameWithin-prop n (call lent) = AllWithin-prop n lent
+
+pub FramesWithin-prop : (n : ℕ) (frames : List Frame) → IsProp (FramesWithin n frames)
+FramesWithin-prop n [] = Unit-prop
+FramesWithin-prop n (frame ∷ older) = ×_prop (FrameWithin-prop n frame) (FramesWithin-prop n older)
+
+pub ControlWithin-prop : (n : ℕ) (control : Control) → IsProp (ControlWithin n control)
+ControlWithin-prop n (expression e environment) = BoundWithin-prop n environment
+ControlWithin-prop n (value v) = Within-prop n v
+ControlWithin-prop n (stopped by) = Unit-prop

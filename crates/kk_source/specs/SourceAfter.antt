@@ -3,7 +3,7 @@ use Rattle.std.specs.Prelude.{ℕ, List, [], ◌∷◌, Option, Some, None}
 use Rattle.kk_base.specs.Trace.{Event, output, input as taken, input_end}
 use Rattle.kk_base.specs.Machines.{Machine, until, mapped, trace, ending_after}
 use Rattle.kk_source.specs.Notes.{Note, seen, built, called, events_of}
-use Rattle.kk_source.specs.State.{Setting, End, end_at, State, start}
+use Rattle.kk_source.specs.State.{Setting, End, ended, heap_full, stack_full, end_at, State, start}
 use Rattle.kk_source.specs.Step.{Action, goes, puts, takes, builds, calls, step_of}
 
 -- what a step tells, and the state after it; where no input is left, a read meets its end, and it stays so
@@ -45,3 +45,10 @@ source_after setting input n = record {
   trace = trace (source_machine setting) n (first_state setting input);
   ending = ending_after (source_machine setting) n (first_state setting input);
 }
+
+-- a run that has come to this, if to an end, has not found the heap or the stack full
+abbrev pub HasRoom : Option End → Type 0
+HasRoom (Some heap_full) = ⊥
+HasRoom (Some stack_full) = ⊥
+HasRoom (Some ended) = Unit {0}
+HasRoom None = Unit {0}

@@ -10,10 +10,9 @@ use Rattle.kk_syntax.specs.declared.operator.PrintForm.{PrintForm}
 use Rattle.kk_syntax.specs.declared.operator.PrintForm.TheVariants as OfPrint
 use Rattle.kk_syntax.specs.declared.program.Form.{Form}
 use Rattle.kk_syntax.specs.declared.program.Form.TheVariants.{Unary, Binary, Print, Construct, Call}
-use Rattle.kk_syntax.specs.declared.program.Binder.{Binder}
-use Rattle.kk_syntax.specs.declared.program.Binder.TheVariants as OfBinder
 use Rattle.kk_syntax.specs.Trees.{Tree, number, unit as unit_tree, variable, read_byte, print_text, apply, branch, match, sequence, Trees, no_tree, tree, Rows}
 use Rattle.kk_syntax.specs.Programs.{FunctionTree, ProgramTree}
+use Rattle.kk_syntax.specs.Shapes.{variable_of}
 use Rattle.kk_syntax.specs.PositionsOf.{is_lent}
 use Rattle.kk_source.specs.Arithmetic.{sum_of, difference_of, product_of, negation_of, quotient_of, remainder_of}
 use Rattle.kk_source.specs.State.{Setting, Value, integer, unit, constant, place, Cell, Store, Binding, Environment, Frame, arguments, branches, rows, statement, call, End, ended, heap_full, stack_full, Control, expression, value, stopped, Configuration}
@@ -105,12 +104,6 @@ at_byte c byte = at_value (byte_value byte) c
 abbrev pub part_step : Tree → Environment → Frame → Configuration → Action
 part_step first environment frame c =
     goes (at_expression first environment (record c { frames = frame ∷ c.frames }))
-
--- the variable that a statement binds, if any
-abbrev pub variable_of : Binder → Option ℕ
-variable_of OfBinder.Nothing = None
-variable_of OfBinder.Wildcard = None
-variable_of (OfBinder.Variable x) = Some x
 
 -- a variable bound to a value, if there is one
 abbrev pub bind : Option ℕ → Value → Environment → Environment

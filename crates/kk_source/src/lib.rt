@@ -1,2 +1,6 @@
-//! The meaning of a program: the store machine.
+//! The meaning of a program: the store machine, in specs/, and laws of its runs.
 #![tactic(auto)]
+
+mod law;
+
+pub use law::{more_room_goes_further, only_taken_input_counts, runs_are_sound};

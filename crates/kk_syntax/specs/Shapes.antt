@@ -1,5 +1,5 @@
 -- The shape of a body: its free variables, its nodes, and its tail positions.
-use Rattle.std.specs.Prelude.{ℕ, ◌+◌, max, Bool, not, ◌==◌, List, [], ◌∷◌, ◌++◌, filter}
+use Rattle.std.specs.Prelude.{ℕ, ◌+◌, max, Bool, not, ◌==◌, List, [], ◌∷◌, ◌++◌, Option, None, Some, filter}
 use Rattle.std.specs.List.{list_any}
 use Rattle.kk_syntax.specs.declared.program.Binder.{Binder}
 use Rattle.kk_syntax.specs.declared.program.Binder.TheVariants as OfBinder
@@ -20,6 +20,12 @@ abbrev mutual
   bound_all (part first rest) = bound first ++ bound_all rest
 
 -- the variable that a statement binds, if any
+abbrev pub variable_of : Binder → Option ℕ
+variable_of OfBinder.Nothing = None
+variable_of OfBinder.Wildcard = None
+variable_of (OfBinder.Variable of) = Some of
+
+-- the same, as a list
 abbrev pub bound_by : Binder → List ℕ
 bound_by OfBinder.Nothing = []
 bound_by OfBinder.Wildcard = []

@@ -1,9 +1,21 @@
 ghost use Rattle.std.specs.Prelude.{◌≡◌, ◌-◌, ◌^◌, min, map};
 ghost use Rattle.kk_syntax.specs.Patterns.{pattern_tree, patterns_of};
 ghost use Rattle.kk_syntax.specs.Trees.{expr_tree, trees_of, row_tree, rows_of, statement_tree};
-ghost use Rattle.kk_syntax.specs.Shapes.{nodes_of, nodes_of_all, nodes_of_rows, nodes_of_statements, nodes_of_binder, nodes_of_pattern, nodes_of_patterns};
+ghost use Rattle.kk_syntax.specs.Shapes.{nodes_of, nodes_of_all, nodes_of_rows, nodes_of_statements, nodes_of_binder, nodes_of_pattern, nodes_of_patterns, variable_of};
 
 use crate::program::{Binder, Expr, Pat, Row, Statement};
+
+impl Binder {
+    /// The variable that is bound, if any.
+    pub fn variable(self) -> Option<u32>
+        ensures { result ≡ variable_of self }
+    {
+        match self {
+            Binder::Nothing | Binder::Wildcard => None,
+            Binder::Variable(variable) => Some(variable),
+        }
+    }
+}
 
 /// The nodes of an expression: 1 for a number, `()`, a variable, a read of the input and a print of a string; 1 plus its
 /// parts for a form with its arguments, an `if`, a match (its scrutinee, its patterns and its bodies) and a `val`. A

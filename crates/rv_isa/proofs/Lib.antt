@@ -1,5 +1,6 @@
 pub mod Examples
 mod ExampleRuns
+mod MachineExamples
 pub mod Acts
 pub mod Bits
 pub mod Bytes

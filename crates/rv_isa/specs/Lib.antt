@@ -17,3 +17,12 @@ pub mod Execution
 pub mod ProcessorMachine
 pub mod FreeCells
 pub mod Standing
+pub mod Routines
+pub mod AsmCode
+pub mod PlacedCode
+pub mod Conventions
+pub mod Primitives
+pub mod Frames
+pub mod Costs
+pub mod AsmMachine
+pub mod PlacedMachine

@@ -4,6 +4,7 @@
 mod act;
 mod agreement;
 mod arithmetic;
+mod asm;
 mod code;
 mod decoding;
 mod encoding;
@@ -11,15 +12,25 @@ pub mod environment;
 mod immediate;
 mod instr;
 mod meaning;
+mod placed;
 mod register;
+mod routine;
 #[cfg(test)]
 mod tests;
 
 pub use act::{Act, Effect};
 pub use agreement::{AgreedImage, agreed_image_agrees};
+pub use asm::{
+    Action, Asm, AsmFunction, Condition, ImmediateOperation, Operation, RegisterOperation,
+    ShiftOperation, Statement,
+};
 pub use decoding::decode;
 pub use encoding::encode;
 pub use immediate::{BranchOffset, Immediate, JumpOffset, ShiftAmount, UpperImmediate};
 pub use instr::{Instr, Operands};
 pub use meaning::effect;
+pub use placed::{
+    DataSection, Item, Listed, Native, Operand, Place, Placed, PlacedFunction, Section, Symbol, Way,
+};
 pub use register::Register;
+pub use routine::Routine;

@@ -1,0 +1,39 @@
+//! Laws of cells. Each is a function that does nothing; what its contract says is proved.
+
+ghost use Rattle.std.specs.Prelude.{◌≡◌, ℕ, ◌+◌, ◌*◌, List, [], length};
+ghost use Rattle.cell_heap.specs.Cells.{Heap, occurs};
+ghost use Rattle.cell_heap.specs.Pool.{Pool, places};
+ghost use Rattle.cell_heap.specs.GivingUp.{GivesUp};
+ghost use Rattle.cell_heap.specs.Counts.{credit};
+ghost use Rattle.cell_heap.specs.Sound.{IsSound};
+ghost use Rattle.cell_heap.specs.View.{View};
+ghost use Rattle.cell_heap.specs.Memory.{Memory};
+ghost use Rattle.cell_heap.specs.FreeCells.{ListsFree};
+ghost use Rattle.rv_isa.specs.FreeCells.{free_list};
+ghost use Rattle.rv_isa.specs.Processor.{Processor};
+
+/// References of a sound heap can all be given up.
+pub fn giving_up_comes_to_an_end()
+    ensures { (pool : Pool) (roots : ℕ → ℕ) (given : List ℕ) (heap : Heap) → IsSound pool roots given heap → (gave freed : ℕ) × (end : Heap) × GivesUp given heap gave freed end }
+{}
+
+/// What is left is a sound heap, in which nothing is to be given up.
+pub fn giving_up_keeps_heaps_sound()
+    ensures { (pool : Pool) (roots : ℕ → ℕ) (given : List ℕ) (heap end : Heap) (gave freed : ℕ) → IsSound pool roots given heap → GivesUp given heap gave freed end → IsSound pool roots [] end }
+{}
+
+/// The order in which references are given up matters neither for the heap that is left nor for how many cells are freed.
+pub fn giving_up_has_one_end()
+    ensures { (pool : Pool) (roots : ℕ → ℕ) (given others : List ℕ) (heap end other : Heap) (gave freed gave_others freed_others : ℕ) → IsSound pool roots given heap → ((x : ℕ) → occurs x others ≡ occurs x given) → GivesUp given heap gave freed end → GivesUp others heap gave_others freed_others other → (end ≡ other) × (freed ≡ freed_others) }
+{}
+
+/// The credit of cells, whatever is counted for a cell and for a reference, pays for each cell that is freed and each reference that is given up:
+/// what was saved before and not after, and that of the first references, is exactly their cost.
+pub fn giving_up_is_paid()
+    ensures { (pool : Pool) (roots : ℕ → ℕ) (given : List ℕ) (heap end : Heap) (gave freed a_cell a_reference : ℕ) → IsSound pool roots given heap → GivesUp given heap gave freed end → credit a_cell a_reference (places pool) end + a_cell * freed + a_reference * gave ≡ credit a_cell a_reference (places pool) heap + a_reference * length given }
+{}
+
+/// Where memory has the cells of a view, the free cells of the image are exactly the view's free cells, each once.
+pub fn free_cells_are_listed()
+    ensures { (pool : Pool) (view : View) (s : Processor) → Memory pool view s → ListsFree view.heap (free_list pool.cells s) }
+{}

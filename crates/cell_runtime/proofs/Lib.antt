@@ -1,0 +1,21 @@
+mod Examples
+pub mod Operands
+pub mod SameLines
+pub mod Spelling
+pub mod Calling
+pub mod PrintingText
+pub mod Stopping
+pub mod ReadingByte
+pub mod Ranges
+pub mod PrintingDigits
+pub mod PrintingInt
+pub mod TakingCells
+pub mod Taking
+pub mod HoldingTokens
+pub mod Holding
+pub mod Starting
+pub mod DropRows
+pub mod DropStates
+pub mod DropMoves
+pub mod DropRuns
+pub mod DropAfter

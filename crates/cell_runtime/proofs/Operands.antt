@@ -1,0 +1,95 @@
+-- The registers, immediates and distances of the routines.
+use Rattle.std.proofs.Common.{◌-◌, ◌^◌, lit<, refl}
+use Rattle.rv_isa.specs.declared.register.Register.{Register}
+use Rattle.rv_isa.specs.declared.immediate.Immediate.{Immediate}
+use Rattle.rv_isa.specs.declared.immediate.BranchOffset.{BranchOffset}
+
+abbrev pub x0 : Register
+x0 = record { number = 0; in_range = lit< tt }
+
+abbrev pub x1 : Register
+x1 = record { number = 1; in_range = lit< tt }
+
+abbrev pub x2 : Register
+x2 = record { number = 2; in_range = lit< tt }
+
+abbrev pub x5 : Register
+x5 = record { number = 5; in_range = lit< tt }
+
+abbrev pub x6 : Register
+x6 = record { number = 6; in_range = lit< tt }
+
+abbrev pub x7 : Register
+x7 = record { number = 7; in_range = lit< tt }
+
+abbrev pub x8 : Register
+x8 = record { number = 8; in_range = lit< tt }
+
+abbrev pub x9 : Register
+x9 = record { number = 9; in_range = lit< tt }
+
+abbrev pub x10 : Register
+x10 = record { number = 10; in_range = lit< tt }
+
+abbrev pub x11 : Register
+x11 = record { number = 11; in_range = lit< tt }
+
+abbrev pub x12 : Register
+x12 = record { number = 12; in_range = lit< tt }
+
+abbrev pub x17 : Register
+x17 = record { number = 17; in_range = lit< tt }
+
+abbrev pub x18 : Register
+x18 = record { number = 18; in_range = lit< tt }
+
+abbrev pub x19 : Register
+x19 = record { number = 19; in_range = lit< tt }
+
+abbrev pub imm_0 : Immediate
+imm_0 = record { word = 0; in_range = (lit< tt, lit< tt) }
+
+abbrev pub imm_1 : Immediate
+imm_1 = record { word = 1; in_range = (lit< tt, lit< tt) }
+
+abbrev pub imm_4 : Immediate
+imm_4 = record { word = 4; in_range = (lit< tt, lit< tt) }
+
+abbrev pub imm_10 : Immediate
+imm_10 = record { word = 10; in_range = (lit< tt, lit< tt) }
+
+abbrev pub imm_32 : Immediate
+imm_32 = record { word = 32; in_range = (lit< tt, lit< tt) }
+
+abbrev pub imm_45 : Immediate
+imm_45 = record { word = 45; in_range = (lit< tt, lit< tt) }
+
+abbrev pub imm_48 : Immediate
+imm_48 = record { word = 48; in_range = (lit< tt, lit< tt) }
+
+abbrev pub imm_63 : Immediate
+imm_63 = record { word = 63; in_range = (lit< tt, lit< tt) }
+
+abbrev pub imm_64 : Immediate
+imm_64 = record { word = 64; in_range = (lit< tt, lit< tt) }
+
+abbrev pub imm_93 : Immediate
+imm_93 = record { word = 93; in_range = (lit< tt, lit< tt) }
+
+abbrev pub imm_minus_1 : Immediate
+imm_minus_1 = record { word = 2 ^ 32 - 1; in_range = (lit< tt, lit< tt) }
+
+abbrev pub forward_8 : BranchOffset
+forward_8 = record { word = 8; in_range = (lit< tt, lit< tt, refl) }
+
+abbrev pub forward_16 : BranchOffset
+forward_16 = record { word = 16; in_range = (lit< tt, lit< tt, refl) }
+
+abbrev pub back_20 : BranchOffset
+back_20 = record { word = 2 ^ 32 - 20; in_range = (lit< tt, lit< tt, refl) }
+
+abbrev pub imm_101 : Immediate
+imm_101 = record { word = 101; in_range = (lit< tt, lit< tt) }
+
+abbrev pub forward_24 : BranchOffset
+forward_24 = record { word = 24; in_range = (lit< tt, lit< tt, refl) }

@@ -1,0 +1,11 @@
+pub mod Registers
+pub mod Calls
+pub mod Lines
+pub mod Prints
+pub mod Stops
+pub mod Takes
+pub mod Tokens
+pub mod Layouts
+pub mod Starts
+pub mod Texts
+pub mod Drops

@@ -1,0 +1,16 @@
+-- The routine that ends the run: an exit with one of three numbers.
+use Rattle.std.specs.Prelude.{ℕ}
+use Rattle.rv_isa.specs.Processor.{Processor}
+use Rattle.rv_isa.specs.Standing.{Code}
+use Rattle.cell_runtime.specs.declared.stop.Ending.{Ending}
+use Rattle.cell_runtime.specs.declared.stop.Ending.TheVariants.{Ended, HeapFull, StackFull}
+use Rattle.cell_runtime.specs.Calls.{IsAt, Exits}
+
+-- the exit number of an end
+abbrev pub number_of : Ending → ℕ
+number_of Ended = 0
+number_of HeapFull = 101
+number_of StackFull = 102
+
+abbrev pub IsStop : Ending → Code → ℕ → Type 0
+IsStop ending code at = (s : Processor) → IsAt code at s → Exits (number_of ending) 3 s

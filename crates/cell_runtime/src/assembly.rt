@@ -1,0 +1,154 @@
+//! Lines of the text by the names of their instructions.
+
+ghost use Rattle.std.specs.Prelude.{◌≡◌, ◌-◌, ◌*◌, ◌+◌, ◌^◌, ◌<◌};
+ghost use Rattle.cell_runtime.specs.Lines.{IsSet, IsWayBack};
+
+use rv_isa::{BranchOffset, Immediate, Instr, JumpOffset, Native, Register, Section};
+
+/// A number from 0 to 2047 as an immediate.
+pub fn small(number: u32) -> Immediate
+    requires { number < 2048 }
+    ensures { result.word ≡ number }
+{
+    Immediate::new(number)
+}
+
+/// The immediate -1.
+pub fn minus_one() -> Immediate
+    ensures { result.word ≡ 2 ^ 32 - 1 }
+{
+    Immediate::new(0xffff_ffff)
+}
+
+/// A branch forward over so many instructions, its own included.
+pub fn forward(instructions: u32) -> BranchOffset
+    requires { instructions < 1024 }
+    ensures { result.word ≡ 4 * instructions }
+{
+    BranchOffset::new(4 * instructions)
+}
+
+/// A branch back by so many instructions.
+pub fn back(instructions: u32) -> BranchOffset
+    requires above { 0 < instructions }
+    requires below { instructions < 1024 }
+    ensures { result.word + 4 * instructions ≡ 2 ^ 32 }
+{
+    BranchOffset::new(0u32.wrapping_sub(4 * instructions))
+}
+
+pub fn address(rd: Register, offset: u32) -> Native
+    ensures { result ≡ Native.Address rd Section.Data offset }
+{
+    Native::Address {
+        rd,
+        section: Section::Data,
+        offset,
+    }
+}
+
+pub fn addi(rd: Register, rs1: Register, imm: Immediate) -> Native
+    ensures { result ≡ Native.Instruction (Instr.Addi rd rs1 imm) }
+{
+    Native::Instruction(Instr::Addi { rd, rs1, imm })
+}
+
+/// `rd = number`, for a number from 0 to 2047.
+pub fn set(rd: Register, number: u32) -> Native
+    requires { number < 2048 }
+    ensures { IsSet rd number result }
+{
+    addi(rd, Register::ZERO, small(number))
+}
+
+pub fn add(rd: Register, rs1: Register, rs2: Register) -> Native
+    ensures { result ≡ Native.Instruction (Instr.Add rd rs1 rs2) }
+{
+    Native::Instruction(Instr::Add { rd, rs1, rs2 })
+}
+
+pub fn sub(rd: Register, rs1: Register, rs2: Register) -> Native
+    ensures { result ≡ Native.Instruction (Instr.Sub rd rs1 rs2) }
+{
+    Native::Instruction(Instr::Sub { rd, rs1, rs2 })
+}
+
+pub fn divu(rd: Register, rs1: Register, rs2: Register) -> Native
+    ensures { result ≡ Native.Instruction (Instr.Divu rd rs1 rs2) }
+{
+    Native::Instruction(Instr::Divu { rd, rs1, rs2 })
+}
+
+pub fn remu(rd: Register, rs1: Register, rs2: Register) -> Native
+    ensures { result ≡ Native.Instruction (Instr.Remu rd rs1 rs2) }
+{
+    Native::Instruction(Instr::Remu { rd, rs1, rs2 })
+}
+
+pub fn lbu(rd: Register, rs1: Register, imm: Immediate) -> Native
+    ensures { result ≡ Native.Instruction (Instr.Lbu rd rs1 imm) }
+{
+    Native::Instruction(Instr::Lbu { rd, rs1, imm })
+}
+
+pub fn lw(rd: Register, rs1: Register, imm: Immediate) -> Native
+    ensures { result ≡ Native.Instruction (Instr.Lw rd rs1 imm) }
+{
+    Native::Instruction(Instr::Lw { rd, rs1, imm })
+}
+
+pub fn sb(rs2: Register, imm: Immediate, rs1: Register) -> Native
+    ensures { result ≡ Native.Instruction (Instr.Sb rs1 rs2 imm) }
+{
+    Native::Instruction(Instr::Sb { rs1, rs2, imm })
+}
+
+pub fn sw(rs2: Register, imm: Immediate, rs1: Register) -> Native
+    ensures { result ≡ Native.Instruction (Instr.Sw rs1 rs2 imm) }
+{
+    Native::Instruction(Instr::Sw { rs1, rs2, imm })
+}
+
+pub fn beq(rs1: Register, rs2: Register, offset: BranchOffset) -> Native
+    ensures { result ≡ Native.Instruction (Instr.Beq rs1 rs2 offset) }
+{
+    Native::Instruction(Instr::Beq { rs1, rs2, offset })
+}
+
+pub fn bne(rs1: Register, rs2: Register, offset: BranchOffset) -> Native
+    ensures { result ≡ Native.Instruction (Instr.Bne rs1 rs2 offset) }
+{
+    Native::Instruction(Instr::Bne { rs1, rs2, offset })
+}
+
+pub fn bge(rs1: Register, rs2: Register, offset: BranchOffset) -> Native
+    ensures { result ≡ Native.Instruction (Instr.Bge rs1 rs2 offset) }
+{
+    Native::Instruction(Instr::Bge { rs1, rs2, offset })
+}
+
+/// A call of the environment.
+pub fn ecall() -> Native
+    ensures { result ≡ Native.Instruction Instr.Ecall }
+{
+    Native::Instruction(Instr::Ecall)
+}
+
+pub fn jal(rd: Register, offset: JumpOffset) -> Native
+    ensures { result ≡ Native.Instruction (Instr.Jal rd offset) }
+{
+    Native::Instruction(Instr::Jal { rd, offset })
+}
+
+pub fn jalr(rd: Register, rs1: Register, imm: Immediate) -> Native
+    ensures { result ≡ Native.Instruction (Instr.Jalr rd rs1 imm) }
+{
+    Native::Instruction(Instr::Jalr { rd, rs1, imm })
+}
+
+/// The way back, to the address in `ra`.
+pub fn ret() -> Native
+    ensures { IsWayBack result }
+{
+    jalr(Register::ZERO, Register::RA, small(0))
+}

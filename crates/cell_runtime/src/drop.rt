@@ -1,0 +1,64 @@
+//! The giving up of a reference.
+
+ghost use Rattle.std.specs.Prelude.{◌≡◌};
+ghost use Rattle.cell_runtime.specs.Drops.{IsDrop};
+ghost use Rattle.cell_runtime.specs.Lines.{Makes};
+
+use crate::assembly::{addi, back, beq, bne, forward, lw, minus_one, ret, set, small, sw};
+use rv_isa::{Immediate, Instr, Native, Register, ShiftAmount};
+
+fn andi(rd: Register, rs1: Register, imm: Immediate) -> Native
+    ensures { result ≡ Native.Instruction (Instr.Andi rd rs1 imm) }
+{
+    Native::Instruction(Instr::Andi { rd, rs1, imm })
+}
+
+fn srli(rd: Register, rs1: Register, shamt: ShiftAmount) -> Native
+    ensures { result ≡ Native.Instruction (Instr.Srli rd rs1 shamt) }
+{
+    Native::Instruction(Instr::Srli { rd, rs1, shamt })
+}
+
+/// Gives up the reference in `a0`, and all that it was the last to hold.
+///
+/// A cell whose count reaches zero waits, in a chain through its own first word, until its references are given up; it
+/// stands on the chain of free cells before that. So no stack is used. `a1` and `a2` are the address of the next field
+/// of an opened cell and the mask of the fields from there on, `a3` is the chain of waiting cells.
+pub fn give_up() -> [Native; 28]
+    ensures { Makes result 28 (λ memory. IsDrop) }
+{
+    [
+        set(Register::A3, 0),
+        set(Register::A2, 0),
+        // give: an odd reference names no cell; else its count is lowered, and the cell waits where it was the last.
+        andi(Register::T0, Register::A0, small(1)),
+        bne(Register::T0, Register::ZERO, forward(5)),
+        lw(Register::T0, Register::A0, small(0)),
+        addi(Register::T0, Register::T0, minus_one()),
+        beq(Register::T0, Register::ZERO, forward(9)),
+        sw(Register::T0, small(0), Register::A0),
+        // next: the fields of the opened cell whose bit is set are given up.
+        beq(Register::A2, Register::ZERO, forward(10)),
+        andi(Register::T0, Register::A2, small(1)),
+        lw(Register::A0, Register::A1, small(0)),
+        addi(Register::A1, Register::A1, small(4)),
+        srli(Register::A2, Register::A2, ShiftAmount::new(1)),
+        bne(Register::T0, Register::ZERO, back(11)),
+        beq(Register::ZERO, Register::ZERO, back(6)),
+        // last: the cell waits.
+        sw(Register::A3, small(0), Register::A0),
+        addi(Register::A3, Register::A0, small(0)),
+        beq(Register::ZERO, Register::ZERO, back(9)),
+        // pop: the next waiting cell is freed and opened, or all is done.
+        bne(Register::A3, Register::ZERO, forward(2)),
+        ret(),
+        lw(Register::T0, Register::A3, small(0)),
+        sw(Register::S0, small(0), Register::A3),
+        addi(Register::S0, Register::A3, small(0)),
+        lw(Register::A2, Register::A3, small(4)),
+        srli(Register::A2, Register::A2, ShiftAmount::new(8)),
+        addi(Register::A1, Register::A3, small(8)),
+        addi(Register::A3, Register::T0, small(0)),
+        beq(Register::ZERO, Register::ZERO, back(19)),
+    ]
+}

@@ -1,0 +1,67 @@
+//! All routines together.
+
+ghost use Rattle.std.specs.Prelude.{◌≡◌, ◌*◌, ◌%◌, ◌+◌, ◌<◌, ◌≤◌, [], ◌∷◌, ◌++◌, IfOk, OnOk};
+ghost use Rattle.cell_runtime.specs.Texts.{IsText};
+
+use crate::drop::give_up;
+use crate::layout::Layout;
+use crate::print_int::print_int;
+use crate::print_text::print_text;
+use crate::read_byte::read_byte;
+use crate::start::start;
+use crate::stop::{Ending, stop};
+use crate::take::take;
+use crate::tokens::{hold, unhold};
+use kk_base::NoMemory;
+use rv_isa::{DataSection, Native, Placed, Routine, Symbol};
+use std::alloc::Global;
+
+/// The runtime of an image with so many cells and room for so many frames of so many bytes. It stands first in the text,
+/// and `main` right behind it.
+pub fn text(alloc: Global, cells: u32, depth: u32, frame_bytes: u32) -> Result<Placed, NoMemory>
+    requires cells { cells ≤ 1048576 }
+    requires some_depth { 1 ≤ depth }
+    requires depth { depth ≤ 65536 }
+    requires frame { frame_bytes ≤ 8 * 480 + 256 }
+    requires aligned { frame_bytes % 4 ≡ 0 }
+    ensures { IfOk result (IsText cells depth frame_bytes) }
+{
+    let layout = Layout::new(cells, depth, frame_bytes);
+    let mut lines = Vec::new(alloc);
+    add(&mut lines, Symbol::Start, &start(layout))?;
+    add(&mut lines, Symbol::Stop, &stop(Ending::Ended))?;
+    add(&mut lines, Symbol::StackFull, &stop(Ending::StackFull))?;
+    add(&mut lines, Symbol::Routine(Routine::Take), &take())?;
+    add(&mut lines, Symbol::Routine(Routine::Drop), &give_up())?;
+    add(&mut lines, Symbol::Hold, &hold())?;
+    add(&mut lines, Symbol::Unhold, &unhold())?;
+    add(&mut lines, Symbol::Routine(Routine::PrintInt), &print_int())?;
+    add(
+        &mut lines,
+        Symbol::Routine(Routine::PrintText),
+        &print_text(),
+    )?;
+    add(&mut lines, Symbol::Routine(Routine::ReadByte), &read_byte())?;
+    Ok(Placed {
+        natives: lines,
+        functions: Vec::new(alloc),
+        constants: Vec::new(alloc),
+        memory: DataSection {
+            size: layout.stack_end,
+            stack_bottom: layout.stack,
+        },
+    })
+}
+
+/// Adds lines at the end, under a label.
+fn add(lines: &mut Vec<Native>, symbol: Symbol, more: &[Native]) -> Result<(), NoMemory>
+    ensures { OnOk result (lines.new.items ≡ (lines.old.items ++ Native.Label symbol ∷ []) ++ more.now) }
+{
+    match lines.push(Native::Label(symbol)) {
+        Ok(()) => match lines.extend_from_slice(more) {
+            Ok(()) => Ok(()),
+            Err(_) => Err(NoMemory),
+        },
+        Err(_) => Err(NoMemory),
+    }
+}

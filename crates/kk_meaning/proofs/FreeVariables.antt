@@ -1,0 +1,82 @@
+-- Free variables, without those that are bound around them.
+use Rattle.std.proofs.Common.{◌≡◌, ℕ, Bool, true, false, not, ◌||◌, ◌==◌, List, [], ◌∷◌, ◌++◌, refl, sym, ap, ◌∙◌, append_assoc, map, cond, get_or, drop, take, length, ◌<◌, ◌+◌, zero, suc, add-one, arith}
+use Rattle.std.proofs.Math.Seq.{drop-cons}
+use Rattle.std.specs.List.{list_any, filter}
+use Rattle.std.proofs.lemmas.List.{append-nil}
+use Rattle.std.proofs.lemmas.List.Elements.{filter-append}
+use Rattle.std.proofs.lemmas.List.Folds.{list_any-append}
+use Rattle.kk_syntax.specs.Trees.{Tree, StatementTree, block_of}
+use Rattle.kk_syntax.specs.Shapes.{bound_by, is_among, without, free}
+use Rattle.kk_meaning.specs.FreeOf.{free_of_statements, bound_by_statements}
+
+pub without-append : (bs xs ys : List ℕ) → without bs (xs ++ ys) ≡ without bs xs ++ without bs ys
+without-append bs xs ys = filter-append (λ x. not (is_among bs x)) xs ys
+
+pub without_none : (xs : List ℕ) → without [] xs ≡ xs
+without_none [] = refl
+without_none (x ∷ xs) = ap (λ (l : List ℕ). x ∷ l) (without_none xs)
+
+-- bound around and bound within
+pub without_both : (bs cs xs : List ℕ) → without bs (without cs xs) ≡ without (bs ++ cs) xs
+without_both bs cs [] = refl
+without_both bs cs (x ∷ xs) = by_tests (is_among cs x) (is_among bs x) (is_among (bs ++ cs) x) refl refl (list_any-append (λ y. y == x) bs cs) (without_both bs cs xs)
+  where
+    by_tests : (c b both : Bool) → is_among cs x ≡ c → is_among bs x ≡ b → both ≡ (b || c) → without bs (without cs xs) ≡ without (bs ++ cs) xs → without bs (cond (not c) (x ∷ without cs xs) (without cs xs)) ≡ cond (not both) (x ∷ without (bs ++ cs) xs) (without (bs ++ cs) xs)
+    by_tests true true both cs_is bs_is is rest = rw (is) rest
+    by_tests true false both cs_is bs_is is rest = rw (is) rest
+    by_tests false true both cs_is bs_is is rest = rw (is, bs_is) rest
+    by_tests false false both cs_is bs_is is rest = rw (is, bs_is) (ap (λ (l : List ℕ). x ∷ l) rest)
+
+-- a block's are those of its statements, and of its last expression
+pub free_of_block : (ss : List StatementTree) (last : Tree) → free (block_of ss last) ≡ free_of_statements ss ++ without (bound_by_statements ss) (free last)
+free_of_block [] last = sym (without_none (free last))
+free_of_block (s ∷ ss) last =
+    ap (λ (l : List ℕ). free s.value ++ l)
+    (ap (without (bound_by s.binder)) (free_of_block ss last)
+    ∙ (without-append (bound_by s.binder) (free_of_statements ss) (without (bound_by_statements ss) (free last))
+    ∙ ap (λ (l : List ℕ). without (bound_by s.binder) (free_of_statements ss) ++ l) (without_both (bound_by s.binder) (bound_by_statements ss) (free last))))
+    ∙ sym (append_assoc (free s.value) (without (bound_by s.binder) (free_of_statements ss)) (without (bound_by s.binder ++ bound_by_statements ss) (free last)))
+
+-- what is left of a list from an index on
+pub rest_at : {X : Type 0} (xs : List X) (i : ℕ) (x : X) → i < length xs → x ≡ get_or xs i x → drop i xs ≡ x ∷ drop (i + 1) xs
+rest_at xs i x lt is = drop-cons xs i x lt ∙ (ap (λ y. y ∷ drop (suc i) xs) (sym is) ∙ ap (λ k. x ∷ drop k xs) (sym (add-one i)))
+
+-- those of one part are found, and those of the others are left
+pub found_one : (found more bs xs ys whole : List ℕ) → more ≡ found ++ without bs xs → found ++ without bs (xs ++ ys) ≡ whole → more ++ without bs ys ≡ whole
+found_one found more bs xs ys whole is before =
+    ap (λ (l : List ℕ). l ++ without bs ys) is
+    ∙ (append_assoc found (without bs xs) (without bs ys)
+    ∙ (ap (λ (l : List ℕ). found ++ l) (sym (without-append bs xs ys)) ∙ before))
+
+-- the same, where the part binds variables itself
+pub found_within : (found more bs cs xs ys whole : List ℕ) → more ≡ found ++ without (bs ++ cs) xs → found ++ without bs (without cs xs ++ ys) ≡ whole → more ++ without bs ys ≡ whole
+found_within found more bs cs xs ys whole is before =
+    found_one found more bs (without cs xs) ys whole (is ∙ ap (λ (l : List ℕ). found ++ l) (sym (without_both bs cs xs))) before
+
+-- the same, where the part binds variables in the others
+pub found_before : (found more bs cs xs ys whole : List ℕ) → more ≡ found ++ without bs xs → found ++ without bs (xs ++ without cs ys) ≡ whole → more ++ without (bs ++ cs) ys ≡ whole
+found_before found more bs cs xs ys whole is before =
+    ap (λ (l : List ℕ). more ++ l) (sym (without_both bs cs ys)) ∙ found_one found more bs xs (without cs ys) whole is before
+
+-- statements, and what comes behind them
+pub found_block : (found middle now bs fs cs xs : List ℕ) → middle ≡ found ++ without bs fs → now ≡ middle ++ without (bs ++ cs) xs → now ≡ found ++ without bs (fs ++ without cs xs)
+found_block found middle now bs fs cs xs middle_is now_is =
+    now_is
+    ∙ (ap (λ (l : List ℕ). l ++ without (bs ++ cs) xs) middle_is
+    ∙ (append_assoc found (without bs fs) (without (bs ++ cs) xs)
+    ∙ ap (λ (l : List ℕ). found ++ l)
+    (ap (λ (l : List ℕ). without bs fs ++ l) (sym (without_both bs cs xs)) ∙ sym (without-append bs fs (without cs xs)))))
+
+-- the front of a list, by its length
+pub front_again : {X : Type 0} (xs ys zs : List X) (n : ℕ) → n ≡ length xs → zs ≡ xs ++ ys → take n zs ≡ xs
+front_again xs ys zs n len is = ap (take n) is ∙ front xs ys n len
+  where
+    front : {X : Type 0} (xs ys : List X) (n : ℕ) → n ≡ length xs → take n (xs ++ ys) ≡ xs
+    front [] ys zero len = by_list ys
+      where
+        by_list : {X : Type 0} (ys : List X) → take zero ys ≡ []
+        by_list [] = refl
+        by_list (y ∷ ys) = refl
+    front [] ys (suc n) len = absurd (omega arith)
+    front (x ∷ xs) ys zero len = absurd (omega arith)
+    front {X = X} (x ∷ xs) ys (suc n) len = ap (λ (l : List X). x ∷ l) (front xs ys n (omega arith))

@@ -1,0 +1,212 @@
+ghost use Rattle.std.specs.Prelude.{◌≡◌, ◌≤◌, ◌++◌, map, vec_len, nat_le, slice_get, IfOk, OnErr};
+ghost use Rattle.kk_syntax.specs.Programs.{function_tree};
+ghost use Rattle.kk_source.specs.Live.{held_by_all, live as live_of};
+ghost use Rattle.kk_source.specs.Sound.{IsOlder};
+ghost use Rattle.kk_source.specs.Step.{goes, at_value, in_body, form_step, construct_step, call_step, push_step};
+ghost use Rattle.kk_meaning.specs.View.{value_view};
+ghost use Rattle.kk_meaning.specs.Machines.{setting_of, configuration_of, frames_below, Fits, IsBelow, IsCallBelow};
+ghost use Rattle.kk_meaning.specs.Turns.{turn_of};
+
+use crate::arithmetic::{binary, unary};
+use crate::call::{lent, parameters};
+use crate::cell::{Cell, live};
+use crate::frame::Frame;
+use crate::held::hold_frames;
+use crate::machine::{Control, Machine, Stop};
+use crate::print::number_piece;
+use crate::turn::Turn;
+use crate::value::{Value, argument};
+use kk_base::NoMemory;
+use kk_syntax::{Form, Fun};
+
+// In what follows `older` is the number of frames without that of the form, if the form has one.
+impl<'a> Machine<'a> {
+    // A form has all its arguments.
+    pub fn finish(
+        &mut self,
+        form: Form,
+        values: Vec<Value>,
+        older: usize,
+    ) -> Result<Turn, NoMemory>
+        requires fits { Fits self.old }
+        requires store { IsOlder (configuration_of self.old).store }
+        requires below { IsBelow older self.old.frames.items }
+        ensures setting { setting_of self.new ≡ setting_of self.old }
+        ensures fits { Fits self.new }
+        ensures ok { IfOk result (λ turn.
+            (turn, configuration_of self.new)
+            ≡ turn_of (configuration_of self.old) (form_step (setting_of self.old) form (map value_view values.items)
+            (frames_below older self.old) (configuration_of self.old))) }
+        ensures err { OnErr result (configuration_of self.new ≡ configuration_of self.old) }
+    {
+        match form {
+            Form::Unary(operator) => {
+                let result = unary(operator, argument(values.as_slice(), 0));
+                Ok(self.give_back(result, older))
+            }
+            Form::Binary(operator) => {
+                let left = argument(values.as_slice(), 0).integer();
+                let right = argument(values.as_slice(), 1).integer();
+                Ok(self.give_back(binary(operator, left, right), older))
+            }
+            Form::Print(form) => {
+                let number = argument(values.as_slice(), 0).integer();
+                let piece = number_piece(self.alloc, form, number)?;
+                self.give_back(Value::Unit, older);
+                Ok(Turn::of_print(piece))
+            }
+            Form::Construct(constructor) => self.construct(constructor, values, older),
+            Form::Call(function) => self.call(function, values.as_slice(), older),
+        }
+    }
+
+    // A form has its value, and its frame is given up.
+    fn give_back(&mut self, value: Value, older: usize) -> Turn
+        requires fits { Fits self.old }
+        requires below { IsBelow older self.old.frames.items }
+        ensures setting { setting_of self.new ≡ setting_of self.old }
+        ensures fits { Fits self.new }
+        ensures turn { (result, configuration_of self.new)
+            ≡ turn_of (configuration_of self.old) (goes (at_value (value_view value)
+            (record (configuration_of self.old) { frames = frames_below older self.old }))) }
+    {
+        self.frames.truncate(older);
+        self.control = Control::Value(value);
+        Turn::Went
+    }
+
+    // A construction has all its arguments.
+    fn construct(
+        &mut self,
+        constructor: u32,
+        values: Vec<Value>,
+        older: usize,
+    ) -> Result<Turn, NoMemory>
+        requires fits { Fits self.old }
+        requires store { IsOlder (configuration_of self.old).store }
+        requires below { IsBelow older self.old.frames.items }
+        ensures setting { setting_of self.new ≡ setting_of self.old }
+        ensures fits { Fits self.new }
+        ensures ok { IfOk result (λ turn.
+            (turn, configuration_of self.new)
+            ≡ turn_of (configuration_of self.old) (construct_step (setting_of self.old) constructor
+            (map value_view values.items) (frames_below older self.old) (configuration_of self.old))) }
+        ensures err { OnErr result (configuration_of self.new ≡ configuration_of self.old) }
+    {
+        if values.is_empty() {
+            return Ok(self.give_back(Value::Constant(constructor), older));
+        }
+        if self.heap_is_full(values.as_slice(), older)? {
+            self.control = Control::Stopped(Stop::HeapFull);
+            return Ok(Turn::HeapFull);
+        }
+        let at = self.store.len();
+        self.store.push(Cell {
+            made_by: constructor,
+            fields: values,
+        })?;
+        Ok(self.give_back(Value::Place(at), older))
+    }
+
+    // Whether as many places are live as the heap has cells, at a construction with these arguments.
+    fn heap_is_full(&self, values: &[Value], older: usize) -> Result<bool, NoMemory>
+        requires store { IsOlder (configuration_of self.now).store }
+        requires below { older ≤ vec_len self.now.frames }
+        ensures { IfOk result (λ full. full
+            ≡ nat_le (setting_of self.now).cells (live_of (configuration_of self.now).store
+            (map value_view values.now ++ held_by_all (frames_below older self.now)))) }
+    {
+        if self.store.len() < self.cells as usize {
+            return Ok(false);
+        }
+        let mut held = Vec::from_slice(self.alloc, values)?;
+        hold_frames(self.alloc, &self.bindings, &self.frames[..older], &mut held)?;
+        let live = live(self.alloc, self.store.as_slice(), held.as_slice())?;
+        Ok(self.cells as usize <= live)
+    }
+
+    // A call has all its arguments. With a call frame directly beneath it is a tail call.
+    fn call(&mut self, function: u32, values: &[Value], older: usize) -> Result<Turn, NoMemory>
+        requires fits { Fits self.old }
+        requires below { IsBelow older self.old.frames.items }
+        ensures setting { setting_of self.new ≡ setting_of self.old }
+        ensures fits { Fits self.new }
+        ensures ok { IfOk result (λ turn.
+            (turn, configuration_of self.new)
+            ≡ turn_of (configuration_of self.old) (call_step (setting_of self.old) function
+            (slice_get (setting_of self.old).program.functions function) (map value_view values.now)
+            (frames_below older self.old) (configuration_of self.old))) }
+        ensures err { OnErr result (configuration_of self.new ≡ configuration_of self.old) }
+    {
+        let Some(fun) = self.program.functions.get(function as usize) else {
+            return Ok(Turn::Went);
+        };
+        match self.frames[..older].last() {
+            Some(Frame::Call { before, .. }) => {
+                let before = *before;
+                self.replace(fun, values, older, before)
+            }
+            _ => self.push(function, fun, values, older),
+        }
+    }
+
+    // A tail call: it enters the body, and its arguments take the place of the bindings of the call that it ends.
+    fn replace(
+        &mut self,
+        fun: &'a Fun,
+        values: &[Value],
+        older: usize,
+        before: usize,
+    ) -> Result<Turn, NoMemory>
+        requires fits { Fits self.old }
+        requires below { IsBelow older self.old.frames.items }
+        requires call { IsCallBelow before older self.old.frames.items }
+        ensures setting { setting_of self.new ≡ setting_of self.old }
+        ensures fits { Fits self.new }
+        ensures ok { IfOk result (λ turn.
+            (turn, configuration_of self.new)
+            ≡ turn_of (configuration_of self.old) (goes (in_body (function_tree fun.now) (map value_view values.now)
+            (record (configuration_of self.old) { frames = frames_below older self.old })))) }
+        ensures err { OnErr result (configuration_of self.new ≡ configuration_of self.old) }
+    {
+        let bound = parameters(self.alloc, values)?;
+        let environment = self.bindings.bind(before, 0, bound.as_slice())?;
+        self.frames.truncate(older);
+        self.control = Control::Expression(&fun.body, environment);
+        Ok(Turn::Went)
+    }
+
+    // A call that is no tail call: it pushes a frame and enters the body, unless the stack is full.
+    fn push(
+        &mut self,
+        function: u32,
+        fun: &'a Fun,
+        values: &[Value],
+        older: usize,
+    ) -> Result<Turn, NoMemory>
+        requires fits { Fits self.old }
+        requires below { IsBelow older self.old.frames.items }
+        ensures setting { setting_of self.new ≡ setting_of self.old }
+        ensures fits { Fits self.new }
+        ensures ok { IfOk result (λ turn.
+            (turn, configuration_of self.new)
+            ≡ turn_of (configuration_of self.old) (push_step (setting_of self.old) function (function_tree fun.now)
+            (map value_view values.now) (frames_below older self.old) (configuration_of self.old))) }
+        ensures err { OnErr result (configuration_of self.new ≡ configuration_of self.old) }
+    {
+        if self.depth as usize <= self.calls {
+            self.control = Control::Stopped(Stop::StackFull);
+            return Ok(Turn::StackFull);
+        }
+        let lent = lent(self.alloc, self.positions, function, values)?;
+        let bound = parameters(self.alloc, values)?;
+        self.frames.reserve(1)?;
+        let before = self.bindings.len();
+        let environment = self.bindings.bind(before, 0, bound.as_slice())?;
+        self.frames.truncate(older);
+        self.frames.push(Frame::Call { lent, before })?;
+        self.calls += 1;
+        self.control = Control::Expression(&fun.body, environment);
+        Ok(Turn::Went)
+    }
+}

@@ -1,0 +1,93 @@
+ghost use Rattle.std.specs.Prelude.{◌≡◌, IfOk, OnErr};
+ghost use Rattle.kk_syntax.specs.Programs.{program_tree};
+ghost use Rattle.kk_syntax.specs.PositionsOf.{positions_of};
+ghost use Rattle.kk_source.specs.State.{start};
+ghost use Rattle.kk_source.specs.Sound.{Sound};
+ghost use Rattle.kk_source.specs.Step.{step_of};
+ghost use Rattle.kk_meaning.specs.Machines.{setting_of, configuration_of, Fits};
+ghost use Rattle.kk_meaning.specs.Turns.{turn_of, TakesByte, Reads};
+ghost use Rattle.kk_meaning.specs.declared.turn.Turn.TheVariants.{WantsInput};
+
+use crate::binding::Bindings;
+use crate::frame::Frame;
+use crate::machine::{Control, Machine};
+use crate::turn::Turn;
+use crate::value::Value;
+use kk_base::NoMemory;
+use kk_syntax::{Positions, Program};
+use std::alloc::Global;
+
+/// The store machine of a program, somewhere in a run.
+#[derive(Debug, Drop)]
+pub struct Meaning<'a> {
+    machine: Machine<'a>,
+    ghost fits: { Fits machine },
+    ghost sound: { Sound (configuration_of machine) },
+}
+
+impl<'a> Meaning<'a> {
+    /// The machine at its start, with so many cells in its heap and call frames in its stack.
+    pub fn start(
+        alloc: Global,
+        program: &'a Program,
+        positions: &'a Positions,
+        cells: u32,
+        depth: u32,
+    ) -> Result<Self, NoMemory>
+        ensures setting { IfOk result (λ meaning.
+            setting_of meaning.machine
+            ≡ record {
+                program = program_tree program.now; positions = positions_of positions.now; cells = cells; depth = depth
+            }) }
+        ensures start { IfOk result (λ meaning.
+            configuration_of meaning.machine ≡ start (setting_of meaning.machine)) }
+    {
+        let mut frames = Vec::new(alloc);
+        frames.push(Frame::Call {
+            lent: Vec::new(alloc),
+            before: 0,
+        })?;
+        let body = &program.main_function().body;
+        let machine = Machine {
+            alloc,
+            program,
+            positions,
+            cells,
+            depth,
+            control: Control::Expression(body, 0),
+            frames,
+            calls: 1,
+            bindings: Bindings::new(alloc),
+            store: Vec::new(alloc),
+        };
+        Ok(Meaning { machine })
+    }
+
+    /// One step. At the end there are no more: the same turn comes again. A step that takes a byte of the input is not
+    /// done: it is asked for by `WantsInput`, again and again until `give` does it. Where memory is refused the machine
+    /// is as it was.
+    pub fn step(&mut self) -> Result<Turn, NoMemory>
+        ensures setting { setting_of self.new.machine ≡ setting_of self.old.machine }
+        ensures ok { IfOk result (λ turn.
+            (turn, configuration_of self.new.machine)
+            ≡ turn_of (configuration_of self.old.machine)
+            (step_of (setting_of self.old.machine) (configuration_of self.old.machine))) }
+        ensures err { OnErr result (configuration_of self.new.machine ≡ configuration_of self.old.machine) }
+        ensures wanted { IfOk result (λ turn.
+            turn ≡ WantsInput
+            → TakesByte (step_of (setting_of self.new.machine) (configuration_of self.new.machine))) }
+    {
+        self.machine.step()
+    }
+
+    /// The next byte of the input, or by `None` its end: the step that `WantsInput` asked for. Its value is the byte, or
+    /// -1. Takes no memory.
+    pub fn give(&mut self, byte: Option<u8>)
+        requires wanted { TakesByte (step_of (setting_of self.old.machine) (configuration_of self.old.machine)) }
+        ensures setting { setting_of self.new.machine ≡ setting_of self.old.machine }
+        ensures step { Reads (setting_of self.old.machine) byte
+            (configuration_of self.old.machine) (configuration_of self.new.machine) }
+    {
+        self.machine.control = Control::Value(Value::of_byte(byte));
+    }
+}

@@ -1,0 +1,38 @@
+ghost use Rattle.std.specs.Prelude.{◌≡◌, ◌≤◌, ◌↔◌, ℕ, List, true};
+ghost use Rattle.kk_base.specs.Trace.{IsPrefix, TakesFrom};
+ghost use Rattle.kk_base.specs.Machines.{state};
+ghost use Rattle.kk_source.specs.State.{Setting, Value};
+ghost use Rattle.kk_source.specs.Live.{is_live, Reached};
+ghost use Rattle.kk_source.specs.Sound.{Sound};
+ghost use Rattle.kk_source.specs.SourceAfter.{store_machine, first_state, source_after, HasRoom};
+
+/// In each state of a run, values name cells that are there, and fields name older cells; and a place is live exactly where
+/// it can be reached, by a way through fields, from what is held. It is a law, and does nothing.
+pub fn runs_are_sound()
+    ensures sound { (setting : Setting) (input : List ℕ) (n : ℕ)
+        → Sound (state (store_machine setting) n (first_state setting input)).machine }
+    ensures live { (setting : Setting) (input : List ℕ) (n : ℕ) (held : List Value) (at : ℕ)
+        → (is_live (state (store_machine setting) n (first_state setting input)).machine.store held at ≡ true)
+        ↔ Reached (state (store_machine setting) n (first_state setting input)).machine.store held at }
+{}
+
+/// A run with more cells and a greater depth has the same trace as far as the smaller one goes; and it is the same where
+/// the smaller one has not found its heap or its stack full. It is a law, and does nothing.
+pub fn more_room_goes_further()
+    ensures prefix { (setting : Setting) (input : List ℕ) (cells depth : ℕ)
+        → setting.cells ≤ cells → setting.depth ≤ depth → (n : ℕ)
+        → IsPrefix (source_after setting input n).trace
+        (source_after (record setting { cells = cells; depth = depth }) input n).trace }
+    ensures same { (setting : Setting) (input : List ℕ) (cells depth : ℕ)
+        → setting.cells ≤ cells → setting.depth ≤ depth → (n : ℕ)
+        → HasRoom (source_after setting input n).ending
+        → source_after (record setting { cells = cells; depth = depth }) input n ≡ source_after setting input n }
+{}
+
+/// What a run does depends on that part of the input alone that it has taken: with any other input from which its events
+/// can have been taken it is the same. It is a law, and does nothing.
+pub fn only_taken_input_counts()
+    ensures { (setting : Setting) (input other rest : List ℕ) (n : ℕ)
+        → TakesFrom (source_after setting input n).trace other rest
+        → source_after setting other n ≡ source_after setting input n }
+{}

@@ -1,0 +1,81 @@
+-- Where values stand for what is done with them: the conventions of calls and routines, and what an instruction can reach.
+use Rattle.std.specs.Prelude.{◌==◌, ℕ, zero, suc, ◌+◌, List, [], ◌∷◌, Option, Some, None, Bool, true, false, ◌&&◌, ◌||◌, nat_le, nat_lt, slice_get}
+use Rattle.rv_isa.specs.Routines.{taken_by, given_by, is_spoilt_by}
+use Rattle.rv_isa.specs.declared.asm.Action.{Action}
+use Rattle.rv_isa.specs.declared.asm.Action.TheVariants.{Compute, Label, Jump, Branch, Call, TailCall, Return, Routine, Hold, Unhold}
+use Rattle.rv_isa.specs.declared.asm.Operation.{Operation}
+use Rattle.rv_isa.specs.declared.asm.Operation.TheVariants.{Sw}
+use Rattle.rv_isa.specs.declared.placed.Place.{Place}
+use Rattle.rv_isa.specs.declared.placed.Place.TheVariants.{Register as register, Slot as slot}
+use Rattle.rv_isa.specs.declared.placed.Operand.{Operand}
+
+-- the registers that values may have: all but zero, ra, sp, s0 and s1, which are the chains of free cells and of held tokens,
+-- and s2 and s3, which bound the cells that were never used
+abbrev pub is_handed_out : ℕ → Bool
+is_handed_out x = (nat_le 3 x && nat_le x 7) || ((nat_le 10 x && nat_le x 17) || (nat_le 20 x && nat_le x 31))
+
+abbrev pub is_in : ℕ → Place → Bool
+is_in x (register r) = r.number == x
+is_in x (slot k) = false
+
+abbrev pub is_in_any : Option ℕ → Place → Bool
+is_in_any None place = false
+is_in_any (Some x) place = is_in x place
+
+abbrev pub is_register : Place → Bool
+is_register (register r) = true
+is_register (slot k) = false
+
+abbrev pub is_slot : Place → Bool
+is_slot (register r) = false
+is_slot (slot k) = true
+
+-- the n-th argument of a call is in the register a<n>, and its result is in a0; so are those of a return
+abbrev pub argument : ℕ → ℕ
+argument n = 10 + n
+
+-- whether the action takes its n-th argument at the place
+abbrev pub takes_at : Action → ℕ → Place → Bool
+takes_at (Compute operation) n place = is_register place
+takes_at (Label l) n place = false
+takes_at (Jump l) n place = false
+takes_at (Branch condition l) n place = is_register place
+takes_at (Call f) n place = is_in (argument n) place
+takes_at (TailCall f) n place = is_in (argument n) place
+takes_at Return n place = is_in (argument n) place
+takes_at (Routine routine) n place = is_in_any (slice_get (taken_by routine) n) place
+takes_at Hold n place = is_slot place
+takes_at Unhold n place = is_slot place
+
+abbrev pub computes_at : Operation → Place → Bool
+computes_at (Sw offset) place = false
+computes_at _ place = is_register place
+
+-- whether the action gives its value at the place; one that gives none, at no place
+abbrev pub gives_at : Action → Place → Bool
+gives_at (Compute operation) place = computes_at operation place
+gives_at (Call f) place = is_in (argument 0) place
+gives_at (Routine routine) place = is_in_any (given_by routine) place
+gives_at _ place = false
+
+-- each argument from the n-th on stands where the action takes it
+abbrev pub take_from : Action → ℕ → List Operand → Bool
+take_from action n [] = true
+take_from action n (arg ∷ args) = takes_at action n arg.place && take_from action (suc n) args
+
+abbrev pub gives_into : Action → Option Operand → Bool
+gives_into action None = true
+gives_into action (Some into) = gives_at action into.place
+
+-- the operands stand where the action takes and gives them
+abbrev pub conforms : Action → List Operand → Option Operand → Bool
+conforms action args into = take_from action 0 args && gives_into action into
+
+-- whether the action may change the register, besides giving its value: a call any, a routine its own, and where a token is
+-- held or taken back, the two that this takes
+abbrev pub spoils : Action → ℕ → Bool
+spoils (Call f) x = true
+spoils (Routine routine) x = is_spoilt_by routine x
+spoils Hold x = (x == 5) || (x == 10)
+spoils Unhold x = (x == 5) || (x == 10)
+spoils _ x = false

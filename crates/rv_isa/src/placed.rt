@@ -1,0 +1,137 @@
+// Assembler code whose values have places, with moves between places; and code that names its registers itself.
+
+use crate::asm::{Action, Condition};
+use crate::routine::Routine;
+use crate::{Instr, Register};
+use kk_base::Text;
+
+/// A text in its placed form: code over named registers, as the runtime is; functions whose values have places; and what
+/// both keep in memory. A call names a function by its index.
+#[derive(Debug, Drop)]
+pub struct Placed {
+    pub natives: Vec<Native>,
+    pub functions: Vec<PlacedFunction>,
+    /// Constant bytes, as in the assembler form.
+    pub constants: Vec<Text>,
+    pub memory: DataSection,
+}
+
+/// The memory that a text may write.
+#[derive(Clone, Copy, PartialEq, Eq, Debug)]
+pub struct DataSection {
+    /// Its size in bytes.
+    pub size: u32,
+    /// The distance in bytes from its begin to the lowest frame of the stack.
+    pub stack_bottom: u32,
+}
+
+/// A function: the values that its caller passes, the n-th of them in register a<n>, and its code.
+#[derive(Debug, Drop)]
+pub struct PlacedFunction {
+    pub params: Vec<u32>,
+    pub code: Vec<Item>,
+}
+
+/// Where a value stands.
+#[derive(Clone, Copy, PartialEq, Eq, Debug)]
+pub enum Place {
+    Register(Register),
+    /// A word of the function's frame, by its index.
+    Slot(u32),
+}
+
+/// A value that is read or written, and where.
+#[derive(Clone, Copy, PartialEq, Eq, Debug)]
+pub struct Operand {
+    pub value: u32,
+    pub place: Place,
+}
+
+/// A value that is alive, and where it stands. It is held where it may stand on the chain of held tokens.
+#[derive(Clone, Copy, PartialEq, Eq, Debug)]
+pub struct Listed {
+    pub value: u32,
+    pub place: Place,
+    pub held: bool,
+}
+
+/// A way from one place to another: on one side there is a register.
+#[derive(Clone, Copy, PartialEq, Eq, Debug)]
+pub enum Way {
+    /// `mv`
+    Copy { from: Register, to: Register },
+    /// `lw`: from a slot.
+    Load { from: u32, to: Register },
+    /// `sw`: to a slot.
+    Store { from: Register, to: u32 },
+}
+
+/// A statement whose values have places, or a move of a value. `alive` lists the values that are alive before it.
+#[derive(Debug, Drop)]
+pub enum Item {
+    Does {
+        alive: Vec<Listed>,
+        action: Action,
+        args: Vec<Operand>,
+        into: Option<Operand>,
+    },
+    Moves {
+        alive: Vec<Listed>,
+        value: u32,
+        way: Way,
+    },
+}
+
+/// A line of code that names its registers itself.
+#[derive(Clone, Copy, PartialEq, Eq, Debug)]
+pub enum Native {
+    /// An instruction as it stands: none that jumps or branches within the text.
+    Instruction(Instr),
+    Label(Symbol),
+    /// `j`
+    Jump(Symbol),
+    /// A branch that is taken where the condition holds of the two registers.
+    Branch {
+        condition: Condition,
+        left: Register,
+        right: Register,
+        target: Symbol,
+    },
+    /// `call`: the return address is in ra.
+    Call(Symbol),
+    /// `la`: an address that is known only when the text is placed. It is always two instructions.
+    Address {
+        rd: Register,
+        section: Section,
+        offset: u32,
+    },
+}
+
+/// A place in a text, by its name.
+#[derive(Clone, Copy, PartialEq, Eq, Debug)]
+pub enum Symbol {
+    /// Where the machine starts.
+    Start,
+    Routine(Routine),
+    /// The routine that holds a token, which the address of its slot in a0 names.
+    Hold,
+    /// The routine that takes it back.
+    Unhold,
+    /// Where `main` returns to.
+    Stop,
+    /// Where a call goes that finds as many frames as the stack has room for.
+    StackFull,
+    /// A function of the program, by its index.
+    Function(u32),
+    /// A label of the runtime's own.
+    Local(u32),
+}
+
+/// What stands in memory beside the code.
+#[derive(Clone, Copy, PartialEq, Eq, Debug)]
+pub enum Section {
+    /// The memory that the text may write.
+    Data,
+    /// The constant bytes of the program, one behind the other.
+    Constants,
+}

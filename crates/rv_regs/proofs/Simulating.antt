@@ -1,0 +1,261 @@
+-- The placed form's machine simulates the assembler form's: the moves that stand before a statement, and then the statement.
+use Rattle.std.proofs.Common.{◌≡◌, ◌≢◌, ◌+◌, ◌-◌, ◌*◌, ◌≤◌, ◌<◌, ℕ, zero, suc, List, [], ◌∷◌, ◌++◌, Option, Some, None, Bool, true, false, cond, All, slice_get, length, drop, inl, refl, sym, ◌∙◌, ap, subst, arith, map, option_map}
+use Rattle.std.proofs.Math.Seq.{drop-length}
+use Rattle.std.proofs.lemmas.List.{append-nil}
+use Rattle.std.proofs.lemmas.List.Elements.{All-head}
+use Rattle.std.proofs.lemmas.Bool.{cond-true}
+use Rattle.kk_base.specs.Machines.{Machine, trace, state, weight_of}
+use Rattle.kk_base.specs.Simulations.{Reaches, Simulates}
+use Rattle.kk_base.specs.Agreements.{Agree}
+use Rattle.kk_base.proofs.Simulations.{simulates_agree}
+use Rattle.rv_isa.specs.declared.asm.Action.{Action}
+use Rattle.rv_isa.specs.declared.placed.Place.{Place}
+use Rattle.rv_isa.specs.declared.placed.Operand.{Operand}
+use Rattle.rv_isa.specs.declared.placed.Listed.{Listed}
+use Rattle.rv_isa.specs.declared.placed.Way.{Way}
+use Rattle.rv_isa.specs.AsmCode.{Line, Lines}
+use Rattle.rv_isa.specs.PlacedCode.{PlacedLine, does, moves, PlacedLines, from_of, to_of}
+use Rattle.rv_isa.specs.Primitives.{Primitives, Turn, go, ended, stuck, or_stuck, end_of}
+use Rattle.rv_isa.specs.Conventions.{conforms}
+use Rattle.rv_isa.specs.Costs.{instructions_of, move_instructions}
+use Rattle.rv_isa.specs.Frames.{Frame, empty, all_of, top}
+use Rattle.rv_isa.specs.AsmMachine.{AsmState, AsmTurn, asm_acts, asm_line, asm_next, asm_running, asm_machine, asm_told, asm_weight, asm_line_weight, asm_start, bound}
+use Rattle.rv_isa.specs.PlacedMachine.{PlacedState, PlacedTurn, read_at, registers_with, slots_with, placed_acts, placed_line, placed_running, placed_next, placed_machine, placed_told, placed_weight, placed_line_weight, placed_start}
+use Rattle.rv_regs.specs.Listings.{first_alive, alive_behind, alive_at_label, both_of, marks, spoils_by}
+use Rattle.rv_regs.specs.Conditions.{value_of, without_moves, IsAtPlace, IsKept, Fits, AllFit, ArePlacings}
+use Rattle.rv_regs.specs.Relation.{Holds, HeldAs, SameCode, Stands, AllWait, FramesStand, StandsFor, NeverStuck, leading, FewMoves, AllFewMoves, FramesFewMoves, HasFewMoves, Related, Any}
+use Rattle.rv_regs.proofs.Changing.{holds_next, change_place}
+use Rattle.rv_regs.proofs.Chains.{IsNext, held_next}
+use Rattle.rv_regs.proofs.Tokens.{apart_first, top_same}
+use Rattle.rv_regs.proofs.Rows.{leading_within, few_next, function_few}
+use Rattle.rv_regs.proofs.Steps.{words_at, word_at, same_go, callee_both, enters}
+use Rattle.rv_regs.proofs.Following.{follows}
+
+-- a move leads to a frame that stands for the same one
+moved : (alive : List Listed) (value : ℕ) (way : Way) (rest : List PlacedLine) (registers : ℕ → Option ℕ) (f : Frame Line) (g : Frame PlacedLine) → g.code ≡ moves alive value way ∷ rest → Stands (first_alive g.code) registers f g
+    → Stands (first_alive rest) (registers_with (to_of way) (read_at registers g.cells (from_of way)) registers) f
+    (record g { code = rest; cells = slots_with (to_of way) (read_at registers g.cells (from_of way)) g.cells })
+moved alive value way rest registers f g at stands =
+    let stands' : Stands alive registers f g = subst (λ (c : List PlacedLine). Stands (first_alive c) registers f g) at stands in
+    let fit : AllFit g.whole (moves alive value way ∷ rest) = subst (λ (c : List PlacedLine). AllFit g.whole c) at stands.same.code_fits in
+    let read : Operand = record { value = value; place = from_of way } in
+    let write : Operand = record { value = value; place = to_of way } in
+    let word : f.cells value ≡ read_at registers g.cells (from_of way) = word_at alive f.cells registers g.cells read stands'.holds (All-head (IsAtPlace alive) read [] fit.0.stand) in
+    record {
+      same = record {
+        code = ap without_moves (sym at) ∙ stands.same.code;
+        whole = stands.same.whole;
+        code_fits = fit.1;
+        whole_fits = stands.same.whole_fits;
+      };
+      apart = apart_first g.whole rest fit.1;
+      holds = holds_next alive None (read ∷ []) (Some write) (λ x. false) f.cells registers g.cells f.cells
+          (registers_with (to_of way) (read_at registers g.cells (from_of way)) registers) (slots_with (to_of way) (read_at registers g.cells (from_of way)) g.cells)
+          (first_alive rest) fit.0.kept.0 stands'.holds (change_place value (from_of way) (to_of way) f.cells registers g.cells word);
+      held = held_next alive (first_alive rest) (first_alive rest ∷ []) None (read ∷ []) (inl_refl (first_alive rest)) fit.0.held f.held g.held (λ v k among. refl) stands'.held;
+    }
+  where
+    inl_refl : (next : List Listed) → IsNext next (next ∷ [])
+    inl_refl next = inl refl
+
+module _ {H E W : Type 0} (m : Primitives H E W) (depth : ℕ) (asm : List Lines) (placed : List PlacedLines) (all : ArePlacings asm placed) where
+  -- a statement of the code that is left makes turns that stand for each other
+  statement : (alive : List Listed) (action : Action) (args : List Operand) (into : Option Operand) (rest : List PlacedLine) (registers : ℕ → Option ℕ) (shared : H) (f : Frame Line) (fs : List (Frame Line)) (g : Frame PlacedLine) (gs : List (Frame PlacedLine))
+      → g.code ≡ does alive action args into ∷ rest → Stands (first_alive g.code) registers f g → AllWait fs gs
+      → StandsFor (asm_line m depth asm f fs shared f.code) (placed_line m depth placed g gs registers shared g.code)
+  statement alive action args into rest registers shared f fs g gs at stands waits =
+      let stands' : Stands alive registers f g = subst (λ (c : List PlacedLine). Stands (first_alive c) registers f g) at stands in
+      let fit : AllFit g.whole (does alive action args into ∷ rest) = subst (λ (c : List PlacedLine). AllFit g.whole c) at stands.same.code_fits in
+      let here : f.code ≡ record { action = action; args = map value_of args; into = option_map value_of into } ∷ without_moves rest = sym stands.same.code ∙ ap without_moves at in
+      let f' : Frame Line = record f { code = without_moves rest } in
+      let g' : Frame PlacedLine = record g { code = rest } in
+      let on : Stands alive registers f' g' = record {
+        same = record { code = refl; whole = stands.same.whole; code_fits = fit.1; whole_fits = stands.same.whole_fits };
+        apart = stands'.apart;
+        holds = stands'.holds;
+        held = stands'.held;
+      } in
+      let same : map f.cells (map value_of args) ≡ map (λ (arg : Operand). read_at registers g.cells arg.place) args = words_at alive f.cells registers g.cells args stands'.holds fit.0.1.stand in
+      let next : List ℕ → AsmTurn H W = λ words. asm_acts m depth asm f' fs shared action (map value_of args) (option_map value_of into) words in
+      let next' : List ℕ → PlacedTurn H W = λ words. placed_acts m depth placed g' gs registers shared action args into words in
+      subst (λ (c : List Line). StandsFor (asm_line m depth asm f fs shared c) (placed_line m depth placed g gs registers shared g.code)) (sym here)
+      (subst (λ (c : List PlacedLine). StandsFor (or_stuck (all_of (map f.cells (map value_of args))) next) (placed_line m depth placed g gs registers shared c)) (sym at)
+      (subst (λ (t : PlacedTurn H W). StandsFor (or_stuck (all_of (map f.cells (map value_of args))) next) t)
+      (sym (cond-true (conforms action args into) (or_stuck (all_of (map (λ (arg : Operand). read_at registers g.cells arg.place) args)) next') stuck fit.0.0))
+      (subst (λ (ws : List (Option ℕ)). StandsFor (or_stuck (all_of (map f.cells (map value_of args))) next) (or_stuck (all_of ws) next')) same
+      (same_go (all_of (map f.cells (map value_of args))) next next'
+      (λ words e. follows m depth asm placed all alive args registers shared f' fs g' gs words on waits action into fit.0.0 fit.0.1)))))
+
+  -- a statement weighs as much in both machines
+  weighs_same : (alive : List Listed) (action : Action) (args : List Operand) (into : Option Operand) (rest : List PlacedLine) (registers : ℕ → Option ℕ) (shared : H) (f : Frame Line) (fs : List (Frame Line)) (g : Frame PlacedLine) (gs : List (Frame PlacedLine))
+      → g.code ≡ does alive action args into ∷ rest → Stands (first_alive g.code) registers f g → AllWait fs gs
+      → placed_line_weight m (g ∷ gs) registers shared g g.code ≤ 0 * move_instructions + asm_line_weight m 0 (f ∷ fs) shared f f.code
+  weighs_same alive action args into rest registers shared f fs g gs at stands waits =
+      let stands' : Stands alive registers f g = subst (λ (c : List PlacedLine). Stands (first_alive c) registers f g) at stands in
+      let fit : AllFit g.whole (does alive action args into ∷ rest) = subst (λ (c : List PlacedLine). AllFit g.whole c) at stands.same.code_fits in
+      let here : f.code ≡ record { action = action; args = map value_of args; into = option_map value_of into } ∷ without_moves rest = sym stands.same.code ∙ ap without_moves at in
+      let same : map f.cells (map value_of args) ≡ map (λ (arg : Operand). read_at registers g.cells arg.place) args = words_at alive f.cells registers g.cells args stands'.holds fit.0.1.stand in
+      let a : placed_line_weight m (g ∷ gs) registers shared g g.code ≡ instructions_of m action (all_of (map (λ (arg : Operand). read_at registers g.cells arg.place) args)) (top (g ∷ gs)) shared = ap (placed_line_weight m (g ∷ gs) registers shared g) at in
+      let b : asm_line_weight m 0 (f ∷ fs) shared f f.code ≡ 0 * move_instructions + instructions_of m action (all_of (map f.cells (map value_of args))) (top (f ∷ fs)) shared = ap (asm_line_weight m 0 (f ∷ fs) shared f) here in
+      let c : instructions_of m action (all_of (map f.cells (map value_of args))) (top (f ∷ fs)) shared ≡ instructions_of m action (all_of (map (λ (arg : Operand). read_at registers g.cells arg.place) args)) (top (g ∷ gs)) shared
+      = ap (λ ws. instructions_of m action (all_of ws) (top (f ∷ fs)) shared) same ∙ ap (λ held. instructions_of m action (all_of (map (λ (arg : Operand). read_at registers g.cells arg.place) args)) held shared) (top_same alive registers f fs g gs stands' waits) in
+      omega (arith, a, b, c)
+
+  -- where the upper machine can go on, what was told is the same
+  told_same : (s : AsmTurn H W) (t : PlacedTurn H W) → s ≢ stuck → StandsFor s t → asm_told m s ≡ placed_told m t
+  told_same (go s) (go t) goes stands = ap m.told stands.1
+  told_same (go s) (ended how shared) goes stands = absurd stands
+  told_same (go s) stuck goes stands = absurd stands
+  told_same (ended how shared) (go t) goes stands = absurd stands
+  told_same (ended how shared) (ended how' shared') goes stands = ap m.told stands.1
+  told_same (ended how shared) stuck goes stands = absurd stands
+  told_same stuck t goes stands = absurd (goes refl)
+
+  -- The placed machine comes by so many steps, of so much weight at most, to a state that stands for another, with these events.
+  record Arrives (most weight : ℕ) (events : List E) (s : AsmTurn H W) (t : PlacedTurn H W) : Type 0 where
+    steps : ℕ
+    some : 1 ≤ steps
+    within : weight_of (placed_machine m depth placed) steps t ≤ weight
+    events_are : trace (placed_machine m depth placed) steps t ≡ events
+    stands : StandsFor s (state (placed_machine m depth placed) steps t)
+    few : HasFewMoves most (state (placed_machine m depth placed) steps t)
+
+  -- one step
+  arrives_now : (most weight : ℕ) (s : AsmTurn H W) (t : PlacedState H) → placed_weight m (go t) ≤ weight → s ≢ stuck → StandsFor s (placed_next m depth placed (go t)) → HasFewMoves most (placed_next m depth placed (go t))
+      → Arrives most weight (drop (length (m.told t.shared)) (asm_told m s)) s (go t)
+  arrives_now most weight s t within goes stands few =
+      let told : asm_told m s ≡ placed_told m (placed_next m depth placed (go t)) = told_same s (placed_next m depth placed (go t)) goes stands in
+      record {
+        steps = 1;
+        some = omega arith;
+        within = omega (arith, within);
+        events_are = append_nil_of (drop (length (m.told t.shared)) (placed_told m (placed_next m depth placed (go t)))) ∙ ap (drop (length (m.told t.shared))) (sym told);
+        stands = stands;
+        few = few;
+      }
+    where
+      append_nil_of : (xs : List E) → xs ++ [] ≡ xs
+      append_nil_of xs = append-nil xs
+
+  -- a step without events before
+  arrives_later : (most weight more : ℕ) (events : List E) (s : AsmTurn H W) (t : PlacedTurn H W) (moved_weight : (placed_machine m depth placed).weight t ≤ more) → ((placed_machine m depth placed).step t).0 ≡ []
+      → Arrives most weight events s ((placed_machine m depth placed).step t).1 → Arrives most (more + weight) events s t
+  arrives_later most weight more events s t light silent later =
+      record {
+        steps = suc later.steps;
+        some = omega arith;
+        within = omega (arith, light, later.within);
+        events_are = ap (λ (first : List E). first ++ trace (placed_machine m depth placed) later.steps ((placed_machine m depth placed).step t).1) silent ∙ later.events_are;
+        stands = later.stands;
+        few = later.few;
+      }
+
+  asm_goes_on : Frame Line → List (Frame Line) → H → AsmTurn H W
+  asm_goes_on f fs shared = asm_line m depth asm f fs shared f.code
+
+  -- the moves before a statement, and the statement
+  arrives : (most : ℕ) (code : List PlacedLine) (registers : ℕ → Option ℕ) (shared : H) (f : Frame Line) (fs : List (Frame Line)) (g : Frame PlacedLine) (gs : List (Frame PlacedLine))
+      → AllFewMoves most placed → g.code ≡ code → Stands (first_alive g.code) registers f g → AllWait fs gs → FramesFewMoves most (g ∷ gs) → asm_line m depth asm f fs shared f.code ≢ stuck
+      → Arrives most (leading code * move_instructions + asm_line_weight m 0 (f ∷ fs) shared f f.code) (drop (length (m.told shared)) (asm_told m (asm_line m depth asm f fs shared f.code)))
+      (asm_line m depth asm f fs shared f.code) (go (record { frames = g ∷ gs; registers = registers; shared = shared }))
+  arrives most [] registers shared f fs g gs all_few at stands waits few goes =
+      absurd (goes (ap (asm_line m depth asm f fs shared) (sym stands.same.code ∙ ap without_moves at)))
+  arrives most (does alive action args into ∷ rest) registers shared f fs g gs all_few at stands waits few goes =
+      arrives_now most (leading (does alive action args into ∷ rest) * move_instructions + asm_line_weight m 0 (f ∷ fs) shared f f.code) (asm_line m depth asm f fs shared f.code)
+      (record { frames = g ∷ gs; registers = registers; shared = shared }) (weighs_same alive action args into rest registers shared f fs g gs at stands waits) goes
+      (statement alive action args into rest registers shared f fs g gs at stands waits) (few_next m most depth placed all_few g gs registers shared few)
+  arrives most (moves alive value way ∷ rest) registers shared f fs g gs all_few at stands waits few goes =
+      let registers' : ℕ → Option ℕ = registers_with (to_of way) (read_at registers g.cells (from_of way)) registers in
+      let g' : Frame PlacedLine = record g { code = rest; cells = slots_with (to_of way) (read_at registers g.cells (from_of way)) g.cells } in
+      let t : PlacedState H = record { frames = g ∷ gs; registers = registers; shared = shared } in
+      let t' : PlacedState H = record { frames = g' ∷ gs; registers = registers'; shared = shared } in
+      let on : placed_next m depth placed (go t) ≡ go t' = ap (placed_line m depth placed g gs registers shared) at in
+      let few' : FramesFewMoves most (g' ∷ gs) = subst (λ (u : PlacedTurn H W). HasFewMoves most u) on (few_next m most depth placed all_few g gs registers shared few) in
+      let later = arrives most rest registers' shared f fs g' gs all_few refl (moved alive value way rest registers f g at stands) waits few' goes in
+      let light : placed_weight m (go t) ≤ move_instructions = omega (arith, ap (placed_line_weight m (g ∷ gs) registers shared g) at) in
+      let silent : drop (length (m.told shared)) (placed_told m (placed_next m depth placed (go t))) ≡ [] = ap (λ (u : PlacedTurn H W). drop (length (m.told shared)) (placed_told m u)) on ∙ drop-length (m.told shared) in
+      let events : List E = drop (length (m.told shared)) (asm_told m (asm_line m depth asm f fs shared f.code)) in
+      let weight : ℕ = leading rest * move_instructions + asm_line_weight m 0 (f ∷ fs) shared f f.code in
+      let there : Arrives most weight events (asm_line m depth asm f fs shared f.code) (placed_next m depth placed (go t)) = subst (λ (u : PlacedTurn H W). Arrives most weight events (asm_line m depth asm f fs shared f.code) u) (sym on) later in
+      subst (λ w. Arrives most w events (asm_line m depth asm f fs shared f.code) (go t)) (omega arith)
+      (arrives_later most weight move_instructions events (asm_line m depth asm f fs shared f.code) (go t) light silent there)
+
+  weighs_rows : (most lead : ℕ) (frames : List (Frame Line)) (shared : H) (f : Frame Line) (code : List Line) → code ≢ [] → lead ≤ most
+      → lead * move_instructions + asm_line_weight m 0 frames shared f code ≤ asm_line_weight m most frames shared f code
+  weighs_rows most lead frames shared f [] some within = absurd (some refl)
+  weighs_rows most lead frames shared f (line ∷ rest) some within = omega (arith, within)
+
+  -- a step of the upper machine, by steps of the lower
+  steps_on : (most credit idle : ℕ) (frames : List (Frame Line)) (frames' : List (Frame PlacedLine)) (registers : ℕ → Option ℕ) (shared : H) → AllFewMoves most placed
+      → NeverStuck m depth asm (go (record { frames = frames; shared = shared })) → FramesStand registers frames frames' → FramesFewMoves most frames'
+      → Reaches (placed_machine m depth placed) (Related m most depth asm) Any 1 ((asm_machine m most depth asm).weight (go (record { frames = frames; shared = shared })) + credit) 1 idle
+      ((asm_machine m most depth asm).step (go (record { frames = frames; shared = shared }))).0 ((asm_machine m most depth asm).step (go (record { frames = frames; shared = shared }))).1
+      (go (record { frames = frames'; registers = registers; shared = shared }))
+  steps_on most credit idle [] frames' registers shared all_few never stands few = absurd stands
+  steps_on most credit idle (f ∷ fs) [] registers shared all_few never stands few = absurd stands
+  steps_on most credit idle (f ∷ fs) (g ∷ gs) registers shared all_few never stands few =
+      let goes : asm_line m depth asm f fs shared f.code ≢ stuck = never 1 in
+      let some_code : f.code ≢ [] = λ none. goes (ap (asm_line m depth asm f fs shared) none) in
+      let there = arrives most g.code registers shared f fs g gs all_few refl stands.0 stands.1 few goes in
+      let rows = weighs_rows most (leading g.code) (f ∷ fs) shared f f.code some_code (leading_within most g.code few.0.0) in
+      record {
+        steps = there.steps;
+        credit_after = credit;
+        idle_after = idle;
+        paid = omega (arith, there.within, rows);
+        moves = omega (arith, there.some);
+        events_are = there.events_are;
+        passes = λ k lt. tt;
+        related = ((λ n. never (suc n)), (there.stands, there.few));
+      }
+
+  steps_by : (most credit idle : ℕ) (s : AsmTurn H W) (t : PlacedTurn H W) → AllFewMoves most placed → Related m most depth asm credit idle s t
+      → Reaches (placed_machine m depth placed) (Related m most depth asm) Any 1 ((asm_machine m most depth asm).weight s + credit) 1 idle ((asm_machine m most depth asm).step s).0 ((asm_machine m most depth asm).step s).1 t
+  steps_by most credit idle (go s) (go t) all_few related =
+      subst (λ (shared : H). Reaches (placed_machine m depth placed) (Related m most depth asm) Any 1 ((asm_machine m most depth asm).weight (go s) + credit) 1 idle ((asm_machine m most depth asm).step (go s)).0 ((asm_machine m most depth asm).step (go s)).1
+      (go (record { frames = t.frames; registers = t.registers; shared = shared }))) related.1.0.1
+      (steps_on most credit idle s.frames t.frames t.registers s.shared all_few related.0 related.1.0.0 related.1.1)
+  steps_by most credit idle (go s) (ended how shared) all_few related = absurd related.1.0
+  steps_by most credit idle (go s) stuck all_few related = absurd related.1.0
+  steps_by most credit idle (ended how shared) (go t) all_few related = absurd related.1.0
+  steps_by most credit idle (ended how shared) (ended how' shared') all_few related =
+      record {
+        steps = 1;
+        credit_after = credit;
+        idle_after = idle;
+        paid = omega arith;
+        moves = omega arith;
+        events_are = refl;
+        passes = λ k lt. tt;
+        related = ((λ n. related.0 (suc n)), (related.1.0, tt));
+      }
+  steps_by most credit idle (ended how shared) stuck all_few related = absurd related.1.0
+  steps_by most credit idle stuck t all_few related = absurd (related.0 0 refl)
+
+  ends_alike : (most credit idle : ℕ) (s : AsmTurn H W) (t : PlacedTurn H W) → Related m most depth asm credit idle s t → end_of t ≡ end_of s
+  ends_alike most credit idle (go s) (go t) related = refl
+  ends_alike most credit idle (go s) (ended how shared) related = absurd related.1.0
+  ends_alike most credit idle (go s) stuck related = absurd related.1.0
+  ends_alike most credit idle (ended how shared) (go t) related = absurd related.1.0
+  ends_alike most credit idle (ended how shared) (ended how' shared') related = ap (λ (w : W). Some w) (sym related.1.0.0)
+  ends_alike most credit idle (ended how shared) stuck related = absurd related.1.0
+  ends_alike most credit idle stuck t related = absurd (related.0 0 refl)
+
+  -- code with places simulates the code that it was made of
+  pub simulates : (most : ℕ) → AllFewMoves most placed → Simulates (asm_machine m most depth asm) (placed_machine m depth placed) (Related m most depth asm) Any 1
+  simulates most all_few = record { by = λ credit idle s t related. steps_by most credit idle s t all_few related; alike = ends_alike most }
+
+  -- the start of a function without parameters
+  pub starts : (most n : ℕ) (main : Lines) (shared : H) → AllFewMoves most placed → slice_get asm n ≡ Some main → main.params ≡ [] → NeverStuck m depth asm (asm_start main shared)
+      → (placed_main : PlacedLines) × (slice_get placed n ≡ Some placed_main) × Related m most depth asm 0 0 (asm_start main shared) (placed_start placed_main shared)
+  starts most n main shared all_few e none never =
+      let there = callee_both asm placed all n main e in
+      let bound_is : bound main.params [] ≡ Some empty = ap (λ (params : List ℕ). bound params []) none in
+      let few : FewMoves most there.0.code = function_few most placed n there.0 all_few there.1 in
+      (there.0, there.1, (never, (((enters main there.0 [] empty there.2 bound_is, tt), refl), ((few, few), tt))))
+
+  pub agrees : (most n : ℕ) (main : Lines) (shared : H) → AllFewMoves most placed → slice_get asm n ≡ Some main → main.params ≡ [] → NeverStuck m depth asm (asm_start main shared)
+      → (placed_main : PlacedLines) × (slice_get placed n ≡ Some placed_main) × Agree (asm_machine m most depth asm) (placed_machine m depth placed) 0 (λ steps. steps * 1 + 0 + 1) (asm_start main shared) (placed_start placed_main shared)
+  agrees most n main shared all_few e none never =
+      let there = starts most n main shared all_few e none never in
+      (there.0, there.1, simulates_agree (asm_machine m most depth asm) (placed_machine m depth placed) (Related m most depth asm) Any 1 (simulates most all_few) 0 0 (asm_start main shared) (placed_start there.0 shared) there.2)

@@ -1,0 +1,7 @@
+pub mod Listings
+pub mod Conditions
+pub mod Valid
+pub mod Views
+pub mod Relation
+pub mod Alive
+pub mod WellFormed

@@ -1,0 +1,112 @@
+-- When a state of the placed form's machine stands for one of the assembler form's.
+use Rattle.std.specs.Prelude.{◌≡◌, ◌≢◌, ◌⊎◌, ◌≤◌, ℕ, suc, ◌+◌, List, [], ◌∷◌, Option, Some, None, Bool, true, false, ⊤}
+use Rattle.std.specs.List.{AllByRecursion}
+use Rattle.kk_base.specs.Machines.{state}
+use Rattle.rv_isa.specs.declared.placed.Place.{Place}
+use Rattle.rv_isa.specs.declared.placed.Place.TheVariants.{Slot as slot}
+use Rattle.rv_isa.specs.declared.placed.Listed.{Listed}
+use Rattle.rv_isa.specs.AsmCode.{Line, Lines}
+use Rattle.rv_isa.specs.PlacedCode.{PlacedLine, does, moves, PlacedLines}
+use Rattle.rv_isa.specs.Primitives.{Primitives, Turn, go, ended, stuck}
+use Rattle.rv_isa.specs.Frames.{Frame, is_among}
+use Rattle.rv_isa.specs.AsmMachine.{AsmState, AsmTurn, asm_machine}
+use Rattle.rv_isa.specs.PlacedMachine.{PlacedState, PlacedTurn, read_at, number_of}
+use Rattle.rv_regs.specs.Listings.{first_alive, listed_as}
+use Rattle.rv_regs.specs.Conditions.{Apart, without_moves, AllFit}
+
+-- each listed value stands at its place
+abbrev pub Holds : List Listed → (ℕ → Option ℕ) → (ℕ → Option ℕ) → (ℕ → Option ℕ) → Type 0
+Holds alive values registers slots = (v : ℕ) (l : Listed) → listed_as v alive ≡ Some l → values v ≡ read_at registers slots l.place
+
+-- each value on the chain is listed as held, in the slot that is on the chain in its place; none is there twice
+abbrev pub HeldAs : List Listed → List ℕ → List ℕ → Type 0
+HeldAs alive [] [] = ⊤
+HeldAs alive [] (k ∷ ks) = ⊥
+HeldAs alive (v ∷ vs) [] = ⊥
+HeldAs alive (v ∷ vs) (k ∷ ks) = (listed_as v alive ≡ Some (record { value = v; place = slot k; held = true })) × ((is_among v vs ≡ false) × HeldAs alive vs ks)
+
+-- the code that is left, and its function's, are the same but for the moves, and fit
+pub record SameCode (f : Frame Line) (g : Frame PlacedLine) : Type 0 where
+  pub code : without_moves g.code ≡ f.code
+  pub whole : without_moves g.whole ≡ f.whole
+  pub code_fits : AllFit g.whole g.code
+  pub whole_fits : AllFit g.whole g.whole
+
+-- a running frame stands for one, by what is listed as alive
+pub record Stands (alive : List Listed) (registers : ℕ → Option ℕ) (f : Frame Line) (g : Frame PlacedLine) : Type 0 where
+  pub same : SameCode f g
+  pub apart : Apart alive
+  pub holds : Holds alive f.cells registers g.cells
+  pub held : HeldAs alive f.held g.held
+
+-- a value that is listed in a frame that waits stands in a slot
+abbrev pub IsSlotOf : (ℕ → Option ℕ) → (ℕ → Option ℕ) → ℕ → Place → Type 0
+IsSlotOf values slots v place = (k : ℕ) × (place ≡ slot k) × (values v ≡ slots k)
+
+-- What is listed in a frame that waits is the value that it waits for, where that is awaited, or stands in a slot.
+abbrev pub WaitsFor : List Listed → Option ℕ → Option ℕ → (ℕ → Option ℕ) → (ℕ → Option ℕ) → Type 0
+WaitsFor alive None None values slots = (v : ℕ) (l : Listed) → listed_as v alive ≡ Some l → IsSlotOf values slots v l.place
+WaitsFor alive None (Some x) values slots = ⊥
+WaitsFor alive (Some u) None values slots = ⊥
+WaitsFor alive (Some u) (Some x) values slots =
+    (v : ℕ) (l : Listed) → listed_as v alive ≡ Some l → ((v ≡ u) × (number_of l.place ≡ Some x)) ⊎ ((v ≢ u) × IsSlotOf values slots v l.place)
+
+pub record Waits (f : Frame Line) (g : Frame PlacedLine) : Type 0 where
+  pub same : SameCode f g
+  pub awaits : WaitsFor (first_alive g.code) f.into g.into f.cells g.cells
+  pub held : HeldAs (first_alive g.code) f.held g.held
+
+abbrev pub AllWait : List (Frame Line) → List (Frame PlacedLine) → Type 0
+AllWait [] [] = ⊤
+AllWait [] (g ∷ gs) = ⊥
+AllWait (f ∷ fs) [] = ⊥
+AllWait (f ∷ fs) (g ∷ gs) = Waits f g × AllWait fs gs
+
+abbrev pub FramesStand : (ℕ → Option ℕ) → List (Frame Line) → List (Frame PlacedLine) → Type 0
+FramesStand registers [] gs = ⊥
+FramesStand registers (f ∷ fs) [] = ⊥
+FramesStand registers (f ∷ fs) (g ∷ gs) = Stands (first_alive g.code) registers f g × AllWait fs gs
+
+-- One stands for the other. For a state that can do nothing more, any does.
+abbrev pub StandsFor : {H W : Type 0} → AsmTurn H W → PlacedTurn H W → Type 0
+StandsFor (go s) (go t) = FramesStand t.registers s.frames t.frames × (s.shared ≡ t.shared)
+StandsFor (go s) (ended how shared) = ⊥
+StandsFor (go s) stuck = ⊥
+StandsFor (ended how shared) (go t) = ⊥
+StandsFor (ended how shared) (ended how' shared') = (how ≡ how') × (shared ≡ shared')
+StandsFor (ended how shared) stuck = ⊥
+StandsFor stuck t = ⊤
+
+-- no run comes to a state that can do nothing more
+abbrev pub NeverStuck : {H E W : Type 0} → Primitives H E W → ℕ → List Lines → AsmTurn H W → Type 0
+NeverStuck m depth q s = (n : ℕ) → state (asm_machine m 0 depth q) n s ≢ stuck
+
+-- the moves with which code begins
+abbrev pub leading : List PlacedLine → ℕ
+leading [] = 0
+leading (does alive action args into ∷ code) = 0
+leading (moves alive value way ∷ code) = suc (leading code)
+
+-- so many moves at most stand in a row
+abbrev pub FewMoves : ℕ → List PlacedLine → Type 0
+FewMoves most [] = ⊤
+FewMoves most (line ∷ code) = (leading (line ∷ code) ≤ most) × FewMoves most code
+
+abbrev pub AllFewMoves : ℕ → List PlacedLines → Type 0
+AllFewMoves most functions = AllByRecursion (λ (function : PlacedLines). FewMoves most function.code) functions
+
+abbrev pub FramesFewMoves : ℕ → List (Frame PlacedLine) → Type 0
+FramesFewMoves most frames = AllByRecursion (λ (frame : Frame PlacedLine). FewMoves most frame.code × FewMoves most frame.whole) frames
+
+abbrev pub HasFewMoves : {H W : Type 0} → ℕ → PlacedTurn H W → Type 0
+HasFewMoves most (go t) = FramesFewMoves most t.frames
+HasFewMoves most (ended how shared) = ⊤
+HasFewMoves most stuck = ⊤
+
+-- what the simulation keeps; it saves no weight, and each step is paid for at once
+abbrev pub Related : {H E W : Type 0} → Primitives H E W → ℕ → ℕ → List Lines → ℕ → ℕ → AsmTurn H W → PlacedTurn H W → Type 0
+Related m most depth asm credit idle s t = NeverStuck m depth asm s × (StandsFor s t × HasFewMoves most t)
+
+-- the placed form's machine may pass any state
+abbrev pub Any : {H W : Type 0} → PlacedTurn H W → Type 0
+Any t = ⊤

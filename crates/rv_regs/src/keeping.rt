@@ -1,0 +1,122 @@
+// What a line keeps of the values that are listed where it goes on.
+
+ghost use Rattle.std.specs.Prelude.{◌≡◌, ◌↔◌, [], IsTrue, All};
+ghost use Rattle.std.specs.List.{AllByRecursion};
+ghost use Rattle.rv_regs.specs.Listings.{one_if, both_of, spoils_by, marks};
+ghost use Rattle.rv_regs.specs.Conditions.{IsNew, StaysListed, IsClearOf, IsSafe, IsKept};
+ghost use Rattle.rv_regs.specs.Views.{point_of};
+
+use crate::actions::{same_listing, same_place};
+use crate::places::{is_read, listing};
+use rv_isa::{Action, Listed, Operand, Place};
+
+/// Whether the action may change the register of this number, besides giving its value. A move is no action.
+pub fn may_spoil(action: Option<Action>, register: u8) -> bool
+    ensures { result ≡ spoils_by action register }
+{
+    match action {
+        Some(Action::Call(_)) => true,
+        Some(Action::Routine(routine)) => routine.spoils(register),
+        Some(Action::Hold | Action::Unhold) => register == 5 || register == 10,
+        _ => false,
+    }
+}
+
+/// The listing behind a line of what is listed before it.
+pub fn marking(action: Option<Action>, reads: &[Operand], listed: Listed) -> Listed
+    ensures { result ≡ marks action reads.now listed }
+{
+    match action {
+        Some(Action::Hold) if is_read(reads, listed.value) => Listed {
+            held: true,
+            ..listed
+        },
+        Some(Action::Unhold) if is_read(reads, listed.value) => Listed {
+            held: false,
+            ..listed
+        },
+        _ => listed,
+    }
+}
+
+fn is_new(write: Option<Operand>, listed: Listed) -> bool
+    ensures { IsTrue result ↔ IsNew write listed }
+{
+    match write {
+        Some(into) => {
+            into.value == listed.value && same_place(into.place, listed.place) && !listed.held
+        }
+        None => false,
+    }
+}
+
+fn stays_listed(alive: &[Listed], action: Option<Action>, reads: &[Operand], listed: Listed) -> bool
+    ensures { IsTrue result ↔ StaysListed alive.now (marks action reads.now) listed }
+{
+    match listing(alive, listed.value) {
+        Some(before) => same_listing(marking(action, reads, before), listed),
+        None => false,
+    }
+}
+
+fn is_clear_of(write: Option<Operand>, listed: Listed) -> bool
+    ensures { IsTrue result ↔ IsClearOf write listed }
+{
+    match write {
+        Some(into) => into.value != listed.value && !same_place(into.place, listed.place),
+        None => true,
+    }
+}
+
+fn is_safe(action: Option<Action>, place: Place) -> bool
+    ensures { IsTrue result ↔ IsSafe (spoils_by action) place }
+{
+    match place {
+        Place::Register(register) => !may_spoil(action, register.number),
+        Place::Slot(_) => true,
+    }
+}
+
+fn is_kept(
+    alive: &[Listed],
+    reads: &[Operand],
+    write: Option<Operand>,
+    action: Option<Action>,
+    listed: Listed,
+) -> bool
+    ensures { IsTrue result ↔ IsKept alive.now (marks action reads.now) write (spoils_by action) listed }
+{
+    is_new(write, listed)
+        || stays_listed(alive, action, reads, listed)
+            && is_clear_of(write, listed)
+            && is_safe(action, listed.place)
+}
+
+/// Whether the line keeps all that is listed at a point where it goes on.
+fn keeps_all(
+    alive: &[Listed],
+    reads: &[Operand],
+    write: Option<Operand>,
+    action: Option<Action>,
+    next: &[Listed],
+) -> bool
+    ensures { IsTrue result ↔ All (IsKept alive.now (marks action reads.now) write (spoils_by action)) next.now }
+{
+    next.iter()
+        .all(|listed| is_kept(alive, reads, write, action, *listed))
+}
+
+/// Whether the line keeps what is listed at each of the two points, where they are there.
+pub fn keeps(
+    alive: &[Listed],
+    reads: &[Operand],
+    write: Option<Operand>,
+    action: Option<Action>,
+    behind: Option<&[Listed]>,
+    at_label: Option<&[Listed]>,
+) -> bool
+    ensures { IsTrue result ↔ AllByRecursion (All (IsKept alive.now (marks action reads.now) write (spoils_by action))) (both_of (point_of behind.entry) (point_of at_label.entry)) }
+{
+    behind.is_none_or(|next| keeps_all(alive, reads, write, action, next))
+        && at_label.is_none_or(|next| keeps_all(alive, reads, write, action, next))
+}
