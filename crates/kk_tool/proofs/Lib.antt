@@ -1,4 +1,5 @@
 mod Complete
+mod Examples
 mod ImageRuns
 mod Lines
 mod Numbers

@@ -1,0 +1,36 @@
+-- Lines of words, and what they ask for.
+use Rattle.std.proofs.Common.{◌≡◌, List, [], ◌∷◌, codes, Some, None, refl}
+use Rattle.clap.proofs.OnLiterals.{clap_on_literals}
+use Rattle.kk_tool.specs.Requests.{request_of, check, build, run}
+
+runs : request_of (codes "kokarv" ∷ codes "run" ∷ codes "a.kk" ∷ []) ≡ Some (run (codes "a.kk") 65536 4096 1000000000)
+unfolding clap_on_literals
+runs = refl
+
+builds : request_of (codes "kokarv" ∷ codes "build" ∷ codes "-o" ∷ codes "b" ∷ codes "a.kk" ∷ codes "--cells=3" ∷ codes "--depth" ∷ codes "1" ∷ []) ≡ Some (build (codes "a.kk") (codes "b") 3 1)
+unfolding clap_on_literals
+builds = refl
+
+checks : request_of (codes "kokarv" ∷ codes "check" ∷ codes "--" ∷ codes "-a" ∷ []) ≡ Some (check (codes "-a"))
+unfolding clap_on_literals
+checks = refl
+
+no_command : request_of (codes "kokarv" ∷ []) ≡ None
+unfolding clap_on_literals
+no_command = refl
+
+no_help : request_of (codes "kokarv" ∷ codes "--help" ∷ []) ≡ None
+unfolding clap_on_literals
+no_help = refl
+
+no_depth : request_of (codes "kokarv" ∷ codes "run" ∷ codes "a.kk" ∷ codes "--depth" ∷ codes "0" ∷ []) ≡ None
+unfolding clap_on_literals
+no_depth = refl
+
+leading_zero : request_of (codes "kokarv" ∷ codes "run" ∷ codes "a.kk" ∷ codes "--cells" ∷ codes "05" ∷ []) ≡ None
+unfolding clap_on_literals
+leading_zero = refl
+
+twice : request_of (codes "kokarv" ∷ codes "run" ∷ codes "a.kk" ∷ codes "--cells" ∷ codes "1" ∷ codes "--cells" ∷ codes "1" ∷ []) ≡ None
+unfolding clap_on_literals
+twice = refl
