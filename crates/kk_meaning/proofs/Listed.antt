@@ -1,5 +1,5 @@
 -- Frames are kept with the newest last, and listed with the newest first.
-use Rattle.std.proofs.Common.{◌≡◌, ◌⊎◌, inl, inr, ℕ, zero, suc, ◌+◌, ◌-◌, ◌<◌, ◌≤◌, List, [], ◌∷◌, ◌++◌, length, get_or, set, take, map, reverse, refl, sym, ap, ap₂, ◌∙◌, arith, subst, Some, length-set, get_or-set_same}
+use Rattle.std.proofs.Common.{◌≡◌, ℕ, zero, suc, ◌-◌, ◌<◌, ◌≤◌, List, [], ◌∷◌, ◌++◌, length, get_or, set, take, map, reverse, refl, sym, ap, ap₂, ◌∙◌, arith, subst, Some, length-set, get_or-set_same}
 use Rattle.std.proofs.Math.Seq.{take-suc}
 use Rattle.std.proofs.lemmas.List.{take_all, take-set, reverse-append, length-map, length-reverse}
 use Rattle.kk_source.specs.State as source

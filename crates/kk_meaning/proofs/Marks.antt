@@ -1,10 +1,10 @@
 -- One pass over the marks, from the newest cell to the oldest, marks exactly what is live.
-use Rattle.std.proofs.Common.{◌≡◌, ◌⊎◌, inl, inr, ℕ, zero, suc, ◌+◌, ◌-◌, ◌<◌, ◌≤◌, Bool, true, false, List, [], ◌∷◌, ◌++◌, length, map, Option, Some, None, arith, refl, sym, ap, ◌∙◌, subst, cond, get_or, set, replicate, take, add-one, get_or-set_same, get_or-set_other}
+use Rattle.std.proofs.Common.{◌≡◌, ◌⊎◌, inl, inr, ℕ, zero, suc, ◌+◌, ◌<◌, ◌≤◌, Bool, true, false, List, [], ◌∷◌, ◌++◌, length, map, arith, refl, sym, ap, ◌∙◌, subst, cond, get_or, set, replicate, take, add-one, get_or-set_same, get_or-set_other}
 use Rattle.std.proofs.Math.Seq.{take-suc}
 use Rattle.std.proofs.lemmas.List.{map-append}
 use Rattle.kk_source.specs.State.{Value, place, Store}
 use Rattle.kk_source.specs.Live.{fields_at, Among, Leads, Reached, is_live, counted, live}
-use Rattle.kk_source.specs.Sound.{AllWithin, IsOlder}
+use Rattle.kk_source.specs.Sound.{IsOlder}
 use Rattle.kk_source.proofs.Live.{live_reached, reached_live, has_cell, first_place, among_within, among_split, among_front, among_back}
 use Rattle.kk_meaning.specs.declared.cell.Cell.{Cell}
 use Rattle.kk_meaning.specs.View.{value_view, cell_view}

@@ -1,14 +1,14 @@
 -- Turns at a value, by the newest frame.
-use Rattle.std.proofs.Common.{◌≡◌, ℕ, ◌+◌, ◌≤◌, ◌<◌, suc, zero, Bool, true, false, List, [], ◌∷◌, ◌++◌, Option, Some, None, refl, sym, ap, ◌∙◌, arith, cond, length, map, Result, Ok, Err, OnErr, IfOk}
+use Rattle.std.proofs.Common.{◌≡◌, ℕ, ◌+◌, ◌≤◌, ◌<◌, suc, zero, Bool, true, false, List, [], ◌∷◌, ◌++◌, Option, Some, None, refl, sym, ap, ◌∙◌, arith, cond, length, Result, Ok, Err, OnErr, IfOk}
 use Rattle.std.specs.Prelude.{nat_le}
-use Rattle.kk_syntax.specs.Trees.{Tree, Trees, no_tree, tree, Rows}
+use Rattle.kk_syntax.specs.Trees.{Tree, Trees, tree, Rows}
 use Rattle.kk_syntax.specs.declared.program.Form.{Form}
 use Rattle.kk_syntax.specs.Programs.{FunctionTree}
 use Rattle.kk_syntax.specs.PositionsOf.{is_lent}
-use Rattle.kk_source.specs.State.{Setting, Value, Store, Environment, Frame, arguments, branches, rows, statement, call, stack_full, end_at, Control, expression, value, stopped, Configuration}
+use Rattle.kk_source.specs.State.{Setting, Value, Store, Environment, Frame, arguments, rows, statement, call, stack_full, end_at, Control, expression, value, stopped, Configuration}
 use Rattle.kk_source.specs.Live.{counted, live, is_live}
 use Rattle.kk_source.specs.Matching.{Chosen, first_match}
-use Rattle.kk_source.specs.Step.{Action, goes, calls, at_end, in_body, bind, bind_parameters, call_frames, lent_places, choice_step, call_step, push_step, value_step}
+use Rattle.kk_source.specs.Step.{goes, calls, at_end, in_body, bind, bind_parameters, call_frames, lent_places, choice_step, call_step, push_step, value_step}
 use Rattle.kk_meaning.specs.Turns.{quiet_turn, turn_of}
 use Rattle.kk_meaning.specs.declared.turn.Turn.{Turn}
 use Rattle.kk_meaning.specs.declared.turn.Turn.TheVariants.{Went, StackFull}

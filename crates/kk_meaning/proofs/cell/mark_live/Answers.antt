@@ -1,8 +1,8 @@
-use Rattle.std.proofs.Common.{◌≡◌, ◌+◌, ◌-◌, ◌<◌, true, length, map, get_or, arith, subst, sym, ap, ◌∙◌}
+use Rattle.std.proofs.Common.{◌≡◌, ◌+◌, ◌-◌, ◌<◌, length, map, arith, subst, sym, ap, ◌∙◌}
 use Rattle.std.proofs.lemmas.List.{length-map}
 use Rattle.kk_source.specs.Live.{fields_at}
 use Rattle.kk_meaning.specs.View.{value_view, cell_view}
-use Rattle.kk_meaning.specs.Marks.{Marked, is_marked}
+use Rattle.kk_meaning.specs.Marks.{Marked}
 use Rattle.kk_meaning.proofs.Marks.{Passed, passed_marked, marked_live, fields_kept}
 use Rattle.kk_meaning.proofs.cell.mark_live.Goals as goal
 

@@ -1,4 +1,4 @@
-use Rattle.std.proofs.Common.{◌≡◌, Some, map, length, sym, ap, ◌∙◌, arith}
+use Rattle.std.proofs.Common.{Some, map, sym, ap, ◌∙◌, arith}
 use Rattle.std.proofs.lemmas.List.{length-map}
 use Rattle.kk_syntax.specs.Patterns.{pattern_tree}
 use Rattle.kk_source.specs.Matching.{matched}

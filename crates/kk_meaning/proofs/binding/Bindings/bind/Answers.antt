@@ -1,5 +1,5 @@
-use Rattle.std.proofs.Common.{◌≡◌, ◌+◌, ◌-◌, ◌∷◌, [], drop, take, map, length, vec_len, ◌≤◌, refl, arith, sym, ap, ◌∙◌}
-use Rattle.kk_meaning.specs.View.{bound_view, environment_of, pushed}
+use Rattle.std.proofs.Common.{◌≡◌, ◌-◌, take, map, length, vec_len, ◌≤◌, refl, arith, ap, ◌∙◌}
+use Rattle.kk_meaning.specs.View.{bound_view, pushed}
 use Rattle.kk_meaning.proofs.Environments.{agree_on_front, environment_agree, pushed_one, take_again, take_longer}
 use Rattle.kk_meaning.proofs.binding.Bindings.bind.Goals as goal
 

@@ -1,6 +1,6 @@
-use Rattle.std.proofs.Common.{◌≡◌, ◌+◌, [], ◌∷◌, ◌++◌, List, ℕ, map, drop, vec_len, arith, refl, sym, ap, ◌∙◌, append_assoc}
+use Rattle.std.proofs.Common.{◌≡◌, ◌+◌, ◌∷◌, ◌++◌, List, ℕ, map, drop, arith, sym, ap, ◌∙◌, append_assoc}
 use Rattle.kk_syntax.specs.Patterns.{pattern_tree}
-use Rattle.kk_syntax.specs.Trees.{expr_tree, row_tree, rows_of, statement_tree, block_of}
+use Rattle.kk_syntax.specs.Trees.{expr_tree, row_tree, rows_of, statement_tree}
 use Rattle.kk_syntax.specs.Shapes.{bound, bound_by, without, free, free_rows}
 use Rattle.kk_syntax.proofs.Blocks.{block_tree}
 use Rattle.kk_meaning.specs.FreeOf.{free_of_statements, bound_by_statements}

@@ -1,7 +1,6 @@
-use Rattle.std.proofs.Common.{◌≡◌, ◌++◌, List, ℕ, map, sym, ap, ap₂, ◌∙◌}
+use Rattle.std.proofs.Common.{◌≡◌, ◌++◌, List, ℕ, map, sym, ap, ◌∙◌}
 use Rattle.kk_syntax.specs.Trees.{expr_tree, statement_tree}
 use Rattle.kk_syntax.specs.Shapes.{without, free}
-use Rattle.kk_source.specs.Live.{awaited}
 use Rattle.kk_meaning.specs.Frames.{block_tree}
 use Rattle.kk_meaning.specs.FreeOf.{free_of_statements, bound_by_statements}
 use Rattle.kk_meaning.proofs.FreeVariables.{free_of_block, found_block}

@@ -1,4 +1,4 @@
-use Rattle.std.proofs.Common.{◌-◌, ◌∷◌, map, reverse, take, length, refl, sym, ap, ◌∙◌, subst}
+use Rattle.std.proofs.Common.{◌-◌, reverse, take, length, refl, sym, ap, ◌∙◌, subst}
 use Rattle.kk_meaning.specs.Machines.{IsCallOf}
 use Rattle.kk_meaning.proofs.Listed.{newest_is}
 use Rattle.kk_meaning.proofs.machine.Machine.call_below.Goals as goal

@@ -1,4 +1,4 @@
-use Rattle.std.proofs.Common.{◌≡◌, ◌-◌, ◌≤◌, List, Some, None, map, reverse, take, length, vec_len, arith, refl, sym, ap, ◌∙◌, subst}
+use Rattle.std.proofs.Common.{◌≡◌, ◌-◌, ◌≤◌, None, map, reverse, take, length, vec_len, arith, refl, sym, ap, ◌∙◌, subst}
 use Rattle.kk_syntax.specs.Trees.{expr_tree, rows_of, row_tree}
 use Rattle.kk_source.specs.State.{expression}
 use Rattle.kk_source.specs.Matching.{first_match}

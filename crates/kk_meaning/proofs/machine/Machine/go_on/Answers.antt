@@ -1,4 +1,4 @@
-use Rattle.std.proofs.Common.{◌≡◌, ◌-◌, ◌≤◌, List, map, reverse, take, length, vec_len, arith, refl, sym, ap, ◌∙◌, subst}
+use Rattle.std.proofs.Common.{◌≡◌, ◌-◌, ◌≤◌, map, reverse, take, length, vec_len, arith, refl, sym, ap, ◌∙◌, subst}
 use Rattle.kk_source.specs.State.{expression}
 use Rattle.kk_source.specs.Step.{call_frames, bind}
 use Rattle.kk_meaning.specs.View.{value_view, environment_of, cell_view}

@@ -1,9 +1,8 @@
-use Rattle.std.proofs.Common.{◌≡◌, ◌-◌, ◌≤◌, ◌<◌, ◌∷◌, ◌++◌, [], List, ℕ, map, reverse, take, length, vec_len, arith, refl, sym, ap, ◌∙◌, subst}
+use Rattle.std.proofs.Common.{◌≡◌, ◌-◌, ◌≤◌, ◌∷◌, ◌++◌, [], map, reverse, take, vec_len, refl, sym, ap, ◌∙◌, subst}
 use Rattle.std.proofs.lemmas.List.{map-append}
 use Rattle.kk_syntax.specs.Trees.{expr_tree, trees_of}
 use Rattle.kk_source.specs.State as source
 use Rattle.kk_source.specs.Step.{call_frames}
-use Rattle.kk_meaning.specs.declared.frame.Frame.{Frame}
 use Rattle.kk_meaning.specs.declared.frame.Frame.TheVariants as OfFrame
 use Rattle.kk_meaning.specs.View.{value_view, environment_of, cell_view}
 use Rattle.kk_meaning.specs.Frames.{frame_view}

@@ -1,5 +1,4 @@
-use Rattle.std.proofs.Common.{◌≡◌, ◌-◌, ◌≤◌, ◌∷◌, ◌==◌, true, false, [], List, suc, map, reverse, take, length, vec_len, arith, refl, sym, ap, ◌∙◌, subst}
-use Rattle.kk_source.specs.State as source
+use Rattle.std.proofs.Common.{◌≡◌, ◌-◌, ◌∷◌, ◌==◌, true, false, suc, map, reverse, take, length, vec_len, arith, refl, sym, ap, ◌∙◌, subst}
 use Rattle.kk_source.specs.Step.{call_frames}
 use Rattle.kk_meaning.specs.View.{value_view, cell_view}
 use Rattle.kk_meaning.specs.Frames.{frame_view}

@@ -1,10 +1,10 @@
-use Rattle.std.proofs.Common.{◌≡◌, ◌≤◌, ◌<◌, ◌+◌, ◌∷◌, [], List, map, reverse, take, length, vec_len, arith, refl, sym, ap, ◌∙◌, subst}
+use Rattle.std.proofs.Common.{◌≡◌, ◌+◌, ◌∷◌, [], List, map, reverse, take, vec_len, arith, refl, sym, ap, ◌∙◌, subst}
 use Rattle.kk_syntax.specs.Programs.{function_tree}
 use Rattle.kk_syntax.specs.PositionsOf.{is_lent}
 use Rattle.kk_source.specs.State as source
 use Rattle.kk_source.specs.Step.{call_frames, lent_places}
 use Rattle.kk_meaning.specs.declared.frame.Frame.TheVariants as OfFrame
-use Rattle.kk_meaning.specs.View.{value_view, bound_view, environment_of, pushed, cell_view}
+use Rattle.kk_meaning.specs.View.{value_view, bound_view, environment_of, pushed}
 use Rattle.kk_meaning.specs.Frames.{frame_view}
 use Rattle.kk_meaning.specs.Machines.{setting_of, configuration_of, frames_below, FramesFit}
 use Rattle.kk_meaning.proofs.Environments.{agree_on_front}

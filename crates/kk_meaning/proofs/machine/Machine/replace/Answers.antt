@@ -1,4 +1,4 @@
-use Rattle.std.proofs.Common.{◌≡◌, ◌≤◌, ◌∷◌, [], List, map, reverse, take, length, vec_len, arith, refl, sym, ap, ◌∙◌, subst}
+use Rattle.std.proofs.Common.{◌≡◌, [], map, reverse, take, vec_len, arith, refl, sym, ap, ◌∙◌, subst}
 use Rattle.kk_syntax.specs.Programs.{function_tree}
 use Rattle.kk_source.specs.State as source
 use Rattle.kk_source.specs.Step.{call_frames}
