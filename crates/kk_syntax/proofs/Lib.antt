@@ -1,3 +1,1 @@
-pub mod ArithmeticExamples
-pub mod ArithmeticWords
-pub mod SourceExamples
+pub mod Blocks

@@ -1,9 +1,9 @@
-pub mod Arithmetic
+pub mod Patterns
 pub mod Places
+pub mod PositionsOf
 pub mod Programs
 pub mod Shapes
-pub mod SourceAfter
-pub mod State
-pub mod Step
+pub mod Surface
 pub mod TokenList
 pub mod Trees
+pub mod Types

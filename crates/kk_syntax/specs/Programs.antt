@@ -1,26 +1,69 @@
 -- A resolved program as mathematics.
-use Rattle.std.specs.Prelude.{ℕ, pos, List, [], map, slice_index_or}
-use Rattle.kk_syntax.specs.declared.tree.Function.{Function}
-use Rattle.kk_syntax.specs.declared.tree.Program.{Program}
-use Rattle.kk_syntax.specs.Trees.{Tree, number, expr_tree}
+use Rattle.std.specs.Prelude.{ℕ, List, [], map, slice_index_or}
+use Rattle.kk_syntax.specs.declared.program.TypeDecl.{TypeDecl}
+use Rattle.kk_syntax.specs.declared.program.Constructor.{Constructor}
+use Rattle.kk_syntax.specs.declared.program.Fun.{Fun}
+use Rattle.kk_syntax.specs.declared.program.Program.{Program}
+use Rattle.kk_syntax.specs.Types.{TypeTree, unit_type, type_tree}
+use Rattle.kk_syntax.specs.Trees.{Tree, unit, expr_tree}
 
--- a function: its name, the byte where that stands in the text, and its body
+-- A constructor: its name, the byte where that stands in the text, the number of its type, its place among the
+-- constructors of that type, from 0, and the types of its fields.
+pub record ConstructorTree : Type 0 where
+  pub name : List ℕ
+  pub at : ℕ
+  pub of_type : ℕ
+  pub tag : ℕ
+  pub fields : List TypeTree
+
+-- A function: its name, the byte where that stands in the text, the number of its type variables, the types of its
+-- parameters and of its result, and its body, whose first variables are the parameters.
 pub record FunctionTree : Type 0 where
   pub name : List ℕ
   pub at : ℕ
+  pub variables : ℕ
+  pub parameters : List TypeTree
+  pub result : TypeTree
   pub body : Tree
 
--- the functions in the order of the text, and which of them is `main`, from 0
+-- the types, the constructors and the functions, each by its number, from 0, and which function is `main`
 pub record ProgramTree : Type 0 where
+  pub types : List TypeDecl
+  pub constructors : List ConstructorTree
   pub functions : List FunctionTree
   pub main : ℕ
 
-abbrev pub function_tree : Function → FunctionTree
-function_tree function = record { name = function.name; at = function.at; body = expr_tree function.body }
+abbrev pub constructor_tree : Constructor → ConstructorTree
+constructor_tree constructor = record {
+  name = constructor.name;
+  at = constructor.at;
+  of_type = constructor.of_type;
+  tag = constructor.tag;
+  fields = map type_tree constructor.fields.items;
+}
+
+abbrev pub function_tree : Fun → FunctionTree
+function_tree function = record {
+  name = function.name;
+  at = function.at;
+  variables = function.variables;
+  parameters = map type_tree function.parameters.items;
+  result = type_tree function.result;
+  body = expr_tree function.body;
+}
 
 abbrev pub program_tree : Program → ProgramTree
-program_tree program = record { functions = map function_tree program.functions.items; main = program.main }
+program_tree program = record {
+  types = program.types.items;
+  constructors = map constructor_tree program.constructors.items;
+  functions = map function_tree program.functions.items;
+  main = program.main;
+}
 
--- the body of a function by its index; past the last one, where no program looks, a number
+-- what stands behind the last function, where no program looks
+abbrev pub no_function : FunctionTree
+no_function = record { name = []; at = 0; variables = 0; parameters = []; result = unit_type; body = unit }
+
+-- the body of a function by its number
 abbrev pub body_of : ProgramTree → ℕ → Tree
-body_of program index = (slice_index_or program.functions index (record { name = []; at = 0; body = number (pos 0) })).body
+body_of program number = (slice_index_or program.functions number no_function).body

@@ -1,19 +1,129 @@
--- Counts on the trees of bodies.
-use Rattle.std.specs.Prelude.{ℕ, ◌+◌}
-use Rattle.kk_syntax.specs.Trees.{Tree, number, read_byte, unary, binary, print, print_text, block, Trees, no_tree, tree}
+-- The shape of a body: its free variables, its nodes, and its tail positions.
+use Rattle.std.specs.Prelude.{ℕ, ◌+◌, max, Bool, not, ◌==◌, List, [], ◌∷◌, ◌++◌, filter}
+use Rattle.std.specs.List.{list_any}
+use Rattle.kk_syntax.specs.declared.program.Binder.{Binder}
+use Rattle.kk_syntax.specs.declared.program.Binder.TheVariants as OfBinder
+use Rattle.kk_syntax.specs.Patterns.{Pattern, anything, variable as pattern_variable, exactly, constructor, Patterns, no_part, part}
+use Rattle.kk_syntax.specs.Trees.{Tree, number, unit, variable, read_byte, print_text, apply, branch, match, sequence, Trees, no_tree, tree, Rows, no_row, row, StatementTree}
+use Rattle.kk_syntax.specs.Programs.{FunctionTree, ProgramTree}
 
--- The nodes of an expression: 1 for a number, for a read of the input and for a print of a string; 1 plus its parts for
--- an operator and for a print of a number. A block counts its parts alone.
+-- the variables of a pattern, from left to right
+abbrev mutual
+  pub bound : Pattern → List ℕ
+  bound anything = []
+  bound (pattern_variable of) = of ∷ []
+  bound (exactly value) = []
+  bound (constructor by parts) = bound_all parts
+
+  pub bound_all : Patterns → List ℕ
+  bound_all no_part = []
+  bound_all (part first rest) = bound first ++ bound_all rest
+
+-- the variable that a statement binds, if any
+abbrev pub bound_by : Binder → List ℕ
+bound_by OfBinder.Nothing = []
+bound_by OfBinder.Wildcard = []
+bound_by (OfBinder.Variable of) = of ∷ []
+
+-- whether a variable is among others
+abbrev pub is_among : List ℕ → ℕ → Bool
+is_among others x = list_any (λ y. y == x) others
+
+-- variables without those that are bound
+abbrev pub without : List ℕ → List ℕ → List ℕ
+without binders variables = filter (λ x. not (is_among binders x)) variables
+
+-- The free variables of an expression, as often as they occur: those that it does not bind itself. A statement binds its
+-- variable in the rest of the block, and a pattern its variables in the body of its row.
+abbrev mutual
+  pub free : Tree → List ℕ
+  free (number value) = []
+  free unit = []
+  free (variable of) = of ∷ []
+  free read_byte = []
+  free (print_text form text) = []
+  free (apply form arguments) = free_all arguments
+  free (branch condition positive negative) = free condition ++ (free positive ++ free negative)
+  free (match scrutinee rows) = free scrutinee ++ free_rows rows
+  free (sequence binder first rest) = free first ++ without (bound_by binder) (free rest)
+
+  pub free_all : Trees → List ℕ
+  free_all no_tree = []
+  free_all (tree first rest) = free first ++ free_all rest
+
+  pub free_rows : Rows → List ℕ
+  free_rows no_row = []
+  free_rows (row pattern body rest) = without (bound pattern) (free body) ++ free_rows rest
+
+-- the nodes of a pattern: 1, and those of its parts
+abbrev mutual
+  pub nodes_of_pattern : Pattern → ℕ
+  nodes_of_pattern anything = 1
+  nodes_of_pattern (pattern_variable of) = 1
+  nodes_of_pattern (exactly value) = 1
+  nodes_of_pattern (constructor by parts) = nodes_of_patterns parts + 1
+
+  pub nodes_of_patterns : Patterns → ℕ
+  nodes_of_patterns no_part = 0
+  nodes_of_patterns (part first rest) = nodes_of_pattern first + nodes_of_patterns rest
+
+-- a `val` is a node, and a statement that is an expression is none by itself
+abbrev pub nodes_of_binder : Binder → ℕ
+nodes_of_binder OfBinder.Nothing = 0
+nodes_of_binder OfBinder.Wildcard = 1
+nodes_of_binder (OfBinder.Variable of) = 1
+
+-- The nodes of an expression: 1 for a number, `()`, a variable, a read of the input and a print of a string; 1 plus its
+-- parts for a form with its arguments, an `if`, a match (its scrutinee, its patterns and its bodies) and a `val`. A block
+-- counts its parts alone.
 abbrev mutual
   pub nodes_of : Tree → ℕ
   nodes_of (number value) = 1
+  nodes_of unit = 1
+  nodes_of (variable of) = 1
   nodes_of read_byte = 1
-  nodes_of (unary operator operand) = 1 + nodes_of operand
-  nodes_of (binary operator left right) = 1 + nodes_of left + nodes_of right
-  nodes_of (print form value) = 1 + nodes_of value
   nodes_of (print_text form text) = 1
-  nodes_of (block statements value) = nodes_of_all statements + nodes_of value
+  nodes_of (apply form arguments) = nodes_of_all arguments + 1
+  nodes_of (branch condition positive negative) = nodes_of condition + nodes_of positive + nodes_of negative + 1
+  nodes_of (match scrutinee rows) = nodes_of scrutinee + nodes_of_rows rows + 1
+  nodes_of (sequence binder first rest) = nodes_of_binder binder + nodes_of first + nodes_of rest
 
   pub nodes_of_all : Trees → ℕ
   nodes_of_all no_tree = 0
   nodes_of_all (tree first rest) = nodes_of first + nodes_of_all rest
+
+  pub nodes_of_rows : Rows → ℕ
+  nodes_of_rows no_row = 0
+  nodes_of_rows (row pattern body rest) = nodes_of_pattern pattern + nodes_of body + nodes_of_rows rest
+
+-- the nodes of statements
+abbrev pub nodes_of_statements : List StatementTree → ℕ
+nodes_of_statements [] = 0
+nodes_of_statements (s ∷ ss) = nodes_of_binder s.binder + nodes_of s.value + nodes_of_statements ss
+
+-- the largest count of a list of functions, and of a program's
+abbrev pub greatest_of : List FunctionTree → ℕ
+greatest_of [] = 0
+greatest_of (f ∷ fs) = max (nodes_of f.body) (greatest_of fs)
+
+abbrev pub greatest_nodes : ProgramTree → ℕ
+greatest_nodes program = greatest_of program.functions
+
+-- The parts of a body that are in tail position and are no `if`, match or block themselves: the value of each is the
+-- value of the body. In an `if` they are those of its branches, in a match those of its rows, and in a block those of its
+-- last expression.
+abbrev mutual
+  pub tails : Tree → List Tree
+  tails (branch condition positive negative) = tails positive ++ tails negative
+  tails (match scrutinee rows) = tails_of_rows rows
+  tails (sequence binder first rest) = tails rest
+  tails (number value) = number value ∷ []
+  tails unit = unit ∷ []
+  tails (variable of) = variable of ∷ []
+  tails read_byte = read_byte ∷ []
+  tails (print_text form text) = print_text form text ∷ []
+  tails (apply form arguments) = apply form arguments ∷ []
+
+  pub tails_of_rows : Rows → List Tree
+  tails_of_rows no_row = []
+  tails_of_rows (row pattern body rest) = tails body ++ tails_of_rows rest

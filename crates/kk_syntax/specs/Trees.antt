@@ -1,44 +1,87 @@
 -- The tree of an expression as mathematics: no pointers, no capacities. A type that holds a list of itself is declared
 -- together with that list.
 use Rattle.std.specs.Prelude.{ℕ, ℤ, List, [], ◌∷◌}
-use Rattle.kk_syntax.specs.declared.tree.UnaryOperator.{UnaryOperator}
-use Rattle.kk_syntax.specs.declared.tree.BinaryOperator.{BinaryOperator}
-use Rattle.kk_syntax.specs.declared.tree.PrintForm.{PrintForm}
-use Rattle.kk_syntax.specs.declared.tree.Expr.{Expr}
-use Rattle.kk_syntax.specs.declared.tree.Expr.TheOpen.{Expr-F, Number, ReadByte, Unary, Binary, Print, PrintText, Block}
-use Rattle.kk_syntax.specs.declared.tree.Expr.TheFolds.{fold-Expr}
+use Rattle.kk_syntax.specs.declared.operator.PrintForm.{PrintForm}
+use Rattle.kk_syntax.specs.declared.program.Form.{Form}
+use Rattle.kk_syntax.specs.declared.program.Binder.{Binder}
+use Rattle.kk_syntax.specs.declared.program.Row.{Row}
+use Rattle.kk_syntax.specs.declared.program.Statement.{Statement}
+use Rattle.kk_syntax.specs.declared.program.Expr.{Expr}
+use Rattle.kk_syntax.specs.declared.program.Expr.TheOpen.{Expr-F, Row-F, Statement-F, Number, Unit as Nothing, Variable, ReadByte, PrintText, Apply, If, Match, Block}
+use Rattle.kk_syntax.specs.declared.program.Expr.TheFolds.{fold-Expr, fold-Row, fold-Statement}
+use Rattle.kk_syntax.specs.Patterns.{Pattern, pattern_tree}
 
--- an expression: a number; a read of a byte of the input; an operator on its operands; a print of a number or of a
--- string's bytes; a block of statements and its value
+-- An expression: a number; `()`; a variable by its number; a read of a byte of the input; a print of a string's bytes; a
+-- form and its arguments; an `if` with its two branches; a match with its rows; and a block, as a statement and the rest
+-- of the block behind it. A block without statements is its last expression.
 mutual
   pub data Tree : Type 0 where
     number : (value : ℤ) → Tree
+    unit : Tree
+    variable : (of : ℕ) → Tree
     read_byte : Tree
-    unary : (operator : UnaryOperator) → (operand : Tree) → Tree
-    binary : (operator : BinaryOperator) → (left : Tree) → (right : Tree) → Tree
-    print : (form : PrintForm) → (value : Tree) → Tree
     print_text : (form : PrintForm) → (text : List ℕ) → Tree
-    block : (statements : Trees) → (value : Tree) → Tree
+    apply : (form : Form) → (arguments : Trees) → Tree
+    branch : (condition : Tree) → (positive : Tree) → (negative : Tree) → Tree
+    match : (scrutinee : Tree) → (rows : Rows) → Tree
+    sequence : (binder : Binder) → (first : Tree) → (rest : Tree) → Tree
 
   pub data Trees : Type 0 where
     no_tree : Trees
     tree : (first : Tree) → (rest : Trees) → Trees
+
+  pub data Rows : Type 0 where
+    no_row : Rows
+    row : (pattern : Pattern) → (body : Tree) → (rest : Rows) → Rows
 
 -- a list of expressions as a list of its own type
 abbrev pub trees_of : List Tree → Trees
 trees_of [] = no_tree
 trees_of (t ∷ ts) = tree t (trees_of ts)
 
--- an expression of the program as such a tree, its parts' trees given
-abbrev pub expr_step : Expr-F Tree → Tree
-expr_step (Number value) = number value
-expr_step ReadByte = read_byte
-expr_step (Unary operator operand) = unary operator operand.value
-expr_step (Binary operator left right) = binary operator left.value right.value
-expr_step (Print form value) = print form value.value
-expr_step (PrintText form text) = print_text form text
-expr_step (Block statements value) = block (trees_of statements.items) value.value
+-- a row of a match, and a statement, each by itself
+pub record RowTree : Type 0 where
+  pub pattern : Pattern
+  pub body : Tree
 
--- an expression of the program as such a tree
+pub record StatementTree : Type 0 where
+  pub binder : Binder
+  pub value : Tree
+
+-- a list of rows as a list of its own type
+abbrev pub rows_of : List RowTree → Rows
+rows_of [] = no_row
+rows_of (r ∷ rs) = row r.pattern r.body (rows_of rs)
+
+-- statements, and what comes behind them
+abbrev pub block_of : List StatementTree → Tree → Tree
+block_of [] last = last
+block_of (s ∷ ss) last = sequence s.binder s.value (block_of ss last)
+
+-- an expression, a row and a statement of the program as such trees, their parts' trees given
+abbrev pub expr_step : Expr-F Tree RowTree StatementTree → Tree
+expr_step (Number value) = number value
+expr_step Nothing = unit
+expr_step (Variable of) = variable of
+expr_step ReadByte = read_byte
+expr_step (PrintText form text) = print_text form text
+expr_step (Apply form arguments) = apply form (trees_of arguments.items)
+expr_step (If condition positive negative) = branch condition.value positive.value negative.value
+expr_step (Match scrutinee rows) = match scrutinee.value (rows_of rows.items)
+expr_step (Block statements value) = block_of statements.items value.value
+
+abbrev pub row_step : Row-F Tree RowTree StatementTree → RowTree
+row_step r = record { pattern = pattern_tree r.pattern; body = r.body }
+
+abbrev pub statement_step : Statement-F Tree RowTree StatementTree → StatementTree
+statement_step s = record { binder = s.binder; value = s.value }
+
+-- an expression, a row and a statement of the program as such trees
 abbrev pub expr_tree : Expr → Tree
-expr_tree = fold-Expr Tree expr_step
+expr_tree = fold-Expr Tree RowTree StatementTree expr_step row_step statement_step
+
+abbrev pub row_tree : Row → RowTree
+row_tree = fold-Row Tree RowTree StatementTree expr_step row_step statement_step
+
+abbrev pub statement_tree : Statement → StatementTree
+statement_tree = fold-Statement Tree RowTree StatementTree expr_step row_step statement_step

@@ -1,12 +1,30 @@
-//! The forms of a source text: tokens, and the tree that they spell.
+//! The forms of a source text: tokens, the tree that they spell, and the program that it means.
 #![tactic(auto)]
 
+mod accepted;
+mod ground;
 mod literal;
+mod operator;
+mod positions;
+mod program;
 mod shape;
 mod token;
 mod tree;
+mod typed;
 
+pub use accepted::Accepted;
+pub use ground::{Ground, GroundConstructor, GroundType, Instance};
 pub use literal::StringLiteral;
+pub use operator::{BinaryOperator, PrintForm, UnaryOperator};
+pub use positions::{Ownership, Positions};
+pub use program::{
+    Binder, Constructor, Expr, Form, Fun, Pat, Program, Row, Statement, Ty, TypeDecl,
+};
 pub use shape::nodes;
 pub use token::{Keyword, LocatedToken, Symbol, Token, Tokens};
-pub use tree::{BinaryOperator, Expr, Function, PrintForm, Program, Tree, UnaryOperator};
+pub use tree::{
+    ConstructorDeclaration, Declaration, Effect, FunctionDeclaration, Identifier, Parameter,
+    SurfaceBinder, SurfaceExpr, SurfacePattern, SurfaceRow, SurfaceStatement, SurfaceType, Tree,
+    TypeDeclaration,
+};
+pub use typed::{BodyTypes, TypeNode, Typed};

@@ -1,83 +1,148 @@
-ghost use Rattle.std.specs.Prelude.{◌≡◌, ◌<◌, slice_get, vec_len};
-
 use crate::literal::StringLiteral;
+use crate::operator::{BinaryOperator, PrintForm, UnaryOperator};
 use kk_base::Name;
 
-/// An operator on one number.
-#[derive(Clone, Copy, Debug, PartialEq, Eq)]
-pub enum UnaryOperator {
-    /// `~`
-    Negate,
-}
-
-/// An operator on two numbers.
-#[derive(Clone, Copy, Debug, PartialEq, Eq)]
-pub enum BinaryOperator {
-    Add,
-    Subtract,
-    Multiply,
-    Divide,
-    Remainder,
-}
-
-/// How a print ends its piece.
-#[derive(Clone, Copy, Debug, PartialEq, Eq)]
-pub enum PrintForm {
-    /// `print`: the piece alone.
-    Print,
-    /// `println`: the piece and a line feed.
-    PrintLine,
-}
-
-/// An expression.
+/// A name as it stands in a text.
 #[derive(Debug, Drop)]
-pub enum Expr {
-    Number(i32),
-    /// The next byte of the input, or -1 at its end.
-    ReadByte,
-    Unary(UnaryOperator, Box<Expr>),
-    Binary(BinaryOperator, Box<Expr>, Box<Expr>),
-    /// A print of a number.
-    Print(PrintForm, Box<Expr>),
-    /// A print of a string literal.
-    PrintText(PrintForm, StringLiteral),
-    /// Statements in their order (at least one), and the block's value.
-    Block(Vec<Expr>, Box<Expr>),
-}
-
-/// A declared function.
-#[derive(Debug, Drop)]
-pub struct Function {
+pub struct Identifier {
     pub name: Name,
-    /// The byte of its name, from 0.
+    /// Its first byte, from 0.
     pub at: u32,
-    pub body: Expr,
 }
 
 /// What a text spells, its names not yet resolved.
 #[derive(Debug, Drop)]
 pub struct Tree {
-    /// The functions in the order of the text.
-    pub functions: Vec<Function>,
+    /// In the order of the text.
+    pub declarations: Vec<Declaration>,
     /// The length of the text, in bytes.
     pub length: u32,
 }
 
-/// A program whose names are resolved.
+/// A declaration of a text.
 #[derive(Debug, Drop)]
-pub struct Program {
-    /// The functions in the order of the text.
-    pub functions: Vec<Function>,
-    /// The index of `main` among them.
-    pub main: usize,
-    pub ghost main_in: { main < vec_len functions },
+pub enum Declaration {
+    Type(TypeDeclaration),
+    Function(FunctionDeclaration),
 }
 
-impl Program {
-    /// The function `main`.
-    pub fn main_function(&self) -> &Function
-        ensures { slice_get self.now.functions.items self.now.main ≡ Some result.now }
-    {
-        &self.functions[self.main]
-    }
+/// A declared type.
+#[derive(Debug, Drop)]
+pub struct TypeDeclaration {
+    pub name: Identifier,
+    /// Its type variables.
+    pub parameters: Vec<Identifier>,
+    pub constructors: Vec<ConstructorDeclaration>,
+}
+
+/// A declared constructor, and its fields.
+#[derive(Debug, Drop)]
+pub struct ConstructorDeclaration {
+    pub name: Identifier,
+    pub fields: Vec<Parameter>,
+}
+
+/// A parameter of a function, or a field of a constructor.
+#[derive(Debug, Drop)]
+pub struct Parameter {
+    pub name: Identifier,
+    pub of_type: SurfaceType,
+}
+
+/// A declared function.
+#[derive(Debug, Drop)]
+pub struct FunctionDeclaration {
+    pub name: Identifier,
+    pub parameters: Vec<Parameter>,
+    /// What its type says that it may do. It is read, and not checked.
+    pub effects: Vec<Effect>,
+    /// The type of its result, which only `main` may leave out.
+    pub result: Option<SurfaceType>,
+    pub body: SurfaceExpr,
+}
+
+/// An effect, as in `console ()`.
+#[derive(Clone, Copy, Debug, PartialEq, Eq)]
+pub enum Effect {
+    Total,
+    Div,
+    Exn,
+    Console,
+}
+
+/// A type as it is written.
+#[derive(Debug, Drop)]
+pub enum SurfaceType {
+    /// `()`
+    Unit,
+    /// A type variable: one letter, and digits or nothing.
+    Variable(Identifier),
+    /// A type by its name, and its arguments.
+    Named(Identifier, Vec<SurfaceType>),
+}
+
+/// An expression as it is written. Brackets, and the braces of a block without statements, leave no trace.
+#[cycle(surface)]
+#[derive(Debug, Drop)]
+pub enum SurfaceExpr {
+    Number(i32),
+    /// `()`
+    Unit,
+    Variable(Identifier),
+    /// `f(e, ..)`, a print of a number and a read of a byte among them.
+    Call(Identifier, Vec<SurfaceExpr>),
+    /// `e.f(e, ..)`, and `e.f`, which has no arguments besides the first.
+    DotCall(Box<SurfaceExpr>, Identifier, Vec<SurfaceExpr>),
+    /// `C(e, ..)`, and `C`, which has no arguments.
+    Construct(Identifier, Vec<SurfaceExpr>),
+    Unary(UnaryOperator, Box<SurfaceExpr>),
+    Binary(BinaryOperator, Box<SurfaceExpr>, Box<SurfaceExpr>),
+    /// `a && b`
+    And(Box<SurfaceExpr>, Box<SurfaceExpr>),
+    /// `a || b`
+    Or(Box<SurfaceExpr>, Box<SurfaceExpr>),
+    /// A print of a string literal.
+    PrintText(PrintForm, StringLiteral),
+    /// A condition and two branches, of which the second may be left out. An `elif` is an `if` in the second.
+    If(Box<SurfaceExpr>, Box<SurfaceExpr>, Option<Box<SurfaceExpr>>),
+    Match(Box<SurfaceExpr>, Vec<SurfaceRow>),
+    /// Statements in their order (at least one), and the block's value.
+    Block(Vec<SurfaceStatement>, Box<SurfaceExpr>),
+}
+
+/// A row of a match.
+#[cycle(surface)]
+#[derive(Debug, Drop)]
+pub struct SurfaceRow {
+    pub pattern: SurfacePattern,
+    pub body: SurfaceExpr,
+}
+
+/// A statement of a block.
+#[cycle(surface)]
+#[derive(Debug, Drop)]
+pub struct SurfaceStatement {
+    pub binder: SurfaceBinder,
+    pub value: SurfaceExpr,
+}
+
+/// What a statement does with its value.
+#[derive(Debug, Drop)]
+pub enum SurfaceBinder {
+    /// Nothing: the statement is an expression.
+    Nothing,
+    /// `val _ =`
+    Wildcard,
+    /// `val x =`
+    Variable(Identifier),
+}
+
+/// A pattern as it is written.
+#[derive(Debug, Drop)]
+pub enum SurfacePattern {
+    Wildcard,
+    Variable(Identifier),
+    Number(i32),
+    /// `C(p, ..)`, and `C`, which has no parts.
+    Constructor(Identifier, Vec<SurfacePattern>),
 }

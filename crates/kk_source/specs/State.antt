@@ -1,21 +1,23 @@
 -- The states of the store machine, which gives a program its meaning.
 use Rattle.std.specs.Prelude.{ℕ, ℤ, List, [], ◌∷◌, Option, Some, None}
-use Rattle.kk_syntax.specs.declared.tree.UnaryOperator.{UnaryOperator}
-use Rattle.kk_syntax.specs.declared.tree.BinaryOperator.{BinaryOperator}
-use Rattle.kk_syntax.specs.declared.tree.PrintForm.{PrintForm}
-use Rattle.kk_syntax.specs.Trees.{Tree}
+use Rattle.kk_syntax.specs.declared.program.Form.{Form}
+use Rattle.kk_syntax.specs.Trees.{Tree, Trees, Rows}
 use Rattle.kk_syntax.specs.Programs.{ProgramTree, body_of}
+use Rattle.kk_syntax.specs.PositionsOf.{PositionTable}
 
--- what is run: a program, on a heap of so many cells and a stack of so many call frames
+-- what is run: a program, the positions that are lent, and so many cells in the heap and call frames in the stack
 pub record Setting : Type 0 where
   pub program : ProgramTree
+  pub positions : PositionTable
   pub cells : ℕ
   pub depth : ℕ
 
--- a value: an integer of 32 bits, or `()`
+-- a value: an integer of 32 bits; `()`; a constructor without fields, by its number; or the place of a cell
 pub data Value : Type 0 where
   integer : (number : ℤ) → Value
   unit : Value
+  constant : (of : ℕ) → Value
+  place : (at : ℕ) → Value
 
 -- a cell: the constructor that made it, by its number, and the values of its fields
 pub record Cell : Type 0 where
@@ -36,19 +38,17 @@ pub record Binding : Type 0 where
 abbrev pub Environment : Type 0
 Environment = List Binding
 
--- what arguments are for: an operator, or the print of a number
-pub data Form : Type 0 where
-  unary_form : (operator : UnaryOperator) → Form
-  binary_form : (operator : BinaryOperator) → Form
-  print_form : (form : PrintForm) → Form
-
 -- What waits for a value.
 -- arguments: a form waits for an argument; it has the values of those before it, and the expressions of those after it.
--- statement: what is left of a block waits for the statement before it.
+-- branches: an `if` waits for its condition.
+-- rows: a match waits for its scrutinee.
+-- statement: what is left of a block waits for the statement before it, whose variable, if any, is still to be bound.
 -- call: a call waits for its body; it keeps the values that it was lent.
 pub data Frame : Type 0 where
-  arguments : (form : Form) → (values : List Value) → (left : List Tree) → (environment : Environment) → Frame
-  statement : (rest : Tree) → (environment : Environment) → Frame
+  arguments : (form : Form) → (values : List Value) → (left : Trees) → (environment : Environment) → Frame
+  branches : (positive : Tree) → (negative : Tree) → (environment : Environment) → Frame
+  rows : (of : Rows) → (environment : Environment) → Frame
+  statement : (variable : Option ℕ) → (rest : Tree) → (environment : Environment) → Frame
   call : (lent : List Value) → Frame
 
 -- how a run ends: by itself; at a construction that finds the heap full; at a call that finds the stack full

@@ -1,0 +1,73 @@
+-- Runs of small programs, some counted by hand.
+use Rattle.std.proofs.Common.{◌≡◌, ℕ, pos, negsuc, List, [], ◌∷◌, ◌++◌, Some, None, refl}
+use Rattle.std.specs.Int.{int_wrap}
+use Rattle.std.specs.Fmt.{digits}
+use Rattle.std.specs.Prelude.{codes}
+use Rattle.kk_base.specs.Trace.{output, input, input_end}
+use Rattle.kk_syntax.specs.declared.operator.BinaryOperator.TheVariants.{Add, Subtract, Multiply, Divide, Remainder, Equal, Greater, GreaterEqual}
+use Rattle.kk_syntax.specs.declared.positions.Ownership.TheVariants.{Owned, Lent}
+use Rattle.kk_syntax.specs.Patterns.{anything, variable as names, exactly}
+use Rattle.kk_syntax.specs.Trees.{Tree, number, unit, variable, read_byte, branch, match, no_row, row}
+use Rattle.kk_source.specs.State.{Setting, ended, heap_full, stack_full}
+use Rattle.kk_source.specs.SourceAfter.{After, source_after}
+use Rattle.kk_source.proofs.Builder.{binary, called, made, printed, of_made, bound_to, then, program}
+
+-- fun main() { println(1 + 2 * 3) }
+-- 1 the print waits, 2 the sum waits, 3 a value, 4 is kept, 5 the product waits, 6 a value, 7 is kept, 8 a value,
+-- 9 the product, 10 the sum, 11 the print, 12 the end
+abbrev arithmetic : Setting
+arithmetic =
+    program (printed (binary Add (number (pos 1)) (binary Multiply (number (pos 2)) (number (pos 3)))) ∷ []) 0 65536 4096
+
+arithmetic_before_its_end : source_after arithmetic [] 11 ≡ record { trace = output (codes "7\n") ∷ []; ending = None }
+unfolding int_wrap digits
+arithmetic_before_its_end = refl
+
+arithmetic_at_its_end : source_after arithmetic [] 12 ≡ record { trace = output (codes "7\n") ∷ []; ending = Some ended }
+unfolding int_wrap digits
+arithmetic_at_its_end = refl
+
+-- type list<a> { Nil; Cons(head: a, tail: list<a>) }: constructors 2 and 3
+abbrev nil : Tree
+nil = made 2 []
+
+abbrev cons : Tree → Tree → Tree
+cons head tail = made 3 (head ∷ tail ∷ [])
+
+-- fun build(n) { if n == 0 then Nil else Cons(n, build(n - 1)) }
+abbrev build : Tree
+build =
+    branch (binary Equal (variable 0) (number (pos 0))) nil
+    (cons (variable 0) (called 0 (binary Subtract (variable 0) (number (pos 1)) ∷ [])))
+
+-- fun len(xs) { match xs { Nil -> 0; Cons(_, xx) -> 1 + len(xx) } }
+abbrev len : Tree
+len =
+    match (variable 0)
+    (row (of_made 2 []) (number (pos 0))
+    (row (of_made 3 (anything ∷ names 1 ∷ [])) (binary Add (number (pos 1)) (called 1 (variable 1 ∷ [])))
+    no_row))
+
+-- fun main() { println(len(build(3))) }
+-- build(n) takes 17 steps to its call, then those of build(n - 1) with its return, 1 to construct and 1 to return;
+-- build(0) takes 9: so build(3) takes 66. len takes 11 a cell and 5 at the end: 38. With the 5 steps up to the first
+-- call, 1 for the second, the print and the end they are 112.
+abbrev deep : ℕ → Setting
+deep depth = program (build ∷ len ∷ printed (called 1 (called 0 (number (pos 3) ∷ []) ∷ [])) ∷ []) 2 65536 depth
+
+deep_before_its_end : source_after (deep 5) [] 111 ≡ record { trace = output (codes "3\n") ∷ []; ending = None }
+unfolding int_wrap digits
+deep_before_its_end = refl
+
+deep_at_its_end : source_after (deep 5) [] 112 ≡ record { trace = output (codes "3\n") ∷ []; ending = Some ended }
+unfolding int_wrap digits
+deep_at_its_end = refl
+
+-- build(3) is entered by step 5, build(2) by 22, build(1) by 39; the call of build(0) finds four call frames
+too_deep_before : source_after (deep 4) [] 55 ≡ record { trace = []; ending = None }
+unfolding int_wrap
+too_deep_before = refl
+
+too_deep : source_after (deep 4) [] 56 ≡ record { trace = []; ending = Some stack_full }
+unfolding int_wrap
+too_deep = refl

@@ -1,0 +1,4 @@
+pub mod Builder
+mod Examples
+pub mod Live
+pub mod Sound

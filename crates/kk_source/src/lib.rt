@@ -1,0 +1,2 @@
+//! The meaning of a program: the store machine.
+#![tactic(auto)]
