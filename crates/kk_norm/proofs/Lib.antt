@@ -1,0 +1,4 @@
+pub mod Delivery
+pub mod Simulation
+pub mod Variables
+pub mod Waits
