@@ -9,12 +9,14 @@ use Rattle.kk_base.proofs.Simulations.{simulates_until_ended}
 use Rattle.kk_syntax.specs.declared.program.Form.{Form}
 use Rattle.kk_syntax.specs.declared.program.Form.TheVariants.{Unary, Binary, Print, Construct, Call}
 use Rattle.kk_syntax.specs.Trees.{Tree, number, unit as unit_tree, variable, read_byte, print_text, apply, branch as if_tree, match, sequence, Trees, no_tree, tree}
-use Rattle.kk_syntax.specs.Shapes.{free, free_all, nodes_of, nodes_of_all, nodes_of_binder, without}
+use Rattle.kk_syntax.specs.declared.program.Binder.{Binder}
+use Rattle.kk_syntax.specs.declared.program.Binder.TheVariants as OfBinder
+use Rattle.kk_syntax.specs.Shapes.{free, free_all, nodes_of, nodes_of_all, nodes_of_binder, without, is_among, bound_by}
 use Rattle.kk_syntax.specs.Programs.{FunctionTree}
 use Rattle.kk_syntax.specs.PositionsOf.{is_lent}
 use Rattle.kk_source.specs.Notes.{Note}
 use Rattle.kk_source.specs.State.{Setting, Value, integer, unit, constant, Store, Environment, Frame, arguments, branches, rows, statement, call, End, stack_full, Control, expression, value, stopped, Configuration, State, end_at}
-use Rattle.kk_source.specs.Live.{value_of}
+use Rattle.kk_source.specs.Live.{value_of, awaited}
 use Rattle.kk_source.specs.Step.{Action, calls, print_step, unary_result, binary_result, argument, is_true, integer_of, piece_of, byte_value, bind_parameters, bind, variable_of, call_frames, lent_places, at_end, in_body, form_step, call_step, push_step}
 use Rattle.kk_source.specs.SourceAfter.{performed, step}
 use Rattle.kk_core.specs.Codes.{Code, give, tail_call, branch, compute, FunctionCode}
@@ -25,7 +27,7 @@ use Rattle.kk_norm.specs.Names.{Names, name_of, named}
 use Rattle.kk_norm.specs.Normalized.{Then, final, next, size, size_all, atom, atoms, after, within, joined, finish, finish_call, code, code_all, normal_function}
 use Rattle.kk_norm.specs.NoCells.{NoCells, NoCellsAll, MakesNoCell, IsPlain}
 use Rattle.kk_norm.specs.Meaning.{heavy_store_machine, core_setting, ArePlainWithin}
-use Rattle.kk_norm.proofs.Variables.{SameBelow, Stands, AllBelow, stands_left, stands_right, stands_later, stands_bound, all_below_more, all_below_one_more, values_one_more}
+use Rattle.kk_norm.proofs.Variables.{same_number, SameBelow, Stands, AllBelow, stands_left, stands_right, stands_later, stands_bound, all_below_more, all_below_one_more, values_one_more}
 use Rattle.kk_norm.proofs.Waits.{Goal, nowhere, returns, goes_on, goal_of, Fresh, fresh_top, fresh_less, MakesNothing, ArgumentsWait, Waits, waits_move, waits_nowhere, calls_are, due, due_small}
 use Rattle.kk_norm.proofs.Delivery.{source_at, core_at, AtTree, AtValue, At, Related, Passing, goal_code, goal_variable, goal_joins}
 use Rattle.kk_norm.proofs.Delivery as Delivery
@@ -43,7 +45,7 @@ some_nodes (match e of) = omega arith
 some_nodes (sequence binder first rest) = omega (arith, some_nodes first)
 
 -- a form with arguments that makes no cell is no construction
-makes_nothing_of : (form : Form) (e : Tree) (es : Trees) → MakesNoCell form (tree e es) → MakesNothing form
+pub makes_nothing_of : (form : Form) (e : Tree) (es : Trees) → MakesNoCell form (tree e es) → MakesNothing form
 makes_nothing_of (Unary operator) e es makes = tt
 makes_nothing_of (Binary operator) e es makes = tt
 makes_nothing_of (Print form) e es makes = tt
@@ -51,23 +53,40 @@ makes_nothing_of (Construct c) e es makes = absurd makes
 makes_nothing_of (Call f) e es makes = tt
 
 -- a form on these variables makes no cell
-abbrev Acts : Form → List ℕ → Type 0
+abbrev pub Acts : Form → List ℕ → Type 0
 Acts (Construct c) (x ∷ xs) = ⊥
 Acts form xs = Unit {0}
 
-acts_nothing : (form : Form) (xs : List ℕ) → MakesNothing form → Acts form xs
+pub acts_nothing : (form : Form) (xs : List ℕ) → MakesNothing form → Acts form xs
 acts_nothing (Unary operator) xs makes = tt
 acts_nothing (Binary operator) xs makes = tt
 acts_nothing (Print form) xs makes = tt
 acts_nothing (Construct c) xs makes = absurd makes
 acts_nothing (Call f) xs makes = tt
 
-acts_alone : (form : Form) → Acts form []
+pub acts_alone : (form : Form) → Acts form []
 acts_alone (Unary operator) = tt
 acts_alone (Binary operator) = tt
 acts_alone (Print form) = tt
 acts_alone (Construct c) = tt
 acts_alone (Call f) = tt
+
+-- a value that ends a block goes to the same place, wherever it is
+goal_final : (tail : Bool) (joins : List Join) (x y : ℕ) → goal_of (final tail) x joins ≡ goal_of (final tail) y joins
+goal_final true [] x y = refl
+goal_final true (join ∷ joins) x y = refl
+goal_final false [] x y = refl
+goal_final false (join ∷ joins) x y = refl
+
+pub alone_among : (x : ℕ) → is_among (x ∷ []) x ≡ true
+alone_among x = rw (same_number x) refl
+
+-- a statement's free variables, by the variable that it binds
+pub stands_after : (binder : Binder) (names : Names) (environment core : Environment) (bound : ℕ) (xs : List ℕ)
+    → Stands names environment core bound (without (bound_by binder) xs) → Stands names environment core bound (without (awaited (variable_of binder)) xs)
+stands_after OfBinder.Nothing names environment core bound xs stands = stands
+stands_after OfBinder.Wildcard names environment core bound xs stands = stands
+stands_after (OfBinder.Variable x) names environment core bound xs stands = stands
 
 -- what a call frame waits for is the same in every environment
 waits_call : (most : ℕ) (lent : List Value) (fs : List Frame) (core other : Environment) (low high low_after high_after : ℕ) (frames : List CallFrame)
@@ -76,21 +95,21 @@ waits_call most lent fs core other low high low_after high_after [] waits = wait
 waits_call most lent fs core other low high low_after high_after (frame ∷ frames) waits = waits
 
 module _ (setting : Setting) (most cost : ℕ) (weight : CoreState → ℕ) (light : (t : CoreState) → weight t ≤ cost) (plain : ArePlainWithin most setting.program.functions) where
-  abbrev lower : Machine CoreState Note End
+  abbrev pub lower : Machine CoreState Note End
   lower = Delivery.lower setting most cost weight light
 
-  abbrev Follows : ℕ → ℕ → List Note → State → CoreState → Type 0
+  abbrev pub Follows : ℕ → ℕ → List Note → State → CoreState → Type 0
   Follows = Delivery.Follows setting most cost weight light
 
   -- what an action of the source does is done
-  abbrev Does : ℕ → ℕ → Action → List ℕ → CoreState → Type 0
+  abbrev pub Does : ℕ → ℕ → Action → List ℕ → CoreState → Type 0
   Does credit idle action input t = Follows credit idle (performed action input).0 (performed action input).1 t
 
-  abbrev from_at : Control → List Frame → Store → Configuration
+  abbrev pub from_at : Control → List Frame → Store → Configuration
   from_at control fs store = record { control = control; frames = fs; store = store }
 
   -- a print
-  prints_to : (piece : List ℕ) (k : Then) (m low top : ℕ) (core : Environment) (joins : List Join) (frames : List CallFrame) (fs : List Frame) (store : Store) (input : List ℕ) (credit idle : ℕ) (control : Control) (t : CoreState)
+  pub prints_to : (piece : List ℕ) (k : Then) (m low top : ℕ) (core : Environment) (joins : List Join) (frames : List CallFrame) (fs : List Frame) (store : Store) (input : List ℕ) (credit idle : ℕ) (control : Control) (t : CoreState)
       → lower.step t ≡ core_performed (Core.print_step piece (λ v. (core_at (after k m) (record { variable = m; value = v } ∷ core) joins frames store input).machine)) input
       → low ≤ m → Fresh k joins (m + 1) top → Waits most fs (goal_of k m joins) core low top frames
       → Does credit idle (print_step piece (from_at control fs store)) input t
@@ -215,7 +234,7 @@ module _ (setting : Setting) (most cost : ℕ) (weight : CoreState → ℕ) (lig
   calls_to f xs (final true) m low top core [] frames (statement w e environment ∷ fs) store input credit idle control older le fresh waits stay = absurd waits
 
   -- a form on variables
-  acts : (form : Form) (xs : List ℕ) → Acts form xs → (k : Then) (m low top : ℕ) (core : Environment) (joins : List Join) (frames : List CallFrame) (fs : List Frame) (store : Store) (input : List ℕ) (credit idle : ℕ) (control : Control) (older : List Frame)
+  pub acts : (form : Form) (xs : List ℕ) → Acts form xs → (k : Then) (m low top : ℕ) (core : Environment) (joins : List Join) (frames : List CallFrame) (fs : List Frame) (store : Store) (input : List ℕ) (credit idle : ℕ) (control : Control) (older : List Frame)
       → low ≤ m → Fresh k joins (m + 1) top → Waits most fs (goal_of k m joins) core low top frames
       → Related most credit idle (source_at control older store input) (core_at (finish k m form xs) core joins frames store input)
       → Does credit idle (form_step setting form (map (value_of core) xs) fs (from_at control older store)) input (core_at (finish k m form xs) core joins frames store input)
@@ -230,3 +249,54 @@ module _ (setting : Setting) (most cost : ℕ) (weight : CoreState → ℕ) (lig
   acts (Construct c) (x ∷ xs) makes k m low top core joins frames fs store input credit idle control older le fresh waits stay = absurd makes
   acts (Call f) xs makes k m low top core joins frames fs store input credit idle control older le fresh waits stay =
       calls_to f xs k m low top core joins frames fs store input credit idle control older le fresh waits stay
+
+  -- the core machine at the branch that is taken
+  in_branch : (test : Bool) (k : Then) (positive negative : Tree) (names : Names) (environment : Environment) (n low top : ℕ) (core : Environment) (joins : List Join) (frames : List CallFrame) (fs : List Frame) (store : Store) (input : List ℕ)
+      → low ≤ n → Stands names environment core low (free positive ++ free negative) → NoCells positive → NoCells negative → nodes_of positive + nodes_of negative ≤ most
+      → Fresh k joins (n + size positive + size negative) top → ((x : ℕ) → Waits most fs (goal_of k x joins) core low top frames)
+      → AtTree most most (if test then positive else negative) environment fs store input (core_at (if test then code k names n positive else code k names (n + size positive) negative) core joins frames store input)
+  in_branch true k positive negative names environment n low top core joins frames fs store input le stands plain_positive plain_negative small fresh waits =
+      record {
+        k = k; names = names; n = n; top = top; core = core; joins = joins; frames = frames; is = refl;
+        stands = stands_left names environment core n (free positive) (free negative) (stands_later names environment core core low n (free positive ++ free negative) (λ z below. refl) le stands);
+        plain = plain_positive; small = omega arith; idles = omega arith;
+        fresh = fresh_less k joins (n + size positive) (n + size positive + size negative) top (omega arith) fresh;
+        later = waits_move most fs (goal_of k (atom names n positive) joins) core core low n top top frames (λ z below. refl) le (omega arith) (waits (atom names n positive));
+      }
+  in_branch false k positive negative names environment n low top core joins frames fs store input le stands plain_positive plain_negative small fresh waits =
+      let m : ℕ = n + size positive in
+      record {
+        k = k; names = names; n = m; top = top; core = core; joins = joins; frames = frames; is = refl;
+        stands = stands_right names environment core m (free positive) (free negative) (stands_later names environment core core low m (free positive ++ free negative) (λ z below. refl) (omega arith) stands);
+        plain = plain_negative; small = omega arith; idles = omega arith; fresh = fresh;
+        later = waits_move most fs (goal_of k (atom names m negative) joins) core core low m top top frames (λ z below. refl) (omega arith) (omega arith) (waits (atom names m negative));
+      }
+
+  -- a condition decides which branch comes
+  pub branch_goes : (test : Bool) (k : Then) (positive negative : Tree) (names : Names) (environment : Environment) (n low top : ℕ) (core : Environment) (joins : List Join) (x : ℕ) (frames : List CallFrame) (fs : List Frame) (store : Store) (input : List ℕ) (credit idle : ℕ)
+      → is_true (value_of core x) ≡ test → low ≤ n → Stands names environment core low (free positive ++ free negative) → NoCells positive → NoCells negative → nodes_of positive + nodes_of negative ≤ most
+      → Fresh k joins (n + size positive + size negative + 1) top → Waits most fs (goal_of k (n + size positive + size negative) joins) core low top frames
+      → Follows credit idle [] (source_at (expression (if test then positive else negative) environment) fs store input) (core_at (joined k (n + size positive + size negative) (branch x (code (within k) names n positive) (code (within k) names (n + size positive) negative))) core joins frames store input)
+  branch_goes test (final tail) positive negative names environment n low top core joins x frames fs store input credit idle is le stands plain_positive plain_negative small fresh waits =
+      let k : Then = final tail in
+      Delivery.follows_step setting most cost weight light credit idle most 0 [] (source_at (expression (if test then positive else negative) environment) fs store input) (core_at (branch x (code k names n positive) (code k names (n + size positive) negative)) core joins frames store input)
+      (core_at (if test then code k names n positive else code k names (n + size positive) negative) core joins frames store input)
+      (ap (λ (b : Bool). ([], core_at (if b then code k names n positive else code k names (n + size positive) negative) core joins frames store input)) is)
+      (omega arith) (omega arith) refl
+      (in_branch test k positive negative names environment n low top core joins frames fs store input le stands plain_positive plain_negative small
+      (fresh_less k joins (n + size positive + size negative) (n + size positive + size negative + 1) top (omega arith) fresh)
+      (λ y. subst (λ (goal : Goal). Waits most fs goal core low top frames) (goal_final tail joins (n + size positive + size negative) y) waits))
+  branch_goes test (next rest) positive negative names environment n low top core joins x frames fs store input credit idle is le stands plain_positive plain_negative small fresh waits =
+      let k : Then = final false in
+      let m : ℕ = n + size positive + size negative in
+      let join : Join = record { variable = m; rest = rest } in
+      let between : CoreState = core_at (branch x (code k names n positive) (code k names (n + size positive) negative)) core (join ∷ joins) frames store input in
+      let taken : CoreState = core_at (if test then code k names n positive else code k names (n + size positive) negative) core (join ∷ joins) frames store input in
+      let goes : lower.step between ≡ ([], taken)
+      = ap (λ (b : Bool). ([], core_at (if b then code k names n positive else code k names (n + size positive) negative) core (join ∷ joins) frames store input)) is in
+      let s : State = source_at (expression (if test then positive else negative) environment) fs store input in
+      Delivery.follows_step setting most cost weight light credit idle most 1 [] s (core_at (joined (next rest) m (branch x (code k names n positive) (code k names (n + size positive) negative))) core joins frames store input)
+      between refl (omega arith) (omega arith)
+      (subst (λ (one : List Note × CoreState). one.0 ++ [] ≡ []) (sym goes) refl)
+      (subst (λ (one : List Note × CoreState). Related most credit most s one.1) (sym goes)
+      (in_branch test k positive negative names environment n low top core (join ∷ joins) frames fs store input le stands plain_positive plain_negative small (omega arith, omega (arith, fresh)) (λ y. waits)))
