@@ -1,4 +1,5 @@
 pub mod Delivery
+pub mod Keeping
 pub mod Simulation
 pub mod Steps
 pub mod Variables

@@ -26,9 +26,9 @@ use Rattle.kk_core.specs.CoreMachine.{core_performed, core_ending_of}
 use Rattle.kk_norm.specs.Names.{Names, name_of, named}
 use Rattle.kk_norm.specs.Normalized.{Then, final, next, size, size_all, atom, atoms, after, within, joined, finish, finish_call, code, code_all, normal_function}
 use Rattle.kk_norm.specs.NoCells.{NoCells, NoCellsAll, MakesNoCell, IsPlain}
-use Rattle.kk_norm.specs.Meaning.{heavy_store_machine, core_setting, ArePlainWithin}
+use Rattle.kk_norm.specs.Meaning.{heavy_store_machine, core_setting}
 use Rattle.kk_norm.proofs.Variables.{same_number, SameBelow, Stands, AllBelow, stands_left, stands_right, stands_later, stands_bound, all_below_more, all_below_one_more, values_one_more}
-use Rattle.kk_norm.proofs.Waits.{Goal, nowhere, returns, goes_on, goal_of, Fresh, fresh_top, fresh_less, MakesNothing, ArgumentsWait, Waits, waits_move, waits_nowhere, calls_are, due, due_small}
+use Rattle.kk_norm.proofs.Waits.{ArePlainWithin, Goal, nowhere, returns, goes_on, goal_of, Fresh, fresh_top, fresh_less, MakesNothing, ArgumentsWait, Waits, waits_move, waits_nowhere, calls_are, due, due_small}
 use Rattle.kk_norm.proofs.Delivery.{source_at, core_at, AtTree, AtValue, At, Related, Passing, goal_code, goal_variable, goal_joins}
 use Rattle.kk_norm.proofs.Delivery as Delivery
 

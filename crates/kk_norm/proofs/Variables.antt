@@ -60,7 +60,7 @@ pub stands_later : (names : Names) (environment core later : Environment) (bound
 stands_later names environment core later bound most xs same le stands = λ x is. (same (name_of names x) (stands x is).1 ∙ (stands x is).0, omega (arith, (stands x is).1))
 
 -- a variable is among others or is one that is taken away
-among_without : (ys xs : List ℕ) (x : ℕ) → is_among ys x ≡ false → is_among xs x ≡ true → is_among (without ys xs) x ≡ true
+pub among_without : (ys xs : List ℕ) (x : ℕ) → is_among ys x ≡ false → is_among xs x ≡ true → is_among (without ys xs) x ≡ true
 among_without ys [] x out is = is
 among_without ys (z ∷ xs) x out is = by_tests (z == x) (is_among ys z) refl refl (λ later. among_without ys xs x out later)
   where

@@ -12,7 +12,9 @@ use Rattle.kk_core.specs.Codes.{Code, give, branch}
 use Rattle.kk_core.specs.CoreStates.{Join, CallFrame}
 use Rattle.kk_norm.specs.Names.{Names, named}
 use Rattle.kk_norm.specs.Normalized.{Then, final, next, size, size_all, atom, atoms, after, within, joined, finish, code, code_all}
-use Rattle.kk_norm.specs.NoCells.{NoCells, NoCellsAll}
+use Rattle.std.specs.Prelude.{slice_get}
+use Rattle.kk_syntax.specs.Programs.{FunctionTree}
+use Rattle.kk_norm.specs.NoCells.{NoCells, NoCellsAll, IsPlain}
 use Rattle.kk_norm.proofs.Variables.{SameBelow, Stands, AllBelow, stands_later, values_later, all_below_more}
 
 -- where a value goes: to the function that waits; or into a variable, and then more comes
@@ -235,3 +237,7 @@ due_returns most (branches positive negative environment ∷ fs) core low high f
 due_returns most (rows of environment ∷ fs) core low high frames waits = refl
 due_returns most (statement w e environment ∷ fs) core low high frames waits = absurd waits
 due_returns most (call lent ∷ fs) core low high frames waits = refl
+
+-- each function is plain, and its body has at most so many nodes
+abbrev pub ArePlainWithin : ℕ → List FunctionTree → Type 0
+ArePlainWithin most functions = (f : ℕ) (function : FunctionTree) → slice_get functions f ≡ Some function → IsPlain function × (nodes_of function.body ≤ most)

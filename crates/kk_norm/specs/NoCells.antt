@@ -1,5 +1,5 @@
 -- The programs that make no cells and look into none.
-use Rattle.std.specs.Prelude.{◌≡◌, ℕ, ◌<◌, List, [], ◌∷◌, true, length}
+use Rattle.std.specs.Prelude.{◌≡◌, ℕ, ◌<◌, List, true, length, Some, slice_get}
 use Rattle.kk_syntax.specs.declared.program.Form.{Form}
 use Rattle.kk_syntax.specs.declared.program.Form.TheVariants.{Unary, Binary, Print, Construct, Call}
 use Rattle.kk_syntax.specs.Trees.{Tree, number, unit, variable, read_byte, print_text, apply, branch, match, sequence, Trees, no_tree, tree}
@@ -33,6 +33,6 @@ pub record IsPlain (function : FunctionTree) : Type 0 where
   pub closed : (x : ℕ) → is_among (free function.body) x ≡ true → x < length function.parameters
   pub no_cells : NoCells function.body
 
+-- each function is plain
 abbrev pub ArePlain : List FunctionTree → Type 0
-ArePlain [] = Unit {0}
-ArePlain (function ∷ functions) = IsPlain function × ArePlain functions
+ArePlain functions = (f : ℕ) (function : FunctionTree) → slice_get functions f ≡ Some function → IsPlain function
