@@ -1,0 +1,84 @@
+-- Runs of two small programs, counted by hand.
+use Rattle.std.proofs.Common.{◌≡◌, ℕ, pos, List, [], ◌∷◌, Some, None, refl}
+use Rattle.std.specs.Int.{int_wrap}
+use Rattle.std.specs.Fmt.{digits}
+use Rattle.std.specs.Prelude.{codes}
+use Rattle.kk_base.specs.Trace.{output}
+use Rattle.kk_base.specs.Machines.{trace, ending_after}
+use Rattle.kk_syntax.specs.declared.operator.BinaryOperator.TheVariants.{Add, Subtract, Multiply, Equal}
+use Rattle.kk_syntax.specs.declared.operator.PrintForm.TheVariants.{PrintLine}
+use Rattle.kk_syntax.specs.declared.program.Form.TheVariants.{Binary, Print, Call}
+use Rattle.kk_syntax.specs.PositionsOf.{all_owned}
+use Rattle.kk_source.specs.State.{ended, stack_full}
+use Rattle.kk_source.specs.Notes.{seen, called}
+use Rattle.kk_core.specs.Codes.{number, apply, give, branch, compute, FunctionCode}
+use Rattle.kk_core.specs.CoreStates.{CoreSetting, core_first_state}
+use Rattle.kk_core.specs.CoreMachine.{core_machine}
+
+abbrev setting : List FunctionCode → ℕ → ℕ → CoreSetting
+setting functions main depth = record {
+  code = record { functions = functions; main = main };
+  positions = all_owned;
+  cells = 8;
+  depth = depth;
+}
+
+-- println(1 + 2 * 3): three numbers, two operators, the print, the end
+abbrev arithmetic : CoreSetting
+arithmetic =
+    setting
+    (record {
+      parameters = 0;
+      variables = 6;
+      body = compute 0 (number (pos 1)) (compute 1 (number (pos 2)) (compute 2 (number (pos 3))
+          (compute 3 (apply (Binary Multiply) (1 ∷ 2 ∷ [])) (compute 4 (apply (Binary Add) (0 ∷ 3 ∷ []))
+          (compute 5 (apply (Print PrintLine) (4 ∷ [])) (give 5))))));
+    } ∷ [])
+    0 1
+
+arithmetic_tells : trace (core_machine (λ s. 1) arithmetic) 7 (core_first_state arithmetic []) ≡ seen (output (codes "7\n")) ∷ []
+unfolding int_wrap digits
+arithmetic_tells = refl
+
+arithmetic_goes_on : ending_after (core_machine (λ s. 1) arithmetic) 6 (core_first_state arithmetic []) ≡ None
+unfolding int_wrap digits
+arithmetic_goes_on = refl
+
+arithmetic_ends : ending_after (core_machine (λ s. 1) arithmetic) 7 (core_first_state arithmetic []) ≡ Some ended
+unfolding int_wrap digits
+arithmetic_ends = refl
+
+-- fun sum(n) { if n == 0 then 0 else n + sum(n - 1) }, and println(sum(2)): three calls that are no tail calls, which find
+-- one, two and three call frames
+abbrev sum : FunctionCode
+sum = record {
+  parameters = 1;
+  variables = 8;
+  body = compute 1 (number (pos 0)) (compute 2 (apply (Binary Equal) (0 ∷ 1 ∷ []))
+      (branch 2 (compute 3 (number (pos 0)) (give 3))
+      (compute 4 (number (pos 1)) (compute 5 (apply (Binary Subtract) (0 ∷ 4 ∷ []))
+      (compute 6 (apply (Call 0) (5 ∷ [])) (compute 7 (apply (Binary Add) (0 ∷ 6 ∷ [])) (give 7)))))));
+}
+
+abbrev deep : ℕ → CoreSetting
+deep depth =
+    setting
+    (sum ∷ record {
+      parameters = 0;
+      variables = 3;
+      body = compute 0 (number (pos 2)) (compute 1 (apply (Call 0) (0 ∷ [])) (compute 2 (apply (Print PrintLine) (1 ∷ [])) (give 2)));
+    } ∷ [])
+    1 depth
+
+deep_tells : trace (core_machine (λ s. 1) (deep 4)) 40 (core_first_state (deep 4) []) ≡ called 1 ∷ called 2 ∷ called 3 ∷ seen (output (codes "3\n")) ∷ []
+unfolding int_wrap digits
+deep_tells = refl
+
+deep_ends : ending_after (core_machine (λ s. 1) (deep 4)) 40 (core_first_state (deep 4) []) ≡ Some ended
+unfolding int_wrap digits
+deep_ends = refl
+
+-- with three call frames the third call finds the stack full
+deep_is_too_deep : ending_after (core_machine (λ s. 1) (deep 3)) 14 (core_first_state (deep 3) []) ≡ Some stack_full
+unfolding int_wrap digits
+deep_is_too_deep = refl

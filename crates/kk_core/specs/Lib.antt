@@ -1,0 +1,5 @@
+pub mod Codes
+pub mod CoreMachine
+pub mod CoreStates
+pub mod Needed
+pub mod Sizes

@@ -1,0 +1,57 @@
+-- The shape of a code: how long it is, and that its variables are in order.
+use Rattle.std.specs.Prelude.{◌≡◌, ℕ, zero, suc, ◌+◌, ◌≤◌, List, [], ◌∷◌, ◌++◌, true}
+use Rattle.kk_syntax.specs.Shapes.{is_among}
+use Rattle.kk_core.specs.Codes.{Code, give, tail_call, branch, case, compute, use_of, unpack, inside, Arms, no_arm, arm, FunctionCode}
+use Rattle.kk_core.specs.Needed.{read_by}
+
+-- the number of forms in a code
+abbrev mutual
+  pub forms : Code → ℕ
+  forms (give x) = 1
+  forms (tail_call f arguments) = 1
+  forms (branch x positive negative) = forms positive + forms negative + 1
+  forms (case x arms) = forms_of_arms arms + 1
+  forms (compute x operation rest) = forms rest + 1
+  forms (use_of x rest) = forms rest + 1
+  forms (unpack x fields rest) = forms rest + 1
+  forms (inside x block rest) = forms block + forms rest + 1
+
+  pub forms_of_arms : Arms → ℕ
+  forms_of_arms no_arm = 0
+  forms_of_arms (arm pattern body rest) = forms body + forms_of_arms rest
+
+-- each variable of a list is among those that are bound
+abbrev pub AreBound : List ℕ → List ℕ → Type 0
+AreBound bound [] = Unit {0}
+AreBound bound (x ∷ xs) = (is_among bound x ≡ true) × AreBound bound xs
+
+-- the variables of a list, each at least `low` and all above those before them, are below `high`
+abbrev pub Rise : ℕ → List ℕ → ℕ → Type 0
+Rise low [] high = low ≤ high
+Rise low (x ∷ xs) high = (low ≤ x) × Rise (x + 1) xs high
+
+-- Each variable is bound before it is read, once on each path, and above all that was bound before it: with `bound` bound
+-- so far, all of them below `low`, the code binds variables from `low` on, all of them below `high`.
+abbrev mutual
+  pub Ordered : List ℕ → ℕ → Code → ℕ → Type 0
+  Ordered bound low (give x) high = (is_among bound x ≡ true) × (low ≤ high)
+  Ordered bound low (tail_call f arguments) high = AreBound bound arguments × (low ≤ high)
+  Ordered bound low (branch x positive negative) high = (middle : ℕ) × (is_among bound x ≡ true) × Ordered bound low positive middle × Ordered bound middle negative high
+  Ordered bound low (case x arms) high = (is_among bound x ≡ true) × OrderedArms bound low arms high
+  Ordered bound low (compute x operation rest) high = AreBound bound (read_by operation) × (low ≤ x) × Ordered (x ∷ bound) (x + 1) rest high
+  Ordered bound low (use_of x rest) high = (is_among bound x ≡ true) × Ordered bound low rest high
+  Ordered bound low (unpack x fields rest) high = (middle : ℕ) × (is_among bound x ≡ true) × Rise low fields middle × Ordered (fields ++ bound) middle rest high
+  Ordered bound low (inside x block rest) high = Ordered bound low block x × Ordered (x ∷ bound) (x + 1) rest high
+
+  pub OrderedArms : List ℕ → ℕ → Arms → ℕ → Type 0
+  OrderedArms bound low no_arm high = low ≤ high
+  OrderedArms bound low (arm pattern body rest) high = (middle : ℕ) × Ordered bound low body middle × OrderedArms bound middle rest high
+
+-- the numbers below a bound, the greatest one first
+abbrev pub below : ℕ → List ℕ
+below zero = []
+below (suc n) = n ∷ below n
+
+-- a function's body is in order after its parameters
+abbrev pub IsOrdered : FunctionCode → Type 0
+IsOrdered function = Ordered (below function.parameters) function.parameters function.body function.variables

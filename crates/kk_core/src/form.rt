@@ -1,0 +1,83 @@
+ghost use Rattle.std.specs.Prelude.{◌<◌, vec_len};
+
+use kk_syntax::{Form, Pat, PrintForm, StringLiteral};
+
+/// A program in core form.
+#[derive(Debug, Drop)]
+pub struct Core {
+    /// The functions, in the order of the program that it was made of: a call names one by its number, from 0.
+    pub functions: Vec<CoreFunction>,
+    /// The number of `main`.
+    pub main: u32,
+    pub ghost main_in: { main < vec_len functions },
+}
+
+/// A function in core form. Its variables are numbered: each that it binds has a number of its own, and all that is
+/// computed later has a greater one.
+#[derive(Debug, Drop)]
+pub struct CoreFunction {
+    /// The number of its parameters: parameter `i` is variable `i`.
+    pub parameters: u32,
+    /// A number above all of its variables.
+    pub variables: u32,
+    pub body: Block,
+}
+
+/// Steps in their order, and how the block ends.
+#[cycle(block)]
+#[derive(Debug, Drop)]
+pub struct Block {
+    pub steps: Vec<Step>,
+    pub last: Last,
+}
+
+/// A step of a block.
+#[cycle(block)]
+#[derive(Debug, Drop)]
+pub enum Step {
+    /// The variable takes the value of the operation.
+    Let(u32, Operation),
+    /// The variable is still of use here. Nothing is done.
+    Use(u32),
+    /// The variables take the fields of the cell that the first one names, in their order.
+    Open(u32, Vec<u32>),
+    /// The variable takes the value of the block, which is run first.
+    Inside(u32, Block),
+}
+
+/// How a block ends. A block that is a step of another ends by giving its value to that step's variable, and has no
+/// tail call.
+#[cycle(block)]
+#[derive(Debug, Drop)]
+pub enum Last {
+    /// By giving the value of a variable.
+    Return(u32),
+    /// By calling a function, whose value is given.
+    TailCall(u32, Vec<u32>),
+    /// As the first block where the variable is `True`, and else as the second.
+    If(u32, Box<Block>, Box<Block>),
+    /// As the block of the first arm whose pattern matches the variable's value.
+    Case(u32, Vec<Arm>),
+}
+
+/// An arm of a case. The variables of its pattern count as `_`: the arm's block opens what it needs.
+#[cycle(block)]
+#[derive(Debug, Drop)]
+pub struct Arm {
+    pub pattern: Pat,
+    pub body: Block,
+}
+
+/// What is computed.
+#[derive(Debug, Drop)]
+pub enum Operation {
+    Number(i32),
+    /// `()`
+    Unit,
+    /// The next byte of the input, or -1 at its end.
+    ReadByte,
+    /// A print of a string literal.
+    PrintText(PrintForm, StringLiteral),
+    /// A form on variables: an operator, a print of a number, a construction, or a call that is no tail call.
+    Apply(Form, Vec<u32>),
+}

@@ -1,0 +1,6 @@
+//! The core form of a program: its intermediate results have names, in the order in which they are computed.
+#![tactic(auto)]
+
+mod form;
+
+pub use form::{Arm, Block, Core, CoreFunction, Last, Operation, Step};

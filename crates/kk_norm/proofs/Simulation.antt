@@ -1,0 +1,302 @@
+-- The core machine does each step of the store machine.
+use Rattle.std.proofs.Common.{◌≡◌, ℕ, zero, suc, ◌+◌, ◌*◌, ◌<◌, ◌≤◌, Bool, true, false, List, [], ◌∷◌, ◌++◌, length, Option, Some, None, map, refl, sym, ap, subst, ◌∙◌, arith, zero-mul, append_assoc, option_map}
+use Rattle.std.specs.Prelude.{nat_le, if◌then◌else◌, slice_get}
+use Rattle.std.specs.Fmt.{signed_decimal}
+use Rattle.std.proofs.lemmas.Option.{slice_get-map}
+use Rattle.kk_base.specs.Machines.{Machine, trace, state, weight_of}
+use Rattle.kk_base.specs.Simulations.{Reaches, Simulates}
+use Rattle.kk_base.proofs.Simulations.{simulates_until_ended}
+use Rattle.kk_syntax.specs.declared.program.Form.{Form}
+use Rattle.kk_syntax.specs.declared.program.Form.TheVariants.{Unary, Binary, Print, Construct, Call}
+use Rattle.kk_syntax.specs.Trees.{Tree, number, unit as unit_tree, variable, read_byte, print_text, apply, branch as if_tree, match, sequence, Trees, no_tree, tree}
+use Rattle.kk_syntax.specs.declared.program.Binder.{Binder}
+use Rattle.kk_syntax.specs.declared.program.Binder.TheVariants as OfBinder
+use Rattle.kk_syntax.specs.Shapes.{free, free_all, nodes_of, nodes_of_all, nodes_of_binder, without, is_among, bound_by}
+use Rattle.kk_syntax.specs.Programs.{FunctionTree}
+use Rattle.kk_syntax.specs.PositionsOf.{is_lent}
+use Rattle.kk_source.specs.Notes.{Note}
+use Rattle.kk_source.specs.State.{Setting, Value, integer, unit, constant, Store, Environment, Frame, arguments, branches, rows, statement, call, End, stack_full, Control, expression, value, stopped, Configuration, State, end_at}
+use Rattle.kk_source.specs.Live.{value_of, awaited}
+use Rattle.kk_source.specs.Step.{Action, calls, print_step, unary_result, binary_result, argument, is_true, integer_of, piece_of, byte_value, bind_parameters, bind, variable_of, call_frames, lent_places, at_end, in_body, form_step, call_step, push_step}
+use Rattle.kk_source.specs.SourceAfter.{performed, step}
+use Rattle.kk_core.specs.Codes.{Code, give, tail_call, branch, compute, FunctionCode}
+use Rattle.kk_core.specs.CoreStates.{CoreSetting, Join, CallFrame, running, stopped as core_stopped, CoreConfiguration, CoreState, core_end_at}
+use Rattle.kk_core.specs.CoreMachine as Core
+use Rattle.kk_core.specs.CoreMachine.{core_performed, core_ending_of}
+use Rattle.kk_norm.specs.Names.{Names, name_of, named}
+use Rattle.kk_norm.specs.Normalized.{Then, final, next, size, size_all, atom, atoms, after, within, joined, finish, finish_call, code, code_all, normal_function}
+use Rattle.kk_norm.specs.NoCells.{NoCells, NoCellsAll, MakesNoCell, IsPlain}
+use Rattle.kk_norm.specs.Meaning.{heavy_store_machine, core_setting}
+use Rattle.kk_norm.proofs.Variables.{same_number, SameBelow, Stands, AllBelow, stands_left, stands_right, stands_later, stands_bound, all_below_more, all_below_one_more, values_one_more}
+use Rattle.kk_norm.proofs.Waits.{ArePlainWithin, Goal, nowhere, returns, goes_on, goal_of, Fresh, fresh_top, fresh_less, MakesNothing, ArgumentsWait, Waits, waits_move, waits_nowhere, calls_are, due, due_small}
+use Rattle.kk_norm.proofs.Delivery.{source_at, core_at, AtTree, AtValue, At, Related, Passing, goal_code, goal_variable, goal_joins}
+use Rattle.kk_norm.proofs.Delivery as Delivery
+
+-- each expression has a node
+pub some_nodes : (e : Tree) → 1 ≤ nodes_of e
+some_nodes (number i) = omega arith
+some_nodes unit_tree = omega arith
+some_nodes (variable x) = omega arith
+some_nodes read_byte = omega arith
+some_nodes (print_text form text) = omega arith
+some_nodes (apply form es) = omega arith
+some_nodes (if_tree e positive negative) = omega arith
+some_nodes (match e of) = omega arith
+some_nodes (sequence binder first rest) = omega (arith, some_nodes first)
+
+-- a form with arguments that makes no cell is no construction
+pub makes_nothing_of : (form : Form) (e : Tree) (es : Trees) → MakesNoCell form (tree e es) → MakesNothing form
+makes_nothing_of (Unary operator) e es makes = tt
+makes_nothing_of (Binary operator) e es makes = tt
+makes_nothing_of (Print form) e es makes = tt
+makes_nothing_of (Construct c) e es makes = absurd makes
+makes_nothing_of (Call f) e es makes = tt
+
+-- a form on these variables makes no cell
+abbrev pub Acts : Form → List ℕ → Type 0
+Acts (Construct c) (x ∷ xs) = ⊥
+Acts form xs = Unit {0}
+
+pub acts_nothing : (form : Form) (xs : List ℕ) → MakesNothing form → Acts form xs
+acts_nothing (Unary operator) xs makes = tt
+acts_nothing (Binary operator) xs makes = tt
+acts_nothing (Print form) xs makes = tt
+acts_nothing (Construct c) xs makes = absurd makes
+acts_nothing (Call f) xs makes = tt
+
+pub acts_alone : (form : Form) → Acts form []
+acts_alone (Unary operator) = tt
+acts_alone (Binary operator) = tt
+acts_alone (Print form) = tt
+acts_alone (Construct c) = tt
+acts_alone (Call f) = tt
+
+-- a value that ends a block goes to the same place, wherever it is
+goal_final : (tail : Bool) (joins : List Join) (x y : ℕ) → goal_of (final tail) x joins ≡ goal_of (final tail) y joins
+goal_final true [] x y = refl
+goal_final true (join ∷ joins) x y = refl
+goal_final false [] x y = refl
+goal_final false (join ∷ joins) x y = refl
+
+pub alone_among : (x : ℕ) → is_among (x ∷ []) x ≡ true
+alone_among x = rw (same_number x) refl
+
+-- a statement's free variables, by the variable that it binds
+pub stands_after : (binder : Binder) (names : Names) (environment core : Environment) (bound : ℕ) (xs : List ℕ)
+    → Stands names environment core bound (without (bound_by binder) xs) → Stands names environment core bound (without (awaited (variable_of binder)) xs)
+stands_after OfBinder.Nothing names environment core bound xs stands = stands
+stands_after OfBinder.Wildcard names environment core bound xs stands = stands
+stands_after (OfBinder.Variable x) names environment core bound xs stands = stands
+
+-- what a call frame waits for is the same in every environment
+waits_call : (most : ℕ) (lent : List Value) (fs : List Frame) (core other : Environment) (low high low_after high_after : ℕ) (frames : List CallFrame)
+    → Waits most (call lent ∷ fs) returns core low high frames → Waits most (call lent ∷ fs) returns other low_after high_after frames
+waits_call most lent fs core other low high low_after high_after [] waits = waits
+waits_call most lent fs core other low high low_after high_after (frame ∷ frames) waits = waits
+
+module _ (setting : Setting) (most cost : ℕ) (weight : CoreState → ℕ) (light : (t : CoreState) → weight t ≤ cost) (plain : ArePlainWithin most setting.program.functions) where
+  abbrev pub lower : Machine CoreState Note End
+  lower = Delivery.lower setting most cost weight light
+
+  abbrev pub Follows : ℕ → ℕ → List Note → State → CoreState → Type 0
+  Follows = Delivery.Follows setting most cost weight light
+
+  -- what an action of the source does is done
+  abbrev pub Does : ℕ → ℕ → Action → List ℕ → CoreState → Type 0
+  Does credit idle action input t = Follows credit idle (performed action input).0 (performed action input).1 t
+
+  abbrev pub from_at : Control → List Frame → Store → Configuration
+  from_at control fs store = record { control = control; frames = fs; store = store }
+
+  -- a print
+  pub prints_to : (piece : List ℕ) (k : Then) (m low top : ℕ) (core : Environment) (joins : List Join) (frames : List CallFrame) (fs : List Frame) (store : Store) (input : List ℕ) (credit idle : ℕ) (control : Control) (t : CoreState)
+      → lower.step t ≡ core_performed (Core.print_step piece (λ v. (core_at (after k m) (record { variable = m; value = v } ∷ core) joins frames store input).machine)) input
+      → low ≤ m → Fresh k joins (m + 1) top → Waits most fs (goal_of k m joins) core low top frames
+      → Does credit idle (print_step piece (from_at control fs store)) input t
+  prints_to [] k m low top core joins frames fs store input credit idle control t is le fresh waits =
+      Delivery.computes_to setting most cost weight light k m low top core joins frames unit fs store input credit idle _ t is le fresh waits
+  prints_to (byte ∷ bytes) k m low top core joins frames fs store input credit idle control t is le fresh waits =
+      Delivery.computes_to setting most cost weight light k m low top core joins frames unit fs store input credit idle _ t is le fresh waits
+
+  -- a function's body is entered
+  enters : (function : FunctionTree) → IsPlain function → nodes_of function.body ≤ most → (vs lent : List Value) (fs : List Frame) (core : Environment) (low high : ℕ) (frames : List CallFrame) (store : Store) (input : List ℕ)
+      → Waits most (call lent ∷ fs) returns core low high frames
+      → AtTree most most function.body (bind_parameters 0 vs []) (call lent ∷ fs) store input (core_at (normal_function function).body (bind_parameters 0 vs []) [] frames store input)
+  enters function is_plain small vs lent fs core low high frames store input waits =
+      let n : ℕ = length function.parameters in
+      let bound : Environment = bind_parameters 0 vs [] in
+      record {
+        k = final true; names = []; n = n; top = n + size function.body; core = bound; joins = []; frames = frames; is = refl;
+        stands = λ x among. (refl, is_plain.closed x among);
+        plain = is_plain.no_cells; small = small; idles = small; fresh = omega arith;
+        later = waits_call most lent fs core bound low high n (n + size function.body) frames waits;
+      }
+
+  -- the function of the core form by the same number
+  same_function : (f : ℕ) (found : Option FunctionTree) → slice_get setting.program.functions f ≡ found → slice_get (core_setting setting).code.functions f ≡ option_map normal_function found
+  same_function f found is = slice_get-map normal_function setting.program.functions f ∙ ap (option_map normal_function) is
+
+  -- a tail call
+  tail_calls : (f : ℕ) (found : Option FunctionTree) → slice_get setting.program.functions f ≡ found
+      → (vs lent : List Value) (older : List Frame) (core : Environment) (low high : ℕ) (frames : List CallFrame) (store : Store) (input : List ℕ) (credit idle : ℕ) (control : Control) (fs : List Frame) (at : Code) (bound : Environment) (joins : List Join)
+      → lower.step (core_at at bound joins frames store input) ≡ core_performed (Core.tail_step (option_map normal_function found) vs (core_at at bound joins frames store input).machine) input
+      → Waits most (call lent ∷ older) returns core low high frames
+      → Related most credit idle (source_at control fs store input) (core_at at bound joins frames store input)
+      → Does credit idle (call_step setting f found vs (call lent ∷ older) (from_at control fs store)) input (core_at at bound joins frames store input)
+  tail_calls f None found_is vs lent older core low high frames store input credit idle control fs at bound joins is waits stay =
+      Delivery.follows setting most cost weight light credit idle idle 1 [] (source_at control fs store input) (core_at at bound joins frames store input) (omega arith) (omega arith)
+      (subst (λ (one : List Note × CoreState). one.0 ++ [] ≡ []) (sym is) refl)
+      (subst (λ (one : List Note × CoreState). Related most credit idle (source_at control fs store input) one.1) (sym is) stay)
+  tail_calls f (Some function) found_is vs lent older core low high frames store input credit idle control fs at bound joins is waits stay =
+      let good = plain f function found_is in
+      Delivery.follows_step setting most cost weight light credit idle most 0 [] (source_at (expression function.body (bind_parameters 0 vs [])) (call lent ∷ older) store input) (core_at at bound joins frames store input) _ is (omega arith) (omega arith) refl
+      (enters function good.0 good.1 vs lent older core low high frames store input waits)
+
+  -- a call that is no tail call: the stack is full, or the body is entered
+  full_or_enters : (full : Bool) (function : FunctionTree) → IsPlain function → nodes_of function.body ≤ most
+      → (found : ℕ) (vs lent : List Value) (older : List Frame) (frames : List CallFrame) (store : Store) (input : List ℕ) (credit idle : ℕ) (control : Control) (fs : List Frame) (t : CoreState) (from : CoreConfiguration)
+      → lower.step t ≡ core_performed (Core.calls found (if full then Core.at_end stack_full from else (core_at (normal_function function).body (bind_parameters 0 vs []) [] frames store input).machine)) input
+      → Waits most (call lent ∷ older) returns [] 0 0 frames
+      → Does credit idle (calls found (if full then at_end stack_full (from_at control fs store) else in_body function vs (from_at control (call lent ∷ older) store))) input t
+  full_or_enters true function is_plain small found vs lent older frames store input credit idle control fs t from is waits =
+      Delivery.follows_step setting most cost weight light credit idle 0 0 _ (source_at (stopped stack_full) fs store input) t _ is (omega arith) (omega arith) refl refl
+  full_or_enters false function is_plain small found vs lent older frames store input credit idle control fs t from is waits =
+      Delivery.follows_step setting most cost weight light credit idle most 0 _ (source_at (expression function.body (bind_parameters 0 vs [])) (call lent ∷ older) store input) t _ is (omega arith) (omega arith) refl
+      (enters function is_plain small vs lent older [] 0 0 frames store input waits)
+
+  -- with no call frame directly beneath a call is no tail call
+  push_is : (f : ℕ) (function : FunctionTree) (vs : List Value) (fs : List Frame) (from : Configuration) (rest : Code) (x : ℕ) (joins : List Join) (core : Environment) (low high : ℕ) (frames : List CallFrame)
+      → Waits most fs (goes_on rest x joins) core low high frames → call_step setting f (Some function) vs fs from ≡ push_step setting f function vs fs from
+  push_is f function vs [] from rest x joins core low high frames waits = absurd waits
+  push_is f function vs (arguments form ws es environment ∷ fs) from rest x joins core low high frames waits = refl
+  push_is f function vs (branches positive negative environment ∷ fs) from rest x joins core low high frames waits = refl
+  push_is f function vs (rows of environment ∷ fs) from rest x joins core low high frames waits = refl
+  push_is f function vs (statement w e environment ∷ fs) from rest x joins core low high frames waits = refl
+  push_is f function vs (call lent ∷ fs) from rest x joins core low high frames waits = absurd waits
+
+  -- a call that is no tail call
+  pushes : (f : ℕ) (found : Option FunctionTree) → slice_get setting.program.functions f ≡ found
+      → (vs : List Value) (k : Then) (m low top : ℕ) (core : Environment) (joins : List Join) (frames : List CallFrame) (fs : List Frame) (store : Store) (input : List ℕ) (credit idle : ℕ) (control : Control) (older : List Frame) (at : Code)
+      → lower.step (core_at at core joins frames store input) ≡ core_performed (Core.call_step (core_setting setting) f (option_map normal_function found) vs (λ lent. record { variable = m; rest = after k m; joins = joins; environment = core; lent = lent }) (core_at at core joins frames store input).machine) input
+      → low ≤ m → Fresh k joins (m + 1) top → (rest : Code) (x : ℕ) (others : List Join) → goal_of k m joins ≡ goes_on rest x others → Waits most fs (goal_of k m joins) core low top frames
+      → Related most credit idle (source_at control older store input) (core_at at core joins frames store input)
+      → Does credit idle (call_step setting f found vs fs (from_at control older store)) input (core_at at core joins frames store input)
+  pushes f None found_is vs k m low top core joins frames fs store input credit idle control older at is le fresh rest x others goal_is waits stay =
+      Delivery.follows setting most cost weight light credit idle idle 1 [] (source_at control older store input) (core_at at core joins frames store input) (omega arith) (omega arith)
+      (subst (λ (one : List Note × CoreState). one.0 ++ [] ≡ []) (sym is) refl)
+      (subst (λ (one : List Note × CoreState). Related most credit idle (source_at control older store input) one.1) (sym is) stay)
+  pushes f (Some function) found_is vs k m low top core joins frames fs store input credit idle control older at is le fresh rest x others goal_is waits stay =
+      let good = plain f function found_is in
+      let lent : List Value = lent_places (is_lent setting.positions f) 0 vs in
+      let t : CoreState = core_at at core joins frames store input in
+      let waiting : CallFrame = record { variable = m; rest = after k m; joins = joins; environment = core; lent = lent } in
+      let same : call_frames fs ≡ suc (length frames) = calls_are most fs (goal_of k m joins) core low top frames waits in
+      let push : call_step setting f (Some function) vs fs (from_at control older store) ≡ push_step setting f function vs fs (from_at control older store)
+      = push_is f function vs fs (from_at control older store) rest x others core low top frames (subst (λ (goal : Goal). Waits most fs goal core low top frames) goal_is waits) in
+      let called : Waits most (call lent ∷ fs) returns [] 0 0 (waiting ∷ frames)
+      = record { k = k; low = low; top = top; lent_is = refl; rest_is = refl; from = le; fresh = fresh; later = waits } in
+      let found : ℕ = suc (length frames) in
+      let done : Does credit idle (calls found (if nat_le setting.depth found then at_end stack_full (from_at control older store) else in_body function vs (from_at control (call lent ∷ fs) store))) input t
+      = full_or_enters (nat_le setting.depth found) function good.0 good.1 found vs lent fs (waiting ∷ frames) store input credit idle control older t t.machine is called in
+      subst (λ (action : Action). Does credit idle action input t) (sym push)
+      (subst (λ (n : ℕ). Does credit idle (calls n (if nat_le setting.depth n then at_end stack_full (from_at control older store) else in_body function vs (from_at control (call lent ∷ fs) store))) input t) (sym same) done)
+
+  -- A call on variables, by what comes after it.
+  calls_to : (f : ℕ) (xs : List ℕ) (k : Then) (m low top : ℕ) (core : Environment) (joins : List Join) (frames : List CallFrame) (fs : List Frame) (store : Store) (input : List ℕ) (credit idle : ℕ) (control : Control) (older : List Frame)
+      → low ≤ m → Fresh k joins (m + 1) top → Waits most fs (goal_of k m joins) core low top frames
+      → Related most credit idle (source_at control older store input) (core_at (finish_call k m f xs) core joins frames store input)
+      → Does credit idle (call_step setting f (slice_get setting.program.functions f) (map (value_of core) xs) fs (from_at control older store)) input (core_at (finish_call k m f xs) core joins frames store input)
+  calls_to f xs (next rest) m low top core joins frames fs store input credit idle control older le fresh waits stay =
+      let found : Option FunctionTree = slice_get setting.program.functions f in
+      let code_is : Code = finish_call (next rest) m f xs in
+      pushes f found refl (map (value_of core) xs) (next rest) m low top core joins frames fs store input credit idle control older code_is
+      (ap (λ (o : Option FunctionCode). core_performed (Core.call_step (core_setting setting) f o (map (value_of core) xs) (λ lent. record { variable = m; rest = rest; joins = joins; environment = core; lent = lent }) (core_at code_is core joins frames store input).machine) input) (same_function f found refl))
+      le fresh rest m joins refl waits stay
+  calls_to f xs (final false) m low top core [] frames fs store input credit idle control older le fresh waits stay =
+      absurd (waits_nowhere most fs core low top frames waits)
+  calls_to f xs (final false) m low top core (join ∷ joins) frames fs store input credit idle control older le fresh waits stay =
+      let found : Option FunctionTree = slice_get setting.program.functions f in
+      let code_is : Code = finish_call (final false) m f xs in
+      pushes f found refl (map (value_of core) xs) (final false) m low top core (join ∷ joins) frames fs store input credit idle control older code_is
+      (ap (λ (o : Option FunctionCode). core_performed (Core.call_step (core_setting setting) f o (map (value_of core) xs) (λ lent. record { variable = m; rest = give m; joins = join ∷ joins; environment = core; lent = lent }) (core_at code_is core (join ∷ joins) frames store input).machine) input) (same_function f found refl))
+      le fresh join.rest join.variable joins refl waits stay
+  calls_to f xs (final true) m low top core (join ∷ joins) frames fs store input credit idle control older le fresh waits stay =
+      absurd (waits_nowhere most fs core low top frames waits)
+  calls_to f xs (final true) m low top core [] frames (call lent ∷ fs) store input credit idle control older le fresh waits stay =
+      let found : Option FunctionTree = slice_get setting.program.functions f in
+      tail_calls f found refl (map (value_of core) xs) lent fs core low top frames store input credit idle control older (tail_call f xs) core []
+      (ap (λ (o : Option FunctionCode). core_performed (Core.tail_step o (map (value_of core) xs) (core_at (tail_call f xs) core [] frames store input).machine) input) (same_function f found refl))
+      waits stay
+  calls_to f xs (final true) m low top core [] frames [] store input credit idle control older le fresh waits stay = absurd waits
+  calls_to f xs (final true) m low top core [] frames (arguments form vs es environment ∷ fs) store input credit idle control older le fresh waits stay = absurd waits
+  calls_to f xs (final true) m low top core [] frames (branches positive negative environment ∷ fs) store input credit idle control older le fresh waits stay = absurd waits
+  calls_to f xs (final true) m low top core [] frames (rows of environment ∷ fs) store input credit idle control older le fresh waits stay = absurd waits
+  calls_to f xs (final true) m low top core [] frames (statement w e environment ∷ fs) store input credit idle control older le fresh waits stay = absurd waits
+
+  -- a form on variables
+  pub acts : (form : Form) (xs : List ℕ) → Acts form xs → (k : Then) (m low top : ℕ) (core : Environment) (joins : List Join) (frames : List CallFrame) (fs : List Frame) (store : Store) (input : List ℕ) (credit idle : ℕ) (control : Control) (older : List Frame)
+      → low ≤ m → Fresh k joins (m + 1) top → Waits most fs (goal_of k m joins) core low top frames
+      → Related most credit idle (source_at control older store input) (core_at (finish k m form xs) core joins frames store input)
+      → Does credit idle (form_step setting form (map (value_of core) xs) fs (from_at control older store)) input (core_at (finish k m form xs) core joins frames store input)
+  acts (Unary operator) xs makes k m low top core joins frames fs store input credit idle control older le fresh waits stay =
+      Delivery.computes_to setting most cost weight light k m low top core joins frames (unary_result operator (argument 0 (map (value_of core) xs))) fs store input credit idle [] _ refl le fresh waits
+  acts (Binary operator) xs makes k m low top core joins frames fs store input credit idle control older le fresh waits stay =
+      Delivery.computes_to setting most cost weight light k m low top core joins frames (binary_result operator (argument 0 (map (value_of core) xs)) (argument 1 (map (value_of core) xs))) fs store input credit idle [] _ refl le fresh waits
+  acts (Print form) xs makes k m low top core joins frames fs store input credit idle control older le fresh waits stay =
+      prints_to (piece_of form (signed_decimal (integer_of (argument 0 (map (value_of core) xs))))) k m low top core joins frames fs store input credit idle control _ refl le fresh waits
+  acts (Construct c) [] makes k m low top core joins frames fs store input credit idle control older le fresh waits stay =
+      Delivery.computes_to setting most cost weight light k m low top core joins frames (constant c) fs store input credit idle [] _ refl le fresh waits
+  acts (Construct c) (x ∷ xs) makes k m low top core joins frames fs store input credit idle control older le fresh waits stay = absurd makes
+  acts (Call f) xs makes k m low top core joins frames fs store input credit idle control older le fresh waits stay =
+      calls_to f xs k m low top core joins frames fs store input credit idle control older le fresh waits stay
+
+  -- the core machine at the branch that is taken
+  in_branch : (test : Bool) (k : Then) (positive negative : Tree) (names : Names) (environment : Environment) (n low top : ℕ) (core : Environment) (joins : List Join) (frames : List CallFrame) (fs : List Frame) (store : Store) (input : List ℕ)
+      → low ≤ n → Stands names environment core low (free positive ++ free negative) → NoCells positive → NoCells negative → nodes_of positive + nodes_of negative ≤ most
+      → Fresh k joins (n + size positive + size negative) top → ((x : ℕ) → Waits most fs (goal_of k x joins) core low top frames)
+      → AtTree most most (if test then positive else negative) environment fs store input (core_at (if test then code k names n positive else code k names (n + size positive) negative) core joins frames store input)
+  in_branch true k positive negative names environment n low top core joins frames fs store input le stands plain_positive plain_negative small fresh waits =
+      record {
+        k = k; names = names; n = n; top = top; core = core; joins = joins; frames = frames; is = refl;
+        stands = stands_left names environment core n (free positive) (free negative) (stands_later names environment core core low n (free positive ++ free negative) (λ z below. refl) le stands);
+        plain = plain_positive; small = omega arith; idles = omega arith;
+        fresh = fresh_less k joins (n + size positive) (n + size positive + size negative) top (omega arith) fresh;
+        later = waits_move most fs (goal_of k (atom names n positive) joins) core core low n top top frames (λ z below. refl) le (omega arith) (waits (atom names n positive));
+      }
+  in_branch false k positive negative names environment n low top core joins frames fs store input le stands plain_positive plain_negative small fresh waits =
+      let m : ℕ = n + size positive in
+      record {
+        k = k; names = names; n = m; top = top; core = core; joins = joins; frames = frames; is = refl;
+        stands = stands_right names environment core m (free positive) (free negative) (stands_later names environment core core low m (free positive ++ free negative) (λ z below. refl) (omega arith) stands);
+        plain = plain_negative; small = omega arith; idles = omega arith; fresh = fresh;
+        later = waits_move most fs (goal_of k (atom names m negative) joins) core core low m top top frames (λ z below. refl) (omega arith) (omega arith) (waits (atom names m negative));
+      }
+
+  -- a condition decides which branch comes
+  pub branch_goes : (test : Bool) (k : Then) (positive negative : Tree) (names : Names) (environment : Environment) (n low top : ℕ) (core : Environment) (joins : List Join) (x : ℕ) (frames : List CallFrame) (fs : List Frame) (store : Store) (input : List ℕ) (credit idle : ℕ)
+      → is_true (value_of core x) ≡ test → low ≤ n → Stands names environment core low (free positive ++ free negative) → NoCells positive → NoCells negative → nodes_of positive + nodes_of negative ≤ most
+      → Fresh k joins (n + size positive + size negative + 1) top → Waits most fs (goal_of k (n + size positive + size negative) joins) core low top frames
+      → Follows credit idle [] (source_at (expression (if test then positive else negative) environment) fs store input) (core_at (joined k (n + size positive + size negative) (branch x (code (within k) names n positive) (code (within k) names (n + size positive) negative))) core joins frames store input)
+  branch_goes test (final tail) positive negative names environment n low top core joins x frames fs store input credit idle is le stands plain_positive plain_negative small fresh waits =
+      let k : Then = final tail in
+      Delivery.follows_step setting most cost weight light credit idle most 0 [] (source_at (expression (if test then positive else negative) environment) fs store input) (core_at (branch x (code k names n positive) (code k names (n + size positive) negative)) core joins frames store input)
+      (core_at (if test then code k names n positive else code k names (n + size positive) negative) core joins frames store input)
+      (ap (λ (b : Bool). ([], core_at (if b then code k names n positive else code k names (n + size positive) negative) core joins frames store input)) is)
+      (omega arith) (omega arith) refl
+      (in_branch test k positive negative names environment n low top core joins frames fs store input le stands plain_positive plain_negative small
+      (fresh_less k joins (n + size positive + size negative) (n + size positive + size negative + 1) top (omega arith) fresh)
+      (λ y. subst (λ (goal : Goal). Waits most fs goal core low top frames) (goal_final tail joins (n + size positive + size negative) y) waits))
+  branch_goes test (next rest) positive negative names environment n low top core joins x frames fs store input credit idle is le stands plain_positive plain_negative small fresh waits =
+      let k : Then = final false in
+      let m : ℕ = n + size positive + size negative in
+      let join : Join = record { variable = m; rest = rest } in
+      let between : CoreState = core_at (branch x (code k names n positive) (code k names (n + size positive) negative)) core (join ∷ joins) frames store input in
+      let taken : CoreState = core_at (if test then code k names n positive else code k names (n + size positive) negative) core (join ∷ joins) frames store input in
+      let goes : lower.step between ≡ ([], taken)
+      = ap (λ (b : Bool). ([], core_at (if b then code k names n positive else code k names (n + size positive) negative) core (join ∷ joins) frames store input)) is in
+      let s : State = source_at (expression (if test then positive else negative) environment) fs store input in
+      Delivery.follows_step setting most cost weight light credit idle most 1 [] s (core_at (joined (next rest) m (branch x (code k names n positive) (code k names (n + size positive) negative))) core joins frames store input)
+      between refl (omega arith) (omega arith)
+      (subst (λ (one : List Note × CoreState). one.0 ++ [] ≡ []) (sym goes) refl)
+      (subst (λ (one : List Note × CoreState). Related most credit most s one.1) (sym goes)
+      (in_branch test k positive negative names environment n low top core (join ∷ joins) frames fs store input le stands plain_positive plain_negative small (omega arith, omega (arith, fresh)) (λ y. waits)))

@@ -1,0 +1,4 @@
+pub mod Meaning
+pub mod Names
+pub mod NoCells
+pub mod Normalized

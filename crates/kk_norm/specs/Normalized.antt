@@ -1,0 +1,180 @@
+-- The core form of a program. The variables of a core body are numbered from the number of its parameters on, in the
+-- order of the text, those of an expression's parts before its own: an expression takes as many numbers as its size, the
+-- own one last, so what is computed later has the greater number.
+use Rattle.std.specs.Prelude.{ℕ, ◌+◌, List, [], ◌∷◌, map, Bool, true, false, length}
+use Rattle.kk_syntax.specs.declared.program.Form.{Form}
+use Rattle.kk_syntax.specs.declared.program.Form.TheVariants.{Unary, Binary, Print, Construct, Call}
+use Rattle.kk_syntax.specs.Trees.{Tree, number, unit, variable, read_byte, print_text, apply, branch, match, sequence, Trees, no_tree, tree, Rows, no_row, row}
+use Rattle.kk_syntax.specs.Programs.{FunctionTree, ProgramTree}
+use Rattle.kk_syntax.specs.Patterns.{Pattern, anything, variable as pattern_variable, exactly, constructor, Patterns, no_part, part}
+use Rattle.kk_source.specs.Step.{variable_of}
+use Rattle.kk_core.specs.Codes.{Operation, Code, give, tail_call, case, compute, use_of, unpack, inside, Arms, no_arm, arm, FunctionCode, ProgramCode}
+use Rattle.kk_core.specs.Codes as Core
+use Rattle.kk_norm.specs.Names.{Names, Naming, name_of, named}
+
+-- ---- how many numbers are taken
+
+-- the number of a pattern's parts
+abbrev pub part_count : Patterns → ℕ
+part_count no_part = 0
+part_count (part first rest) = part_count rest + 1
+
+-- a pattern takes one for each field that it opens: those of a cell before those of its fields' cells
+abbrev mutual
+  pub pattern_size : Pattern → ℕ
+  pattern_size anything = 0
+  pattern_size (pattern_variable x) = 0
+  pattern_size (exactly value) = 0
+  pattern_size (constructor c parts) = part_count parts + parts_size parts
+
+  pub parts_size : Patterns → ℕ
+  parts_size no_part = 0
+  parts_size (part first rest) = pattern_size first + parts_size rest
+
+-- an expression takes one for each part that computes or joins values: a variable and a block take none of their own
+abbrev mutual
+  pub size : Tree → ℕ
+  size (number value) = 1
+  size unit = 1
+  size (variable x) = 0
+  size read_byte = 1
+  size (print_text form text) = 1
+  size (apply form es) = size_all es + 1
+  size (branch e positive negative) = size e + size positive + size negative + 1
+  size (match e rows) = size e + size_rows rows + 1
+  size (sequence binder first rest) = size first + size rest
+
+  pub size_all : Trees → ℕ
+  size_all no_tree = 0
+  size_all (tree first rest) = size first + size_all rest
+
+  pub size_rows : Rows → ℕ
+  size_rows no_row = 0
+  size_rows (row pattern body rest) = pattern_size pattern + size body + size_rows rest
+
+-- the variable that has the value of an expression whose numbers begin at n
+abbrev pub atom : Names → ℕ → Tree → ℕ
+atom names n (number value) = n
+atom names n unit = n
+atom names n (variable x) = name_of names x
+atom names n read_byte = n
+atom names n (print_text form text) = n
+atom names n (apply form es) = n + size_all es
+atom names n (branch e positive negative) = n + size e + size positive + size negative
+atom names n (match e rows) = n + size e + size_rows rows
+atom names n (sequence binder first rest) =
+    atom (named (variable_of binder) (atom names n first) names) (n + size first) rest
+
+abbrev pub atoms : Names → ℕ → Trees → List ℕ
+atoms names n no_tree = []
+atoms names n (tree first rest) = atom names n first ∷ atoms names (n + size first) rest
+
+-- ---- the code
+
+-- What comes after an expression: the block ends with its value, in tail position or not; or more comes.
+pub data Then : Type 0 where
+  final : (tail : Bool) → Then
+  next : (rest : Code) → Then
+
+-- the code after a variable has got the value
+abbrev pub after : Then → ℕ → Code
+after (final tail) a = give a
+after (next rest) a = rest
+
+-- the code where the value is that of a variable which is there already
+abbrev pub after_use : Then → ℕ → Code
+after_use (final tail) a = give a
+after_use (next rest) a = use_of a rest
+
+-- what comes after a branch's part: where more comes after the branch, it is a block inside
+abbrev pub within : Then → Then
+within (final tail) = final tail
+within (next rest) = final false
+
+-- a branch's own code, whose value goes to variable m where more comes
+abbrev pub joined : Then → ℕ → Code → Code
+joined (final tail) m code = code
+joined (next rest) m code = inside m code rest
+
+-- a call on variables, whose value goes to variable m; in tail position it is a tail call
+abbrev pub finish_call : Then → ℕ → ℕ → List ℕ → Code
+finish_call (final true) m f arguments = tail_call f arguments
+finish_call (final false) m f arguments = compute m (Core.apply (Call f) arguments) (give m)
+finish_call (next rest) m f arguments = compute m (Core.apply (Call f) arguments) rest
+
+-- a form on variables, whose value goes to variable m
+abbrev pub finish : Then → ℕ → Form → List ℕ → Code
+finish k m (Unary operator) arguments = compute m (Core.apply (Unary operator) arguments) (after k m)
+finish k m (Binary operator) arguments = compute m (Core.apply (Binary operator) arguments) (after k m)
+finish k m (Print form) arguments = compute m (Core.apply (Print form) arguments) (after k m)
+finish k m (Construct c) arguments = compute m (Core.apply (Construct c) arguments) (after k m)
+finish k m (Call f) arguments = finish_call k m f arguments
+
+-- numbers that follow one another
+abbrev pub numbers : ℕ → Patterns → List ℕ
+numbers n no_part = []
+numbers n (part first rest) = n ∷ numbers (n + 1) rest
+
+-- the openings of a pattern at a variable: its cell, and then those of its fields, from left to right
+abbrev mutual
+  pub opened : ℕ → ℕ → Pattern → Code → Code
+  opened a n anything rest = rest
+  opened a n (pattern_variable x) rest = rest
+  opened a n (exactly value) rest = rest
+  opened a n (constructor c no_part) rest = rest
+  opened a n (constructor c (part first others)) rest =
+      unpack a (numbers n (part first others)) (opened n (n + part_count (part first others)) first (opened_all (n + 1) (n + part_count (part first others) + pattern_size first) others rest))
+
+  pub opened_all : ℕ → ℕ → Patterns → Code → Code
+  opened_all a n no_part rest = rest
+  opened_all a n (part first others) rest = opened a n first (opened_all (a + 1) (n + pattern_size first) others rest)
+
+-- the names of a pattern's variables, at a variable
+abbrev mutual
+  pub pattern_names : ℕ → ℕ → Pattern → Names → Names
+  pattern_names a n anything names = names
+  pattern_names a n (pattern_variable x) names = record { variable = x; name = a } ∷ names
+  pattern_names a n (exactly value) names = names
+  pattern_names a n (constructor c parts) names = parts_names n (n + part_count parts) parts names
+
+  pub parts_names : ℕ → ℕ → Patterns → Names → Names
+  parts_names a n no_part names = names
+  parts_names a n (part first others) names =
+      parts_names (a + 1) (n + pattern_size first) others (pattern_names a n first names)
+
+-- The code of an expression whose numbers begin at n, and of what comes after it. The value is in `atom names n e`.
+abbrev mutual
+  pub code : Then → Names → ℕ → Tree → Code
+  code k names n (number value) = compute n (Core.number value) (after k n)
+  code k names n unit = compute n Core.unit (after k n)
+  code k names n (variable x) = after_use k (name_of names x)
+  code k names n read_byte = compute n Core.read_byte (after k n)
+  code k names n (print_text form text) = compute n (Core.print_text form text) (after k n)
+  code k names n (apply form es) = code_all names n es (finish k (n + size_all es) form (atoms names n es))
+  code k names n (branch e positive negative) =
+      code (next (joined k (n + size e + size positive + size negative) (Core.branch (atom names n e) (code (within k) names (n + size e) positive) (code (within k) names (n + size e + size positive) negative)))) names n e
+  code k names n (match e rows) =
+      code (next (joined k (n + size e + size_rows rows) (case (atom names n e) (arms (within k) names (atom names n e) (n + size e) rows)))) names n e
+  code k names n (sequence binder first rest) =
+      code (next (code k (named (variable_of binder) (atom names n first) names) (n + size first) rest)) names n first
+
+  pub code_all : Names → ℕ → Trees → Code → Code
+  code_all names n no_tree last = last
+  code_all names n (tree first rest) last = code (next (code_all names (n + size first) rest last)) names n first
+
+  -- the arms of a match on variable a
+  pub arms : Then → Names → ℕ → ℕ → Rows → Arms
+  arms k names a n no_row = no_arm
+  arms k names a n (row pattern body rest) =
+      arm pattern (opened a n pattern (code k (pattern_names a n pattern names) (n + pattern_size pattern) body)) (arms k names a (n + pattern_size pattern + size body) rest)
+
+-- the core form of a function and of a program
+abbrev pub normal_function : FunctionTree → FunctionCode
+normal_function function = record {
+  parameters = length function.parameters;
+  variables = length function.parameters + size function.body;
+  body = code (final true) [] (length function.parameters) function.body;
+}
+
+abbrev pub normal_program : ProgramTree → ProgramCode
+normal_program program = record { functions = map normal_function program.functions; main = program.main }

@@ -1,0 +1,2 @@
+//! From a program to its core form.
+#![tactic(auto)]
