@@ -74,10 +74,10 @@ exactly_length text =
 pub each_text_is_judged : EachTextIsRead → EachListIsParsed → EachTreeIsResolved → EachProgramIsCounted → EachTextIsJudged
 each_text_is_judged lexemes grammar names nodes text = (
   exactly_then OfLength FromLexemes text (exactly_told OfText.Over (Checking ChecksLength) text (exactly_checking ChecksLength text (exactly_length text)))
-  (λ t. exactly_then OfLexemes FromGrammar t (exactly_told OfText.Lex IsReadAs t (lexemes t).0)
-  (λ tokens. exactly_then OfGrammar FromNames tokens (exactly_told OfText.Parse ParsesAs tokens (grammar tokens))
-  (λ tree. exactly_then OfNames OfNodes tree (exactly_told OfText.Name ResolvesAs tree (names tree))
-  (λ program. exactly_told OfText.Over (Checking CountsAs) program (exactly_checking CountsAs program (nodes program)))))),
+      (λ t. exactly_then OfLexemes FromGrammar t (exactly_told OfText.Lex IsReadAs t (lexemes t).0)
+      (λ tokens. exactly_then OfGrammar FromNames tokens (exactly_told OfText.Parse ParsesAs tokens (grammar tokens))
+      (λ tree. exactly_then OfNames OfNodes tree (exactly_told OfText.Name ResolvesAs tree (names tree))
+      (λ program. exactly_told OfText.Over (Checking CountsAs) program (exactly_checking CountsAs program (nodes program)))))),
   λ refusal h. caused h,
 )
   where

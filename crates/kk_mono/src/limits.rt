@@ -17,8 +17,7 @@ pub fn check_nodes(program: &Program) -> Result<(), Limit>
 /// Each program keeps its limits or passes exactly one first. It is a law, and does nothing.
 pub fn each_program_is_counted()
     ensures { EachProgramIsCounted }
-{
-}
+{}
 
 fn first_large(functions: &[Fun]) -> Result<(), Limit>
     ensures { result_err result

@@ -53,7 +53,10 @@ fn expressions(alloc: Global, exprs: &[SurfaceExpr]) -> Result<Vec<Expr>, NoMemo
 }
 
 #[cycle(expression)]
-fn all_statements(alloc: Global, statements: &[SurfaceStatement]) -> Result<Vec<Statement>, NoMemory>
+fn all_statements(
+    alloc: Global,
+    statements: &[SurfaceStatement],
+) -> Result<Vec<Statement>, NoMemory>
     ensures { IfOk result (λ ss. map statement_tree ss.items
         ≡ map (λ s. record { binder = binder_of s.binder; value = meant (written_expr s.value) }) statements.now) }
 {

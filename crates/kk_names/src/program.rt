@@ -36,8 +36,7 @@ pub fn resolve(alloc: Global, tree: Tree) -> Result<Program, NameError>
 /// Each tree means exactly one program, or has exactly one first error. It is a law, and does nothing.
 pub fn each_tree_is_resolved()
     ensures { EachTreeIsResolved }
-{
-}
+{}
 
 // The functions of declarations.
 fn functions(alloc: Global, declarations: &[Declaration]) -> Result<Vec<Fun>, NoMemory>

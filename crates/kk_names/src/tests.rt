@@ -42,7 +42,11 @@ fn shown(alloc: Global, tree: Tree) -> Result<String, AllocError> {
 static TREES: [(&str, &str, &str); 3] = [
     ("main", "print", "main at 4 has 2 nodes"),
     ("main", "println", "main at 4 has 2 nodes"),
-    ("other", "print", "there is no function `main` before byte 30"),
+    (
+        "other",
+        "print",
+        "there is no function `main` before byte 30",
+    ),
 ];
 
 #[test]

@@ -153,8 +153,8 @@ read_opener : (k : Kind) (n : ℕ) (ts : List LocatedToken) → ReadOrFailed (op
 read_opener k n ts =
     elim (told (is_at (k ∷ []) ts)) [
       | inl h ↦ elim (cases_lt n 200) [
-          | inl shallow ↦ let t = next_of k ts h in subst (ReadOrFailed (opener k) n) (sym t.3) (was_read t.2 (n + 1) t.1 (finds_opener t.4 shallow))
-          | inr deep ↦ has_failed (too_deep ts) (fails_deep h deep)
+        | inl shallow ↦ let t = next_of k ts h in subst (ReadOrFailed (opener k) n) (sym t.3) (was_read t.2 (n + 1) t.1 (finds_opener t.4 shallow))
+        | inr deep ↦ has_failed (too_deep ts) (fails_deep h deep)
       ]
       | inr h ↦ has_failed (unexpected ts) (fails_opener h)
     ]
@@ -175,23 +175,23 @@ read_starting (starts_both {a = a} {b = b} x y) n ts f = read_both a b n ts (rea
 read_starting (starts_either {a = a} x y) n ts f =
     elim (told (is_at (first a) ts)) [
       | inl h ↦ elim (read_starting x n ts f) [
-          | was_read v m us r ↦ was_read (inl v) m us (finds_first h r)
-          | has_failed e r ↦ has_failed e (fails_first h r)
+        | was_read v m us r ↦ was_read (inl v) m us (finds_first h r)
+        | has_failed e r ↦ has_failed e (fails_first h r)
       ]
       | inr h ↦ elim (read_starting y n ts f) [
-          | was_read v m us r ↦ was_read (inr v) m us (finds_second h r)
-          | has_failed e r ↦ has_failed e (fails_second h r)
+        | was_read v m us r ↦ was_read (inr v) m us (finds_second h r)
+        | has_failed e r ↦ has_failed e (fails_second h r)
       ]
     ]
 read_starting (starts_many {a = a} some h x) n ts f =
     elim (told (is_at (first a) ts)) [
       | inr none ↦ was_read [] n ts (finds_none none)
       | inl one ↦ elim (read_starting x n ts f) [
-          | has_failed e r ↦ has_failed e (fails_one one r)
-          | was_read u k us r ↦ elim (f (many a) k us (again (nullable a) (readable a) some h) (passes r some)) [
-              | was_read vs m ws s ↦ was_read (u ∷ vs) m ws (finds_more one r s)
-              | has_failed e s ↦ has_failed e (fails_more one r s)
-          ]
+        | has_failed e r ↦ has_failed e (fails_one one r)
+        | was_read u k us r ↦ elim (f (many a) k us (again (nullable a) (readable a) some h) (passes r some)) [
+          | was_read vs m ws s ↦ was_read (u ∷ vs) m ws (finds_more one r s)
+          | has_failed e s ↦ has_failed e (fails_more one r s)
+        ]
       ]
     ]
   where
@@ -201,8 +201,8 @@ read_starting (starts_optional {a = a} x) n ts f =
     elim (told (is_at (first a) ts)) [
       | inr none ↦ was_read None n ts (finds_absence none)
       | inl one ↦ elim (read_starting x n ts f) [
-          | was_read v m us r ↦ was_read (Some v) m us (finds_presence one r)
-          | has_failed e r ↦ has_failed e (fails_presence one r)
+        | was_read v m us r ↦ was_read (Some v) m us (finds_presence one r)
+        | has_failed e r ↦ has_failed e (fails_presence one r)
       ]
     ]
 read_starting (starts_level x) n ts f =

@@ -9,7 +9,10 @@ ghost use Rattle.kk_parser.specs.Phrases.{token, optional, rule, block as OfBloc
 use crate::fault::Fault;
 use crate::parser::Parser;
 use kk_base::{Name, NoMemory};
-use kk_syntax::{Identifier, PrintForm, StringLiteral, SurfaceBinder, SurfaceExpr, SurfaceStatement, Symbol, Token};
+use kk_syntax::{
+    Identifier, PrintForm, StringLiteral, SurfaceBinder, SurfaceExpr, SurfaceStatement, Symbol,
+    Token,
+};
 use std::alloc::Global;
 
 impl<'a> Parser<'a> {

@@ -147,7 +147,11 @@ impl<'a> Parser<'a> {
 }
 
 // An operator on an operand.
-fn unary(alloc: Global, operator: UnaryOperator, operand: SurfaceExpr) -> Result<SurfaceExpr, NoMemory>
+fn unary(
+    alloc: Global,
+    operator: UnaryOperator,
+    operand: SurfaceExpr,
+) -> Result<SurfaceExpr, NoMemory>
     ensures { IfOk result (λ e. written_expr e ≡ OfUnary operator (written_expr operand)) }
 {
     match Box::new(alloc, operand) {

@@ -10,8 +10,8 @@ use crate::fault::Fault;
 use crate::parser::Parser;
 use kk_base::{ParseError, Span};
 use kk_syntax::{
-    Declaration, FunctionDeclaration, Identifier, Keyword, LocatedToken, SurfaceExpr, Symbol, Token,
-    Tokens, Tree,
+    Declaration, FunctionDeclaration, Identifier, Keyword, LocatedToken, SurfaceExpr, Symbol,
+    Token, Tokens, Tree,
 };
 use std::alloc::Global;
 
@@ -51,8 +51,7 @@ pub fn parse(alloc: Global, tokens: &Tokens) -> Result<Tree, ParseError>
 pub fn each_list_is_parsed()
     ensures exactly_one { EachListIsParsed }
     ensures at_any_depth { OneProgram }
-{
-}
+{}
 
 // The error for a fault at the first of the tokens that are left, or at the end.
 fn error_at(fault: Fault, tokens: &Tokens, left: &[LocatedToken]) -> ParseError

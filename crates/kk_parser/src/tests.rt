@@ -241,13 +241,38 @@ fn trees_and_refusals(rt: HostRuntime) -> Result<(), Fail> {
 // The parenthesis of `main`, the brace and the parenthesis of the print are three levels, and seven tokens stand before
 // the number and its parts.
 static NESTED: [(&str, usize, &str, &str); 6] = [
-    ("( ", 198, "1 ", "line 205 column 409: token 204 is nested too deep"),
-    ("( ", 65_536, "", "line 205 column 409: token 204 is nested too deep"),
+    (
+        "( ",
+        198,
+        "1 ",
+        "line 205 column 409: token 204 is nested too deep",
+    ),
+    (
+        "( ",
+        65_536,
+        "",
+        "line 205 column 409: token 204 is nested too deep",
+    ),
     // What is unexpected is not too deep.
     ("( ", 197, "+ ", "line 205 column 409: unexpected token 204"),
-    ("~ ", 198, "1 ) }", "line 205 column 409: token 204 is nested too deep"),
-    ("1 + ", 198, "1 ) }", "line 403 column 805: token 402 is nested too deep"),
-    ("2 / ", 198, "1 ) }", "line 403 column 805: token 402 is nested too deep"),
+    (
+        "~ ",
+        198,
+        "1 ) }",
+        "line 205 column 409: token 204 is nested too deep",
+    ),
+    (
+        "1 + ",
+        198,
+        "1 ) }",
+        "line 403 column 805: token 402 is nested too deep",
+    ),
+    (
+        "2 / ",
+        198,
+        "1 ) }",
+        "line 403 column 805: token 402 is nested too deep",
+    ),
 ];
 
 #[test]
@@ -259,6 +284,10 @@ fn levels(rt: HostRuntime) -> Result<(), Fail> {
     // The levels of a bracket and of a statement end with it, and 200 may be open.
     let front = "fun main ( ) { println ( ( 1 + 2 ) * ( 3 ) ) ; print ( ";
     let text = repeated(rt.alloc(), front, "( 1 + 2 ) + ", 97, "3 ) }")?;
-    assert!(rt; shown(rt.alloc(), text.as_str())?.as_str().ends_with("} end 6050"));
+    assert!(rt;
+        shown(rt.alloc(), text.as_str())?
+            .as_str()
+            .ends_with("} end 6050")
+    );
     Ok(())
 }
