@@ -129,6 +129,11 @@ told_after {S = S} {E = E} {W = W} ending next told grows (suc n) s =
 
 -- ---- what is seen of a machine: its states, weights and endings are those of the machine, by computation
 
+-- what is seen of a machine changes none of its states
+pub state-mapped : {S E F W V : Type 0} (events : E → List F) (seen : W → V) (machine : Machine S E W) (n : ℕ) (s : S) → state (mapped events seen machine) n s ≡ state machine n s
+state-mapped events seen machine zero s = refl
+state-mapped events seen machine (suc n) s = state-mapped events seen machine n (machine.step s).1
+
 pub trace-mapped : {S E F W V : Type 0} (events : E → List F) (seen : W → V) (machine : Machine S E W) (n : ℕ) (s : S) → trace (mapped events seen machine) n s ≡ flat_map events (trace machine n s)
 trace-mapped events seen machine zero s = refl
 trace-mapped {F = F} events seen machine (suc n) s =

@@ -1,5 +1,5 @@
 -- Environments are bindings that are linked to those before them.
-use Rattle.std.proofs.Common.{◌≡◌, ℕ, zero, suc, ◌+◌, ◌-◌, ◌<◌, ◌≤◌, Bool, true, false, List, [], ◌∷◌, ◌++◌, length, take, map, Option, Some, None, arith, refl, sym, ap, ◌∙◌, subst, add-one, cond, ◌==◌, get_or, drop}
+use Rattle.std.proofs.Common.{◌≡◌, ℕ, zero, suc, ◌+◌, ◌-◌, ◌<◌, ◌≤◌, Bool, true, false, List, [], ◌∷◌, ◌++◌, length, take, map, Some, None, arith, refl, sym, ap, ◌∙◌, add-one, cond, ◌==◌, get_or, drop}
 use Rattle.std.proofs.Math.Seq.{drop-cons}
 use Rattle.std.proofs.lemmas.Option.{slice_get-get_or}
 use Rattle.std.specs.Prelude.{slice_get}
@@ -131,10 +131,10 @@ take_longer xs ys zs k le same = ap (take k) same ∙ front xs zs k le
 pub pushed_one : (links longer : List Link) (bs : List Bound) (i n m newest : ℕ) (d : Bound) (link : Link) (whole : source.Environment) → i < length bs → newest ≤ length links → n ≡ length links → m ≡ n + 1 → longer ≡ links ++ link ∷ [] → link.bound ≡ get_or bs i d → link.skips ≡ n - newest → pushed (map bound_view (drop i bs)) (environment_of links newest) ≡ whole → pushed (map bound_view (drop (i + 1) bs)) (environment_of longer m) ≡ whole
 pushed_one links longer bs i n m newest d link whole lt le all next longer_is bound_is skips_is before =
     let env : environment_of longer m ≡ bound_view (get_or bs i d) ∷ environment_of links newest =
-        ap (λ l. environment_of l m) longer_is
-        ∙ (ap (environment_of (links ++ link ∷ [])) next
-        ∙ (one_more links link newest n le all skips_is
-        ∙ ap (λ b. bound_view b ∷ environment_of links newest) bound_is)) in
+    ap (λ l. environment_of l m) longer_is
+    ∙ (ap (environment_of (links ++ link ∷ [])) next
+    ∙ (one_more links link newest n le all skips_is
+    ∙ ap (λ b. bound_view b ∷ environment_of links newest) bound_is)) in
     let rest : drop i bs ≡ get_or bs i d ∷ drop (i + 1) bs = drop-cons bs i d lt ∙ ap (λ k. get_or bs i d ∷ drop k bs) (sym (add-one i)) in
     ap (pushed (map bound_view (drop (i + 1) bs))) env
     ∙ (ap (λ l. pushed (map bound_view l) (environment_of links newest)) (sym rest) ∙ before)

@@ -1,8 +1,6 @@
 -- Free variables, without those that are bound around them.
-use Rattle.std.proofs.Common.{◌≡◌, ℕ, Bool, true, false, not, ◌||◌, ◌==◌, List, [], ◌∷◌, ◌++◌, refl, sym, ap, ◌∙◌, append_assoc, map, cond, get_or, drop, take, length, ◌<◌, ◌+◌, zero, suc, add-one, arith}
+use Rattle.std.proofs.Common.{◌≡◌, ℕ, Bool, true, false, not, ◌||◌, ◌==◌, List, [], ◌∷◌, ◌++◌, refl, sym, ap, ◌∙◌, append_assoc, cond, get_or, drop, take, length, ◌<◌, ◌+◌, zero, suc, add-one, arith, Result, Ok, Err, OnOk}
 use Rattle.std.proofs.Math.Seq.{drop-cons}
-use Rattle.std.specs.List.{list_any, filter}
-use Rattle.std.proofs.lemmas.List.{append-nil}
 use Rattle.std.proofs.lemmas.List.Elements.{filter-append}
 use Rattle.std.proofs.lemmas.List.Folds.{list_any-append}
 use Rattle.kk_syntax.specs.Trees.{Tree, StatementTree, block_of}
@@ -80,3 +78,18 @@ front_again xs ys zs n len is = ap (take n) is ∙ front xs ys n len
     front [] ys (suc n) len = absurd (omega arith)
     front (x ∷ xs) ys zero len = absurd (omega arith)
     front {X = X} (x ∷ xs) ys (suc n) len = ap (λ (l : List X). x ∷ l) (front xs ys n (omega arith))
+
+-- with nothing found before and nothing bound around
+pub found_plain : (none outside found xs : List ℕ) → none ≡ [] → outside ≡ [] → found ≡ none ++ without outside xs → found ≡ xs
+found_plain none outside found xs none_is outside_is is =
+    is ∙ (ap (λ (l : List ℕ). l ++ without outside xs) none_is ∙ (ap (λ (l : List ℕ). without l xs) outside_is ∙ without_none xs))
+
+pub found_two : (none middle outside found xs ys : List ℕ) (bound : List ℕ) → none ≡ [] → outside ≡ [] → bound ≡ outside → middle ≡ none ++ without outside xs → found ≡ middle ++ without bound ys → found ≡ xs ++ ys
+found_two none middle outside found xs ys bound none_is outside_is bound_is middle_is is =
+    is ∙ (ap (λ (l : List ℕ). l ++ without bound ys) (found_plain none outside middle xs none_is outside_is middle_is)
+    ∙ ap (λ (l : List ℕ). xs ++ l) (ap (λ (l : List ℕ). without l ys) (bound_is ∙ outside_is) ∙ without_none ys))
+
+-- what holds where a call succeeds
+pub on_ok : {T E P Q : Type 0} (r : Result T E) → (P → Q) → OnOk r P → OnOk r Q
+on_ok (Ok x) f p = f p
+on_ok (Err e) f p = tt

@@ -1,6 +1,9 @@
+pub mod Asked
 pub mod Environments
-pub mod Frames
 pub mod FreeVariables
+pub mod Listed
 pub mod Marks
+pub mod Patterns
 pub mod Results
+pub mod Stepped
 pub mod Views

@@ -1,10 +1,10 @@
 -- One pass over the marks, from the newest cell to the oldest, marks exactly what is live.
-use Rattle.std.proofs.Common.{◌≡◌, ◌⊎◌, inl, inr, ℕ, zero, suc, ◌+◌, ◌-◌, ◌<◌, ◌≤◌, Bool, true, false, List, [], ◌∷◌, ◌++◌, length, map, Option, Some, None, arith, refl, sym, ap, ◌∙◌, subst, cond, get_or, set, replicate, take, add-one, get_or-set_same, get_or-set_other}
+use Rattle.std.proofs.Common.{◌≡◌, ◌⊎◌, inl, inr, ℕ, zero, suc, ◌+◌, ◌<◌, ◌≤◌, Bool, true, false, List, [], ◌∷◌, ◌++◌, length, map, arith, refl, sym, ap, ◌∙◌, subst, cond, get_or, set, replicate, take, add-one, get_or-set_same, get_or-set_other}
 use Rattle.std.proofs.Math.Seq.{take-suc}
 use Rattle.std.proofs.lemmas.List.{map-append}
 use Rattle.kk_source.specs.State.{Value, place, Store}
 use Rattle.kk_source.specs.Live.{fields_at, Among, Leads, Reached, is_live, counted, live}
-use Rattle.kk_source.specs.Sound.{AllWithin, IsOlder}
+use Rattle.kk_source.specs.Sound.{IsOlder}
 use Rattle.kk_source.proofs.Live.{live_reached, reached_live, has_cell, first_place, among_within, among_split, among_front, among_back}
 use Rattle.kk_meaning.specs.declared.cell.Cell.{Cell}
 use Rattle.kk_meaning.specs.View.{value_view, cell_view}
@@ -35,7 +35,7 @@ at_or_above zero zero le = inl refl
 at_or_above zero (suc at) le = inr (omega arith)
 at_or_above (suc k) zero le = absurd (omega arith)
 at_or_above (suc k) (suc at) le =
-  elim (at_or_above k at (omega arith)) [ inl same ↦ inl (ap suc same) | inr above ↦ inr (omega arith) ]
+    elim (at_or_above k at (omega arith)) [ inl same ↦ inl (ap suc same) | inr above ↦ inr (omega arith) ]
 
 module _ (store : Store) (older : IsOlder store) (vs : List Value) where
   pub passed_start : (marks marked : List Bool) → ((at : ℕ) → is_marked marks at ≡ true → ⊥) → length marks ≡ length store → length marked ≡ length marks → Marked marks marked vs → Passed store vs marked (length store)
@@ -130,14 +130,18 @@ marked_place marks v at is lt = record {
     nat_cases zero (suc j) = inr (λ e. omega arith)
     nat_cases (suc i) zero = inr (λ e. omega arith)
     nat_cases (suc i) (suc j) = elim (nat_cases i j) [ inl e ↦ inl (ap suc e) | inr other ↦ inr (λ e. other (omega arith)) ]
+
     here : (i : ℕ) → i ≡ at → is_marked (set marks at true) i ≡ true
     here i e = ap (is_marked (set marks at true)) e ∙ get_or-set_same marks at true false lt
+
     kept : (i : ℕ) → (i ≡ at) ⊎ (i ≡ at → ⊥) → is_marked marks i ≡ true → is_marked (set marks at true) i ≡ true
     kept i (inl e) marked = here i e
     kept i (inr other) marked = get_or-set_other marks at i true false other ∙ marked
+
     only : (i : ℕ) → (i ≡ at) ⊎ (i ≡ at → ⊥) → is_marked (set marks at true) i ≡ true → (is_marked marks i ≡ true) ⊎ Among (v ∷ []) i
     only i (inl e) marked = inr (inl (is ∙ ap place (sym e)))
     only i (inr other) marked = inl (sym (get_or-set_other marks at i true false other) ∙ marked)
+
     named : (i : ℕ) → v ≡ place i → is_marked (set marks at true) i ≡ true
     named i same = let whole : place i ≡ place at = sym same ∙ is in let e : i ≡ at = cc in here i e
 

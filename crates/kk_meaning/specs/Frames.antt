@@ -1,5 +1,5 @@
 -- Frames as they are kept, seen as those of the machine's definition.
-use Rattle.std.specs.Prelude.{ℕ, List, map}
+use Rattle.std.specs.Prelude.{List, map}
 use Rattle.kk_syntax.specs.Trees.{Tree, trees_of, rows_of, block_of, expr_tree, row_tree, statement_tree}
 use Rattle.kk_source.specs.State as source
 use Rattle.kk_meaning.specs.declared.binding.Link.{Link}

@@ -1,5 +1,6 @@
 -- The machine as it is kept, seen as the machine of its definition.
 use Rattle.std.specs.Prelude.{◌≡◌, ℕ, ◌≤◌, ◌-◌, List, [], ◌∷◌, map, reverse, take, length, vec_len}
+use Rattle.std.specs.Coded.{×_prop, Unit-prop, le_prop}
 use Rattle.kk_syntax.specs.declared.program.Expr.{Expr}
 use Rattle.kk_syntax.specs.Trees.{expr_tree}
 use Rattle.kk_syntax.specs.Programs.{program_tree}
@@ -61,6 +62,21 @@ FramesFit n (OfFrame.Rows rows environment ∷ older) = (environment ≤ n) × F
 FramesFit n (OfFrame.Statement variable rest environment ∷ older) = (environment ≤ n) × FramesFit n older
 FramesFit n (OfFrame.Call lent before ∷ older) = (before ≤ n) × FramesFit before older
 
+-- there is one way in which they do
+pub ControlFits-prop : (n : ℕ) (control : Control) → IsProp (ControlFits n control)
+ControlFits-prop n (OfControl.Expression expr environment) = le_prop
+ControlFits-prop n (OfControl.Rest rest environment) = le_prop
+ControlFits-prop n (OfControl.Value value) = Unit-prop
+ControlFits-prop n (OfControl.Stopped stop) = Unit-prop
+
+pub FramesFit-prop : (n : ℕ) (frames : List Frame) → IsProp (FramesFit n frames)
+FramesFit-prop n [] = Unit-prop
+FramesFit-prop n (OfFrame.Arguments form values left environment ∷ older) = ×_prop le_prop (FramesFit-prop n older)
+FramesFit-prop n (OfFrame.Branches positive negative environment ∷ older) = ×_prop le_prop (FramesFit-prop n older)
+FramesFit-prop n (OfFrame.Rows rows environment ∷ older) = ×_prop le_prop (FramesFit-prop n older)
+FramesFit-prop n (OfFrame.Statement variable rest environment ∷ older) = ×_prop le_prop (FramesFit-prop n older)
+FramesFit-prop n (OfFrame.Call lent before ∷ older) = ×_prop le_prop (FramesFit-prop before older)
+
 -- the frames without the newest ones
 abbrev pub frames_below : ℕ → Machine → List source.Frame
 frames_below older machine = map (frame_view machine.bindings.links.items) (reverse (take older machine.frames.items))
@@ -115,3 +131,9 @@ pub record IsCallBelow (before older : ℕ) (frames : List Frame) : Type 0 where
   pub rest : List Frame
   pub newest : reverse (take older frames) ≡ frame ∷ rest
   pub call : IsCallOf before frame
+
+-- the first of some frames, the newest first, is no call
+abbrev pub HasNoCall : List Frame → Type 0
+HasNoCall [] = Unit {0}
+HasNoCall (OfFrame.Call lent before ∷ older) = ⊥
+HasNoCall (frame ∷ older) = Unit {0}

@@ -1,10 +1,11 @@
-ghost use Rattle.std.specs.Prelude.{◌≡◌, ◌≤◌, ◌++◌, map, vec_len, nat_le, slice_get, IfOk, OnErr};
-ghost use Rattle.kk_syntax.specs.Programs.{function_tree};
+ghost use Rattle.std.specs.Prelude.{◌≡◌, ◌≤◌, ◌++◌, None, map, reverse, take, vec_len, nat_le, slice_get, option_map, IfSome, IfNone, IfOk, OnErr};
+ghost use Rattle.kk_syntax.specs.Programs.{function_tree, program_tree};
+ghost use Rattle.kk_source.specs.State.{end_at};
 ghost use Rattle.kk_source.specs.Live.{held_by_all, live as live_of};
 ghost use Rattle.kk_source.specs.Sound.{IsOlder};
 ghost use Rattle.kk_source.specs.Step.{goes, at_value, in_body, form_step, construct_step, call_step, push_step};
 ghost use Rattle.kk_meaning.specs.View.{value_view};
-ghost use Rattle.kk_meaning.specs.Machines.{setting_of, configuration_of, frames_below, Fits, IsBelow, IsCallBelow};
+ghost use Rattle.kk_meaning.specs.Machines.{setting_of, configuration_of, frames_below, Fits, IsBelow, IsCallBelow, HasNoCall};
 ghost use Rattle.kk_meaning.specs.Turns.{turn_of};
 
 use crate::arithmetic::{binary, unary};
@@ -17,20 +18,16 @@ use crate::print::number_piece;
 use crate::turn::Turn;
 use crate::value::{Value, argument};
 use kk_base::NoMemory;
-use kk_syntax::{Form, Fun};
+use kk_syntax::{Form, Fun, Program};
 
 // In what follows `older` is the number of frames without that of the form, if the form has one.
 impl<'a> Machine<'a> {
     // A form has all its arguments.
-    pub fn finish(
-        &mut self,
-        form: Form,
-        values: Vec<Value>,
-        older: usize,
-    ) -> Result<Turn, NoMemory>
+    pub fn finish(&mut self, form: Form, values: Vec<Value>, older: usize) -> Result<Turn, NoMemory>
         requires fits { Fits self.old }
         requires store { IsOlder (configuration_of self.old).store }
         requires below { IsBelow older self.old.frames.items }
+        requires going { end_at (configuration_of self.old).control ≡ None }
         ensures setting { setting_of self.new ≡ setting_of self.old }
         ensures fits { Fits self.new }
         ensures ok { IfOk result (λ turn.
@@ -129,6 +126,7 @@ impl<'a> Machine<'a> {
     fn call(&mut self, function: u32, values: &[Value], older: usize) -> Result<Turn, NoMemory>
         requires fits { Fits self.old }
         requires below { IsBelow older self.old.frames.items }
+        requires going { end_at (configuration_of self.old).control ≡ None }
         ensures setting { setting_of self.new ≡ setting_of self.old }
         ensures fits { Fits self.new }
         ensures ok { IfOk result (λ turn.
@@ -138,15 +136,24 @@ impl<'a> Machine<'a> {
             (frames_below older self.old) (configuration_of self.old))) }
         ensures err { OnErr result (configuration_of self.new ≡ configuration_of self.old) }
     {
-        let Some(fun) = self.program.functions.get(function as usize) else {
+        let Some(fun) = function_of(self.program, function) else {
             return Ok(Turn::Went);
         };
+        match self.call_below(older) {
+            Some(before) => self.replace(fun, values, older, before),
+            None => self.push(function, fun, values, older),
+        }
+    }
+
+    // Where a call frame is the newest of the first frames, how many bindings there were before it.
+    fn call_below(&self, older: usize) -> Option<usize>
+        requires { older ≤ vec_len self.now.frames }
+        ensures call { IfSome result (λ before. IsCallBelow before older self.now.frames.items) }
+        ensures none { IfNone result (HasNoCall (reverse (take older self.now.frames.items))) }
+    {
         match self.frames[..older].last() {
-            Some(Frame::Call { before, .. }) => {
-                let before = *before;
-                self.replace(fun, values, older, before)
-            }
-            _ => self.push(function, fun, values, older),
+            Some(Frame::Call { before, .. }) => Some(*before),
+            _ => None,
         }
     }
 
@@ -209,4 +216,11 @@ impl<'a> Machine<'a> {
         self.control = Control::Expression(&fun.body, environment);
         Ok(Turn::Went)
     }
+}
+
+// A function by its number, if there is one.
+fn function_of(program: &Program, number: u32) -> Option<&Fun>
+    ensures { option_map (λ f. function_tree f.now) result ≡ slice_get (program_tree program.now).functions number }
+{
+    program.functions.get(number as usize)
 }

@@ -25,7 +25,10 @@ pub enum Frame<'a> {
         environment: usize,
     },
     /// A match waits for its scrutinee.
-    Rows { rows: &'a [Row], environment: usize },
+    Rows {
+        rows: &'a [Row],
+        environment: usize,
+    },
     /// What is left of a block waits for the statement before it, whose variable, if any, is still to be bound.
     Statement {
         variable: Option<u32>,
@@ -33,5 +36,8 @@ pub enum Frame<'a> {
         environment: usize,
     },
     /// A call waits for its body. It keeps the values that it was lent, and knows how many bindings there were before.
-    Call { lent: Vec<Value>, before: usize },
+    Call {
+        lent: Vec<Value>,
+        before: usize,
+    },
 }

@@ -98,9 +98,7 @@ impl FreeVariables {
             ++ without (self.old.bound.items ++ awaited_of awaited) (free (block_tree rest.entry))) }
     {
         let outside = self.bound.len();
-        if let Some(variable) = awaited {
-            self.bound.push(variable)?;
-        }
+        self.bind_awaited(awaited)?;
         self.of_statements(rest.statements)?;
         self.of_expr(rest.value)?;
         self.bound.truncate(outside);
@@ -141,6 +139,17 @@ impl FreeVariables {
             self.found.push(variable)?;
         }
         Ok(())
+    }
+
+    // Binds the variable that is still to be bound, if there is one.
+    fn bind_awaited(&mut self, awaited: Option<u32>) -> Result<(), NoMemory>
+        ensures bound { OnOk result (self.new.bound.items ≡ self.old.bound.items ++ awaited_of awaited) }
+        ensures found { self.new.found.items ≡ self.old.found.items }
+    {
+        match awaited {
+            None => Ok(()),
+            Some(variable) => self.bind(variable),
+        }
     }
 
     // Binds the variable of a statement, if it has one.

@@ -16,6 +16,8 @@ mod matching;
 mod meaning;
 mod print;
 mod resume;
+#[cfg(test)]
+mod tests;
 mod turn;
 mod value;
 

@@ -1,5 +1,6 @@
-ghost use Rattle.std.specs.Prelude.{◌≡◌, ◌≤◌, map, vec_len, IfOk, OnErr};
+ghost use Rattle.std.specs.Prelude.{◌≡◌, ◌≤◌, None, map, vec_len, IfOk, OnErr};
 ghost use Rattle.kk_syntax.specs.Trees.{expr_tree, trees_of, apply as applied};
+ghost use Rattle.kk_source.specs.State.{end_at};
 ghost use Rattle.kk_source.specs.Sound.{IsOlder};
 ghost use Rattle.kk_source.specs.Step.{goes, at_value, part_step, expression_step, step_of};
 ghost use Rattle.kk_meaning.specs.View.{value_view, environment_of};
@@ -79,6 +80,7 @@ impl<'a> Machine<'a> {
         requires fits { Fits self.old }
         requires within { environment ≤ vec_len self.old.bindings.links }
         requires older { IsOlder (configuration_of self.old).store }
+        requires going { end_at (configuration_of self.old).control ≡ None }
         ensures setting { setting_of self.new ≡ setting_of self.old }
         ensures fits { Fits self.new }
         ensures ok { IfOk result (λ turn.
@@ -123,6 +125,7 @@ impl<'a> Machine<'a> {
         requires fits { Fits self.old }
         requires within { environment ≤ vec_len self.old.bindings.links }
         requires older { IsOlder (configuration_of self.old).store }
+        requires going { end_at (configuration_of self.old).control ≡ None }
         ensures setting { setting_of self.new ≡ setting_of self.old }
         ensures fits { Fits self.new }
         ensures ok { IfOk result (λ turn.
@@ -155,6 +158,7 @@ impl<'a> Machine<'a> {
         requires fits { Fits self.old }
         requires within { environment ≤ vec_len self.old.bindings.links }
         requires older { IsOlder (configuration_of self.old).store }
+        requires going { end_at (configuration_of self.old).control ≡ None }
         ensures setting { setting_of self.new ≡ setting_of self.old }
         ensures fits { Fits self.new }
         ensures ok { IfOk result (λ turn.
@@ -197,7 +201,7 @@ impl<'a> Machine<'a> {
             (turn, configuration_of self.new)
             ≡ turn_of (configuration_of self.old) (part_step (expr_tree first.now)
             (environment_of self.old.bindings.links.items environment)
-            (frame_view self.old.bindings.links.items frame) (configuration_of self.old))) }
+            (frame_view self.old.bindings.links.items frame.entry) (configuration_of self.old))) }
         ensures err { OnErr result (configuration_of self.new ≡ configuration_of self.old) }
     {
         self.frames.push(frame)?;

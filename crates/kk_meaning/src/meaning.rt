@@ -2,9 +2,10 @@ ghost use Rattle.std.specs.Prelude.{◌≡◌, IfOk, OnErr};
 ghost use Rattle.kk_syntax.specs.Programs.{program_tree};
 ghost use Rattle.kk_syntax.specs.PositionsOf.{positions_of};
 ghost use Rattle.kk_source.specs.State.{start};
-ghost use Rattle.kk_source.specs.Sound.{Sound};
+ghost use Rattle.kk_source.specs.Sound.{Sound, AllWithin-prop, ControlWithin-prop, FramesWithin-prop};
+ghost use Rattle.std.proofs.Props.{props};
 ghost use Rattle.kk_source.specs.Step.{step_of};
-ghost use Rattle.kk_meaning.specs.Machines.{setting_of, configuration_of, Fits};
+ghost use Rattle.kk_meaning.specs.Machines.{setting_of, configuration_of, Fits, ControlFits-prop, FramesFit-prop};
 ghost use Rattle.kk_meaning.specs.Turns.{turn_of, TakesByte, Reads};
 ghost use Rattle.kk_meaning.specs.declared.turn.Turn.TheVariants.{WantsInput};
 
@@ -21,8 +22,8 @@ use std::alloc::Global;
 #[derive(Debug, Drop)]
 pub struct Meaning<'a> {
     machine: Machine<'a>,
-    ghost fits: { Fits machine },
-    ghost sound: { Sound (configuration_of machine) },
+    ghost fits: { Fits machine } by { Prim.hlevel (props, ControlFits-prop, FramesFit-prop) },
+    ghost sound: { Sound (configuration_of machine) } by { Prim.hlevel (props, AllWithin-prop, ControlWithin-prop, FramesWithin-prop) },
 }
 
 impl<'a> Meaning<'a> {
@@ -37,7 +38,10 @@ impl<'a> Meaning<'a> {
         ensures setting { IfOk result (λ meaning.
             setting_of meaning.machine
             ≡ record {
-                program = program_tree program.now; positions = positions_of positions.now; cells = cells; depth = depth
+              program = program_tree program.now;
+              positions = positions_of positions.now;
+              cells = cells;
+              depth = depth;
             }) }
         ensures start { IfOk result (λ meaning.
             configuration_of meaning.machine ≡ start (setting_of meaning.machine)) }

@@ -1,5 +1,5 @@
-ghost use Rattle.std.specs.Prelude.{◌≡◌, ◌≤◌, ◌-◌, ◌∷◌, ◌++◌, [], map, reverse, take, vec_len, IfOk, OnErr};
-ghost use Rattle.kk_source.specs.State.{value as at, ended};
+ghost use Rattle.std.specs.Prelude.{◌≡◌, None, ◌≤◌, ◌-◌, ◌∷◌, ◌++◌, [], map, reverse, take, vec_len, IfOk, OnErr};
+ghost use Rattle.kk_source.specs.State.{value as at, ended, end_at};
 ghost use Rattle.kk_source.specs.Sound.{IsOlder};
 ghost use Rattle.kk_source.specs.Step.{goes, at_end, value_step};
 ghost use Rattle.kk_meaning.specs.View.{value_view};
@@ -19,7 +19,7 @@ use std::alloc::Global;
 
 impl<'a> Machine<'a> {
     // The step at a value: the newest frame has waited for it.
-    fn resume(&mut self, value: Value) -> Result<Turn, NoMemory>
+    pub fn resume(&mut self, value: Value) -> Result<Turn, NoMemory>
         requires fits { Fits self.old }
         requires at { (configuration_of self.old).control ≡ at (value_view value) }
         requires older { IsOlder (configuration_of self.old).store }
@@ -55,7 +55,11 @@ impl<'a> Machine<'a> {
                 negative,
                 environment,
             } => {
-                let branch = if value.is_true() { *positive } else { *negative };
+                let branch = if value.is_true() {
+                    *positive
+                } else {
+                    *negative
+                };
                 let environment = *environment;
                 self.frames.pop();
                 self.control = Control::Expression(branch, environment);
@@ -97,15 +101,22 @@ impl<'a> Machine<'a> {
             ≡ turn_of before (value_step (setting_of self.old) (value_view value) before.frames before)) }
         ensures err { OnErr result (configuration_of self.new ≡ configuration_of self.old) }
     {
-        if let Some(Frame::Arguments {
-            values, left: rest, ..
-        }) = self.frames.last_mut()
-        {
-            values.push(value)?;
-            *rest = left;
-            self.control = Control::Expression(next, environment);
+        let Some(frame) = self.frames.last_mut() else {
+            return Ok(Turn::Went);
+        };
+        match frame {
+            Frame::Arguments {
+                values,
+                left: rest,
+                ..
+            } => {
+                values.push(value)?;
+                *rest = left;
+                self.control = Control::Expression(next, environment);
+                Ok(Turn::Went)
+            }
+            _ => Ok(Turn::Went),
         }
-        Ok(Turn::Went)
     }
 
     // A match has its scrutinee: the first row that matches comes. Where none does the machine stays.
@@ -117,6 +128,7 @@ impl<'a> Machine<'a> {
     ) -> Result<Turn, NoMemory>
         requires fits { Fits self.old }
         requires newest { IsNewest (OfFrame.Rows rows environment) self.old.frames.items }
+        requires going { end_at (configuration_of self.old).control ≡ None }
         ensures setting { setting_of self.new ≡ setting_of self.old }
         ensures fits { Fits self.new }
         ensures ok { let before = configuration_of self.old in IfOk result (λ turn.
@@ -196,7 +208,7 @@ impl<'a> Machine<'a> {
     }
 
     // The run has ended.
-    fn end(&mut self) -> Turn
+    pub fn end(&mut self) -> Turn
         requires fits { Fits self.old }
         ensures setting { setting_of self.new ≡ setting_of self.old }
         ensures fits { Fits self.new }

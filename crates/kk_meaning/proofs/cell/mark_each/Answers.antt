@@ -1,4 +1,4 @@
-use Rattle.std.proofs.Common.{◌+◌, map, take, sym, subst}
+use Rattle.std.proofs.Common.{map, take, sym, subst}
 use Rattle.kk_meaning.specs.View.{value_view}
 use Rattle.kk_meaning.specs.Marks.{Marked}
 use Rattle.kk_meaning.proofs.Marks.{marked_more, taken_one}

@@ -1,8 +1,8 @@
-use Rattle.std.proofs.Common.{◌≡◌, ◌+◌, ◌-◌, ◌<◌, true, length, map, get_or, arith, subst, sym, ap, ◌∙◌}
+use Rattle.std.proofs.Common.{◌≡◌, ◌+◌, ◌-◌, ◌<◌, length, map, arith, subst, sym, ap, ◌∙◌}
 use Rattle.std.proofs.lemmas.List.{length-map}
 use Rattle.kk_source.specs.Live.{fields_at}
 use Rattle.kk_meaning.specs.View.{value_view, cell_view}
-use Rattle.kk_meaning.specs.Marks.{Marked, is_marked}
+use Rattle.kk_meaning.specs.Marks.{Marked}
 use Rattle.kk_meaning.proofs.Marks.{Passed, passed_marked, marked_live, fields_kept}
 use Rattle.kk_meaning.proofs.cell.mark_live.Goals as goal
 
@@ -14,14 +14,14 @@ loop-left-preserved-then-marks-left c =
     let cell = c.index-store-left.result in
     let there : k < length c.args.store.now = omega (arith, inv.within) in
     let fields : map value_view c.deref.result.now ≡ fields_at store k =
-        ap (map value_view) c.deref.ensures.value
-        ∙ (ap (λ x. map value_view x.fields.items) (sym c.index-store-left.is)
-        ∙ sym (fields_kept c.args.store.now k cell there c.index-store-left.is)) in
+    ap (map value_view) c.deref.ensures.value
+    ∙ (ap (λ x. map value_view x.fields.items) (sym c.index-store-left.is)
+    ∙ sym (fields_kept c.args.store.now k cell there c.index-store-left.is)) in
     let m : Marked c.loop-left.marks c.mark_each-then-marks-left.new.marks (fields_at store k) =
-        subst (Marked c.loop-left.marks c.mark_each-then-marks-left.new.marks) fields c.mark_each-then-marks-left.ensures in
+    subst (Marked c.loop-left.marks c.mark_each-then-marks-left.new.marks) fields c.mark_each-then-marks-left.ensures in
     let next : k + 1 ≡ c.loop-left.left = omega arith in
     let p : Passed store (map value_view c.args.held.now) c.loop-left.marks (k + 1) =
-        subst (λ n. Passed store (map value_view c.args.held.now) c.loop-left.marks n) (sym next) inv.passed in
+    subst (λ n. Passed store (map value_view c.args.held.now) c.loop-left.marks n) (sym next) inv.passed in
     record {
       passed = passed_marked store c.requires.older (map value_view c.args.held.now) c.loop-left.marks c.mark_each-then-marks-left.new.marks k c.if-marks-left.true c.mark_each-then-marks-left.auto.marks m p;
       within = omega (arith, inv.within);

@@ -1,4 +1,4 @@
-use Rattle.std.proofs.Common.{◌≡◌, map, drop, length}
+use Rattle.std.proofs.Common.{◌≡◌, map, drop}
 use Rattle.kk_syntax.specs.Patterns.{pattern_tree, patterns_of}
 use Rattle.kk_source.specs.State.{Environment}
 use Rattle.kk_source.specs.Matching.{matched_all}

@@ -1,5 +1,5 @@
-use Rattle.std.proofs.Common.{◌≡◌, ◌+◌, ◌-◌, ◌∷◌, [], drop, take, map, length, vec_len, ◌≤◌, refl, arith, sym, ap, ◌∙◌}
-use Rattle.kk_meaning.specs.View.{bound_view, environment_of, pushed}
+use Rattle.std.proofs.Common.{◌≡◌, ◌-◌, take, map, length, vec_len, ◌≤◌, refl, arith, ap, ◌∙◌}
+use Rattle.kk_meaning.specs.View.{bound_view, pushed}
 use Rattle.kk_meaning.proofs.Environments.{agree_on_front, environment_agree, pushed_one, take_again, take_longer}
 use Rattle.kk_meaning.proofs.binding.Bindings.bind.Goals as goal
 
@@ -30,6 +30,6 @@ loop-added-preserved c =
       kept = take_longer links.items c.push.new.self.items _ c.args.kept longer c.in_ok-push.ensures.items ∙ inv.kept;
       room = omega (arith, c.in_ok-push.ensures.len, c.push.ensures.capacity);
       pushed =
-        pushed_one links.items c.push.new.self.items c.args.bound.now c.loop-added.added-index (vec_len links) c.len-newest.result c.loop-added.newest _ _ _
-        (omega arith) newest all (omega (arith, c.in_ok-push.ensures.len)) c.in_ok-push.ensures.items refl (ap (λ n. n - c.loop-added.newest) c.len.ensures) inv.pushed;
+          pushed_one links.items c.push.new.self.items c.args.bound.now c.loop-added.added-index (vec_len links) c.len-newest.result c.loop-added.newest _ _ _
+          (omega arith) newest all (omega (arith, c.in_ok-push.ensures.len)) c.in_ok-push.ensures.items refl (ap (λ n. n - c.loop-added.newest) c.len.ensures) inv.pushed;
     }

@@ -1,4 +1,4 @@
-use Rattle.std.proofs.Common.{◌≡◌, ◌≤◌}
+use Rattle.std.proofs.Common.{◌≡◌}
 use Rattle.kk_source.specs.Live.{value_of}
 use Rattle.kk_meaning.specs.View.{environment_of}
 use Rattle.kk_meaning.proofs.binding.Bindings.value_of.Given as goal

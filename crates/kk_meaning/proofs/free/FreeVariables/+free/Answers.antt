@@ -1,6 +1,6 @@
-use Rattle.std.proofs.Common.{◌≡◌, ◌+◌, [], ◌∷◌, ◌++◌, List, ℕ, map, drop, vec_len, arith, refl, sym, ap, ◌∙◌, append_assoc}
+use Rattle.std.proofs.Common.{◌≡◌, ◌+◌, ◌∷◌, ◌++◌, List, ℕ, map, drop, arith, sym, ap, ◌∙◌, append_assoc}
 use Rattle.kk_syntax.specs.Patterns.{pattern_tree}
-use Rattle.kk_syntax.specs.Trees.{expr_tree, row_tree, rows_of, statement_tree, block_of}
+use Rattle.kk_syntax.specs.Trees.{expr_tree, row_tree, rows_of, statement_tree}
 use Rattle.kk_syntax.specs.Shapes.{bound, bound_by, without, free, free_rows}
 use Rattle.kk_syntax.proofs.Blocks.{block_tree}
 use Rattle.kk_meaning.specs.FreeOf.{free_of_statements, bound_by_statements}
@@ -17,16 +17,16 @@ of_expr-returns-in_ok-of_expr-in-Block-clause-found t c =
     let last = expr_tree c.in-Block.value.value in
     let statements_are = ap (map statement_tree) c.deref-in-Block.ensures.value in
     let bound_is : middle.bound.items ≡ old.bound.items ++ bound_by_statements ss =
-        c.in_ok-of_statements-in-Block.ensures.bound ∙ ap (λ ts. old.bound.items ++ bound_by_statements ts) statements_are in
+    c.in_ok-of_statements-in-Block.ensures.bound ∙ ap (λ ts. old.bound.items ++ bound_by_statements ts) statements_are in
     let found_is : middle.found.items ≡ old.found.items ++ without old.bound.items (free_of_statements ss) =
-        c.in_ok-of_statements-in-Block.ensures.found ∙ ap (λ ts. old.found.items ++ without old.bound.items (free_of_statements ts)) statements_are in
+    c.in_ok-of_statements-in-Block.ensures.found ∙ ap (λ ts. old.found.items ++ without old.bound.items (free_of_statements ts)) statements_are in
     let now_is : c.of_expr-in-Block.new.self.found.items ≡ middle.found.items ++ without (old.bound.items ++ bound_by_statements ss) (free last) =
-        c.in_ok-of_expr-in-Block.ensures.found
-        ∙ (ap (λ bs. middle.found.items ++ without bs (free (expr_tree c.deref-in-Block-2.result.now))) bound_is
-        ∙ ap (λ e. middle.found.items ++ without (old.bound.items ++ bound_by_statements ss) (free (expr_tree e))) c.deref-in-Block-2.ensures) in
+    c.in_ok-of_expr-in-Block.ensures.found
+    ∙ (ap (λ bs. middle.found.items ++ without bs (free (expr_tree c.deref-in-Block-2.result.now))) bound_is
+    ∙ ap (λ e. middle.found.items ++ without (old.bound.items ++ bound_by_statements ss) (free (expr_tree e))) c.deref-in-Block-2.ensures) in
     let whole : free (expr_tree c.args.expr.now) ≡ free_of_statements ss ++ without (bound_by_statements ss) (free last) =
-        ap (λ e. free (expr_tree e)) c.in-Block.is
-        ∙ (ap free (block_tree c.in-Block.statements c.in-Block.value) ∙ free_of_block ss last) in
+    ap (λ e. free (expr_tree e)) c.in-Block.is
+    ∙ (ap free (block_tree c.in-Block.statements c.in-Block.value) ∙ free_of_block ss last) in
     found_block old.found.items middle.found.items _ old.bound.items (free_of_statements ss) (bound_by_statements ss) (free last) found_is now_is
     ∙ ap (λ (xs : List ℕ). old.found.items ++ without old.bound.items xs) (sym whole)
 
@@ -41,19 +41,19 @@ of_rows-loop-row-preserved t c =
     let others = free_rows (rows_of (map row_tree (drop (c.loop-row.row-index + 1) c.args.rows.now))) in
     let row_is : free_rows (rows_of (map row_tree (row ∷ drop (c.loop-row.row-index + 1) c.args.rows.now))) ≡ without cs (free (expr_tree row.body)) ++ others = ap (λ r. without (bound r.pattern) (free r.body) ++ others) (row_tree_is row) in
     let kept : c.truncate.new.self.items ≡ bs =
-        c.truncate.ensures.items
-        ∙ front_again bs cs _ c.len-outside.result (c.len-outside.ensures ∙ now.bound.ok.0) (c.in_ok-of_expr.ensures.bound ∙ c.in_ok-bind_pattern.ensures.bound) in
+    c.truncate.ensures.items
+    ∙ front_again bs cs _ c.len-outside.result (c.len-outside.ensures ∙ now.bound.ok.0) (c.in_ok-of_expr.ensures.bound ∙ c.in_ok-bind_pattern.ensures.bound) in
     let more : c.of_expr.new.self.found.items ≡ now.found.items ++ without (bs ++ cs) (free (expr_tree row.body)) =
-        c.in_ok-of_expr.ensures.found
-        ∙ (ap (λ l. l ++ without c.bind_pattern.new.self.bound.items (free (expr_tree row.body))) c.in_ok-bind_pattern.ensures.found
-        ∙ ap (λ l. now.found.items ++ without l (free (expr_tree row.body))) c.in_ok-bind_pattern.ensures.bound) in
+    c.in_ok-of_expr.ensures.found
+    ∙ (ap (λ l. l ++ without c.bind_pattern.new.self.bound.items (free (expr_tree row.body))) c.in_ok-bind_pattern.ensures.found
+    ∙ ap (λ l. now.found.items ++ without l (free (expr_tree row.body))) c.in_ok-bind_pattern.ensures.bound) in
     record {
       bound = kept ∙ inv.bound;
       found =
-        ap (λ l. c.of_expr.new.self.found.items ++ without l others) kept
-        ∙ found_within now.found.items _ bs cs (free (expr_tree row.body)) others _ more
-        (ap (λ (xs : List ℕ). now.found.items ++ without bs xs) (sym row_is)
-        ∙ (ap (λ rows. now.found.items ++ without bs (free_rows (rows_of (map row_tree rows)))) (sym rest) ∙ inv.found));
+          ap (λ l. c.of_expr.new.self.found.items ++ without l others) kept
+          ∙ found_within now.found.items _ bs cs (free (expr_tree row.body)) others _ more
+          (ap (λ (xs : List ℕ). now.found.items ++ without bs xs) (sym row_is)
+          ∙ (ap (λ rows. now.found.items ++ without bs (free_rows (rows_of (map row_tree rows)))) (sym rest) ∙ inv.found));
     }
 
 pub of_statements-loop-statement-preserved : goal.of_statements-loop-statement-preserved
@@ -69,16 +69,16 @@ of_statements-loop-statement-preserved t c =
     let bound_whole : bound_by_statements (map statement_tree whole) ≡ cs ++ bound_by_statements later = ap (λ s. bound_by s.binder ++ bound_by_statements later) (statement_tree_is statement) in
     let free_whole : free_of_statements (map statement_tree whole) ≡ free (expr_tree statement.value) ++ without cs (free_of_statements later) = ap (λ s. free s.value ++ without (bound_by s.binder) (free_of_statements later)) (statement_tree_is statement) in
     let bound_is : c.bind_statement.new.self.bound.items ≡ bs ++ cs =
-        c.in_ok-bind_statement.ensures.bound ∙ ap (λ l. l ++ cs) c.in_ok-of_expr.ensures.bound in
+    c.in_ok-bind_statement.ensures.bound ∙ ap (λ l. l ++ cs) c.in_ok-of_expr.ensures.bound in
     record {
       bound =
-        ap (λ l. l ++ bound_by_statements later) bound_is
-        ∙ (append_assoc bs cs (bound_by_statements later)
-        ∙ (ap (λ (l : List ℕ). bs ++ l) (sym bound_whole)
-        ∙ (ap (λ ss. bs ++ bound_by_statements (map statement_tree ss)) (sym rest) ∙ inv.bound)));
+          ap (λ l. l ++ bound_by_statements later) bound_is
+          ∙ (append_assoc bs cs (bound_by_statements later)
+          ∙ (ap (λ (l : List ℕ). bs ++ l) (sym bound_whole)
+          ∙ (ap (λ ss. bs ++ bound_by_statements (map statement_tree ss)) (sym rest) ∙ inv.bound)));
       found =
-        ap (λ l. c.bind_statement.new.self.found.items ++ without l (free_of_statements later)) bound_is
-        ∙ found_before now.found.items _ bs cs (free (expr_tree statement.value)) (free_of_statements later) _ (c.bind_statement.ensures.found ∙ c.in_ok-of_expr.ensures.found)
-        (ap (λ (xs : List ℕ). now.found.items ++ without bs xs) (sym free_whole)
-        ∙ (ap (λ ss. now.found.items ++ without bs (free_of_statements (map statement_tree ss))) (sym rest) ∙ inv.found));
+          ap (λ l. c.bind_statement.new.self.found.items ++ without l (free_of_statements later)) bound_is
+          ∙ found_before now.found.items _ bs cs (free (expr_tree statement.value)) (free_of_statements later) _ (c.bind_statement.ensures.found ∙ c.in_ok-of_expr.ensures.found)
+          (ap (λ (xs : List ℕ). now.found.items ++ without bs xs) (sym free_whole)
+          ∙ (ap (λ ss. now.found.items ++ without bs (free_of_statements (map statement_tree ss))) (sym rest) ∙ inv.found));
     }
