@@ -1,16 +1,15 @@
 -- Runs of small programs, some counted by hand.
-use Rattle.std.proofs.Common.{◌≡◌, ℕ, pos, negsuc, List, [], ◌∷◌, ◌++◌, Some, None, refl}
+use Rattle.std.proofs.Common.{◌≡◌, ℕ, pos, [], ◌∷◌, Some, None, refl}
 use Rattle.std.specs.Int.{int_wrap}
 use Rattle.std.specs.Fmt.{digits}
 use Rattle.std.specs.Prelude.{codes}
-use Rattle.kk_base.specs.Trace.{output, input, input_end}
-use Rattle.kk_syntax.specs.declared.operator.BinaryOperator.TheVariants.{Add, Subtract, Multiply, Divide, Remainder, Equal, Greater, GreaterEqual}
-use Rattle.kk_syntax.specs.declared.positions.Ownership.TheVariants.{Owned, Lent}
-use Rattle.kk_syntax.specs.Patterns.{anything, variable as names, exactly}
-use Rattle.kk_syntax.specs.Trees.{Tree, number, unit, variable, read_byte, branch, match, no_row, row}
-use Rattle.kk_source.specs.State.{Setting, ended, heap_full, stack_full}
-use Rattle.kk_source.specs.SourceAfter.{After, source_after}
-use Rattle.kk_source.proofs.Builder.{binary, called, made, printed, of_made, bound_to, then, program}
+use Rattle.kk_base.specs.Trace.{output}
+use Rattle.kk_syntax.specs.declared.operator.BinaryOperator.TheVariants.{Add, Subtract, Multiply, Equal}
+use Rattle.kk_syntax.specs.Patterns.{anything, variable as names}
+use Rattle.kk_syntax.specs.Trees.{Tree, number, variable, branch, match, no_row, row}
+use Rattle.kk_source.specs.State.{Setting, ended, stack_full}
+use Rattle.kk_source.specs.SourceAfter.{source_after}
+use Rattle.kk_source.proofs.Builder.{binary, called, made, printed, of_made, program}
 
 -- fun main() { println(1 + 2 * 3) }
 -- 1 the print waits, 2 the sum waits, 3 a value, 4 is kept, 5 the product waits, 6 a value, 7 is kept, 8 a value,

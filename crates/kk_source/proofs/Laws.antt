@@ -7,15 +7,15 @@ use Rattle.kk_base.specs.Trace.{Event, TakesFrom, IsPrefix}
 use Rattle.kk_base.specs.Machines.{step_unless, trace, state, ending_after}
 use Rattle.kk_base.proofs.Machines.{trace-mapped, state-mapped}
 use Rattle.kk_source.specs.State.{Setting, End, Value, State}
-use Rattle.kk_source.specs.Notes.{Note, events_of}
+use Rattle.kk_source.specs.Notes.{events_of}
 use Rattle.kk_source.specs.Live.{is_live, Reached}
 use Rattle.kk_source.specs.Step.{Action, goes, puts, takes, builds, calls, step_of}
 use Rattle.kk_source.specs.SourceAfter.{performed, step, ending_of, store_machine, source_machine, first_state, After, source_after, HasRoom}
 use Rattle.kk_source.specs.Sound.{Sound}
 use Rattle.kk_source.proofs.Live.{live_reached, reached_live}
 use Rattle.kk_source.proofs.Sound.{LeadsTo, step_sound, start_sound}
-use Rattle.kk_source.proofs.Roomier.{Further, goes_further}
-use Rattle.kk_source.proofs.TakenInput.{Same, same_taken}
+use Rattle.kk_source.proofs.Roomier.{goes_further}
+use Rattle.kk_source.proofs.TakenInput.{same_taken}
 
 -- sound states lead to sound ones
 performed_sound : (action : Action) (input : List ℕ) → LeadsTo Sound action → Sound (performed action input).1.machine
@@ -63,11 +63,12 @@ same_after a b t e = ap (λ (x : List Event). record { trace = x; ending = a.end
 pub longer_trace : (setting : Setting) (input : List ℕ) (cells depth : ℕ) → setting.cells ≤ cells → setting.depth ≤ depth → (n : ℕ) → IsPrefix (source_after setting input n).trace (source_after (record setting { cells = cells; depth = depth }) input n).trace
 longer_trace setting input cells depth c d n =
     let large : Setting = record setting { cells = cells; depth = depth } in
-    let f = goes_further setting cells depth c d n (first_state setting input) in
-    (flat_map events_of f.prefix.0,
-    ap (λ (l : List Event). l ++ flat_map events_of f.prefix.0) (seen_trace setting input n)
-    ∙ (sym (flat_map-append events_of (trace (store_machine setting) n (first_state setting input)) f.prefix.0)
-    ∙ (ap (flat_map events_of) f.prefix.1 ∙ sym (seen_trace large input n))))
+    let f = goes_further setting cells depth c d n (first_state setting input) in (
+      flat_map events_of f.prefix.0,
+      ap (λ (l : List Event). l ++ flat_map events_of f.prefix.0) (seen_trace setting input n)
+          ∙ (sym (flat_map-append events_of (trace (store_machine setting) n (first_state setting input)) f.prefix.0)
+          ∙ (ap (flat_map events_of) f.prefix.1 ∙ sym (seen_trace large input n))),
+    )
 
 pub same_with_room : (setting : Setting) (input : List ℕ) (cells depth : ℕ) → setting.cells ≤ cells → setting.depth ≤ depth → (n : ℕ) → HasRoom (source_after setting input n).ending → source_after (record setting { cells = cells; depth = depth }) input n ≡ source_after setting input n
 same_with_room setting input cells depth c d n room =

@@ -1,9 +1,8 @@
 -- The walk finds exactly the places that can be reached.
-use Rattle.std.proofs.Common.{◌≡◌, ◌⊎◌, inl, inr, ℕ, zero, suc, ◌<◌, ◌≤◌, Bool, true, false, ◌||◌, List, [], ◌∷◌, ◌++◌, length, Option, Some, None, arith, refl, sym, ap, ◌∙◌, subst, ◌==◌}
-use Rattle.std.specs.Prelude.{slice_get, nat_eq}
+use Rattle.std.proofs.Common.{◌≡◌, ◌⊎◌, inl, inr, ℕ, zero, suc, ◌<◌, ◌≤◌, Bool, true, false, ◌||◌, List, [], ◌∷◌, ◌++◌, length, arith, refl, sym, ap, ◌∙◌, subst, ◌==◌}
 use Rattle.std.specs.List.{list_any}
-use Rattle.kk_source.specs.State.{Value, integer, unit, constant, place, Cell, Store}
-use Rattle.kk_source.specs.Live.{fields_in, fields_at, Among, Leads, Reached, is_place, fields_of, fields_of_all, is_found, is_live}
+use Rattle.kk_source.specs.State.{Value, integer, unit, constant, place, Store}
+use Rattle.kk_source.specs.Live.{fields_at, Among, Leads, Reached, is_place, fields_of, fields_of_all, is_found, is_live}
 use Rattle.kk_source.specs.Sound.{Within, AllWithin, IsOlder}
 
 -- a place among values, as a test
@@ -87,9 +86,10 @@ one_more store vs (next ∷ way) goal l =
 found_reached : (rounds : ℕ) (store : Store) (vs : List Value) (goal : ℕ) → is_found rounds store vs goal ≡ true → Reached store vs goal
 found_reached zero store vs goal e = ([], any_among vs goal e)
 found_reached (suc rounds) store vs goal e =
-    elim (or_cases (list_any (is_place goal) vs) (is_found rounds store (fields_of_all store vs) goal) e)
-    [ inl here ↦ ([], any_among vs goal here)
-    | inr there ↦ let r = found_reached rounds store (fields_of_all store vs) goal there in one_more store vs r.0 goal r.1 ]
+    elim (or_cases (list_any (is_place goal) vs) (is_found rounds store (fields_of_all store vs) goal) e) [
+      | inl here ↦ ([], any_among vs goal here)
+      | inr there ↦ let r = found_reached rounds store (fields_of_all store vs) goal there in one_more store vs r.0 goal r.1
+    ]
 
 -- what is found at once is found in any number of rounds
 found_here : (rounds : ℕ) (store : Store) (vs : List Value) (goal : ℕ) → Among vs goal → is_found rounds store vs goal ≡ true

@@ -1,8 +1,8 @@
 -- What a run does depends on the input that it has taken alone.
-use Rattle.std.proofs.Common.{◌≡◌, ℕ, zero, suc, List, [], ◌∷◌, ◌++◌, Option, Some, None, refl, sym, ap, ap₂, ◌∙◌, subst}
+use Rattle.std.proofs.Common.{◌≡◌, ℕ, zero, suc, List, [], ◌∷◌, ◌++◌, Option, Some, None, refl, sym, ap, ◌∙◌, subst}
 use Rattle.std.specs.List.{flat_map}
-use Rattle.kk_base.specs.Trace.{Event, output, input as taken, input_end, TakesFrom}
-use Rattle.kk_base.specs.Machines.{step_unless, trace, state, ending_after}
+use Rattle.kk_base.specs.Trace.{output, input as taken, input_end, TakesFrom}
+use Rattle.kk_base.specs.Machines.{step_unless, trace, state}
 use Rattle.kk_base.proofs.Machines.{trace_ended, state_ended}
 use Rattle.kk_source.specs.State.{Setting, End, Configuration, State}
 use Rattle.kk_source.specs.Notes.{Note, seen, built, called, events_of}
@@ -25,11 +25,11 @@ module _ (setting : Setting) where
   same_next : (n : ℕ) (machine next : Configuration) (input left other over rest : List ℕ) (notes : List Note) → (store_machine setting).step (at machine input) ≡ (notes, at next left) → (store_machine setting).step (at machine other) ≡ (notes, at next over) → Same setting n next left over rest → Same setting (suc n) machine input other rest
   same_next n machine next input left other over rest notes first second later = record {
     trace_is =
-      ap (λ (p : List Note × State). p.0 ++ trace (store_machine setting) n p.1) second
-      ∙ (ap (λ (l : List Note). notes ++ l) later.trace_is ∙ sym (ap (λ (p : List Note × State). p.0 ++ trace (store_machine setting) n p.1) first));
+        ap (λ (p : List Note × State). p.0 ++ trace (store_machine setting) n p.1) second
+        ∙ (ap (λ (l : List Note). notes ++ l) later.trace_is ∙ sym (ap (λ (p : List Note × State). p.0 ++ trace (store_machine setting) n p.1) first));
     state_is =
-      ap (λ (p : List Note × State). state (store_machine setting) n p.1) second
-      ∙ (later.state_is ∙ sym (ap (λ (p : List Note × State). record { machine = (state (store_machine setting) n p.1).machine; input = rest }) first));
+        ap (λ (p : List Note × State). state (store_machine setting) n p.1) second
+        ∙ (later.state_is ∙ sym (ap (λ (p : List Note × State). record { machine = (state (store_machine setting) n p.1).machine; input = rest }) first));
   }
 
   -- what the world sees of a step's note, and of those behind it
@@ -71,6 +71,6 @@ module _ (setting : Setting) where
           record {
             trace_is = trace_ended (store_machine setting) (suc n) (at machine other) w e ∙ sym none;
             state_is =
-              state_ended (store_machine setting) (suc n) (at machine other) w e
-              ∙ (ap (at machine) rest_is ∙ ap (λ (s : State). record { machine = s.machine; input = rest }) (sym (state_ended (store_machine setting) (suc n) (at machine input) w e)));
+                state_ended (store_machine setting) (suc n) (at machine other) w e
+                ∙ (ap (at machine) rest_is ∙ ap (λ (s : State). record { machine = s.machine; input = rest }) (sym (state_ended (store_machine setting) (suc n) (at machine input) w e)));
           }
