@@ -1,6 +1,5 @@
 -- A builder of small programs, for the examples: forms over plain lists, and programs of bodies alone.
-use Rattle.std.proofs.Common.{ℕ, ℤ, pos, List, [], ◌∷◌, map}
-use Rattle.std.specs.Prelude.{codes}
+use Rattle.std.proofs.Common.{ℕ, List, [], ◌∷◌, map}
 use Rattle.kk_syntax.specs.declared.operator.BinaryOperator.{BinaryOperator}
 use Rattle.kk_syntax.specs.declared.operator.PrintForm.TheVariants.{PrintLine}
 use Rattle.kk_syntax.specs.declared.program.Form.TheVariants.{Binary, Print, Construct, Call}
@@ -8,8 +7,8 @@ use Rattle.kk_syntax.specs.declared.program.Binder.TheVariants.{Nothing, Variabl
 use Rattle.kk_syntax.specs.Patterns.{Pattern, constructor, patterns_of}
 use Rattle.kk_syntax.specs.Trees.{Tree, apply, sequence, trees_of}
 use Rattle.kk_syntax.specs.Types.{unit_type}
-use Rattle.kk_syntax.specs.Programs.{FunctionTree, ProgramTree}
-use Rattle.kk_syntax.specs.PositionsOf.{PositionTable, all_owned}
+use Rattle.kk_syntax.specs.Programs.{FunctionTree}
+use Rattle.kk_syntax.specs.PositionsOf.{all_owned}
 use Rattle.kk_source.specs.State.{Setting}
 
 abbrev pub binary : BinaryOperator → Tree → Tree → Tree

@@ -1,9 +1,8 @@
 -- The walk finds exactly the places that can be reached.
-use Rattle.std.proofs.Common.{◌≡◌, ◌⊎◌, inl, inr, ℕ, zero, suc, ◌<◌, ◌≤◌, Bool, true, false, ◌||◌, List, [], ◌∷◌, ◌++◌, length, Option, Some, None, arith, refl, sym, ap, ◌∙◌, subst, ◌==◌}
-use Rattle.std.specs.Prelude.{slice_get, nat_eq}
+use Rattle.std.proofs.Common.{◌≡◌, ◌⊎◌, inl, inr, ℕ, zero, suc, ◌<◌, ◌≤◌, Bool, true, false, ◌||◌, List, [], ◌∷◌, ◌++◌, length, arith, refl, sym, ap, ◌∙◌, subst, ◌==◌}
 use Rattle.std.specs.List.{list_any}
-use Rattle.kk_source.specs.State.{Value, integer, unit, constant, place, Cell, Store}
-use Rattle.kk_source.specs.Live.{fields_in, fields_at, Among, Leads, Reached, is_place, fields_of, fields_of_all, is_found, is_live}
+use Rattle.kk_source.specs.State.{Value, integer, unit, constant, place, Store}
+use Rattle.kk_source.specs.Live.{fields_at, Among, Leads, Reached, is_place, fields_of, fields_of_all, is_found, is_live}
 use Rattle.kk_source.specs.Sound.{Within, AllWithin, IsOlder}
 
 -- a place among values, as a test

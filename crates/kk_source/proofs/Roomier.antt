@@ -1,5 +1,5 @@
 -- A run with more cells and a greater depth goes as far as the smaller one goes, and does the same.
-use Rattle.std.proofs.Common.{◌≡◌, ◌⊎◌, inl, inr, ℕ, zero, suc, ◌<◌, ◌≤◌, Bool, true, false, List, [], ◌∷◌, ◌++◌, Option, Some, None, arith, refl, sym, ap, ◌∙◌, append_assoc, subst}
+use Rattle.std.proofs.Common.{◌≡◌, ℕ, zero, suc, ◌≤◌, Bool, true, false, List, [], ◌∷◌, ◌++◌, Option, Some, None, arith, refl, sym, ap, ◌∙◌, append_assoc, subst}
 use Rattle.std.proofs.lemmas.List.{append-nil}
 use Rattle.std.specs.Prelude.{slice_get, nat_le, if◌then◌else◌}
 use Rattle.kk_base.specs.Trace.{IsPrefix}
@@ -7,13 +7,13 @@ use Rattle.kk_base.specs.Machines.{step_unless, trace, state, ending_after}
 use Rattle.kk_base.proofs.Machines.{trace_ended, state_ended}
 use Rattle.kk_syntax.specs.declared.program.Form.{Form}
 use Rattle.kk_syntax.specs.declared.program.Form.TheVariants.{Unary, Binary, Print, Construct, Call}
-use Rattle.kk_syntax.specs.Trees.{Tree, number, unit as unit_tree, variable, read_byte, print_text, apply, branch, match, sequence, Trees, no_tree, tree}
+use Rattle.kk_syntax.specs.Trees.{Tree, number, unit as unit_tree, variable, read_byte, print_text, apply, branch, match, sequence, no_tree, tree}
 use Rattle.kk_syntax.specs.Programs.{FunctionTree}
 use Rattle.kk_syntax.specs.PositionsOf.{is_lent}
-use Rattle.kk_source.specs.State.{Setting, Value, Environment, Frame, arguments, branches, rows, statement, call, End, ended, heap_full, stack_full, Control, expression, value, stopped, Configuration, State, end_at}
-use Rattle.kk_source.specs.Notes.{Note, built, called}
+use Rattle.kk_source.specs.State.{Setting, Value, Environment, Frame, arguments, branches, rows, statement, call, End, heap_full, stack_full, Control, expression, value, stopped, Configuration, State}
+use Rattle.kk_source.specs.Notes.{Note}
 use Rattle.kk_source.specs.Live.{held_by_all, live}
-use Rattle.kk_source.specs.Step.{Action, goes, puts, takes, builds, calls, at_end, at_new_place, in_body, lent_places, call_frames, construct_step, push_step, call_step, form_step, expression_step, value_step, step_at, step_of}
+use Rattle.kk_source.specs.Step.{Action, builds, calls, at_end, at_new_place, in_body, lent_places, call_frames, construct_step, push_step, call_step, form_step, expression_step, value_step, step_at, step_of}
 use Rattle.kk_source.specs.SourceAfter.{performed, step, ending_of, store_machine, HasRoom}
 
 -- the same, or a stop where the other goes on

@@ -1,6 +1,6 @@
 -- Each step keeps states sound.
-use Rattle.std.proofs.Common.{◌≡◌, ℕ, zero, suc, ◌+◌, ◌<◌, ◌≤◌, ℤ, Bool, true, false, List, [], ◌∷◌, ◌++◌, length, Option, Some, None, arith, refl, sym, ap, ◌∙◌, subst, length-append}
-use Rattle.std.specs.Prelude.{slice_get, nat_le, nat_eq, if◌then◌else◌, ◌==◌}
+use Rattle.std.proofs.Common.{◌≡◌, ℕ, zero, suc, ◌+◌, ◌≤◌, ℤ, Bool, true, false, List, [], ◌∷◌, ◌++◌, length, Option, Some, None, arith, subst, length-append}
+use Rattle.std.specs.Prelude.{slice_get, if◌then◌else◌, ◌==◌}
 use Rattle.kk_syntax.specs.declared.operator.UnaryOperator.{UnaryOperator}
 use Rattle.kk_syntax.specs.declared.operator.UnaryOperator.TheVariants.{Negate, Not}
 use Rattle.kk_syntax.specs.declared.operator.BinaryOperator.{BinaryOperator}
@@ -10,11 +10,11 @@ use Rattle.kk_syntax.specs.declared.program.Form.TheVariants.{Unary, Binary, Pri
 use Rattle.kk_syntax.specs.Programs.{FunctionTree}
 use Rattle.kk_syntax.specs.PositionsOf.{is_lent}
 use Rattle.kk_syntax.specs.Patterns.{Pattern, anything, variable, exactly, constructor, Patterns, no_part, part}
-use Rattle.kk_syntax.specs.Trees.{Tree, number, unit as unit_tree, variable as variable_tree, read_byte, print_text, apply, branch, match, sequence, Trees, no_tree, tree, Rows, no_row, row}
-use Rattle.kk_source.specs.State.{Value, integer, unit, constant, place, Cell, Store, Binding, Environment, Frame, arguments, branches, rows, statement, call, heap_full, stack_full, Control, expression, value, stopped, Configuration, Setting, start}
+use Rattle.kk_syntax.specs.Trees.{Tree, number, unit as unit_tree, variable as variable_tree, read_byte, print_text, apply, branch, match, sequence, no_tree, tree, Rows, no_row, row}
+use Rattle.kk_source.specs.State.{Value, integer, unit, constant, place, Cell, Store, Environment, Frame, arguments, branches, rows, statement, call, heap_full, stack_full, Control, expression, value, stopped, Configuration, Setting, start}
 use Rattle.kk_source.specs.Live.{value_of, fields_in, fields_at}
 use Rattle.kk_source.specs.Matching.{is_integer, fields_made_by, fields_under, and_then, matched, matched_all, Chosen, chosen_or, first_match}
-use Rattle.kk_source.specs.Step.{Action, goes, puts, takes, builds, calls, at_expression, at_value, at_end, truth, unary_result, number_result, binary_result, argument, print_step, byte_value, bind, bind_parameters, lent_places, at_new_place, in_body, construct_step, push_step, call_step, form_step, expression_step, choice_step, value_step, step_at, step_of}
+use Rattle.kk_source.specs.Step.{Action, goes, puts, takes, builds, calls, at_expression, at_value, at_end, truth, unary_result, number_result, argument, print_step, byte_value, bind, bind_parameters, lent_places, at_new_place, in_body, construct_step, push_step, call_step, form_step, expression_step, choice_step, value_step, step_at, step_of}
 use Rattle.kk_source.specs.Sound.{Within, AllWithin, BoundWithin, FrameWithin, FramesWithin, ControlWithin, IsOlder, Sound}
 
 -- of a longer store

@@ -1,8 +1,8 @@
 -- What a run does depends on the input that it has taken alone.
-use Rattle.std.proofs.Common.{◌≡◌, ℕ, zero, suc, List, [], ◌∷◌, ◌++◌, Option, Some, None, refl, sym, ap, ap₂, ◌∙◌, subst}
+use Rattle.std.proofs.Common.{◌≡◌, ℕ, zero, suc, List, [], ◌∷◌, ◌++◌, Option, Some, None, refl, sym, ap, ◌∙◌, subst}
 use Rattle.std.specs.List.{flat_map}
-use Rattle.kk_base.specs.Trace.{Event, output, input as taken, input_end, TakesFrom}
-use Rattle.kk_base.specs.Machines.{step_unless, trace, state, ending_after}
+use Rattle.kk_base.specs.Trace.{output, input as taken, input_end, TakesFrom}
+use Rattle.kk_base.specs.Machines.{step_unless, trace, state}
 use Rattle.kk_base.proofs.Machines.{trace_ended, state_ended}
 use Rattle.kk_source.specs.State.{Setting, End, Configuration, State}
 use Rattle.kk_source.specs.Notes.{Note, seen, built, called, events_of}

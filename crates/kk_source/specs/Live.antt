@@ -1,9 +1,8 @@
 -- The places that are live: those that can be reached, through fields, from what the machine still holds.
-use Rattle.std.specs.Prelude.{◌≡◌, ◌⊎◌, ℕ, zero, suc, ◌+◌, ◌==◌, ◌||◌, Bool, true, false, if◌then◌else◌, List, [], ◌∷◌, ◌++◌, map, length, Option, Some, None, slice_get}
+use Rattle.std.specs.Prelude.{◌≡◌, ◌⊎◌, ℕ, zero, suc, ◌+◌, ◌==◌, ◌||◌, Bool, false, if◌then◌else◌, List, [], ◌∷◌, ◌++◌, map, length, Option, Some, None, slice_get}
 use Rattle.std.specs.List.{list_any}
-use Rattle.kk_syntax.specs.Trees.{Tree, Trees, Rows}
 use Rattle.kk_syntax.specs.Shapes.{free, free_all, free_rows, without}
-use Rattle.kk_source.specs.State.{Value, integer, unit, constant, place, Cell, Store, Binding, Environment, Frame, arguments, branches, rows, statement, call}
+use Rattle.kk_source.specs.State.{Value, unit, place, Cell, Store, Environment, Frame, arguments, branches, rows, statement, call}
 
 -- the value that a variable stands for; in a resolved program each that is looked up is bound
 abbrev pub value_of : Environment → ℕ → Value

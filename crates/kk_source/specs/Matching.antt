@@ -3,7 +3,7 @@ use Rattle.std.specs.Prelude.{ℕ, ℤ, ◌==◌, List, [], ◌∷◌, Bool, fal
 use Rattle.std.specs.Ordering.{int_eq}
 use Rattle.kk_syntax.specs.Patterns.{Pattern, anything, variable, exactly, constructor, Patterns, no_part, part}
 use Rattle.kk_syntax.specs.Trees.{Tree, Rows, no_row, row}
-use Rattle.kk_source.specs.State.{Value, integer, unit, constant, place, Cell, Store, Binding, Environment}
+use Rattle.kk_source.specs.State.{Value, integer, constant, place, Cell, Store, Environment}
 
 abbrev pub is_integer : ℤ → Value → Bool
 is_integer n (integer m) = int_eq m n

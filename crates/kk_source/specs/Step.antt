@@ -1,5 +1,5 @@
 -- The steps of the store machine. Evaluation is strict, and goes from left to right.
-use Rattle.std.specs.Prelude.{ℕ, suc, ℤ, pos, negsuc, ◌+◌, ◌==◌, nat_le, int_lt, int_le, Bool, true, false, not, List, [], ◌∷◌, ◌++◌, Option, Some, None, if◌then◌else◌, slice_index_or, slice_get, length}
+use Rattle.std.specs.Prelude.{ℕ, suc, ℤ, pos, negsuc, ◌==◌, nat_le, int_lt, int_le, Bool, true, false, not, List, [], ◌∷◌, ◌++◌, Option, Some, None, if◌then◌else◌, slice_index_or, slice_get, length}
 use Rattle.std.specs.Ordering.{int_eq}
 use Rattle.std.specs.Fmt.{signed_decimal}
 use Rattle.kk_syntax.specs.declared.operator.UnaryOperator.{UnaryOperator}
@@ -10,12 +10,12 @@ use Rattle.kk_syntax.specs.declared.operator.PrintForm.{PrintForm}
 use Rattle.kk_syntax.specs.declared.operator.PrintForm.TheVariants as OfPrint
 use Rattle.kk_syntax.specs.declared.program.Form.{Form}
 use Rattle.kk_syntax.specs.declared.program.Form.TheVariants.{Unary, Binary, Print, Construct, Call}
-use Rattle.kk_syntax.specs.Trees.{Tree, number, unit as unit_tree, variable, read_byte, print_text, apply, branch, match, sequence, Trees, no_tree, tree, Rows}
-use Rattle.kk_syntax.specs.Programs.{FunctionTree, ProgramTree}
+use Rattle.kk_syntax.specs.Trees.{Tree, number, unit as unit_tree, variable, read_byte, print_text, apply, branch, match, sequence, no_tree, tree}
+use Rattle.kk_syntax.specs.Programs.{FunctionTree}
 use Rattle.kk_syntax.specs.Shapes.{variable_of}
 use Rattle.kk_syntax.specs.PositionsOf.{is_lent}
 use Rattle.kk_source.specs.Arithmetic.{sum_of, difference_of, product_of, negation_of, quotient_of, remainder_of}
-use Rattle.kk_source.specs.State.{Setting, Value, integer, unit, constant, place, Cell, Store, Binding, Environment, Frame, arguments, branches, rows, statement, call, End, ended, heap_full, stack_full, Control, expression, value, stopped, Configuration}
+use Rattle.kk_source.specs.State.{Setting, Value, integer, unit, constant, place, Environment, Frame, arguments, branches, rows, statement, call, End, ended, heap_full, stack_full, Control, expression, value, stopped, Configuration}
 use Rattle.kk_source.specs.Live.{value_of, held_by_all, live}
 use Rattle.kk_source.specs.Matching.{Chosen, first_match}
 
