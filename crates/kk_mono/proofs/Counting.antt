@@ -1,14 +1,13 @@
 -- A program comes to one thing.
-use Rattle.std.proofs.Common.{◌≡◌, ℕ, ◌-◌, ◌^◌, min, nat_lt, Bool, true, false, cond, List, [], ◌∷◌, map, find, Option, Some, None, option_map, refl, ap, sym, ◌∙◌, arith}
+use Rattle.std.proofs.Common.{◌≡◌, ℕ, map, Option, Some, None, option_map, refl, ap, sym, ◌∙◌}
 use Rattle.std.specs.Prelude.{Result, Ok, Err}
 use Rattle.std.specs.Result.{result_err}
-use Rattle.std.proofs.lemmas.Bool.Decides.{nat_tests}
 use Rattle.kk_base.specs.Exactly.{IsOnly, ExactlyOne}
 use Rattle.kk_base.specs.declared.limit.Limit.{Limit}
 use Rattle.kk_base.specs.declared.limit.LimitKind.TheVariants.{FunctionNodes}
 use Rattle.kk_syntax.specs.declared.program.Program.{Program}
 use Rattle.kk_syntax.specs.Programs.{ProgramTree, function_tree, program_tree}
-use Rattle.kk_mono.specs.Counts.{too_many_nodes, CountsAs, EachProgramIsCounted, in_u64, AnswersCounts, told_limit}
+use Rattle.kk_mono.specs.Counts.{too_many_nodes, CountsAs, EachProgramIsCounted, AnswersCounts, told_limit}
 
 one_outcome : (program : ProgramTree) (a b : Result (Unit {0}) Limit) → CountsAs program a → CountsAs program b → b ≡ a
 one_outcome program (Ok _) (Ok _) x y = refl

@@ -1,11 +1,10 @@
 -- What an expression means has no more nodes than the expression as it is written.
-use Rattle.std.proofs.Common.{◌≡◌, ℕ, suc, ◌+◌, ◌≤◌, List, [], ◌∷◌, Option, Some, None, refl, arith}
+use Rattle.std.proofs.Common.{ℕ, suc, ◌+◌, ◌≤◌, List, [], ◌∷◌, Option, Some, None, arith}
 use Rattle.std.specs.Prelude.{All}
 use Rattle.std.proofs.lemmas.List.Elements.{All-nil, All-cons, All-head}
 use Rattle.kk_syntax.specs.declared.operator.PrintForm.{PrintForm}
 use Rattle.kk_syntax.specs.declared.tree.SurfaceBinder.{SurfaceBinder}
 use Rattle.kk_syntax.specs.declared.tree.SurfaceBinder.TheVariants as OfSurface
-use Rattle.kk_syntax.specs.Programs.{FunctionTree}
 use Rattle.kk_syntax.specs.Shapes.{nodes_of, nodes_of_all, nodes_of_binder}
 use Rattle.kk_syntax.specs.Surface.{Written, number, call, unary, binary, print_text, sequence, Writtens, no_written, written, WrittenDeclaration, type_declaration, function_declaration}
 use Rattle.kk_syntax.specs.Trees.{Trees, no_tree, tree}

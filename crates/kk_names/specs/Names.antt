@@ -1,5 +1,5 @@
 -- Which program a tree means, or why its names have no meaning.
-use Rattle.std.specs.Prelude.{◌≡◌, ℕ, ◌≤◌, List, [], ◌∷◌, All, map, position, bytes_eq, codes, Option, Some, None, Result, Ok, Err, IfOk}
+use Rattle.std.specs.Prelude.{◌≡◌, ℕ, ◌≤◌, List, [], ◌∷◌, All, position, bytes_eq, codes, Option, Some, None, Result, Ok, Err}
 use Rattle.kk_base.specs.Exactly.{IsOnly, ExactlyOne}
 use Rattle.kk_base.specs.declared.error.NameError.{NameError}
 use Rattle.kk_base.specs.declared.error.NameError.TheVariants.{NoMain, NoMemory}
@@ -10,8 +10,7 @@ use Rattle.kk_syntax.specs.declared.tree.Identifier.{Identifier}
 use Rattle.kk_syntax.specs.declared.tree.Tree.{Tree}
 use Rattle.kk_syntax.specs.Programs.{ConstructorTree, FunctionTree, ProgramTree, program_tree}
 use Rattle.kk_syntax.specs.Shapes.{nodes_of}
-use Rattle.kk_syntax.specs.Surface.{Written, WrittenDeclaration, type_declaration, function_declaration, WrittenTree, written_declaration, written_tree}
-use Rattle.kk_syntax.specs.Trees.{expr_tree}
+use Rattle.kk_syntax.specs.Surface.{Written, WrittenDeclaration, type_declaration, function_declaration, WrittenTree, written_tree}
 use Rattle.kk_syntax.specs.Types.{unit_type}
 use Rattle.kk_syntax.specs.WrittenNodes.{nodes_in}
 use Rattle.kk_names.specs.Expressions.{meant}

@@ -1,4 +1,3 @@
-use Rattle.std.proofs.Common.{◌∙◌}
 use Rattle.kk_front.proofs.Bounds.{all_few}
 use Rattle.kk_front.proofs.Judging.{long_judged, unreadable_judged, misspelled_judged, unnamed_judged, accepted_judged, large_judged}
 use Rattle.kk_front.proofs.judge.read.Goals as goal

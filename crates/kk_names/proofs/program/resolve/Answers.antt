@@ -1,5 +1,5 @@
 use Rattle.std.proofs.Common.{map, sym, ap, ◌∙◌, subst}
-use Rattle.kk_syntax.specs.Programs.{function_tree, program_tree}
+use Rattle.kk_syntax.specs.Programs.{program_tree}
 use Rattle.kk_syntax.specs.Surface.{written_declaration, written_tree}
 use Rattle.kk_names.specs.Names.{functions_of, KeepsNodes}
 use Rattle.kk_names.proofs.Nodes.{keeps_nodes}
