@@ -104,15 +104,15 @@ reversed_in_two = refl
 -- parameter of f is lent, its cell stays live until the call returns, though no variable names it any more
 abbrev lent_cell : ℕ → Setting
 lent_cell cells = record
-  (program
-  (build ∷ len
-  ∷ match (variable 0)
-  (row (of_made 2 []) (number (pos 0))
-  (row (of_made 3 (names 1 ∷ anything ∷ [])) (called 1 (called 0 (variable 1 ∷ []) ∷ []))
-  no_row))
-  ∷ printed (called 2 (cons (number (pos 3)) nil ∷ [])) ∷ [])
-  3 cells 4096)
-  { positions = [] ∷ [] ∷ (Lent ∷ []) ∷ [] }
+    (program
+    (build ∷ len
+    ∷ match (variable 0)
+    (row (of_made 2 []) (number (pos 0))
+    (row (of_made 3 (names 1 ∷ anything ∷ [])) (called 1 (called 0 (variable 1 ∷ []) ∷ []))
+    no_row))
+    ∷ printed (called 2 (cons (number (pos 3)) nil ∷ [])) ∷ [])
+    3 cells 4096)
+    { positions = [] ∷ [] ∷ (Lent ∷ []) ∷ [] }
 
 lent_in_four : source_after (lent_cell 4) [] 200 ≡ record { trace = output (codes "3\n") ∷ []; ending = Some ended }
 unfolding int_wrap digits
