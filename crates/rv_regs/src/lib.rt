@@ -3,6 +3,7 @@
 #![tactic(auto)]
 
 mod actions;
+mod alive;
 mod checking;
 mod conventions;
 mod keeping;
@@ -10,6 +11,7 @@ mod keeps;
 mod lines;
 mod needs;
 mod places;
+mod plain;
 
 pub use checking::valid;
 pub use keeps::{Execution, valid_forms_keep_meaning};
