@@ -9,6 +9,7 @@ mod conventions;
 mod keeping;
 mod keeps;
 mod lines;
+mod moving;
 mod needs;
 mod places;
 mod plain;
