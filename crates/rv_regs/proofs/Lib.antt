@@ -7,3 +7,4 @@ pub mod Steps
 pub mod Following
 pub mod Simulating
 pub mod Rows
+pub mod Aliveness

@@ -5,3 +5,5 @@ pub mod Views
 pub mod Relation
 pub mod Alive
 pub mod WellFormed
+pub mod Plain
+pub mod AliveViews
