@@ -139,18 +139,42 @@ module _ (setting : Setting) (most cost : ℕ) (weight : CoreState → ℕ) (lig
       → Delivered v fs store input (core_at (after k m) core joins frames store input)
   deliver (next rest) m low top core joins frames v fs store input has le fresh waits =
       record {
-        steps = 0; few = omega arith; quiet = refl;
+        steps = 0;
+        few = omega arith;
+        quiet = refl;
         arrives = record {
-          goal = goes_on rest m joins; a = m; low = low; top = top; core = core; frames = frames; is = refl; has = has;
-          below_top = omega (arith, fresh); within = omega (arith, fresh); idles = due_small most fs (goes_on rest m joins) core low top frames waits; later = waits;
+          goal = goes_on rest m joins;
+          a = m;
+          low = low;
+          top = top;
+          core = core;
+          frames = frames;
+          is = refl;
+          has = has;
+          below_top = omega (arith, fresh);
+          within = omega (arith, fresh);
+          idles = due_small most fs (goes_on rest m joins) core low top frames waits;
+          later = waits;
         };
       }
   deliver (final true) m low top core [] frames v fs store input has le fresh waits =
       record {
-        steps = 0; few = omega arith; quiet = refl;
+        steps = 0;
+        few = omega arith;
+        quiet = refl;
         arrives = record {
-          goal = returns; a = m; low = low; top = top; core = core; frames = frames; is = refl; has = has;
-          below_top = omega (arith, fresh); within = omega (arith, fresh); idles = due_small most fs returns core low top frames waits; later = waits;
+          goal = returns;
+          a = m;
+          low = low;
+          top = top;
+          core = core;
+          frames = frames;
+          is = refl;
+          has = has;
+          below_top = omega (arith, fresh);
+          within = omega (arith, fresh);
+          idles = due_small most fs returns core low top frames waits;
+          later = waits;
         };
       }
   deliver (final true) m low top core (join ∷ joins) frames v fs store input has le fresh waits =
@@ -162,11 +186,22 @@ module _ (setting : Setting) (most cost : ℕ) (weight : CoreState → ℕ) (lig
       let bound : Environment = record { variable = x; value = value_of core m } ∷ core in
       let moved : Waits most fs (goes_on join.rest x joins) bound low top frames = waits_move most fs (goes_on join.rest x joins) core bound low low top top frames (same_below_bound low x (value_of core m) core (omega (arith, fresh.0))) (omega arith) (omega arith) waits in
       record {
-        steps = 1; few = omega arith; quiet = refl;
+        steps = 1;
+        few = omega arith;
+        quiet = refl;
         arrives = record {
-          goal = goes_on join.rest x joins; a = x; low = low; top = top; core = bound; frames = frames; is = refl;
+          goal = goes_on join.rest x joins;
+          a = x;
+          low = low;
+          top = top;
+          core = bound;
+          frames = frames;
+          is = refl;
           has = value_here x (value_of core m) core ∙ has;
-          below_top = fresh.1; within = omega (arith, fresh.0, fresh.1); idles = due_small most fs (goes_on join.rest x joins) bound low top frames moved; later = moved;
+          below_top = fresh.1;
+          within = omega (arith, fresh.0, fresh.1);
+          idles = due_small most fs (goes_on join.rest x joins) bound low top frames moved;
+          later = moved;
         };
       }
 
@@ -188,14 +223,34 @@ module _ (setting : Setting) (most cost : ℕ) (weight : CoreState → ℕ) (lig
   uses (next rest) y n top core joins frames v fs store input credit idle has less some fresh waits =
       follows credit idle most 1 [] (source_at (value v) fs store input) (core_at (use_of y rest) core joins frames store input) (omega arith) (omega arith) refl
       (record {
-        goal = goes_on rest y joins; a = y; low = n; top = top; core = core; frames = frames; is = refl; has = has;
-        below_top = omega (arith, fresh); within = fresh; idles = due_small most fs (goes_on rest y joins) core n top frames waits; later = waits;
+        goal = goes_on rest y joins;
+        a = y;
+        low = n;
+        top = top;
+        core = core;
+        frames = frames;
+        is = refl;
+        has = has;
+        below_top = omega (arith, fresh);
+        within = fresh;
+        idles = due_small most fs (goes_on rest y joins) core n top frames waits;
+        later = waits;
       })
   uses (final true) y n top core [] frames v fs store input credit idle has less some fresh waits =
       follows credit idle 0 0 [] (source_at (value v) fs store input) (core_at (give y) core [] frames store input) (omega arith) (omega arith) refl
       (record {
-        goal = returns; a = y; low = n; top = top; core = core; frames = frames; is = refl; has = has;
-        below_top = omega (arith, fresh); within = fresh; idles = omega (arith, due_returns most fs core n top frames waits); later = waits;
+        goal = returns;
+        a = y;
+        low = n;
+        top = top;
+        core = core;
+        frames = frames;
+        is = refl;
+        has = has;
+        below_top = omega (arith, fresh);
+        within = fresh;
+        idles = omega (arith, due_returns most fs core n top frames waits);
+        later = waits;
       })
   uses (final true) y n top core (join ∷ joins) frames v fs store input credit idle has less some fresh waits =
       absurd (waits_nowhere most fs core n top frames waits)
@@ -207,7 +262,16 @@ module _ (setting : Setting) (most cost : ℕ) (weight : CoreState → ℕ) (lig
       let moved : Waits most fs (goes_on join.rest x joins) bound n top frames = waits_move most fs (goes_on join.rest x joins) core bound n n top top frames (same_below_bound n x (value_of core y) core fresh.0) (omega arith) (omega arith) waits in
       follows credit idle most 1 [] (source_at (value v) fs store input) (core_at (give y) core (join ∷ joins) frames store input) (omega arith) (omega arith) refl
       (record {
-        goal = goes_on join.rest x joins; a = x; low = n; top = top; core = bound; frames = frames; is = refl;
+        goal = goes_on join.rest x joins;
+        a = x;
+        low = n;
+        top = top;
+        core = bound;
+        frames = frames;
+        is = refl;
         has = value_here x (value_of core y) core ∙ has;
-        below_top = fresh.1; within = omega (arith, fresh.0, fresh.1); idles = due_small most fs (goes_on join.rest x joins) bound n top frames moved; later = moved;
+        below_top = fresh.1;
+        within = omega (arith, fresh.0, fresh.1);
+        idles = due_small most fs (goes_on join.rest x joins) bound n top frames moved;
+        later = moved;
       })

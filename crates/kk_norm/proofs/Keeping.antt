@@ -41,10 +41,20 @@ starts program positions cells depth input plain in_range =
     let code_is : slice_index_or (map normal_function program.functions) program.main no_code ≡ normal_function main = get_or_from_slice_get (map normal_function program.functions) program.main (normal_function main) no_code found_code in
     let good = are_within program plain program.main main found in
     record {
-      k = final true; names = []; n = length main.parameters; top = length main.parameters + size main.body; core = []; joins = []; frames = [];
+      k = final true;
+      names = [];
+      n = length main.parameters;
+      top = length main.parameters + size main.body;
+      core = [];
+      joins = [];
+      frames = [];
       is = ap (λ (function : FunctionCode). core_at function.body [] [] [] [] input) code_is;
       stands = λ x among. (refl, good.0.closed x among);
-      plain = good.0.no_cells; small = good.1; idles = good.1; fresh = omega arith; later = refl;
+      plain = good.0.no_cells;
+      small = good.1;
+      idles = good.1;
+      fresh = omega arith;
+      later = refl;
     }
 
 pub keeps_meaning : (program : ProgramTree) → ArePlain program.functions → program.main < length program.functions → KeepsMeaning program (normal_program program)

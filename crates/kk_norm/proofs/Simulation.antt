@@ -126,9 +126,19 @@ module _ (setting : Setting) (most cost : ℕ) (weight : CoreState → ℕ) (lig
       let n : ℕ = length function.parameters in
       let bound : Environment = bind_parameters 0 vs [] in
       record {
-        k = final true; names = []; n = n; top = n + size function.body; core = bound; joins = []; frames = frames; is = refl;
+        k = final true;
+        names = [];
+        n = n;
+        top = n + size function.body;
+        core = bound;
+        joins = [];
+        frames = frames;
+        is = refl;
         stands = λ x among. (refl, is_plain.closed x among);
-        plain = is_plain.no_cells; small = small; idles = small; fresh = omega arith;
+        plain = is_plain.no_cells;
+        small = small;
+        idles = small;
+        fresh = omega arith;
         later = waits_call most lent fs core bound low high n (n + size function.body) frames waits;
       }
 
@@ -257,18 +267,37 @@ module _ (setting : Setting) (most cost : ℕ) (weight : CoreState → ℕ) (lig
       → AtTree most most (if test then positive else negative) environment fs store input (core_at (if test then code k names n positive else code k names (n + size positive) negative) core joins frames store input)
   in_branch true k positive negative names environment n low top core joins frames fs store input le stands plain_positive plain_negative small fresh waits =
       record {
-        k = k; names = names; n = n; top = top; core = core; joins = joins; frames = frames; is = refl;
+        k = k;
+        names = names;
+        n = n;
+        top = top;
+        core = core;
+        joins = joins;
+        frames = frames;
+        is = refl;
         stands = stands_left names environment core n (free positive) (free negative) (stands_later names environment core core low n (free positive ++ free negative) (λ z below. refl) le stands);
-        plain = plain_positive; small = omega arith; idles = omega arith;
+        plain = plain_positive;
+        small = omega arith;
+        idles = omega arith;
         fresh = fresh_less k joins (n + size positive) (n + size positive + size negative) top (omega arith) fresh;
         later = waits_move most fs (goal_of k (atom names n positive) joins) core core low n top top frames (λ z below. refl) le (omega arith) (waits (atom names n positive));
       }
   in_branch false k positive negative names environment n low top core joins frames fs store input le stands plain_positive plain_negative small fresh waits =
       let m : ℕ = n + size positive in
       record {
-        k = k; names = names; n = m; top = top; core = core; joins = joins; frames = frames; is = refl;
+        k = k;
+        names = names;
+        n = m;
+        top = top;
+        core = core;
+        joins = joins;
+        frames = frames;
+        is = refl;
         stands = stands_right names environment core m (free positive) (free negative) (stands_later names environment core core low m (free positive ++ free negative) (λ z below. refl) (omega arith) stands);
-        plain = plain_negative; small = omega arith; idles = omega arith; fresh = fresh;
+        plain = plain_negative;
+        small = omega arith;
+        idles = omega arith;
+        fresh = fresh;
         later = waits_move most fs (goal_of k (atom names m negative) joins) core core low m top top frames (λ z below. refl) (omega arith) (omega arith) (waits (atom names m negative));
       }
 

@@ -135,7 +135,12 @@ pub waits_move : (most : ℕ) (fs : List Frame) (goal : Goal) (core after_it : E
     → Waits most fs goal core low high frames → Waits most fs goal after_it low_after high_after frames
 waits_move most (arguments form vs es environment ∷ fs) (goes_on rest a joins) core after_it low low_after high high_after frames same le ge waits =
     record {
-      k = waits.k; names = waits.names; n = waits.n; m = waits.m; top = waits.top; held = waits.held;
+      k = waits.k;
+      names = waits.names;
+      n = waits.n;
+      m = waits.m;
+      top = waits.top;
+      held = waits.held;
       number_is = waits.number_is;
       values_are = values_later core after_it low waits.held same waits.held_low ∙ waits.values_are;
       held_low = all_below_more low low_after waits.held le waits.held_low;
@@ -150,7 +155,10 @@ waits_move most (arguments form vs es environment ∷ fs) (goes_on rest a joins)
     }
 waits_move most (branches positive negative environment ∷ fs) (goes_on rest a joins) core after_it low low_after high high_after frames same le ge waits =
     record {
-      k = waits.k; names = waits.names; n = waits.n; top = waits.top;
+      k = waits.k;
+      names = waits.names;
+      n = waits.n;
+      top = waits.top;
       rest_is = waits.rest_is;
       stands = stands_later waits.names environment core after_it low low_after (free positive ++ free negative) same le waits.stands;
       plain_positive = waits.plain_positive;
@@ -162,7 +170,10 @@ waits_move most (branches positive negative environment ∷ fs) (goes_on rest a 
     }
 waits_move most (statement w e environment ∷ fs) (goes_on rest a joins) core after_it low low_after high high_after frames same le ge waits =
     record {
-      k = waits.k; names = waits.names; n = waits.n; top = waits.top;
+      k = waits.k;
+      names = waits.names;
+      n = waits.n;
+      top = waits.top;
       rest_is = waits.rest_is;
       stands = stands_later waits.names environment core after_it low low_after (without (awaited w) (free e)) same le waits.stands;
       plain = waits.plain;

@@ -40,5 +40,5 @@ core_setting_of code positions cells depth = record { code = code; positions = p
 -- round, m steps of the core come by at most (m + 1) times the nodes of the greatest body and one.
 pub record KeepsMeaning (program : ProgramTree) (code : ProgramCode) : Type 0 where
   pub agrees : (positions : PositionTable) (cells depth : ℕ) (input : List ℕ) (cost : ℕ) (weight : CoreState → ℕ) → ((t : CoreState) → weight t ≤ cost)
-    → Agree (heavy_store_machine (2 * cost) (setting_of program positions cells depth)) (core_machine weight (core_setting_of code positions cells depth)) 0 (λ m. m * (greatest_nodes program + 1) + greatest_nodes program + 1)
+      → Agree (heavy_store_machine (2 * cost) (setting_of program positions cells depth)) (core_machine weight (core_setting_of code positions cells depth)) 0 (λ m. m * (greatest_nodes program + 1) + greatest_nodes program + 1)
       (first_state (setting_of program positions cells depth) input) (core_first_state (core_setting_of code positions cells depth) input)

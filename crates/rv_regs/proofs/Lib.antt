@@ -7,4 +7,3 @@ pub mod Steps
 pub mod Following
 pub mod Simulating
 pub mod Rows
-pub mod Aliveness

@@ -3,7 +3,3 @@ pub mod Conditions
 pub mod Valid
 pub mod Views
 pub mod Relation
-pub mod Alive
-pub mod WellFormed
-pub mod Plain
-pub mod AliveViews

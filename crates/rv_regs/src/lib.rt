@@ -3,16 +3,13 @@
 #![tactic(auto)]
 
 mod actions;
-mod alive;
 mod checking;
 mod conventions;
 mod keeping;
 mod keeps;
 mod lines;
-mod moving;
 mod needs;
 mod places;
-mod plain;
 
 pub use checking::valid;
 pub use keeps::{Execution, valid_forms_keep_meaning};

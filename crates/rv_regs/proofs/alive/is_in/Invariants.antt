@@ -1,6 +1,0 @@
-use Rattle.std.proofs.Common.{◌≡◌, drop}
-use Rattle.rv_isa.specs.Frames.{is_among}
-use Rattle.rv_regs.proofs.alive.is_in.Given as goal
-
-abbrev pub invariant-loop-other : goal.invariant-loop-other
-invariant-loop-other l = is_among l.value (drop l.other-index l.set) ≡ is_among l.value l.set
