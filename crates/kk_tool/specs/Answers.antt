@@ -64,11 +64,13 @@ pub data Answers (before after : Outside) : Option Request → Answer → Type 0
       → RunsImage after.image steps halt before.input after.input before.out after.out → KeepsFiles before.files after.files
       → Answers before after (Some (run file cells depth steps)) (Ran halt steps)
 
--- an answer ends a command with its status, where its line was put; or where putting the line failed, with an output fault
+-- an answer ends a command with its status, where its line was put; or where putting the line failed, with an output fault. A command that
+-- did its work has no line, and nothing is put
 pub record EndsWith (answer : Answer) (status : Status) (err err' : SinkState) : Type 0 where
   pub whole : Bool
   pub line : Puts whole (line_of answer) err err'
   pub told : status ≡ (if whole then status_of answer else Ended.OutputFault)
+  pub silent : status_of answer ≡ Ended.Done → (whole ≡ true) × (err' ≡ err)
 
 -- the words of a line end with a status, by one of their answers
 pub record Ends (request : Option Request) (status : Status) (before after : Outside) (err err' : SinkState) : Type 0 where

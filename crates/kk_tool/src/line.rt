@@ -1,5 +1,7 @@
 //! The line for the user that tells how a command ended.
-ghost use Rattle.std.specs.Prelude.{◌≡◌, ◌≤◌, length, [], Some, None, option_map, unwrap_or};
+ghost use Rattle.std.specs.Prelude.{◌≡◌, ◌≢◌, ◌≤◌, length, [], Some, None, IfSome, option_map, unwrap_or};
+ghost use Rattle.kk_base.specs.declared.status.Status.TheVariants.{Done};
+ghost use Rattle.kk_tool.specs.Answer.{halt_status, status_of};
 ghost use Rattle.kk_tool.specs.Line.{line_of, halt_line, refusal_line, lex_line, lex_place_of, parse_line, parse_line_of, parse_column_of, name_line, name_spelled_of, name_place_of, limit_line, no_memory_line, trap_line};
 ghost use Rattle.kk_tool.specs.Internal.{bytes_of, joined};
 ghost use Rattle.kk_tool.specs.Outside.{Puts};
@@ -67,7 +69,8 @@ impl<'a> Line<'a> {
 impl Answer<'_> {
     /// The line that tells the answer; none where the command did its work.
     pub fn line(&self) -> Option<Line<'_>>
-        ensures { unwrap_or (option_map (λ line. joined line.pieces.items) result) [] ≡ line_of self.now }
+        ensures said { unwrap_or (option_map (λ line. joined line.pieces.items) result) [] ≡ line_of self.now }
+        ensures some { IfSome result (λ line. status_of self.now ≢ Done) }
     {
         match self {
             Answer::Done => None,
@@ -91,7 +94,8 @@ fn no_memory_line<'a>() -> Line<'a>
 }
 
 fn halt_line<'a>(halt: Halt, steps: u64) -> Option<Line<'a>>
-    ensures { unwrap_or (option_map (λ line. joined line.pieces.items) result) [] ≡ halt_line halt steps }
+    ensures said { unwrap_or (option_map (λ line. joined line.pieces.items) result) [] ≡ halt_line halt steps }
+    ensures some { IfSome result (λ line. halt_status halt ≢ Done) }
 {
     match halt {
         Halt::Exit(0) => None,
