@@ -11,13 +11,13 @@ use Rattle.kk_syntax.specs.declared.program.Form.TheVariants.{Unary, Binary, Pri
 use Rattle.kk_syntax.specs.Trees.{Tree, number, unit as unit_tree, variable, read_byte, print_text, apply, branch as if_tree, match, sequence, Trees, no_tree, tree}
 use Rattle.kk_syntax.specs.declared.program.Binder.{Binder}
 use Rattle.kk_syntax.specs.declared.program.Binder.TheVariants as OfBinder
-use Rattle.kk_syntax.specs.Shapes.{free, free_all, nodes_of, nodes_of_all, nodes_of_binder, without, is_among, bound_by}
+use Rattle.kk_syntax.specs.Shapes.{free, free_all, nodes_of, nodes_of_all, nodes_of_binder, without, is_among, bound_by, variable_of}
 use Rattle.kk_syntax.specs.Programs.{FunctionTree}
 use Rattle.kk_syntax.specs.PositionsOf.{is_lent}
 use Rattle.kk_source.specs.Notes.{Note}
 use Rattle.kk_source.specs.State.{Setting, Value, integer, unit, constant, Store, Environment, Frame, arguments, branches, rows, statement, call, End, stack_full, Control, expression, value, stopped, Configuration, State, end_at}
 use Rattle.kk_source.specs.Live.{value_of, awaited}
-use Rattle.kk_source.specs.Step.{Action, calls, print_step, unary_result, binary_result, argument, is_true, integer_of, piece_of, byte_value, bind_parameters, bind, variable_of, call_frames, lent_places, at_end, in_body, form_step, call_step, push_step}
+use Rattle.kk_source.specs.Step.{Action, calls, print_step, unary_result, binary_result, argument, is_true, integer_of, piece_of, byte_value, bind_parameters, bind, call_frames, lent_places, at_end, in_body, form_step, call_step, push_step}
 use Rattle.kk_source.specs.SourceAfter.{performed, step}
 use Rattle.kk_core.specs.Codes.{Code, give, tail_call, branch, compute, FunctionCode}
 use Rattle.kk_core.specs.CoreStates.{CoreSetting, Join, CallFrame, running, stopped as core_stopped, CoreConfiguration, CoreState, core_end_at}

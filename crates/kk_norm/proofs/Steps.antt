@@ -6,11 +6,11 @@ use Rattle.kk_base.specs.Simulations.{Reaches, Simulates}
 use Rattle.kk_base.proofs.Simulations.{simulates_until_ended}
 use Rattle.kk_syntax.specs.declared.program.Form.{Form}
 use Rattle.kk_syntax.specs.Trees.{Tree, number, unit as unit_tree, variable, read_byte, print_text, apply, branch as if_tree, match, sequence, Trees, no_tree, tree}
-use Rattle.kk_syntax.specs.Shapes.{free, free_all, nodes_of, nodes_of_all, without}
+use Rattle.kk_syntax.specs.Shapes.{free, free_all, nodes_of, nodes_of_all, without, variable_of}
 use Rattle.kk_source.specs.Notes.{Note}
 use Rattle.kk_source.specs.State.{Setting, Value, integer, unit, Store, Environment, Frame, arguments, branches, rows, statement, call, End, ended, Control, expression, value, stopped, State, end_at}
 use Rattle.kk_source.specs.Live.{value_of}
-use Rattle.kk_source.specs.Step.{piece_of, byte_value, is_true, bind, variable_of, form_step}
+use Rattle.kk_source.specs.Step.{piece_of, byte_value, is_true, bind, form_step}
 use Rattle.kk_source.specs.SourceAfter.{performed, step, ending_of}
 use Rattle.kk_core.specs.Codes.{Code, give, branch}
 use Rattle.kk_core.specs.CoreStates.{Join, CallFrame, running, stopped as core_stopped, CoreState, core_end_at}
