@@ -4,7 +4,7 @@ ghost use Rattle.kk_norm.specs.NoCells.{ArePlain};
 ghost use Rattle.kk_norm.specs.Normalized.{normal_program};
 ghost use Rattle.kk_norm.specs.Meaning.{KeepsMeaning};
 
-/// The core form of a program that makes no cells keeps its meaning: its machine tells the same events, the same numbers of
+/// The core form of a program without matches and constructions with fields keeps its meaning: its machine tells the same events, the same numbers of
 /// live places and of call frames, and ends alike, on every input, for all lent positions, cells and depth; with at most two
 /// steps for a step of the source. It is a law, and does nothing.
 pub fn core_forms_keep_meaning()
