@@ -1,3 +1,4 @@
+pub mod CoreTyping
 pub mod Codes
 pub mod CoreMachine
 pub mod CoreStates

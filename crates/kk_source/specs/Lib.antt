@@ -1,4 +1,5 @@
 pub mod Arithmetic
+pub mod Ends
 pub mod Live
 pub mod Matching
 pub mod Notes

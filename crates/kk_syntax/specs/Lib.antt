@@ -7,4 +7,5 @@ pub mod Surface
 pub mod TokenList
 pub mod Trees
 pub mod Types
+pub mod Typing
 pub mod WrittenNodes

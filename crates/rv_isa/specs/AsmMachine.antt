@@ -1,5 +1,5 @@
 -- The machine of the assembler form: what a program over values does.
-use Rattle.std.specs.Prelude.{◌==◌, ℕ, ◌+◌, ◌*◌, List, [], ◌∷◌, Option, Some, None, Bool, true, false, cond, option_map, map, length, drop, nat_le, slice_get}
+use Rattle.std.specs.Prelude.{◌==◌, ℕ, ◌+◌, ◌*◌, List, [], ◌∷◌, Option, Some, None, Bool, false, cond, option_map, map, length, drop, nat_le, slice_get}
 use Rattle.kk_base.specs.Machines.{Machine, weighing}
 use Rattle.rv_isa.specs.declared.asm.Action.{Action}
 use Rattle.rv_isa.specs.declared.asm.Action.TheVariants.{Compute, Label, Jump, Branch, Call, TailCall, Return, Routine, Hold, Unhold}

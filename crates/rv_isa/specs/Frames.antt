@@ -1,5 +1,5 @@
 -- Call frames, of code in either form: `cells` are the values of a frame in the one, and the slots of its frame in the other.
-use Rattle.std.specs.Prelude.{◌==◌, ℕ, List, [], ◌∷◌, Option, Some, None, Bool, true, false, cond, option_map}
+use Rattle.std.specs.Prelude.{◌==◌, ℕ, List, [], ◌∷◌, Option, Some, None, Bool, cond, option_map}
 use Rattle.std.specs.List.{list_any}
 
 -- whole: the code of its function, with its labels

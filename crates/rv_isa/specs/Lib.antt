@@ -26,3 +26,4 @@ pub mod Frames
 pub mod Costs
 pub mod AsmMachine
 pub mod PlacedMachine
+pub mod WellFormed

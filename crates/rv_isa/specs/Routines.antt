@@ -1,9 +1,8 @@
 -- The registers of the runtime's routines, by number: a table for the routines themselves, for those who call them, and for
 -- who gives values their places.
-use Rattle.std.specs.Prelude.{◌≡◌, ◌==◌, ℕ, ◌+◌, List, [], ◌∷◌, Option, Some, None, Bool, true, false, ◌||◌, ◌&&◌, not, nat_le}
+use Rattle.std.specs.Prelude.{◌==◌, ℕ, List, [], ◌∷◌, Option, Some, None, Bool}
 use Rattle.std.specs.List.{list_any}
 use Rattle.rv_isa.specs.declared.routine.Routine.{Routine}
-use Rattle.rv_isa.specs.declared.routine.Routine.TheVariants as Routine
 
 -- the registers in which a routine takes its arguments, in order
 abbrev pub taken_by : Routine → List ℕ
