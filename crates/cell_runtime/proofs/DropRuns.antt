@@ -195,5 +195,5 @@ does code at has pool roots reference view s here before =
     let taken = done code at has pool roots reference view s here before in
     after code at has pool roots reference view s here before taken.0 taken.1 taken.2 taken.3 taken.4
 
-pub drop_makes : Makes (plain drop_code) 28 (λ memory. IsDrop)
+pub drop_makes : Makes (plain drop_code) 28 0 (λ memory. IsDrop)
 drop_makes = plain_makes drop_code (λ memory. does)

@@ -218,8 +218,8 @@ does_unhold : (code : Code) (at : ℕ) → Has code at unhold_code → IsUnholdO
 does_unhold code at has pool view held count s here way memory is_slot case =
     unholds_by code pool view s here.stands (subst (λ a. Has code a unhold_code) (sym here.pc_is) has) way memory is_slot held count case
 
-pub hold_makes : Makes (plain hold_code) 6 (λ memory. IsHoldOfPools)
+pub hold_makes : Makes (plain hold_code) 6 0 (λ memory. IsHoldOfPools)
 hold_makes = plain_makes hold_code (λ memory. does_hold)
 
-pub unhold_makes : Makes (plain unhold_code) 4 (λ memory. IsUnholdOfPools)
+pub unhold_makes : Makes (plain unhold_code) 4 0 (λ memory. IsUnholdOfPools)
 unhold_makes = plain_makes unhold_code (λ memory. does_unhold)

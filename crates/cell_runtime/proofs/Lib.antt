@@ -7,6 +7,7 @@ pub mod PrintingText
 pub mod Stopping
 pub mod ReadingByte
 pub mod Ranges
+pub mod Reaching
 pub mod PrintingDigits
 pub mod PrintingInt
 pub mod TakingCells

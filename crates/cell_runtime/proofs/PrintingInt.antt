@@ -433,5 +433,5 @@ does : (memory : ℕ) (code : Code) (at : ℕ) (u : UpperImmediate) (l : Immedia
 does memory code at u l sum has s here before =
     by_sign code u l memory sum s here.stands (subst (λ a. Has code a (Lui x5 u ∷ Addi x5 x5 l ∷ print_int_code)) (sym here.pc_is) has) before (halves (value s.registers 10))
 
-pub print_int_makes : Makes (Address x5 Data 11 ∷ plain print_int_code) 24 IsPrintInt
+pub print_int_makes : Makes (Address x5 Data 11 ∷ plain print_int_code) 24 11 IsPrintInt
 print_int_makes = address_makes x5 11 print_int_code does

@@ -107,5 +107,5 @@ does : (code : Code) (at : ℕ) → Has code at print_text_code → IsPrintText 
 does code at has s here before =
     by_count code s here.stands (subst (λ a. Has code a print_text_code) (sym here.pc_is) has) before (value s.registers 11) refl
 
-pub print_text_makes : Makes (plain print_text_code) 6 (λ memory. IsPrintText)
+pub print_text_makes : Makes (plain print_text_code) 6 0 (λ memory. IsPrintText)
 print_text_makes = plain_makes print_text_code (λ memory. does)

@@ -140,5 +140,5 @@ does memory code at u l sum has s here before =
     let start : memory + 0 ≡ memory = omega arith in
     by_left code memory u l (sum ∙ start) s here.stands (subst (λ a. Has code a (Lui x11 u ∷ Addi x11 x11 l ∷ read_byte_code)) (sym here.pc_is) has) before s.left refl
 
-pub read_byte_makes : Makes (Address x11 Data 0 ∷ plain read_byte_code) 10 IsReadByte
+pub read_byte_makes : Makes (Address x11 Data 0 ∷ plain read_byte_code) 10 0 IsReadByte
 read_byte_makes = address_makes x11 0 read_byte_code does

@@ -14,8 +14,8 @@ use Rattle.rv_isa.specs.declared.placed.Section.TheVariants.{Data}
 use Rattle.cell_runtime.specs.Lines.{Makes, IsSet, IsWayBack}
 
 -- what the same items make
-pub made : {K : ℕ → Code → ℕ → Type 0} {words : ℕ} {items others : List Native} → items ≡ others → Makes others words K → Makes items words K
-made {K} {words} e makes = subst (λ items. Makes items words K) (sym e) makes
+pub made : {K : ℕ → Code → ℕ → Type 0} {words reach : ℕ} {items others : List Native} → items ≡ others → Makes others words reach K → Makes items words reach K
+made {K} {words} {reach} e makes = subst (λ items. Makes items words reach K) (sym e) makes
 
 -- a list, one item after the other
 pub then_line : {i j : Instr} {is js : List Native} → i ≡ j → is ≡ js → Instruction i ∷ is ≡ Instruction j ∷ js

@@ -154,5 +154,5 @@ module _ (layout : Layout) (memory : ℕ) (is : List Instr) (code : Code) (at : 
       (subst (Has code s.pc) is_whole (subst (λ a. Has code a is) (sym pc_is) has))
       pool (memory + layout.stack_end) spells.3 (second.3 ∙ sym first) (third.3 ∙ sym end) usable low)
 
-pub start_makes : (layout : Layout) → Makes (start_items layout) 9 (IsStartOf layout)
-start_makes layout = record { size = refl; labels = λ before. refl; code = does layout }
+pub start_makes : (layout : Layout) → Makes (start_items layout) 9 (layout.cells + layout.cells_end + layout.stack_end) (IsStartOf layout)
+start_makes layout = record { size = refl; labels = λ before. refl; within = (omega arith, (omega arith, (omega arith, tt))); code = does layout }

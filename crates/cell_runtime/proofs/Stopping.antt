@@ -57,6 +57,6 @@ module _ (code : Code) (imm : Immediate) (number : ℕ) (number_is : imm.word �
         registers = kept s;
       }
 
-pub stop_makes : (ending : Ending) (imm : Immediate) → imm.word ≡ number_of ending → Makes (plain (stop_code imm)) 3 (λ memory. IsStop ending)
+pub stop_makes : (ending : Ending) (imm : Immediate) → imm.word ≡ number_of ending → Makes (plain (stop_code imm)) 3 0 (λ memory. IsStop ending)
 stop_makes ending imm number_is = plain_makes (stop_code imm) (λ memory code at has s here.
     stop_exits code imm (number_of ending) number_is (number-below ending) s here.stands (subst (λ a. Has code a (stop_code imm)) (sym here.pc_is) has))

@@ -265,5 +265,5 @@ does : (code : Code) (at : ℕ) → Has code at take_code → IsTakeOfPools code
 does code at has pool view s here way memory =
     by_chain code pool view s here.stands (subst (λ a. Has code a take_code) (sym here.pc_is) has) way memory view.frees refl
 
-pub take_makes : Makes (plain take_code) 17 (λ memory. IsTakeOfPools)
+pub take_makes : Makes (plain take_code) 17 0 (λ memory. IsTakeOfPools)
 take_makes = plain_makes take_code (λ memory. does)

@@ -1,5 +1,5 @@
 -- The lines of the runtime's text, and the instructions that they stand for.
-use Rattle.std.specs.Prelude.{◌≡◌, ℕ, ◌+◌, List, [], ◌∷◌}
+use Rattle.std.specs.Prelude.{◌≡◌, ℕ, ◌+◌, ◌≤◌, List, [], ◌∷◌}
 use Rattle.rv_isa.specs.declared.register.Register.{Register}
 use Rattle.rv_isa.specs.declared.immediate.Immediate.{Immediate}
 use Rattle.rv_isa.specs.declared.immediate.UpperImmediate.{UpperImmediate}
@@ -39,11 +39,20 @@ labels_of before [] = []
 labels_of before (Label symbol ∷ lines) = (symbol, before) ∷ labels_of before lines
 labels_of before (line ∷ lines) = labels_of (before + words_of_line line) lines
 
--- These lines are so many instructions and have no label. Wherever the instructions stand, the code there is of this kind: by the memory, the
+-- the lines of a runtime: instructions, labels, and addresses in the memory that it may write, at most so far from its begin
+abbrev pub AreWithin : ℕ → List Native → Type 0
+AreWithin most [] = Unit {0}
+AreWithin most (Instruction i ∷ lines) = AreWithin most lines
+AreWithin most (Label symbol ∷ lines) = AreWithin most lines
+AreWithin most (Address rd Data offset ∷ lines) = (offset ≤ most) × AreWithin most lines
+AreWithin most (_ ∷ lines) = ⊥
+
+-- These lines are so many instructions, have no label, and have addresses at most so far from the memory's begin. Wherever the instructions stand, the code there is of this kind: by the memory, the
 -- code and the address of its first instruction
-pub record Makes (lines : List Native) (words : ℕ) (IsOfKind : ℕ → Code → ℕ → Type 0) : Type 0 where
+pub record Makes (lines : List Native) (words reach : ℕ) (IsOfKind : ℕ → Code → ℕ → Type 0) : Type 0 where
   pub size : words_of lines ≡ words
   pub labels : (before : ℕ) → labels_of before lines ≡ []
+  pub within : AreWithin reach lines
   pub code : (memory : ℕ) (is : List Instr) (code : Code) (at : ℕ) → Spells memory lines is → Has code at is → IsOfKind memory code at
 
 -- a register becomes a number: ADDI from x0

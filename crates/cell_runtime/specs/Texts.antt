@@ -10,7 +10,7 @@ use Rattle.cell_heap.specs.Pool.{Pool}
 use Rattle.cell_runtime.specs.declared.layout.Layout.{Layout}
 use Rattle.cell_runtime.specs.declared.stop.Ending.TheVariants as ending
 use Rattle.cell_runtime.specs.Layouts.{layout_of}
-use Rattle.cell_runtime.specs.Lines.{Spells, words_of, labels_of}
+use Rattle.cell_runtime.specs.Lines.{Spells, words_of, labels_of, AreWithin}
 use Rattle.cell_runtime.specs.Prints.{IsPrintInt, IsPrintText, IsReadByte}
 use Rattle.cell_runtime.specs.Stops.{IsStop}
 use Rattle.cell_runtime.specs.Takes.{IsTake}
@@ -41,6 +41,10 @@ runtime_labels =
     (Start, 0) ∷ (Stop, 9) ∷ (StackFull, 12) ∷ (Routine routine.Take, 15) ∷ (Routine routine.Drop, 32) ∷ (Hold, 60) ∷ (Unhold, 66)
     ∷ (Routine routine.PrintInt, 70) ∷ (Routine routine.PrintText, 94) ∷ (Routine routine.ReadByte, 100) ∷ []
 
+-- how far from the memory's begin the runtime's addresses are at most
+abbrev pub greatest_reach : ℕ
+greatest_reach = 536870912
+
 -- the runtime alone, for so many cells and so many frames of so many bytes
 pub record IsText (cells depth frame_bytes : ℕ) (text : Placed) : Type 0 where
   pub memory : text.memory ≡ record { size = (layout_of cells depth frame_bytes).stack_end; stack_bottom = (layout_of cells depth frame_bytes).stack }
@@ -48,5 +52,6 @@ pub record IsText (cells depth frame_bytes : ℕ) (text : Placed) : Type 0 where
   pub constants : text.constants.items ≡ []
   pub words : words_of text.natives.items ≡ 110
   pub labels : labels_of 0 text.natives.items ≡ runtime_labels
+  pub within : AreWithin greatest_reach text.natives.items
   pub routines : (memory : ℕ) (is : List Instr) (code : Code) (at : ℕ) → Spells memory text.natives.items is → Has code at is
       → IsRuntime cells (layout_of cells depth frame_bytes) memory code at

@@ -25,7 +25,7 @@ fn srli(rd: Register, rs1: Register, shamt: ShiftAmount) -> Native
 /// stands on the chain of free cells before that. So no stack is used. `a1` and `a2` are the address of the next field
 /// of an opened cell and the mask of the fields from there on, `a3` is the chain of waiting cells.
 pub fn give_up() -> [Native; 28]
-    ensures { Makes result 28 (λ memory. IsDrop) }
+    ensures { Makes result 28 0 (λ memory. IsDrop) }
 {
     [
         set(Register::A3, 0),

@@ -18,7 +18,7 @@ const INT_BYTES: u32 = 11;
 ///
 /// The line end always stands in the buffer's last byte; the digits are stored before it, the last one first.
 pub fn print_int() -> [Native; 23]
-    ensures { Makes result 24 IsPrintInt }
+    ensures { Makes result 24 11 IsPrintInt }
 {
     [
         address(Register::T0, INT_BYTES),

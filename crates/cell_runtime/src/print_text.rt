@@ -9,7 +9,7 @@ use rv_isa::{Native, Register};
 
 /// Puts the bytes from the address in `a0` on, as many as `a1` says, at once.
 pub fn print_text() -> [Native; 6]
-    ensures { Makes result 6 (λ memory. IsPrintText) }
+    ensures { Makes result 6 0 (λ memory. IsPrintText) }
 {
     [
         addi(Register::A2, Register::A1, small(0)),

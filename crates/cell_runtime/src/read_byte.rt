@@ -9,7 +9,7 @@ use rv_isa::{Native, Register};
 
 /// Takes the next byte of the input: `a0` is the byte, or -1 at the input's end.
 pub fn read_byte() -> [Native; 9]
-    ensures { Makes result 10 IsReadByte }
+    ensures { Makes result 10 0 IsReadByte }
 {
     [
         address(Register::A1, 0),

@@ -1,5 +1,6 @@
 //! The start of an image.
 
+ghost use Rattle.std.specs.Prelude.{◌+◌};
 ghost use Rattle.cell_runtime.specs.Lines.{Makes};
 ghost use Rattle.cell_runtime.specs.Starts.{IsStartOf};
 
@@ -13,7 +14,7 @@ pub const TEXT_WORDS: u32 = 110;
 /// Sets the stack, the bounds of the cells, an empty chain of free cells and an empty chain of held tokens, and calls
 /// `main`, which stands behind the runtime. So `main` returns to the stop behind the start.
 pub fn start(layout: Layout) -> [Native; 6]
-    ensures { Makes result 9 (IsStartOf layout) }
+    ensures { Makes result 9 (layout.cells + layout.cells_end + layout.stack_end) (IsStartOf layout) }
 {
     [
         address(Register::SP, layout.stack_end),

@@ -35,7 +35,7 @@ impl Ending {
 
 /// Exits.
 pub fn stop(ending: Ending) -> [Native; 3]
-    ensures { Makes result 3 (λ memory. IsStop ending) }
+    ensures { Makes result 3 0 (λ memory. IsStop ending) }
 {
     [
         set(Register::A0, ending.number()),

@@ -11,7 +11,7 @@ use rv_isa::{Native, Register};
 /// Gives a cell in `a0`: the first one of the chain in `s0`, else the first one that was never used, else the newest held
 /// token, whose slot loses it. Where there is none it exits.
 pub fn take() -> [Native; 17]
-    ensures { Makes result 17 (λ memory. IsTakeOfPools) }
+    ensures { Makes result 17 0 (λ memory. IsTakeOfPools) }
 {
     [
         beq(Register::S0, Register::ZERO, forward(4)),

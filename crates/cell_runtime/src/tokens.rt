@@ -8,7 +8,7 @@ use rv_isa::{Native, Register};
 
 /// Puts the token in the slot whose address is in `a0` on the chain; where the slot holds none, does nothing.
 pub fn hold() -> [Native; 6]
-    ensures { Makes result 6 (λ memory. IsHoldOfPools) }
+    ensures { Makes result 6 0 (λ memory. IsHoldOfPools) }
 {
     [
         lw(Register::T0, Register::A0, small(0)),
@@ -23,7 +23,7 @@ pub fn hold() -> [Native; 6]
 /// Takes the token in the slot whose address is in `a0`, which is the newest one, off the chain; where the slot holds
 /// none, as where the token was taken back, does nothing.
 pub fn unhold() -> [Native; 4]
-    ensures { Makes result 4 (λ memory. IsUnholdOfPools) }
+    ensures { Makes result 4 0 (λ memory. IsUnholdOfPools) }
 {
     [
         lw(Register::T0, Register::A0, small(0)),

@@ -50,7 +50,7 @@ const READS: [u32; 7] = [
     0x000a_0067,
 ];
 
-const TAKES_TWICE: [u32; 3] = [0xe85f_f0ef, 0xe81f_f0ef, 0x0000_0067];
+const TAKES_ALL: [u32; 2] = [0xe85f_f0ef, 0xffdf_f06f];
 
 const TAKES_AGAIN: [u32; 11] = [
     0x0000_8a13,
@@ -83,6 +83,57 @@ const GIVES_UP: [u32; 17] = [
     0xfc0b_1ee3,
     0x000a_8513,
     0xe8df_f0ef,
+    0x000a_0067,
+];
+
+const GIVES_UP_SHARED: [u32; 13] = [
+    0x0000_8a13,
+    0xe81f_f0ef,
+    0x0005_0a93,
+    0x0020_0293,
+    0x0055_2023,
+    0x0005_2223,
+    0xeb1f_f0ef,
+    0x000a_a503,
+    0x0010_0593,
+    0xf3df_f0ef,
+    0x000a_8513,
+    0xe9df_f0ef,
+    0x000a_0067,
+];
+
+const GIVES_UP_FIELDS: [u32; 32] = [
+    0x0000_8a13,
+    0xe81f_f0ef,
+    0xe7df_f0ef,
+    0xe79f_f0ef,
+    0xe75f_f0ef,
+    0x0010_0293,
+    0x0055_2023,
+    0x0055_2423,
+    0xfc55_2023,
+    0xfc05_2223,
+    0xfe55_2023,
+    0xfe05_2223,
+    0x0020_0293,
+    0xfa55_2023,
+    0xfa05_2223,
+    0x0050_0293,
+    0x0055_2823,
+    0xfe05_0a93,
+    0x0155_2a23,
+    0xfa05_0293,
+    0x0055_2623,
+    0x0055_2e23,
+    0xfc05_0293,
+    0x0055_2c23,
+    0x0000_32b7,
+    0x7032_8293,
+    0x0055_2223,
+    0xe5df_f0ef,
+    0x000a_a503,
+    0x0010_0593,
+    0xee9f_f0ef,
     0x000a_0067,
 ];
 
@@ -136,6 +187,60 @@ const HOLDS_TWO: [u32; 25] = [
     0x000a_0067,
 ];
 
+const UNHOLDS_NEWEST: [u32; 22] = [
+    0x0000_8a13,
+    0xe81f_f0ef,
+    0xfea1_2c23,
+    0xe79f_f0ef,
+    0xfea1_2e23,
+    0xff81_0513,
+    0xf21f_f0ef,
+    0xffc1_0513,
+    0xf19f_f0ef,
+    0xf2df_f0ef,
+    0xe5df_f0ef,
+    0x4125_0533,
+    0x0010_0593,
+    0xf2df_f0ef,
+    0xffc1_2503,
+    0x4125_0533,
+    0x0010_0593,
+    0xf1df_f0ef,
+    0xff81_2503,
+    0x0010_0593,
+    0xf11f_f0ef,
+    0x000a_0067,
+];
+
+const HOLDS_AFTER_UNHOLD: [u32; 26] = [
+    0x0000_8a13,
+    0xe81f_f0ef,
+    0xfea1_2c23,
+    0xff81_0513,
+    0xf29f_f0ef,
+    0xffc1_0513,
+    0xf21f_f0ef,
+    0xf35f_f0ef,
+    0xff81_0513,
+    0xf2df_f0ef,
+    0xe5df_f0ef,
+    0xfea1_2e23,
+    0xffc1_0513,
+    0xf05f_f0ef,
+    0xe4df_f0ef,
+    0x4125_0533,
+    0x0010_0593,
+    0xf1df_f0ef,
+    0xffc1_2503,
+    0x0010_0593,
+    0xf11f_f0ef,
+    0xff81_2503,
+    0x4125_0533,
+    0x0010_0593,
+    0xf01f_f0ef,
+    0x000a_0067,
+];
+
 /// A `main` behind the runtime, and what its run comes to.
 struct Row {
     cells: u32,
@@ -146,7 +251,16 @@ struct Row {
     free: u32,
 }
 
-static ROWS: [Row; 9] = [
+const FULL: Row = Row {
+    cells: 0,
+    main: &TAKES_ALL,
+    input: b"",
+    output: b"",
+    exit: 101,
+    free: 0,
+};
+
+static ROWS: [Row; 14] = [
     // The least number, 0 without a line end, and the greatest number are printed.
     Row {
         cells: 1,
@@ -174,23 +288,12 @@ static ROWS: [Row; 9] = [
         exit: 0,
         free: 1,
     },
-    // Two cells are taken where there is one.
+    // Cells are taken until there is none: where there is none at all, one, and the most that an image can have.
+    Row { cells: 0, ..FULL },
+    Row { cells: 1, ..FULL },
     Row {
-        cells: 1,
-        main: &TAKES_TWICE,
-        input: b"",
-        output: b"",
-        exit: 101,
-        free: 0,
-    },
-    // A cell is taken where there is none.
-    Row {
-        cells: 0,
-        main: &TAKES_TWICE,
-        input: b"",
-        output: b"",
-        exit: 101,
-        free: 0,
+        cells: 1_048_576,
+        ..FULL
     },
     // A cell is taken, given up and taken again.
     Row {
@@ -210,6 +313,25 @@ static ROWS: [Row; 9] = [
         exit: 0,
         free: 60000,
     },
+    // A cell with two references is given up twice: its count falls to 1, and then it is free.
+    Row {
+        cells: 1,
+        main: &GIVES_UP_SHARED,
+        input: b"",
+        output: b"1\n",
+        exit: 0,
+        free: 1,
+    },
+    // A cell with six fields is given up: two are constants, three are references, two of them to one cell, and one is a
+    // number that is the address of a fourth cell, which stays as it is.
+    Row {
+        cells: 4,
+        main: &GIVES_UP_FIELDS,
+        input: b"",
+        output: b"1\n",
+        exit: 0,
+        free: 3,
+    },
     // A held token is taken back: it is the cell, its slot has 0, and the chain is empty.
     Row {
         cells: 1,
@@ -225,6 +347,25 @@ static ROWS: [Row; 9] = [
         main: &HOLDS_TWO,
         input: b"",
         output: b"0\n-64\n0\n",
+        exit: 0,
+        free: 0,
+    },
+    // Of two held tokens the newest is let go: the other is taken back; the newest is in its slot, and the other's has 0.
+    Row {
+        cells: 2,
+        main: &UNHOLDS_NEWEST,
+        input: b"",
+        output: b"-64\n-32\n0\n",
+        exit: 0,
+        free: 0,
+    },
+    // A token is let go, with an empty slot above it, before another is held: that one is taken back, and its slot has 0;
+    // the first is in its slot.
+    Row {
+        cells: 2,
+        main: &HOLDS_AFTER_UNHOLD,
+        input: b"",
+        output: b"-32\n0\n-64\n",
         exit: 0,
         free: 0,
     },

@@ -4,15 +4,16 @@ use Rattle.rv_isa.specs.declared.placed.Symbol.TheVariants.{Start, Routine, Hold
 use Rattle.cell_heap.specs.Pool.{end_of}
 use Rattle.cell_runtime.specs.Layouts.{layout_of}
 use Rattle.cell_runtime.specs.Starts.{IsStart, IsStartOf}
-use Rattle.cell_runtime.specs.Texts.{pool_of}
-use Rattle.cell_runtime.proofs.Spelling.{Composes, composes_none, composes_then}
+use Rattle.cell_runtime.specs.Texts.{pool_of, greatest_reach}
+use Rattle.cell_runtime.proofs.Reaching.{reach_is_small}
+use Rattle.cell_runtime.proofs.Spelling.{Composes, composes_none, composes_then, composes_within}
 use Rattle.cell_runtime.proofs.runtime.text.Goals as goal
 
 pub returns : goal.returns
 returns c =
     let cells = c.args.cells in
     let layout = layout_of cells c.args.depth c.args.frame_bytes in
-    let none = subst (λ lines. Composes lines 0 [] (λ memory code at. Unit {0})) (sym c.new-lines.ensures.items) composes_none in
+    let none = subst (λ lines. Composes lines 0 0 [] (λ memory code at. Unit {0})) (sym c.new-lines.ensures.items) composes_none in
     let start = composes_then Start c.in_ok-add.ensures none c.start.ensures in
     let ended = composes_then Stop c.in_ok-add-2.ensures start c.stop.ensures in
     let full = composes_then StackFull c.in_ok-add-3.ensures ended c.stop-2.ensures in
@@ -29,6 +30,9 @@ returns c =
       constants = c.new-2.ensures.items;
       words = whole.size;
       labels = whole.labels_are;
+      within =
+          let near = reach_is_small cells c.args.depth c.args.frame_bytes c.new-layout.result c.new-layout.ensures c.requires.cells c.requires.depth (omega (arith, c.requires.frame)) in
+          composes_within whole greatest_reach (omega (arith, near));
       routines = λ memory is code at spells has.
           let pool = pool_of cells memory in
           let all = whole.code memory is code at spells has in
