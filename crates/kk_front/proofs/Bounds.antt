@@ -52,6 +52,14 @@ limit_told program limit few h =
 not_above : (n : ℕ) → nat_lt 480 n ≡ false → n ≤ 480
 not_above n h = grind (arith, nat_tests)
 
+-- a function that is not too large
+pub one_few : (f : FunctionTree) → too_many_nodes (f ∷ []) ≡ None → nodes_of f.body ≤ 480
+one_few f e = by (nat_lt 480 (nodes_of f.body)) refl e
+  where
+    by : (b : Bool) → nat_lt 480 (nodes_of f.body) ≡ b → cond b (Some (nodes_of f.body)) None ≡ None → nodes_of f.body ≤ 480
+    by true is e = absurd (cc e)
+    by false is e = not_above (nodes_of f.body) is
+
 -- a program without a function that is too large
 pub all_few : (functions : List Fun) → too_many_nodes (map function_tree functions) ≡ None → All (λ f. nodes_of (expr_tree f.body) ≤ 480) functions
 all_few [] e = All-nil (λ f. nodes_of (expr_tree f.body) ≤ 480)

@@ -34,6 +34,14 @@ module _ {A B C E : Type 0} (J : A → Result B E → Type 0) (K : B → Result 
       one (stops e x) = absurd (apart (sym (h.only (Err e) x)))
       one (goes_on c other x y) = k.only other (subst (λ z. K z other) (ok_same (h.only (Ok c) x)) y)
 
+  -- what comes out was passed on by both
+  pub came_through : (c : C) → Then J K a (Ok c) → (b : B) × J a (Ok b) × K b (Ok c)
+  came_through c h = by h refl
+    where
+      by : {other : Result C E} → Then J K a other → other ≡ Ok c → (b : B) × J a (Ok b) × K b (Ok c)
+      by (stops e x) same = absurd (apart (sym same))
+      by (goes_on b outcome x y) same = (b, x, subst (K b) same y)
+
   pub exactly_then : ExactlyOne (J a) → ((b : B) → ExactlyOne (K b)) → ExactlyOne (Then J K a)
   exactly_then (Ok b, h) each = let k = each b in (k.0, only_goes_on b k.0 h k.1)
   exactly_then (Err e, h) each = (Err e, only_stops e h)

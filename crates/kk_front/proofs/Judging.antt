@@ -29,28 +29,28 @@ use Rattle.kk_front.proofs.Bounds.{fewer, parse_told, limit_told}
 use Rattle.kk_front.proofs.Chains.{only_stops, only_goes_on, exactly_then, only_told_ok, only_told_err, exactly_told, only_checking_ok, only_checking_err, exactly_checking}
 
 -- the links of the chain, and what stands behind each
-abbrev OfLength : List ℕ → Result (List ℕ) Refusal → Type 0
+abbrev pub OfLength : List ℕ → Result (List ℕ) Refusal → Type 0
 OfLength = ToldAs OfText.Over (Checking ChecksLength)
 
-abbrev OfLexemes : List ℕ → Result TokenList Refusal → Type 0
+abbrev pub OfLexemes : List ℕ → Result TokenList Refusal → Type 0
 OfLexemes = ToldAs OfText.Lex IsReadAs
 
-abbrev OfGrammar : TokenList → Result WrittenTree Refusal → Type 0
+abbrev pub OfGrammar : TokenList → Result WrittenTree Refusal → Type 0
 OfGrammar = ToldAs OfText.Parse ParsesAs
 
-abbrev OfNames : WrittenTree → Result ProgramTree Refusal → Type 0
+abbrev pub OfNames : WrittenTree → Result ProgramTree Refusal → Type 0
 OfNames = ToldAs OfText.Name ResolvesAs
 
-abbrev OfNodes : ProgramTree → Result ProgramTree Refusal → Type 0
+abbrev pub OfNodes : ProgramTree → Result ProgramTree Refusal → Type 0
 OfNodes = ToldAs OfText.Over (Checking CountsAs)
 
-abbrev FromNames : WrittenTree → Result ProgramTree Refusal → Type 0
+abbrev pub FromNames : WrittenTree → Result ProgramTree Refusal → Type 0
 FromNames = Then OfNames OfNodes
 
-abbrev FromGrammar : TokenList → Result ProgramTree Refusal → Type 0
+abbrev pub FromGrammar : TokenList → Result ProgramTree Refusal → Type 0
 FromGrammar = Then OfGrammar FromNames
 
-abbrev FromLexemes : List ℕ → Result ProgramTree Refusal → Type 0
+abbrev pub FromLexemes : List ℕ → Result ProgramTree Refusal → Type 0
 FromLexemes = Then OfLexemes FromGrammar
 
 -- the length of a text

@@ -1,3 +1,6 @@
+pub mod Accepting
 pub mod Bounds
 pub mod Chains
 pub mod Judging
+pub mod Spelled
+pub mod SpelledTypes

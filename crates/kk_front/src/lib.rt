@@ -2,5 +2,7 @@
 #![tactic(auto)]
 
 mod judge;
+mod law;
 
 pub use judge::{each_text_is_judged, read};
+pub use law::accepted_programs_are_typed;
