@@ -1,19 +1,18 @@
 -- The core form of a program that makes no cells does what the program does.
-use Rattle.std.proofs.Common.{◌≡◌, ℕ, ◌+◌, ◌*◌, zero, suc, ◌<◌, ◌≤◌, option_map, Bool, true, List, [], ◌∷◌, length, Option, Some, None, map, max, refl, sym, ap, subst, ◌∙◌, arith}
+use Rattle.std.proofs.Common.{◌≡◌, ℕ, ◌+◌, ◌*◌, zero, suc, ◌<◌, ◌≤◌, option_map, true, List, [], ◌∷◌, length, Some, map, refl, ap, ◌∙◌, arith}
 use Rattle.std.specs.Prelude.{slice_get, slice_index_or}
 use Rattle.std.proofs.lemmas.Option.{slice_get-map, get_or_from_slice_get, slice_get-get_or}
-use Rattle.kk_base.specs.Agreements.{Agree}
 use Rattle.kk_base.proofs.Simulations.{simulates_agree}
 use Rattle.kk_syntax.specs.PositionsOf.{PositionTable}
 use Rattle.kk_syntax.specs.Shapes.{nodes_of, greatest_of, greatest_nodes}
 use Rattle.kk_syntax.specs.Programs.{FunctionTree, ProgramTree, no_function}
-use Rattle.kk_source.specs.State.{Setting, call}
+use Rattle.kk_source.specs.State.{Setting}
 use Rattle.kk_source.specs.SourceAfter.{first_state}
 use Rattle.kk_core.specs.Codes.{FunctionCode}
-use Rattle.kk_core.specs.CoreStates.{CoreState, no_code, core_first_state}
+use Rattle.kk_core.specs.CoreStates.{no_code, core_first_state}
 use Rattle.kk_core.specs.CoreMachine.{core_machine}
 use Rattle.kk_norm.specs.Normalized.{final, size, normal_function, normal_program}
-use Rattle.kk_norm.specs.NoCells.{IsPlain, ArePlain}
+use Rattle.kk_norm.specs.NoCells.{ArePlain}
 use Rattle.kk_norm.specs.Meaning.{heavy_store_machine, core_setting, KeepsMeaning, setting_of}
 use Rattle.kk_norm.proofs.Delivery.{Related, Passing, core_at}
 use Rattle.kk_norm.proofs.Waits.{ArePlainWithin}

@@ -1,6 +1,15 @@
 pub mod Delivery
+pub mod Forms
 pub mod Keeping
+pub mod Plain
+pub mod ProgramTrees
+pub mod Programs
+pub mod Scopes
 pub mod Simulation
 pub mod Steps
+pub mod TypedCodes
+pub mod TypedPrograms
 pub mod Variables
 pub mod Waits
+pub mod Writing
+pub mod WritingAll

@@ -1,34 +1,32 @@
 -- The core machine does each step of the store machine.
-use Rattle.std.proofs.Common.{◌≡◌, ℕ, zero, suc, ◌+◌, ◌*◌, ◌<◌, ◌≤◌, Bool, true, false, List, [], ◌∷◌, ◌++◌, length, Option, Some, None, map, refl, sym, ap, subst, ◌∙◌, arith, zero-mul, append_assoc, option_map}
+use Rattle.std.proofs.Common.{◌≡◌, ℕ, suc, ◌+◌, ◌≤◌, Bool, true, false, List, [], ◌∷◌, ◌++◌, length, Option, Some, None, map, refl, sym, ap, subst, ◌∙◌, arith, option_map}
 use Rattle.std.specs.Prelude.{nat_le, if◌then◌else◌, slice_get}
 use Rattle.std.specs.Fmt.{signed_decimal}
 use Rattle.std.proofs.lemmas.Option.{slice_get-map}
-use Rattle.kk_base.specs.Machines.{Machine, trace, state, weight_of}
-use Rattle.kk_base.specs.Simulations.{Reaches, Simulates}
-use Rattle.kk_base.proofs.Simulations.{simulates_until_ended}
+use Rattle.kk_base.specs.Machines.{Machine}
 use Rattle.kk_syntax.specs.declared.program.Form.{Form}
 use Rattle.kk_syntax.specs.declared.program.Form.TheVariants.{Unary, Binary, Print, Construct, Call}
-use Rattle.kk_syntax.specs.Trees.{Tree, number, unit as unit_tree, variable, read_byte, print_text, apply, branch as if_tree, match, sequence, Trees, no_tree, tree}
+use Rattle.kk_syntax.specs.Trees.{Tree, number, unit as unit_tree, variable, read_byte, print_text, apply, branch as if_tree, match, sequence, Trees, tree}
 use Rattle.kk_syntax.specs.declared.program.Binder.{Binder}
 use Rattle.kk_syntax.specs.declared.program.Binder.TheVariants as OfBinder
-use Rattle.kk_syntax.specs.Shapes.{free, free_all, nodes_of, nodes_of_all, nodes_of_binder, without, is_among, bound_by, variable_of}
+use Rattle.kk_syntax.specs.Shapes.{free, nodes_of, without, is_among, bound_by, variable_of}
 use Rattle.kk_syntax.specs.Programs.{FunctionTree}
 use Rattle.kk_syntax.specs.PositionsOf.{is_lent}
 use Rattle.kk_source.specs.Notes.{Note}
-use Rattle.kk_source.specs.State.{Setting, Value, integer, unit, constant, Store, Environment, Frame, arguments, branches, rows, statement, call, End, stack_full, Control, expression, value, stopped, Configuration, State, end_at}
+use Rattle.kk_source.specs.State.{Setting, Value, unit, constant, Store, Environment, Frame, arguments, branches, rows, statement, call, End, stack_full, Control, expression, stopped, Configuration, State}
 use Rattle.kk_source.specs.Live.{value_of, awaited}
-use Rattle.kk_source.specs.Step.{Action, calls, print_step, unary_result, binary_result, argument, is_true, integer_of, piece_of, byte_value, bind_parameters, bind, call_frames, lent_places, at_end, in_body, form_step, call_step, push_step}
-use Rattle.kk_source.specs.SourceAfter.{performed, step}
-use Rattle.kk_core.specs.Codes.{Code, give, tail_call, branch, compute, FunctionCode}
-use Rattle.kk_core.specs.CoreStates.{CoreSetting, Join, CallFrame, running, stopped as core_stopped, CoreConfiguration, CoreState, core_end_at}
+use Rattle.kk_source.specs.Step.{Action, calls, print_step, unary_result, binary_result, argument, is_true, integer_of, piece_of, bind_parameters, call_frames, lent_places, at_end, in_body, form_step, call_step, push_step}
+use Rattle.kk_source.specs.SourceAfter.{performed}
+use Rattle.kk_core.specs.Codes.{Code, give, tail_call, branch, FunctionCode}
+use Rattle.kk_core.specs.CoreStates.{Join, CallFrame, CoreConfiguration, CoreState}
 use Rattle.kk_core.specs.CoreMachine as Core
 use Rattle.kk_core.specs.CoreMachine.{core_performed, core_ending_of}
-use Rattle.kk_norm.specs.Names.{Names, name_of, named}
-use Rattle.kk_norm.specs.Normalized.{Then, final, next, size, size_all, atom, atoms, after, within, joined, finish, finish_call, code, code_all, normal_function}
-use Rattle.kk_norm.specs.NoCells.{NoCells, NoCellsAll, MakesNoCell, IsPlain}
-use Rattle.kk_norm.specs.Meaning.{heavy_store_machine, core_setting}
-use Rattle.kk_norm.proofs.Variables.{same_number, SameBelow, Stands, AllBelow, stands_left, stands_right, stands_later, stands_bound, all_below_more, all_below_one_more, values_one_more}
-use Rattle.kk_norm.proofs.Waits.{ArePlainWithin, Goal, nowhere, returns, goes_on, goal_of, Fresh, fresh_top, fresh_less, MakesNothing, ArgumentsWait, Waits, waits_move, waits_nowhere, calls_are, due, due_small}
+use Rattle.kk_norm.specs.Names.{Names}
+use Rattle.kk_norm.specs.Normalized.{Then, final, next, size, atom, after, within, joined, finish, finish_call, code, normal_function}
+use Rattle.kk_norm.specs.NoCells.{NoCells, MakesNoCell, IsPlain}
+use Rattle.kk_norm.specs.Meaning.{core_setting}
+use Rattle.kk_norm.proofs.Variables.{same_number, Stands, stands_left, stands_right, stands_later}
+use Rattle.kk_norm.proofs.Waits.{ArePlainWithin, Goal, returns, goes_on, goal_of, Fresh, fresh_less, MakesNothing, Waits, waits_move, waits_nowhere, calls_are}
 use Rattle.kk_norm.proofs.Delivery.{source_at, core_at, AtTree, AtValue, At, Related, Passing, goal_code, goal_variable, goal_joins}
 use Rattle.kk_norm.proofs.Delivery as Delivery
 

@@ -1,25 +1,23 @@
 -- The core machine does the steps of the store machine at an expression and at a value.
-use Rattle.std.proofs.Common.{◌≡◌, ℕ, zero, suc, ◌+◌, ◌*◌, ◌<◌, ◌≤◌, Bool, true, false, List, [], ◌∷◌, ◌++◌, length, Option, Some, None, map, refl, sym, ap, subst, ◌∙◌, arith, zero-mul, append_assoc}
-use Rattle.std.specs.Prelude.{if◌then◌else◌, slice_get}
-use Rattle.kk_base.specs.Machines.{Machine, trace, state, weight_of}
+use Rattle.std.proofs.Common.{◌≡◌, ℕ, ◌+◌, ◌*◌, ◌<◌, ◌≤◌, List, [], ◌∷◌, ◌++◌, Option, Some, None, refl, sym, ap, subst, ◌∙◌, arith, append_assoc}
+use Rattle.kk_base.specs.Machines.{Machine}
 use Rattle.kk_base.specs.Simulations.{Reaches, Simulates}
 use Rattle.kk_base.proofs.Simulations.{simulates_until_ended}
-use Rattle.kk_syntax.specs.declared.program.Form.{Form}
-use Rattle.kk_syntax.specs.Trees.{Tree, number, unit as unit_tree, variable, read_byte, print_text, apply, branch as if_tree, match, sequence, Trees, no_tree, tree}
-use Rattle.kk_syntax.specs.Shapes.{free, free_all, nodes_of, nodes_of_all, without, variable_of}
+use Rattle.kk_syntax.specs.Trees.{Tree, number, unit as unit_tree, variable, read_byte, print_text, apply, branch as if_tree, match, sequence, no_tree, tree}
+use Rattle.kk_syntax.specs.Shapes.{free, free_all, nodes_of, variable_of}
 use Rattle.kk_source.specs.Notes.{Note}
 use Rattle.kk_source.specs.State.{Setting, Value, integer, unit, Store, Environment, Frame, arguments, branches, rows, statement, call, End, ended, Control, expression, value, stopped, State, end_at}
 use Rattle.kk_source.specs.Live.{value_of}
 use Rattle.kk_source.specs.Step.{piece_of, byte_value, is_true, bind, form_step}
-use Rattle.kk_source.specs.SourceAfter.{performed, step, ending_of}
+use Rattle.kk_source.specs.SourceAfter.{performed, step}
 use Rattle.kk_core.specs.Codes.{Code, give, branch}
-use Rattle.kk_core.specs.CoreStates.{Join, CallFrame, running, stopped as core_stopped, CoreState, core_end_at}
+use Rattle.kk_core.specs.CoreStates.{Join, CallFrame, CoreState, core_end_at}
 use Rattle.kk_norm.specs.Names.{Names, name_of, named}
-use Rattle.kk_norm.specs.Normalized.{Then, final, next, size, size_all, atom, atoms, after, within, joined, finish, code, code_all}
-use Rattle.kk_norm.specs.NoCells.{NoCells, NoCellsAll, MakesNoCell}
-use Rattle.kk_norm.specs.Meaning.{heavy_store_machine, core_setting}
+use Rattle.kk_norm.specs.Normalized.{Then, next, size, size_all, atom, atoms, within, joined, finish, code, code_all}
+use Rattle.kk_norm.specs.NoCells.{NoCells}
+use Rattle.kk_norm.specs.Meaning.{heavy_store_machine}
 use Rattle.kk_norm.proofs.Variables.{Stands, stands_left, stands_right, stands_later, stands_bound, all_below_more, all_below_one_more, values_one_more}
-use Rattle.kk_norm.proofs.Waits.{ArePlainWithin, Goal, nowhere, returns, goes_on, goal_of, Fresh, fresh_top, fresh_less, MakesNothing, ArgumentsWait, BranchesWait, Waits, waits_move, due, due_small}
+use Rattle.kk_norm.proofs.Waits.{ArePlainWithin, Goal, nowhere, returns, goes_on, goal_of, Fresh, fresh_less, Waits, waits_move, due}
 use Rattle.kk_norm.proofs.Delivery.{source_at, core_at, AtTree, AtValue, At, Related, Passing, goal_code, goal_variable, goal_joins}
 use Rattle.kk_norm.proofs.Delivery as Delivery
 use Rattle.kk_norm.proofs.Simulation.{some_nodes, makes_nothing_of, acts_nothing, acts_alone}

@@ -1,14 +1,14 @@
 -- How the frames of the source stand in the core machine: by recursion on the frames, what is left of each is the code
 -- that waits for the value.
-use Rattle.std.proofs.Common.{◌≡◌, ℕ, suc, ◌+◌, ◌<◌, ◌≤◌, Bool, true, false, List, [], ◌∷◌, ◌++◌, length, Option, Some, None, map, refl, sym, ap, subst, ◌∙◌, arith}
+use Rattle.std.proofs.Common.{◌≡◌, ℕ, suc, ◌+◌, ◌<◌, ◌≤◌, true, false, List, [], ◌∷◌, ◌++◌, length, Option, Some, map, refl, ap, ◌∙◌, arith}
 use Rattle.kk_syntax.specs.declared.program.Form.{Form}
 use Rattle.kk_syntax.specs.declared.program.Form.TheVariants.{Unary, Binary, Print, Construct, Call}
-use Rattle.kk_syntax.specs.Trees.{Tree, number, unit, variable, read_byte, print_text, apply, branch as if_tree, match, sequence, Trees, no_tree, tree, Rows}
+use Rattle.kk_syntax.specs.Trees.{Tree, Trees, no_tree, tree}
 use Rattle.kk_syntax.specs.Shapes.{free, free_all, nodes_of, nodes_of_all, without}
 use Rattle.kk_source.specs.State.{Value, Environment, Frame, arguments, branches, rows, statement, call}
 use Rattle.kk_source.specs.Live.{value_of, awaited}
 use Rattle.kk_source.specs.Step.{call_frames}
-use Rattle.kk_core.specs.Codes.{Code, give, branch}
+use Rattle.kk_core.specs.Codes.{Code, branch}
 use Rattle.kk_core.specs.CoreStates.{Join, CallFrame}
 use Rattle.kk_norm.specs.Names.{Names, named}
 use Rattle.kk_norm.specs.Normalized.{Then, final, next, size, size_all, atom, atoms, after, within, joined, finish, code, code_all}

@@ -1,10 +1,10 @@
 -- The programs that make no cells and look into none.
 use Rattle.std.specs.Prelude.{◌≡◌, ℕ, ◌<◌, List, true, length, Some, slice_get}
 use Rattle.kk_syntax.specs.declared.program.Form.{Form}
-use Rattle.kk_syntax.specs.declared.program.Form.TheVariants.{Unary, Binary, Print, Construct, Call}
+use Rattle.kk_syntax.specs.declared.program.Form.TheVariants.{Construct}
 use Rattle.kk_syntax.specs.Trees.{Tree, number, unit, variable, read_byte, print_text, apply, branch, match, sequence, Trees, no_tree, tree}
 use Rattle.kk_syntax.specs.Shapes.{free, is_among}
-use Rattle.kk_syntax.specs.Programs.{FunctionTree, ProgramTree}
+use Rattle.kk_syntax.specs.Programs.{FunctionTree}
 
 -- the form takes no arguments, or it is no construction
 abbrev pub MakesNoCell : Form → Trees → Type 0

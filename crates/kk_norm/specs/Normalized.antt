@@ -10,7 +10,7 @@ use Rattle.kk_syntax.specs.Patterns.{Pattern, anything, variable as pattern_vari
 use Rattle.kk_syntax.specs.Shapes.{variable_of}
 use Rattle.kk_core.specs.Codes.{Operation, Code, give, tail_call, case, compute, use_of, unpack, inside, Arms, no_arm, arm, FunctionCode, ProgramCode}
 use Rattle.kk_core.specs.Codes as Core
-use Rattle.kk_norm.specs.Names.{Names, Naming, name_of, named}
+use Rattle.kk_norm.specs.Names.{Names, name_of, named}
 
 -- ---- how many numbers are taken
 

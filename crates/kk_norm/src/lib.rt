@@ -1,6 +1,12 @@
-//! From a program to its core form: what the core form is, and that it keeps the program's meaning.
+//! From a program to its core form: what the core form is, that it keeps the program's meaning, and the call that
+//! writes it.
 #![tactic(auto)]
 
+mod expression;
 mod law;
+mod naming;
+mod program;
+mod writer;
 
 pub use law::core_forms_keep_meaning;
+pub use program::normal;

@@ -1,0 +1,88 @@
+-- What steps that are pushed add to a code, and what the code of each form is.
+use Rattle.std.proofs.Common.{◌≡◌, ℕ, ◌+◌, ◌<◌, ◌==◌, List, [], ◌∷◌, ◌++◌, length, take, map, get_or, drop, suc, refl, sym, ap, subst, ◌∙◌, arith}
+use Rattle.std.proofs.Math.Seq.{take-suc, drop-cons}
+use Rattle.std.specs.Prelude.{if◌then◌else◌}
+use Rattle.std.proofs.lemmas.List.{map-append}
+use Rattle.kk_core.specs.Codes.{Code, give, tail_call, branch, Piece, computes, uses, runs, put, plug, ArmCode, operation_of, last_step, step_step, arm_step, block_step, block_code, last_code, step_piece}
+use Rattle.kk_core.specs.declared.form.Block.{Block}
+use Rattle.kk_core.specs.declared.form.Last.TheVariants as OfLast
+use Rattle.kk_core.specs.declared.form.Last.TheFolds.{fold-roll-Last, fold-roll-Step, fold_out-Block}
+use Rattle.kk_core.specs.declared.form.Operation.{Operation as CoreOperation}
+use Rattle.kk_core.specs.declared.form.Step.{Step}
+use Rattle.kk_core.specs.declared.form.Step.TheVariants as OfStep
+use Rattle.kk_norm.specs.declared.naming.Named.{Named}
+use Rattle.kk_norm.specs.declared.writer.Writer.{Writer}
+use Rattle.kk_norm.specs.Names.{Names, name_of}
+use Rattle.kk_norm.specs.Written.{names_before, names_of, behind, WritesPiece, WritesStep}
+use Rattle.kk_norm.proofs.Variables.{same_number, other_number}
+
+-- ---- names
+
+pub names_one_more : (older : Names) (names : List Named) (one : Named) → names_before older (names ++ one ∷ []) ≡ record { variable = one.variable; name = one.name } ∷ names_before older names
+names_one_more older [] one = refl
+names_one_more older (first ∷ names) one = names_one_more (record { variable = first.variable; name = first.name } ∷ older) names one
+
+-- the name of a variable with one more name given
+pub name_here : (names : List Named) (one : Named) (x : ℕ) → one.variable ≡ x → one.name ≡ name_of (names_of (names ++ one ∷ [])) x
+name_here names one x is =
+    sym (ap (λ all. name_of all x) (names_one_more [] names one) ∙ ap (λ b. if b then one.name else name_of (names_of names) x) (ap (λ y. y == x) is ∙ same_number x))
+
+pub name_elsewhere : (names : List Named) (one : Named) (x : ℕ) → (one.variable ≡ x → ⊥) → name_of (names_of names) x ≡ name_of (names_of (names ++ one ∷ [])) x
+name_elsewhere names one x other =
+    sym (ap (λ all. name_of all x) (names_one_more [] names one) ∙ ap (λ b. if b then one.name else name_of (names_of names) x) (other_number one.variable x other))
+
+-- one more of a list is taken, and one less is left
+pub take_more : {A : Type 0} (xs : List A) (i : ℕ) (d : A) → i < length xs → take (i + 1) xs ≡ take i xs ++ get_or xs i d ∷ []
+take_more xs i d less = ap (λ j. take j xs) {x = i + 1} {y = suc i} (omega arith) ∙ take-suc xs i d less
+
+pub drop_more : {A : Type 0} (xs : List A) (i : ℕ) (d : A) → i < length xs → drop i xs ≡ get_or xs i d ∷ drop (i + 1) xs
+drop_more xs i d less = drop-cons xs i d less ∙ ap (λ j. get_or xs i d ∷ drop j xs) {x = suc i} {y = i + 1} (omega arith)
+
+-- ---- steps
+
+plug_one_more : (pieces : List Piece) (piece : Piece) (rest : Code) → plug (pieces ++ piece ∷ []) rest ≡ plug pieces (put piece rest)
+plug_one_more [] piece rest = refl
+plug_one_more (first ∷ pieces) piece rest = ap (put first) (plug_one_more pieces piece rest)
+
+pub steps_one_more : (steps more : List Step) (step : Step) (rest : Code) → more ≡ steps ++ step ∷ [] → plug (map step_piece more) rest ≡ plug (map step_piece steps) (put (step_piece step) rest)
+steps_one_more steps more step rest is =
+    ap (λ all. plug (map step_piece all) rest) is
+    ∙ (ap (λ pieces. plug pieces rest) (map-append step_piece steps (step ∷ [])) ∙ plug_one_more (map step_piece steps) (step_piece step) rest)
+
+pub let_piece : (x : ℕ) (operation : CoreOperation) → step_piece (OfStep.Let x operation) ≡ computes x (operation_of operation)
+let_piece x operation = ap step_piece (sym (OfStep.rolls-Let x operation)) ∙ fold-roll-Step Code Piece ArmCode Code last_step step_step arm_step block_step _
+
+pub use_piece : (x : ℕ) → step_piece (OfStep.Use x) ≡ uses x
+use_piece x = ap step_piece (sym (OfStep.rolls-Use x)) ∙ fold-roll-Step Code Piece ArmCode Code last_step step_step arm_step block_step _
+
+pub inside_piece : (x : ℕ) (block : Block) → step_piece (OfStep.Inside x block) ≡ runs x (block_code block)
+inside_piece x block = ap step_piece (sym (OfStep.rolls-Inside x block)) ∙ fold-roll-Step Code Piece ArmCode Code last_step step_step arm_step block_step _
+
+pub block_is : (block : Block) → block_code block ≡ plug (map step_piece block.steps.items) (last_code block.last)
+block_is block = fold_out-Block Code Piece ArmCode Code last_step step_step arm_step block_step block
+
+-- ---- ends
+
+pub return_code : (x : ℕ) → last_code (OfLast.Return x) ≡ give x
+return_code x = ap last_code (sym (OfLast.rolls-Return x)) ∙ fold-roll-Last Code Piece ArmCode Code last_step step_step arm_step block_step _
+
+pub tail_call_code : (f : ℕ) (arguments : _) → last_code (OfLast.TailCall f arguments) ≡ tail_call f arguments.items
+tail_call_code f arguments = ap last_code (sym (OfLast.rolls-TailCall f arguments)) ∙ fold-roll-Last Code Piece ArmCode Code last_step step_step arm_step block_step _
+
+pub if_code : (x : ℕ) (positive negative : _) → last_code (OfLast.If x positive negative) ≡ branch x (block_code positive.value) (block_code negative.value)
+if_code x positive negative = ap last_code (sym (OfLast.rolls-If x positive negative)) ∙ fold-roll-Last Code Piece ArmCode Code last_step step_step arm_step block_step _
+
+-- ---- what is written, from what was pushed
+
+pub writes_piece : (old new : Writer) (pushed piece : Piece) → pushed ≡ piece → WritesPiece pushed old new → WritesPiece piece old new
+writes_piece old new pushed piece is writes = subst (λ (one : Piece). WritesPiece one old new) is writes
+
+pub writes_step : (old pushed new : Writer) (step piece : Piece) → WritesPiece step old pushed → step ≡ piece → new.next ≡ pushed.next + 1 → new.names.items ≡ pushed.names.items → new.steps.items ≡ pushed.steps.items
+    → WritesStep piece old new old.next
+writes_step old pushed new step piece writes is number names steps =
+    record {
+      is = refl;
+      number = omega (arith, number, writes.number);
+      names = names ∙ writes.names;
+      steps = λ rest. ap (λ all. plug (map step_piece all) rest) steps ∙ (writes.steps rest ∙ ap (λ one. behind old (put one rest)) is);
+    }
