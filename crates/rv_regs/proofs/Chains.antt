@@ -1,19 +1,18 @@
 -- The chain of held tokens, in both forms.
-use Rattle.std.proofs.Common.{◌≡◌, ◌≢◌, ◌==◌, ◌||◌, ◌⊎◌, ℕ, List, [], ◌∷◌, Option, Some, None, Bool, true, false, cond, All, refl, sym, ◌∙◌, ap, subst, inl, inr, arith, eq-eqb, map, option_map}
+use Rattle.std.proofs.Common.{◌≡◌, ◌≢◌, ◌==◌, ◌||◌, ◌⊎◌, ℕ, List, [], ◌∷◌, Option, Some, None, Bool, true, false, cond, All, refl, sym, ◌∙◌, ap, subst, inl, inr, eq-eqb}
 use Rattle.std.specs.List.{AllByRecursion}
-use Rattle.std.proofs.lemmas.Bool.{eqb-true, eqb-false, ne_eqb, cond-true, cond-false, cases_eq, or_parts, or_right, or_left, or_from, false≢true, cases_Bool}
+use Rattle.std.proofs.lemmas.Bool.{eqb-true, eqb-false, ne_eqb, cond-true, cond-false, cases_eq, or_parts, or_right, or_left, or_from, false≢true}
 use Rattle.rv_isa.specs.declared.asm.Action.{Action}
 use Rattle.rv_isa.specs.declared.asm.Action.TheVariants.{Hold, Unhold}
-use Rattle.rv_isa.specs.declared.placed.Place.{Place}
-use Rattle.rv_isa.specs.declared.placed.Place.TheVariants.{Register as register, Slot as slot}
+use Rattle.rv_isa.specs.declared.placed.Place.TheVariants.{Slot as slot}
 use Rattle.rv_isa.specs.declared.placed.Operand.{Operand}
 use Rattle.rv_isa.specs.declared.placed.Listed.{Listed}
 use Rattle.rv_isa.specs.Frames.{put, is_among, holding, unholding, off_top}
-use Rattle.rv_isa.specs.PlacedMachine.{read_at, registers_with, slots_with, number_of}
+use Rattle.rv_isa.specs.PlacedMachine.{read_at, number_of}
 use Rattle.rv_regs.specs.Listings.{listed_as, marks, is_read_in}
 use Rattle.rv_regs.specs.Conditions.{StaysHeld, Apart}
 use Rattle.rv_regs.specs.Relation.{Holds, HeldAs, IsSlotOf, WaitsFor}
-use Rattle.rv_regs.proofs.Placing.{listed_has, read_put, read_other, put_same, put_other, one_place}
+use Rattle.rv_regs.proofs.Placing.{listed_has, read_other, put_same, put_other, one_place}
 
 -- the listing of a held token
 abbrev pub token : ℕ → ℕ → Listed

@@ -1,19 +1,18 @@
 -- What a line keeps, while it changes a value and registers.
-use Rattle.std.proofs.Common.{◌≡◌, ◌≢◌, ◌==◌, ◌⊎◌, ℕ, List, [], ◌∷◌, Option, Some, None, Bool, true, false, cond, All, refl, sym, ◌∙◌, ap, subst, inl, inr, arith, eq-eqb, map, option_map}
-use Rattle.std.specs.List.{AllByRecursion}
-use Rattle.std.proofs.lemmas.Bool.{eqb-true, eqb-false, ne_eqb, cond-true, cond-false, cases_eq}
+use Rattle.std.proofs.Common.{◌≡◌, ◌≢◌, ℕ, List, Option, Some, None, Bool, true, false, cond, All, refl, sym, ◌∙◌, ap, subst, inl, inr, option_map}
+use Rattle.std.proofs.lemmas.Bool.{cond-false}
 use Rattle.rv_isa.specs.declared.asm.Action.{Action}
 use Rattle.rv_isa.specs.declared.asm.Action.TheVariants.{Hold, Unhold}
 use Rattle.rv_isa.specs.declared.placed.Place.{Place}
 use Rattle.rv_isa.specs.declared.placed.Place.TheVariants.{Register as register, Slot as slot}
 use Rattle.rv_isa.specs.declared.placed.Operand.{Operand}
 use Rattle.rv_isa.specs.declared.placed.Listed.{Listed}
-use Rattle.rv_isa.specs.Frames.{put, is_among}
+use Rattle.rv_isa.specs.Frames.{put}
 use Rattle.rv_isa.specs.PlacedMachine.{read_at, registers_with, slots_with}
 use Rattle.rv_regs.specs.Listings.{listed_as, marks, is_read_in}
-use Rattle.rv_regs.specs.Conditions.{IsWritten, IsKept, IsNew, StaysListed, IsClearOf, IsSafe, StaysHeld, Apart}
-use Rattle.rv_regs.specs.Relation.{Holds, HeldAs, IsSlotOf}
-use Rattle.rv_regs.proofs.Placing.{listed_has, read_put, read_other, put_same, put_other, one_place}
+use Rattle.rv_regs.specs.Conditions.{IsWritten, IsKept, IsNew, StaysListed, IsClearOf, IsSafe}
+use Rattle.rv_regs.specs.Relation.{Holds}
+use Rattle.rv_regs.proofs.Placing.{listed_has, read_put, read_other, put_same, put_other}
 
 cond_same : {A B : Type 0} (f : A → B) (b : Bool) (x y : A) (z : B) → f x ≡ z → f y ≡ z → f (cond b x y) ≡ z
 cond_same f true x y z p q = p

@@ -1,7 +1,6 @@
 -- The placed form's machine follows the assembler form's, one lemma an action.
-use Rattle.std.proofs.Common.{◌≡◌, ◌≢◌, ◌==◌, ◌+◌, ◌≤◌, ◌&&◌, ◌⊎◌, ℕ, zero, suc, List, [], ◌∷◌, Option, Some, None, Bool, true, false, cond, All, IsTrue, slice_get, length, nat_le, refl, sym, ◌∙◌, ap, subst, inl, inr, arith, map, option_map}
-use Rattle.std.specs.List.{AllByRecursion}
-use Rattle.std.proofs.lemmas.Bool.{and_parts, eqb-true}
+use Rattle.std.proofs.Common.{◌≡◌, ◌≢◌, ◌&&◌, ◌⊎◌, ℕ, suc, List, [], ◌∷◌, Option, Some, None, true, false, cond, All, slice_get, length, nat_le, refl, sym, ◌∙◌, ap, subst, inl, inr, map, option_map}
+use Rattle.std.proofs.lemmas.Bool.{and_parts}
 use Rattle.std.proofs.lemmas.List.Elements.{All-head}
 use Rattle.rv_isa.specs.declared.asm.Action.{Action}
 use Rattle.rv_isa.specs.declared.asm.Action.TheVariants.{Compute, Label, Jump, Branch, Call, TailCall, Return, Routine, Hold, Unhold}
@@ -13,20 +12,20 @@ use Rattle.rv_isa.specs.declared.placed.Place.TheVariants.{Register as register,
 use Rattle.rv_isa.specs.declared.placed.Operand.{Operand}
 use Rattle.rv_isa.specs.declared.placed.Listed.{Listed}
 use Rattle.rv_isa.specs.AsmCode.{Line, Lines}
-use Rattle.rv_isa.specs.PlacedCode.{PlacedLine, does, moves, PlacedLines}
-use Rattle.rv_isa.specs.Primitives.{Reply, answers, ends, fails, Primitives, Turn, go, ended, stuck, or_stuck}
-use Rattle.rv_isa.specs.Conventions.{argument, is_in, is_slot, conforms, take_from, takes_at, gives_into, gives_at}
-use Rattle.rv_isa.specs.Frames.{Frame, empty, put, put_into, found, top, taken_if, only_of, result_of, received, holding, unholding, is_among}
-use Rattle.rv_isa.specs.AsmMachine.{AsmState, AsmTurn, is_label, bound, asm_entered, asm_goes, asm_jumps, asm_returns, asm_gives, asm_served, asm_acts, unless_held}
-use Rattle.rv_isa.specs.PlacedMachine.{PlacedState, PlacedTurn, is_label_line, read_at, registers_with, slots_with, kept_by, passed, number_of, awaited, slot_of, only_slot, placed_entered, placed_goes, placed_gives, placed_jumps, placed_returns, placed_answered, placed_served, placed_acts}
+use Rattle.rv_isa.specs.PlacedCode.{PlacedLine, PlacedLines}
+use Rattle.rv_isa.specs.Primitives.{Reply, answers, ends, fails, Primitives, ended, or_stuck}
+use Rattle.rv_isa.specs.Conventions.{is_in, is_slot, conforms, take_from, gives_into, gives_at}
+use Rattle.rv_isa.specs.Frames.{Frame, empty, put, put_into, found, top, taken_if, only_of, result_of, received, holding, unholding}
+use Rattle.rv_isa.specs.AsmMachine.{AsmTurn, is_label, bound, asm_entered, asm_goes, asm_jumps, asm_returns, asm_gives, asm_served, asm_acts}
+use Rattle.rv_isa.specs.PlacedMachine.{PlacedTurn, is_label_line, read_at, registers_with, slots_with, kept_by, passed, number_of, awaited, slot_of, placed_entered, placed_goes, placed_gives, placed_jumps, placed_returns, placed_answered, placed_served, placed_acts}
 use Rattle.rv_regs.specs.Listings.{first_alive, alive_behind, alive_at_label, both_of, listed_as, spoils_by, marks}
-use Rattle.rv_regs.specs.Conditions.{value_of, without_moves, IsAtPlace, IsKept, IsNew, StaysListed, IsClearOf, IsSafe, Fits, AllFit, IsPlacing, ArePlacings}
-use Rattle.rv_regs.specs.Relation.{Holds, HeldAs, SameCode, Stands, WaitsFor, IsSlotOf, Waits, AllWait, FramesStand, StandsFor}
+use Rattle.rv_regs.specs.Conditions.{value_of, without_moves, IsAtPlace, IsKept, StaysListed, IsSafe, Fits, AllFit, IsPlacing, ArePlacings}
+use Rattle.rv_regs.specs.Relation.{Holds, HeldAs, SameCode, Stands, WaitsFor, IsSlotOf, Waits, AllWait, StandsFor}
 use Rattle.rv_regs.proofs.Placing.{listed_has, put_same, put_other}
-use Rattle.rv_regs.proofs.Changing.{Changes, holds_next, change_nothing, change_one, stayed, clear_write, new_place}
-use Rattle.rv_regs.proofs.Chains.{token, IsNext, all_next, held_next, mark_hold, held_both, unheld_both}
+use Rattle.rv_regs.proofs.Changing.{Changes, holds_next, change_nothing, change_one, stayed}
+use Rattle.rv_regs.proofs.Chains.{token, IsNext, all_next, held_next, held_both, unheld_both}
 use Rattle.rv_regs.proofs.Tokens.{apart_first, as_many_wait, top_same, Left, left_over}
-use Rattle.rv_regs.proofs.Steps.{both_go, same_go, cond_go, held_go, read_listed, word_at, found_both, callee_both, enters}
+use Rattle.rv_regs.proofs.Steps.{both_go, same_go, cond_go, held_go, read_listed, found_both, callee_both, enters}
 
 -- A line that fits leads to frames that stand for each other, by what it changes.
 lands : (alive : List Listed) (action : Action) (args : List Operand) (into : Option Operand) (nexts : List (List Listed)) (values registers slots registers' : ℕ → Option ℕ)

@@ -7,3 +7,11 @@ pub mod Steps
 pub mod Following
 pub mod Simulating
 pub mod Rows
+pub mod Lists
+pub mod Aliveness
+pub mod InRegisters
+pub mod Fitting
+pub mod Acting
+pub mod Plain
+pub mod Shapes
+pub mod Walking

@@ -1,15 +1,14 @@
 -- The placed form's machine keeps to code with so many moves in a row.
-use Rattle.std.proofs.Common.{◌≡◌, ◌+◌, ◌≤◌, ℕ, zero, suc, List, [], ◌∷◌, Option, Some, None, Bool, true, false, cond, slice_get, length, nat_le, refl, sym, ◌∙◌, ap, subst, arith, map, option_map}
-use Rattle.std.specs.List.{AllByRecursion}
+use Rattle.std.proofs.Common.{◌≡◌, ◌≤◌, ℕ, zero, suc, List, [], ◌∷◌, Option, Some, None, Bool, true, false, cond, slice_get, length, nat_le, refl, subst, arith, map, option_map}
 use Rattle.rv_isa.specs.declared.asm.Action.{Action}
 use Rattle.rv_isa.specs.declared.asm.Action.TheVariants.{Compute, Label, Jump, Branch, Call, TailCall, Return, Routine, Hold, Unhold}
 use Rattle.rv_isa.specs.declared.placed.Operand.{Operand}
-use Rattle.rv_isa.specs.PlacedCode.{PlacedLine, does, moves, PlacedLines, from_of, to_of}
-use Rattle.rv_isa.specs.Primitives.{Reply, answers, ends, fails, Primitives, Turn, go, ended, stuck, or_stuck}
+use Rattle.rv_isa.specs.PlacedCode.{PlacedLine, does, moves, PlacedLines}
+use Rattle.rv_isa.specs.Primitives.{Reply, answers, ends, fails, Primitives, ended, stuck, or_stuck}
 use Rattle.rv_isa.specs.Conventions.{conforms}
 use Rattle.rv_isa.specs.Frames.{Frame, empty, put, all_of, found, top, top_taken, taken_in, taken_if, only_of, result_of, received, holding, unholding}
 use Rattle.rv_isa.specs.AsmMachine.{unless_held}
-use Rattle.rv_isa.specs.PlacedMachine.{PlacedState, PlacedTurn, is_label_line, read_at, registers_with, slots_with, kept_by, passed, awaited, only_slot, placed_entered, placed_goes, placed_gives, placed_jumps, placed_returns, placed_answered, placed_served, placed_acts, placed_line, placed_running, placed_next}
+use Rattle.rv_isa.specs.PlacedMachine.{PlacedTurn, is_label_line, read_at, kept_by, passed, awaited, only_slot, placed_entered, placed_goes, placed_gives, placed_jumps, placed_returns, placed_answered, placed_served, placed_acts, placed_line}
 use Rattle.rv_regs.specs.Relation.{leading, FewMoves, AllFewMoves, FramesFewMoves, HasFewMoves}
 
 pub leading_within : (most : ℕ) (code : List PlacedLine) → FewMoves most code → leading code ≤ most

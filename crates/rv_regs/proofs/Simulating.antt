@@ -1,29 +1,29 @@
 -- The placed form's machine simulates the assembler form's: the moves that stand before a statement, and then the statement.
-use Rattle.std.proofs.Common.{◌≡◌, ◌≢◌, ◌+◌, ◌-◌, ◌*◌, ◌≤◌, ◌<◌, ℕ, zero, suc, List, [], ◌∷◌, ◌++◌, Option, Some, None, Bool, true, false, cond, All, slice_get, length, drop, inl, refl, sym, ◌∙◌, ap, subst, arith, map, option_map}
+use Rattle.std.proofs.Common.{◌≡◌, ◌≢◌, ◌+◌, ◌*◌, ◌≤◌, ◌<◌, ℕ, zero, suc, List, [], ◌∷◌, ◌++◌, Option, Some, None, false, slice_get, length, drop, inl, refl, sym, ◌∙◌, ap, subst, arith, map, option_map}
 use Rattle.std.proofs.Math.Seq.{drop-length}
 use Rattle.std.proofs.lemmas.List.{append-nil}
 use Rattle.std.proofs.lemmas.List.Elements.{All-head}
 use Rattle.std.proofs.lemmas.Bool.{cond-true}
-use Rattle.kk_base.specs.Machines.{Machine, trace, state, weight_of}
+use Rattle.kk_base.specs.Machines.{trace, state, weight_of}
 use Rattle.kk_base.specs.Simulations.{Reaches, Simulates}
 use Rattle.kk_base.specs.Agreements.{Agree}
-use Rattle.kk_base.proofs.Simulations.{simulates_agree}
+use Rattle.kk_base.proofs.Machines.{state_ended}
+use Rattle.kk_base.proofs.Simulations.{simulates_agree, simulates_passing}
 use Rattle.rv_isa.specs.declared.asm.Action.{Action}
-use Rattle.rv_isa.specs.declared.placed.Place.{Place}
 use Rattle.rv_isa.specs.declared.placed.Operand.{Operand}
 use Rattle.rv_isa.specs.declared.placed.Listed.{Listed}
 use Rattle.rv_isa.specs.declared.placed.Way.{Way}
 use Rattle.rv_isa.specs.AsmCode.{Line, Lines}
 use Rattle.rv_isa.specs.PlacedCode.{PlacedLine, does, moves, PlacedLines, from_of, to_of}
-use Rattle.rv_isa.specs.Primitives.{Primitives, Turn, go, ended, stuck, or_stuck, end_of}
+use Rattle.rv_isa.specs.Primitives.{Primitives, go, ended, stuck, or_stuck, end_of}
 use Rattle.rv_isa.specs.Conventions.{conforms}
 use Rattle.rv_isa.specs.Costs.{instructions_of, move_instructions}
 use Rattle.rv_isa.specs.Frames.{Frame, empty, all_of, top}
-use Rattle.rv_isa.specs.AsmMachine.{AsmState, AsmTurn, asm_acts, asm_line, asm_next, asm_running, asm_machine, asm_told, asm_weight, asm_line_weight, asm_start, bound}
-use Rattle.rv_isa.specs.PlacedMachine.{PlacedState, PlacedTurn, read_at, registers_with, slots_with, placed_acts, placed_line, placed_running, placed_next, placed_machine, placed_told, placed_weight, placed_line_weight, placed_start}
-use Rattle.rv_regs.specs.Listings.{first_alive, alive_behind, alive_at_label, both_of, marks, spoils_by}
-use Rattle.rv_regs.specs.Conditions.{value_of, without_moves, IsAtPlace, IsKept, Fits, AllFit, ArePlacings}
-use Rattle.rv_regs.specs.Relation.{Holds, HeldAs, SameCode, Stands, AllWait, FramesStand, StandsFor, NeverStuck, leading, FewMoves, AllFewMoves, FramesFewMoves, HasFewMoves, Related, Any}
+use Rattle.rv_isa.specs.AsmMachine.{AsmTurn, asm_acts, asm_line, asm_machine, asm_told, asm_line_weight, asm_start, bound}
+use Rattle.rv_isa.specs.PlacedMachine.{PlacedState, PlacedTurn, read_at, registers_with, slots_with, placed_acts, placed_line, placed_next, placed_machine, placed_told, placed_weight, placed_line_weight, placed_start}
+use Rattle.rv_regs.specs.Listings.{first_alive}
+use Rattle.rv_regs.specs.Conditions.{value_of, without_moves, IsAtPlace, AllFit, ArePlacings}
+use Rattle.rv_regs.specs.Relation.{Stands, AllWait, FramesStand, StandsFor, NeverStuck, leading, FewMoves, AllFewMoves, FramesFewMoves, HasFewMoves, Related, IsNotStuck}
 use Rattle.rv_regs.proofs.Changing.{holds_next, change_place}
 use Rattle.rv_regs.proofs.Chains.{IsNext, held_next}
 use Rattle.rv_regs.proofs.Tokens.{apart_first, top_same}
@@ -117,8 +117,15 @@ module _ {H E W : Type 0} (m : Primitives H E W) (depth : ℕ) (asm : List Lines
     some : 1 ≤ steps
     within : weight_of (placed_machine m depth placed) steps t ≤ weight
     events_are : trace (placed_machine m depth placed) steps t ≡ events
+    passes : (k : ℕ) → k < steps → state (placed_machine m depth placed) k t ≢ stuck
     stands : StandsFor s (state (placed_machine m depth placed) steps t)
     few : HasFewMoves most (state (placed_machine m depth placed) steps t)
+
+  not_stuck : (t : PlacedState H) → IsNotStuck {H = H} {W = W} (go t)
+  not_stuck t e = cc
+
+  ended_not_stuck : (how : W) (shared : H) → IsNotStuck {H = H} {W = W} (ended how shared)
+  ended_not_stuck how shared e = cc
 
   -- one step
   arrives_now : (most weight : ℕ) (s : AsmTurn H W) (t : PlacedState H) → placed_weight m (go t) ≤ weight → s ≢ stuck → StandsFor s (placed_next m depth placed (go t)) → HasFewMoves most (placed_next m depth placed (go t))
@@ -130,25 +137,35 @@ module _ {H E W : Type 0} (m : Primitives H E W) (depth : ℕ) (asm : List Lines
         some = omega arith;
         within = omega (arith, within);
         events_are = append_nil_of (drop (length (m.told t.shared)) (placed_told m (placed_next m depth placed (go t)))) ∙ ap (drop (length (m.told t.shared))) (sym told);
+        passes = only_here;
         stands = stands;
         few = few;
       }
     where
+      only_here : (k : ℕ) → k < 1 → state (placed_machine m depth placed) k (go t) ≢ stuck
+      only_here zero lt = not_stuck t
+      only_here (suc k) lt = absurd (omega (arith, lt))
+
       append_nil_of : (xs : List E) → xs ++ [] ≡ xs
       append_nil_of xs = append-nil xs
 
   -- a step without events before
-  arrives_later : (most weight more : ℕ) (events : List E) (s : AsmTurn H W) (t : PlacedTurn H W) (moved_weight : (placed_machine m depth placed).weight t ≤ more) → ((placed_machine m depth placed).step t).0 ≡ []
+  arrives_later : (most weight more : ℕ) (events : List E) (s : AsmTurn H W) (t : PlacedTurn H W) (moved_weight : (placed_machine m depth placed).weight t ≤ more) → ((placed_machine m depth placed).step t).0 ≡ [] → t ≢ stuck
       → Arrives most weight events s ((placed_machine m depth placed).step t).1 → Arrives most (more + weight) events s t
-  arrives_later most weight more events s t light silent later =
+  arrives_later most weight more events s t light silent goes later =
       record {
         steps = suc later.steps;
         some = omega arith;
         within = omega (arith, light, later.within);
         events_are = ap (λ (first : List E). first ++ trace (placed_machine m depth placed) later.steps ((placed_machine m depth placed).step t).1) silent ∙ later.events_are;
+        passes = from_here;
         stands = later.stands;
         few = later.few;
       }
+    where
+      from_here : (k : ℕ) → k < suc later.steps → state (placed_machine m depth placed) k t ≢ stuck
+      from_here zero lt = goes
+      from_here (suc k) lt = later.passes k (omega arith)
 
   asm_goes_on : Frame Line → List (Frame Line) → H → AsmTurn H W
   asm_goes_on f fs shared = asm_line m depth asm f fs shared f.code
@@ -178,7 +195,7 @@ module _ {H E W : Type 0} (m : Primitives H E W) (depth : ℕ) (asm : List Lines
       let weight : ℕ = leading rest * move_instructions + asm_line_weight m 0 (f ∷ fs) shared f f.code in
       let there : Arrives most weight events (asm_line m depth asm f fs shared f.code) (placed_next m depth placed (go t)) = subst (λ (u : PlacedTurn H W). Arrives most weight events (asm_line m depth asm f fs shared f.code) u) (sym on) later in
       subst (λ w. Arrives most w events (asm_line m depth asm f fs shared f.code) (go t)) (omega arith)
-      (arrives_later most weight move_instructions events (asm_line m depth asm f fs shared f.code) (go t) light silent there)
+      (arrives_later most weight move_instructions events (asm_line m depth asm f fs shared f.code) (go t) light silent (not_stuck t) there)
 
   weighs_rows : (most lead : ℕ) (frames : List (Frame Line)) (shared : H) (f : Frame Line) (code : List Line) → code ≢ [] → lead ≤ most
       → lead * move_instructions + asm_line_weight m 0 frames shared f code ≤ asm_line_weight m most frames shared f code
@@ -188,7 +205,7 @@ module _ {H E W : Type 0} (m : Primitives H E W) (depth : ℕ) (asm : List Lines
   -- a step of the upper machine, by steps of the lower
   steps_on : (most credit idle : ℕ) (frames : List (Frame Line)) (frames' : List (Frame PlacedLine)) (registers : ℕ → Option ℕ) (shared : H) → AllFewMoves most placed
       → NeverStuck m depth asm (go (record { frames = frames; shared = shared })) → FramesStand registers frames frames' → FramesFewMoves most frames'
-      → Reaches (placed_machine m depth placed) (Related m most depth asm) Any 1 ((asm_machine m most depth asm).weight (go (record { frames = frames; shared = shared })) + credit) 1 idle
+      → Reaches (placed_machine m depth placed) (Related m most depth asm) IsNotStuck 1 ((asm_machine m most depth asm).weight (go (record { frames = frames; shared = shared })) + credit) 1 idle
       ((asm_machine m most depth asm).step (go (record { frames = frames; shared = shared }))).0 ((asm_machine m most depth asm).step (go (record { frames = frames; shared = shared }))).1
       (go (record { frames = frames'; registers = registers; shared = shared }))
   steps_on most credit idle [] frames' registers shared all_few never stands few = absurd stands
@@ -205,14 +222,14 @@ module _ {H E W : Type 0} (m : Primitives H E W) (depth : ℕ) (asm : List Lines
         paid = omega (arith, there.within, rows);
         moves = omega (arith, there.some);
         events_are = there.events_are;
-        passes = λ k lt. tt;
+        passes = there.passes;
         related = ((λ n. never (suc n)), (there.stands, there.few));
       }
 
   steps_by : (most credit idle : ℕ) (s : AsmTurn H W) (t : PlacedTurn H W) → AllFewMoves most placed → Related m most depth asm credit idle s t
-      → Reaches (placed_machine m depth placed) (Related m most depth asm) Any 1 ((asm_machine m most depth asm).weight s + credit) 1 idle ((asm_machine m most depth asm).step s).0 ((asm_machine m most depth asm).step s).1 t
+      → Reaches (placed_machine m depth placed) (Related m most depth asm) IsNotStuck 1 ((asm_machine m most depth asm).weight s + credit) 1 idle ((asm_machine m most depth asm).step s).0 ((asm_machine m most depth asm).step s).1 t
   steps_by most credit idle (go s) (go t) all_few related =
-      subst (λ (shared : H). Reaches (placed_machine m depth placed) (Related m most depth asm) Any 1 ((asm_machine m most depth asm).weight (go s) + credit) 1 idle ((asm_machine m most depth asm).step (go s)).0 ((asm_machine m most depth asm).step (go s)).1
+      subst (λ (shared : H). Reaches (placed_machine m depth placed) (Related m most depth asm) IsNotStuck 1 ((asm_machine m most depth asm).weight (go s) + credit) 1 idle ((asm_machine m most depth asm).step (go s)).0 ((asm_machine m most depth asm).step (go s)).1
       (go (record { frames = t.frames; registers = t.registers; shared = shared }))) related.1.0.1
       (steps_on most credit idle s.frames t.frames t.registers s.shared all_few related.0 related.1.0.0 related.1.1)
   steps_by most credit idle (go s) (ended how shared) all_few related = absurd related.1.0
@@ -226,7 +243,7 @@ module _ {H E W : Type 0} (m : Primitives H E W) (depth : ℕ) (asm : List Lines
         paid = omega arith;
         moves = omega arith;
         events_are = refl;
-        passes = λ k lt. tt;
+        passes = λ k lt e. ended_not_stuck how' shared' (sym (state_ended (placed_machine m depth placed) k (ended how' shared') how' refl) ∙ e);
         related = ((λ n. related.0 (suc n)), (related.1.0, tt));
       }
   steps_by most credit idle (ended how shared) stuck all_few related = absurd related.1.0
@@ -242,7 +259,7 @@ module _ {H E W : Type 0} (m : Primitives H E W) (depth : ℕ) (asm : List Lines
   ends_alike most credit idle stuck t related = absurd (related.0 0 refl)
 
   -- code with places simulates the code that it was made of
-  pub simulates : (most : ℕ) → AllFewMoves most placed → Simulates (asm_machine m most depth asm) (placed_machine m depth placed) (Related m most depth asm) Any 1
+  pub simulates : (most : ℕ) → AllFewMoves most placed → Simulates (asm_machine m most depth asm) (placed_machine m depth placed) (Related m most depth asm) IsNotStuck 1
   simulates most all_few = record { by = λ credit idle s t related. steps_by most credit idle s t all_few related; alike = ends_alike most }
 
   -- the start of a function without parameters
@@ -258,4 +275,11 @@ module _ {H E W : Type 0} (m : Primitives H E W) (depth : ℕ) (asm : List Lines
       → (placed_main : PlacedLines) × (slice_get placed n ≡ Some placed_main) × Agree (asm_machine m most depth asm) (placed_machine m depth placed) 0 (λ steps. steps * 1 + 0 + 1) (asm_start main shared) (placed_start placed_main shared)
   agrees most n main shared all_few e none never =
       let there = starts most n main shared all_few e none never in
-      (there.0, there.1, simulates_agree (asm_machine m most depth asm) (placed_machine m depth placed) (Related m most depth asm) Any 1 (simulates most all_few) 0 0 (asm_start main shared) (placed_start there.0 shared) there.2)
+      (there.0, there.1, simulates_agree (asm_machine m most depth asm) (placed_machine m depth placed) (Related m most depth asm) IsNotStuck 1 (simulates most all_few) 0 0 (asm_start main shared) (placed_start there.0 shared) there.2)
+
+  -- from there on each state can go on, or has ended
+  pub never_stuck : (most n : ℕ) (main : Lines) (shared : H) → AllFewMoves most placed → slice_get asm n ≡ Some main → main.params ≡ [] → NeverStuck m depth asm (asm_start main shared)
+      → (placed_main : PlacedLines) × (slice_get placed n ≡ Some placed_main) × ((steps : ℕ) → state (placed_machine m depth placed) steps (placed_start placed_main shared) ≢ stuck)
+  never_stuck most n main shared all_few e none never =
+      let there = starts most n main shared all_few e none never in
+      (there.0, there.1, simulates_passing (asm_machine m most depth asm) (placed_machine m depth placed) (Related m most depth asm) IsNotStuck 1 (simulates most all_few) 0 0 (asm_start main shared) (placed_start there.0 shared) there.2)

@@ -1,23 +1,22 @@
 -- The parts of a step in both machines: words, labels, callees, parameters.
-use Rattle.std.proofs.Common.{◌≡◌, ◌≢◌, ◌==◌, ◌+◌, ◌≤◌, ◌<◌, ◌&&◌, ◌⊎◌, ℕ, zero, suc, List, [], ◌∷◌, Option, Some, None, Bool, true, false, cond, All, IsSomeAnd, IsTrue, slice_get, refl, sym, ◌∙◌, ap, subst, inl, inr, arith, add-one, map, option_map, eq-eqb}
+use Rattle.std.proofs.Common.{◌≡◌, ◌==◌, ◌+◌, ◌≤◌, ℕ, zero, suc, List, [], ◌∷◌, Option, Some, None, Bool, true, false, cond, All, IsSomeAnd, IsTrue, slice_get, refl, sym, ◌∙◌, ap, subst, arith, add-one, map, option_map}
 use Rattle.std.specs.List.{position_from}
-use Rattle.std.proofs.lemmas.Bool.{eqb-true, eqb-false, ne_eqb, cond-true, cond-false}
+use Rattle.std.proofs.lemmas.Bool.{eqb-true, eqb-false}
 use Rattle.std.proofs.lemmas.List.Elements.{All-head, All-tail}
-use Rattle.rv_isa.specs.declared.asm.Action.{Action}
 use Rattle.rv_isa.specs.declared.placed.Place.{Place}
 use Rattle.rv_isa.specs.declared.placed.Place.TheVariants.{Register as register, Slot as slot}
 use Rattle.rv_isa.specs.declared.placed.Operand.{Operand}
 use Rattle.rv_isa.specs.declared.placed.Listed.{Listed}
 use Rattle.rv_isa.specs.AsmCode.{Line, Lines}
 use Rattle.rv_isa.specs.PlacedCode.{PlacedLine, does, moves, PlacedLines}
-use Rattle.rv_isa.specs.Primitives.{Turn, go, ended, stuck, or_stuck}
+use Rattle.rv_isa.specs.Primitives.{or_stuck}
 use Rattle.rv_isa.specs.Conventions.{argument, is_in}
-use Rattle.rv_isa.specs.Frames.{Frame, empty, put, found}
-use Rattle.rv_isa.specs.AsmMachine.{AsmState, AsmTurn, is_label, bound, asm_entered, unless_held}
-use Rattle.rv_isa.specs.PlacedMachine.{PlacedState, PlacedTurn, is_label_line, read_at, passed, placed_entered}
+use Rattle.rv_isa.specs.Frames.{empty, put, found}
+use Rattle.rv_isa.specs.AsmMachine.{AsmTurn, is_label, bound, asm_entered, unless_held}
+use Rattle.rv_isa.specs.PlacedMachine.{PlacedTurn, is_label_line, read_at, passed, placed_entered}
 use Rattle.rv_regs.specs.Listings.{first_alive, listed_as}
 use Rattle.rv_regs.specs.Conditions.{value_of, without_moves, IsAtPlace, IsPassed, AllFit, IsPlacing, ArePlacings}
-use Rattle.rv_regs.specs.Relation.{Holds, HeldAs, SameCode, Stands, StandsFor}
+use Rattle.rv_regs.specs.Relation.{Holds, HeldAs, Stands, StandsFor}
 use Rattle.rv_regs.proofs.Placing.{listed_has, put_same, put_other}
 use Rattle.rv_regs.proofs.Tokens.{apart_first}
 

@@ -1,12 +1,12 @@
 -- The newest held token of frames in both forms, and frames from which it was taken.
-use Rattle.std.proofs.Common.{◌≡◌, ◌+◌, ℕ, suc, List, [], ◌∷◌, Option, Some, None, Bool, true, false, cond, length, refl, sym, ◌∙◌, ap, subst, arith, option_map}
+use Rattle.std.proofs.Common.{◌≡◌, ℕ, suc, List, [], ◌∷◌, Option, Some, None, Bool, true, false, length, refl, ap, subst, option_map}
 use Rattle.rv_isa.specs.declared.placed.Listed.{Listed}
 use Rattle.rv_isa.specs.AsmCode.{Line}
 use Rattle.rv_isa.specs.PlacedCode.{PlacedLine, does, moves}
 use Rattle.rv_isa.specs.Frames.{Frame, put, top, top_in, top_taken, taken_in, taken_if}
 use Rattle.rv_regs.specs.Listings.{first_alive, listed_as}
-use Rattle.rv_regs.specs.Conditions.{Apart, AllFit, LineFits}
-use Rattle.rv_regs.specs.Relation.{Holds, HeldAs, SameCode, Stands, WaitsFor, Waits, AllWait}
+use Rattle.rv_regs.specs.Conditions.{Apart, AllFit}
+use Rattle.rv_regs.specs.Relation.{HeldAs, Stands, Waits, AllWait}
 use Rattle.rv_regs.proofs.Chains.{token, token_waits, zero_waits, zero_holds}
 
 -- what is listed before code is apart

@@ -3,3 +3,9 @@ pub mod Conditions
 pub mod Valid
 pub mod Views
 pub mod Relation
+pub mod Alive
+pub mod Plain
+pub mod Shape
+pub mod Tables
+pub mod Backwards
+pub mod Walks

@@ -1,5 +1,5 @@
 -- When a state of the placed form's machine stands for one of the assembler form's.
-use Rattle.std.specs.Prelude.{◌≡◌, ◌≢◌, ◌⊎◌, ◌≤◌, ℕ, suc, ◌+◌, List, [], ◌∷◌, Option, Some, None, Bool, true, false, ⊤}
+use Rattle.std.specs.Prelude.{◌≡◌, ◌≢◌, ◌⊎◌, ◌≤◌, ℕ, suc, List, [], ◌∷◌, Option, Some, None, true, false, ⊤}
 use Rattle.std.specs.List.{AllByRecursion}
 use Rattle.kk_base.specs.Machines.{state}
 use Rattle.rv_isa.specs.declared.placed.Place.{Place}
@@ -7,10 +7,10 @@ use Rattle.rv_isa.specs.declared.placed.Place.TheVariants.{Slot as slot}
 use Rattle.rv_isa.specs.declared.placed.Listed.{Listed}
 use Rattle.rv_isa.specs.AsmCode.{Line, Lines}
 use Rattle.rv_isa.specs.PlacedCode.{PlacedLine, does, moves, PlacedLines}
-use Rattle.rv_isa.specs.Primitives.{Primitives, Turn, go, ended, stuck}
+use Rattle.rv_isa.specs.Primitives.{Primitives, go, ended, stuck}
 use Rattle.rv_isa.specs.Frames.{Frame, is_among}
-use Rattle.rv_isa.specs.AsmMachine.{AsmState, AsmTurn, asm_machine}
-use Rattle.rv_isa.specs.PlacedMachine.{PlacedState, PlacedTurn, read_at, number_of}
+use Rattle.rv_isa.specs.AsmMachine.{AsmTurn, asm_machine}
+use Rattle.rv_isa.specs.PlacedMachine.{PlacedTurn, read_at, number_of}
 use Rattle.rv_regs.specs.Listings.{first_alive, listed_as}
 use Rattle.rv_regs.specs.Conditions.{Apart, without_moves, AllFit}
 
@@ -107,6 +107,6 @@ HasFewMoves most stuck = ⊤
 abbrev pub Related : {H E W : Type 0} → Primitives H E W → ℕ → ℕ → List Lines → ℕ → ℕ → AsmTurn H W → PlacedTurn H W → Type 0
 Related m most depth asm credit idle s t = NeverStuck m depth asm s × (StandsFor s t × HasFewMoves most t)
 
--- the placed form's machine may pass any state
-abbrev pub Any : {H W : Type 0} → PlacedTurn H W → Type 0
-Any t = ⊤
+-- the placed form's machine passes no state in which it can do nothing
+abbrev pub IsNotStuck : {H W : Type 0} → PlacedTurn H W → Type 0
+IsNotStuck t = t ≢ stuck

@@ -1,15 +1,16 @@
-ghost use Rattle.std.specs.Prelude.{◌≡◌, ◌+◌, ◌*◌, ℕ, [], Some, slice_get};
+ghost use Rattle.std.specs.Prelude.{◌≡◌, ◌≢◌, ◌+◌, ◌*◌, ℕ, [], Some, slice_get};
+ghost use Rattle.kk_base.specs.Machines.{state};
 ghost use Rattle.kk_base.specs.Simulations.{Simulates};
 ghost use Rattle.kk_base.specs.Agreements.{Agree};
 ghost use Rattle.rv_isa.specs.declared.asm.Asm.{Asm};
 ghost use Rattle.rv_isa.specs.declared.placed.Placed.{Placed};
 ghost use Rattle.rv_isa.specs.AsmCode.{Lines, asm_functions};
 ghost use Rattle.rv_isa.specs.PlacedCode.{PlacedLines, placed_functions};
-ghost use Rattle.rv_isa.specs.Primitives.{Primitives};
+ghost use Rattle.rv_isa.specs.Primitives.{Primitives, stuck};
 ghost use Rattle.rv_isa.specs.AsmMachine.{asm_machine, asm_start};
 ghost use Rattle.rv_isa.specs.PlacedMachine.{placed_machine, placed_start};
 ghost use Rattle.rv_regs.specs.Valid.{IsValid};
-ghost use Rattle.rv_regs.specs.Relation.{NeverStuck, AllFewMoves, Related, Any};
+ghost use Rattle.rv_regs.specs.Relation.{NeverStuck, AllFewMoves, Related, IsNotStuck};
 
 /// What the machines of the assembler form and of its placed form leave open: operations, conditions and routines over
 /// what they share.
@@ -28,10 +29,11 @@ pub trait Execution {
 /// Where at most `most` moves stand in a row, its machine simulates that of the assembler form: the moves before a
 /// statement, and then the statement. The start of a function without parameters stands for that of the same function,
 /// and from there on the machines agree: they tell the same events and end alike. A run of the assembler form must never
-/// come to a state in which it can do nothing more. It is a law, and does nothing.
+/// come to a state in which it can do nothing more; then the placed form comes to none either. It is a law, and does
+/// nothing.
 pub fn valid_forms_keep_meaning<M: Execution>()
     ensures simulates { (asm : Asm) (placed : Placed) (most depth : ℕ) → IsValid asm placed → AllFewMoves most (placed_functions placed)
-        → Simulates (asm_machine M.primitives most depth (asm_functions asm)) (placed_machine M.primitives depth (placed_functions placed)) (Related M.primitives most depth (asm_functions asm)) Any 1 }
+        → Simulates (asm_machine M.primitives most depth (asm_functions asm)) (placed_machine M.primitives depth (placed_functions placed)) (Related M.primitives most depth (asm_functions asm)) IsNotStuck 1 }
     ensures starts { (asm : Asm) (placed : Placed) (most depth n : ℕ) (main : Lines) (shared : M.Shared) → IsValid asm placed → AllFewMoves most (placed_functions placed)
         → slice_get (asm_functions asm) n ≡ Some main → main.params ≡ [] → NeverStuck M.primitives depth (asm_functions asm) (asm_start main shared)
         → (placed_main : PlacedLines) × (slice_get (placed_functions placed) n ≡ Some placed_main) × Related M.primitives most depth (asm_functions asm) 0 0 (asm_start main shared) (placed_start placed_main shared) }
@@ -39,4 +41,8 @@ pub fn valid_forms_keep_meaning<M: Execution>()
         → slice_get (asm_functions asm) n ≡ Some main → main.params ≡ [] → NeverStuck M.primitives depth (asm_functions asm) (asm_start main shared)
         → (placed_main : PlacedLines) × (slice_get (placed_functions placed) n ≡ Some placed_main)
         × Agree (asm_machine M.primitives most depth (asm_functions asm)) (placed_machine M.primitives depth (placed_functions placed)) 0 (λ steps. steps * 1 + 0 + 1) (asm_start main shared) (placed_start placed_main shared) }
+    ensures never_stuck { (asm : Asm) (placed : Placed) (most depth n : ℕ) (main : Lines) (shared : M.Shared) → IsValid asm placed → AllFewMoves most (placed_functions placed)
+        → slice_get (asm_functions asm) n ≡ Some main → main.params ≡ [] → NeverStuck M.primitives depth (asm_functions asm) (asm_start main shared)
+        → (placed_main : PlacedLines) × (slice_get (placed_functions placed) n ≡ Some placed_main)
+        × ((steps : ℕ) → state (placed_machine M.primitives depth (placed_functions placed)) steps (placed_start placed_main shared) ≢ stuck) }
 {}

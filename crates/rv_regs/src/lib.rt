@@ -1,15 +1,23 @@
-//! Places for the values of assembler code, checked: whatever gave values their places, a form that passes the check means
-//! what the code means.
+//! Places for the values of assembler code, given by the plainest rule, and checked: whatever gave values their places, a
+//! form that passes the check means what the code means.
 #![tactic(auto)]
 
 mod actions;
+mod assigning;
 mod checking;
 mod conventions;
 mod keeping;
 mod keeps;
 mod lines;
+mod liveness;
 mod needs;
 mod places;
+mod slots;
+mod walk;
 
+pub use assigning::assign;
 pub use checking::valid;
 pub use keeps::{Execution, valid_forms_keep_meaning};
+
+#[cfg(test)]
+mod tests;

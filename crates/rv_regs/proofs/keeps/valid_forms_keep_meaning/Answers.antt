@@ -1,7 +1,7 @@
 -- The law is the simulation of the functions.
 use Rattle.rv_isa.specs.AsmCode.{asm_functions}
 use Rattle.rv_isa.specs.PlacedCode.{placed_functions}
-use Rattle.rv_regs.proofs.Simulating.{simulates, starts, agrees}
+use Rattle.rv_regs.proofs.Simulating.{simulates, starts, agrees, never_stuck}
 use Rattle.rv_regs.proofs.keeps.valid_forms_keep_meaning.Goals as goal
 
 pub returns-clause-simulates : goal.returns-clause-simulates
@@ -12,3 +12,7 @@ returns-clause-starts g c = λ asm placed most depth n main shared valid few e n
 
 pub returns-clause-agrees : goal.returns-clause-agrees
 returns-clause-agrees g c = λ asm placed most depth n main shared valid few e none never. agrees g.M.Execution.primitives depth (asm_functions asm) (placed_functions placed) valid.functions most n main shared few e none never
+
+pub returns-clause-never_stuck : goal.returns-clause-never_stuck
+returns-clause-never_stuck g c =
+    λ asm placed most depth n main shared valid few e none never. never_stuck g.M.Execution.primitives depth (asm_functions asm) (placed_functions placed) valid.functions most n main shared few e none never

@@ -1,0 +1,443 @@
+-- A line between its loads and its stores: its operands stand where its action takes and gives them, and it fits.
+use Rattle.std.proofs.Common.{◌≡◌, ◌≢◌, ◌==◌, ◌||◌, ◌&&◌, ◌⊎◌, ◌<◌, ◌≤◌, ◌+◌, ℕ, zero, suc, List, [], ◌∷◌, ◌++◌, Option, Some, None, true, false, not, All, refl, sym, ◌∙◌, ap, subst, inl, inr, arith, eq-eqb, map, option_map, length, is_some}
+use Rattle.std.specs.List.{AllByRecursion}
+use Rattle.std.proofs.lemmas.Bool.{eqb-true, eqb-false, cond-true, or_cases, or_left, or_right, and_from, and_parts, not-true, not_from_false, false≢true, cases_Bool, cond_both, false_from_ne_true, le-leb}
+use Rattle.rv_isa.specs.declared.asm.Action.{Action}
+use Rattle.rv_isa.specs.declared.asm.Action.TheVariants.{Compute, Label, Jump, Branch, Call, TailCall, Return, Routine, Hold, Unhold}
+use Rattle.rv_isa.specs.declared.asm.Operation.TheVariants.{Register, Immediate, Shift, Li, Mv, La, Lw, Sw}
+use Rattle.rv_isa.specs.declared.routine.Routine.TheVariants.{Take, Drop, PrintInt, PrintText, ReadByte}
+use Rattle.rv_isa.specs.declared.placed.Place.{Place}
+use Rattle.rv_isa.specs.declared.placed.Place.TheVariants.{Register as register, Slot as slot}
+use Rattle.rv_isa.specs.declared.placed.Operand.{Operand}
+use Rattle.rv_isa.specs.declared.placed.Listed.{Listed}
+use Rattle.rv_isa.specs.AsmCode.{Line}
+use Rattle.rv_isa.specs.AsmMachine.{is_label}
+use Rattle.rv_isa.specs.PlacedCode.{PlacedLine, does}
+use Rattle.rv_isa.specs.PlacedMachine.{is_label_line}
+use Rattle.rv_isa.specs.Conventions.{is_handed_out, is_register, takes_at, gives_at, take_from, gives_into, conforms, spoils}
+use Rattle.rv_isa.specs.Frames.{is_among, found}
+use Rattle.rv_isa.specs.WellFormed.{is_written, is_alive, is_alive_at, is_alive_behind, most_args, has_value, may_give, hands_over, HoldsNone, AreDistinct, IsSpent, IsLineFormed}
+use Rattle.rv_regs.specs.declared.slots.Loaded.{Loaded}
+use Rattle.rv_regs.specs.Alive.{values_before, values_behind, alive_values, alive_values_at}
+use Rattle.rv_regs.specs.Listings.{first_alive, both_of, is_read_in, marks}
+use Rattle.rv_regs.specs.Conditions.{IsAtPlace, IsNeeded, IsListed, IsListedIn, IsWritten, IsNew, IsClearOf, IsSafe, IsKept, WriteIsHandedOut, Fits, LineFits}
+use Rattle.rv_regs.specs.Plain.{numbered, place_in, listing_at, listings, operand_at, first_register, result_register, load_from, falls_to, given, stays, left_in, pending}
+use Rattle.rv_regs.proofs.Lists.{all_made, each_among, among_with_values}
+use Rattle.rv_regs.proofs.Aliveness.{alive_exact, alive_behind_exact, among_before, alive_distinct}
+use Rattle.rv_regs.proofs.InRegisters.{all_weaker, all_both, all_kept, none_kept, Differ, AreLoads, AreAmong, place_same, place_other, place_ne, no_slot, places_apart, places_handed, loads_kept, place_left, left_among, left_unwritten, load_values, load_numbers, number_is, loads_are, place_unloaded, place_loaded, once_loaded}
+use Rattle.rv_regs.proofs.Fitting.{is_listed, stands_there, Stays, all_kept_next, act_fits}
+
+-- ---- the registers of an action
+
+handed_low : (k : ℕ) → 3 ≤ k → k ≤ 7 → is_handed_out k ≡ true
+handed_low k low high = or_left _ _ (and_from _ _ (le-leb 3 k low) (le-leb k 7 high))
+
+pub handed_argument : (k : ℕ) → 10 ≤ k → k ≤ 17 → is_handed_out k ≡ true
+handed_argument k low high = or_right _ _ (or_left _ _ (and_from _ _ (le-leb 10 k low) (le-leb k 17 high)))
+
+-- no action takes more arguments than there are registers for
+pub most_registers : (action : Action) → first_register action + most_args action ≤ 18
+most_registers (Compute operation) = omega arith
+most_registers (Label l) = omega arith
+most_registers (Jump l) = omega arith
+most_registers (Branch condition l) = omega arith
+most_registers (Call f) = omega arith
+most_registers (TailCall f) = omega arith
+most_registers Return = omega arith
+most_registers (Routine Take) = omega arith
+most_registers (Routine Drop) = omega arith
+most_registers (Routine PrintInt) = omega arith
+most_registers (Routine PrintText) = omega arith
+most_registers (Routine ReadByte) = omega arith
+most_registers Hold = omega arith
+most_registers Unhold = omega arith
+
+registers_handed : (action : Action) (k : ℕ) → first_register action ≤ k → k < first_register action + most_args action → is_handed_out k ≡ true
+registers_handed (Compute operation) k low high = handed_low k (omega arith) (omega arith)
+registers_handed (Branch condition l) k low high = handed_low k (omega arith) (omega arith)
+registers_handed (Label l) k low high = handed_argument k (omega arith) (omega (arith, most_registers (Label l)))
+registers_handed (Jump l) k low high = handed_argument k (omega arith) (omega (arith, most_registers (Jump l)))
+registers_handed (Call f) k low high = handed_argument k (omega arith) (omega (arith, most_registers (Call f)))
+registers_handed (TailCall f) k low high = handed_argument k (omega arith) (omega (arith, most_registers (TailCall f)))
+registers_handed Return k low high = handed_argument k (omega arith) (omega (arith, most_registers Return))
+registers_handed (Routine routine) k low high = handed_argument k low (omega (arith, most_registers (Routine routine), high))
+registers_handed Hold k low high = handed_argument k (omega arith) (omega (arith, most_registers Hold))
+registers_handed Unhold k low high = handed_argument k (omega arith) (omega (arith, most_registers Unhold))
+
+pub action_loads : (action : Action) (args : List ℕ) → length args ≤ most_args action → AreLoads (load_from (first_register action) args)
+action_loads action args few =
+    loads_are (first_register action) args (omega (arith, most_registers action)) (λ k low high. registers_handed action k low (omega (arith, high, few)))
+
+-- ---- operands stand where their action takes and gives them
+
+takes_number : (action : Action) (n : ℕ) → n < most_args action → HoldsNone action → takes_at action n (register (numbered (first_register action + n))) ≡ true
+takes_number (Compute operation) n few none = refl
+takes_number (Branch condition l) n few none = refl
+takes_number (Label l) n few none = absurd (omega (arith, few))
+takes_number (Jump l) n few none = absurd (omega (arith, few))
+takes_number (Call f) n few none = eq-eqb _ _ (number_is (10 + n) (omega (arith, few)))
+takes_number (TailCall f) n few none = eq-eqb _ _ (number_is (10 + n) (omega (arith, few)))
+takes_number Return n few none = eq-eqb _ _ (number_is (10 + n) (omega (arith, few)))
+takes_number (Routine Take) n few none = absurd (omega (arith, few))
+takes_number (Routine Drop) zero few none = refl
+takes_number (Routine Drop) (suc n) few none = absurd (omega (arith, few))
+takes_number (Routine PrintInt) zero few none = refl
+takes_number (Routine PrintInt) (suc zero) few none = refl
+takes_number (Routine PrintInt) (suc (suc n)) few none = absurd (omega (arith, few))
+takes_number (Routine PrintText) zero few none = refl
+takes_number (Routine PrintText) (suc zero) few none = refl
+takes_number (Routine PrintText) (suc (suc n)) few none = absurd (omega (arith, few))
+takes_number (Routine ReadByte) n few none = absurd (omega (arith, few))
+takes_number Hold n few none = absurd none
+takes_number Unhold n few none = absurd none
+
+takes_any : (action : Action) (loaded : List Loaded) (n : ℕ) (vs : List ℕ) → ((k : ℕ) (place : Place) → is_register place ≡ true → takes_at action k place ≡ true)
+    → ((v : ℕ) → is_among v vs ≡ true → is_register (place_in loaded v) ≡ true) → take_from action n (map (operand_at (place_in loaded)) vs) ≡ true
+takes_any action loaded n [] takes stand = refl
+takes_any action loaded n (v ∷ vs) takes stand =
+    and_from _ _ (takes n (place_in loaded v) (stand v (or_left (v == v) (is_among v vs) (eq-eqb v v refl))))
+    (takes_any action loaded (suc n) vs takes (λ u t. stand u (or_right (v == u) (is_among u vs) t)))
+
+takes_row : (action : Action) (first : ℕ) (loaded : List Loaded) (n : ℕ) (vs : List ℕ) → AreDistinct vs
+    → ((k : ℕ) → n ≤ k → k < n + length vs → takes_at action k (register (numbered (first + k))) ≡ true)
+    → ((v : ℕ) → is_among v vs ≡ true → place_in loaded v ≡ place_in (load_from (first + n) vs) v) → take_from action n (map (operand_at (place_in loaded)) vs) ≡ true
+takes_row action first loaded n [] distinct takes stand = refl
+takes_row action first loaded n (v ∷ vs) distinct takes stand =
+    let l : Loaded = record { value = v; register = numbered (first + n) } in
+    let once : load_from (first + n) (v ∷ vs) ≡ l ∷ load_from (suc (first + n)) vs = once_loaded (first + n) v vs distinct.0 in
+    let here : place_in loaded v ≡ register l.register =
+    stand v (or_left (v == v) (is_among v vs) (eq-eqb v v refl)) ∙ ap (λ (ls : List Loaded). place_in ls v) once ∙ place_same l (load_from (suc (first + n)) vs) v refl in
+    let next : suc (first + n) ≡ first + suc n = omega arith in
+    and_from _ _ (ap (takes_at action n) here ∙ takes n (omega arith) (omega arith))
+    (takes_row action first loaded (suc n) vs distinct.1 (λ k low high. takes k (omega arith) (omega arith))
+    (λ u t.
+    stand u (or_right (v == u) (is_among u vs) t) ∙ ap (λ (ls : List Loaded). place_in ls u) once
+    ∙ place_other l (load_from (suc (first + n)) vs) u (λ same. false≢true (sym distinct.0 ∙ ap (λ w. is_among w vs) same ∙ t))
+    ∙ ap (λ m. place_in (load_from m vs) u) next))
+
+takes_args : (action : Action) (args : List ℕ) → length args ≤ most_args action → HoldsNone action → (hands_over action ≡ true → AreDistinct args)
+    → take_from action 0 (map (operand_at (place_in (load_from (first_register action) args))) args) ≡ true
+takes_args (Compute operation) args few none distinct = takes_any (Compute operation) (load_from 5 args) 0 args (λ k place t. t) (λ v t. place_loaded 5 args v t)
+takes_args action args few none distinct = in_row action args few none (distinct refl)
+  where
+    in_row : (action : Action) (args : List ℕ) → length args ≤ most_args action → HoldsNone action → AreDistinct args
+        → take_from action 0 (map (operand_at (place_in (load_from (first_register action) args))) args) ≡ true
+    in_row action args few none distinct =
+        takes_row action (first_register action) (load_from (first_register action) args) 0 args distinct (λ k low high. takes_number action k (omega (arith, high, few)) none)
+        (λ v t. ap (λ n. place_in (load_from n args) v) (omega arith))
+
+-- where the result comes, as an operand
+abbrev pub result_of : Action → Option ℕ → Option Operand
+result_of action into = option_map (operand_at (λ v. register (numbered (result_register action)))) into
+
+gives_number : (action : Action) → may_give action ≡ true → gives_at action (register (numbered (result_register action))) ≡ true
+gives_number (Compute (Register operation)) may = refl
+gives_number (Compute (Immediate operation immediate)) may = refl
+gives_number (Compute (Shift operation amount)) may = refl
+gives_number (Compute (Li word)) may = refl
+gives_number (Compute Mv) may = refl
+gives_number (Compute (La constant)) may = refl
+gives_number (Compute (Lw offset)) may = refl
+gives_number (Compute (Sw offset)) may = absurd (false≢true may)
+gives_number (Call f) may = refl
+gives_number (Routine Take) may = refl
+gives_number (Routine Drop) may = absurd (false≢true may)
+gives_number (Routine PrintInt) may = absurd (false≢true may)
+gives_number (Routine PrintText) may = absurd (false≢true may)
+gives_number (Routine ReadByte) may = refl
+gives_number (Label l) may = absurd (false≢true may)
+gives_number (Jump l) may = absurd (false≢true may)
+gives_number (Branch condition l) may = absurd (false≢true may)
+gives_number (TailCall f) may = absurd (false≢true may)
+gives_number Return may = absurd (false≢true may)
+gives_number Hold may = absurd (false≢true may)
+gives_number Unhold may = absurd (false≢true may)
+
+gives_result : (action : Action) (into : Option ℕ) → (has_value into ≡ true → may_give action ≡ true) → gives_into action (result_of action into) ≡ true
+gives_result action None gives = refl
+gives_result action (Some v) gives = gives_number action (gives refl)
+
+result_handed : (action : Action) (into : Option ℕ) → WriteIsHandedOut (result_of action into)
+result_handed action None = tt
+result_handed (Compute operation) (Some v) = refl
+result_handed action (Some v) = refl
+
+pub none_given : (action : Action) (into : Option ℕ) → may_give action ≡ false → (has_value into ≡ true → may_give action ≡ true) → into ≡ None
+none_given action None none gives = refl
+none_given action (Some v) none gives = absurd (false≢true (sym none ∙ gives refl))
+
+-- ---- what is alive behind a line
+
+unmarked : (action : Action) (reads : List Operand) (l : Listed) → HoldsNone action → marks (Some action) reads l ≡ l
+unmarked Hold reads l none = absurd none
+unmarked Unhold reads l none = absurd none
+unmarked action reads l none = refl
+
+pub alive_falling : (action : Action) (rest : List Line) (v : ℕ) → is_among v (falls_to action (alive_values rest)) ≡ true → is_alive_behind v action rest ≡ true
+alive_falling (Jump l) rest v t = absurd (false≢true t)
+alive_falling (TailCall f) rest v t = absurd (false≢true t)
+alive_falling Return rest v t = absurd (false≢true t)
+alive_falling (Branch condition l) rest v t = or_left (is_alive v rest) (is_alive_at l v rest) (sym (alive_exact v rest) ∙ t)
+alive_falling (Compute operation) rest v t = sym (alive_exact v rest) ∙ t
+alive_falling (Label l) rest v t = sym (alive_exact v rest) ∙ t
+alive_falling (Call f) rest v t = sym (alive_exact v rest) ∙ t
+alive_falling (Routine routine) rest v t = sym (alive_exact v rest) ∙ t
+alive_falling Hold rest v t = sym (alive_exact v rest) ∙ t
+alive_falling Unhold rest v t = sym (alive_exact v rest) ∙ t
+
+read_among : (place_of : ℕ → Place) (args : List ℕ) (v : ℕ) → is_read_in (map (operand_at place_of) args) v ≡ is_among v args
+read_among place_of [] v = refl
+read_among place_of (x ∷ xs) v = ap (λ b. (x == v) || b) (read_among place_of xs v)
+
+written_is : (f : ℕ → Place) (into : Option ℕ) (v : ℕ) → IsWritten (option_map (operand_at f) into) v → is_written into v ≡ true
+written_is f None v w = absurd w
+written_is f (Some x) v w = eq-eqb x v w
+
+-- not in the register of the result
+clear_of_result : (action : Action) (args : List ℕ) (u : ℕ) → length args ≤ most_args action → (hands_over action ≡ true → place_in (load_from (first_register action) args) u ≡ slot u)
+    → register (numbered (result_register action)) ≢ place_in (load_from (first_register action) args) u
+clear_of_result (Compute operation) args u few at_slot same =
+    place_ne (numbered 7) (load_from 5 args) u (load_numbers (λ k. 7 ≢ k) 5 args (λ k low high e. omega (arith, e, number_is k (omega (arith, high, few)), high, few))) (sym same)
+clear_of_result action args u few at_slot same = no_slot (numbered (result_register action)) u (sym (same ∙ at_slot refl))
+
+safe_in : (action : Action) (place : Place) (u : ℕ) → (hands_over action ≡ true → place ≡ slot u) → IsSafe (spoils action) place
+safe_in (Compute operation) (register r) u at_slot = refl
+safe_in (Compute operation) (slot k) u at_slot = tt
+safe_in action place u at_slot = subst (IsSafe (spoils action)) (sym (at_slot refl)) tt
+
+module _ (action : Action) (args : List ℕ) (into : Option ℕ) (rest : List Line) (formed : IsLineFormed (record { action = action; args = args; into = into }) rest) where
+  abbrev loaded_here : List Loaded
+  loaded_here = load_from (first_register action) args
+
+  abbrev behind_here : List ℕ
+  behind_here = values_behind action (alive_values rest) (λ l. alive_values_at l rest)
+
+  abbrev before_here : List ℕ
+  before_here = values_before args into behind_here
+
+  abbrev reads_here : List Operand
+  reads_here = map (operand_at (place_in loaded_here)) args
+
+  -- a value that is handed over is alive behind the line only if it is written there
+  spent_there : hands_over action ≡ true → (u : ℕ) → is_among u args ≡ true → is_alive_behind u action rest ≡ true → is_written into u ≡ false → ⊥
+  spent_there over u arg alive unwritten =
+      false≢true (sym (each_among (IsSpent (record { action = action; args = args; into = into }) rest) args u (formed.spent over) arg)
+      ∙ and_from (not (is_written into u)) (is_alive_behind u action rest) (not_from_false (is_written into u) unwritten) alive)
+
+  at_slot : (u : ℕ) → is_alive_behind u action rest ≡ true → is_written into u ≡ false → hands_over action ≡ true → place_in loaded_here u ≡ slot u
+  at_slot u alive unwritten over = place_unloaded (first_register action) args u (false_from_ne_true (is_among u args) (λ arg. spent_there over u arg alive unwritten))
+
+  clear_here : (u : ℕ) → is_alive_behind u action rest ≡ true → is_written into u ≡ false → IsClearOf (result_of action into) (listing_at (place_in loaded_here) u)
+  clear_here u alive unwritten = go into unwritten (clear_of_result action args u formed.few (at_slot u alive unwritten))
+    where
+      go : (o : Option ℕ) → is_written o u ≡ false → register (numbered (result_register action)) ≢ place_in loaded_here u → IsClearOf (result_of action o) (listing_at (place_in loaded_here) u)
+      go None none clear = tt
+      go (Some v) none clear = (eqb-false v u none, clear)
+
+  stays_before : (u : ℕ) → is_alive_behind u action rest ≡ true → is_written into u ≡ false → is_among u before_here ≡ true
+  stays_before u alive unwritten =
+      among_before args into behind_here u
+      ∙ or_right (is_among u args) (not (is_written into u) && is_among u behind_here)
+      (and_from (not (is_written into u)) (is_among u behind_here) (not_from_false (is_written into u) unwritten) (alive_behind_exact u action rest ∙ alive))
+
+  -- a value that is not written stays where it is, if it is there
+  stays_here : (place_next : ℕ → Place) (u : ℕ) → is_alive_behind u action rest ≡ true → is_written into u ≡ false → place_next u ≡ place_in loaded_here u
+      → Stays before_here (place_in loaded_here) (result_of action into) (spoils action) place_next u
+  stays_here place_next u alive unwritten same =
+      inr (stays_before u alive unwritten, same, clear_here u alive unwritten, safe_in action (place_in loaded_here u) u (at_slot u alive unwritten))
+
+  abbrev pending_here : List Loaded
+  pending_here = pending action into (alive_values rest) loaded_here
+
+  -- what is alive at the next line
+  at_next : (u : ℕ) → is_among u (falls_to action (alive_values rest)) ≡ true → Stays before_here (place_in loaded_here) (result_of action into) (spoils action) (place_in pending_here) u
+  at_next u there = by_case (cases_Bool (is_written into u))
+    where
+      next : List ℕ
+      next = falls_to action (alive_values rest)
+
+      alive : is_alive_behind u action rest ≡ true
+      alive = alive_falling action rest u there
+
+      new : (o : Option ℕ) → is_written o u ≡ true → IsNew (result_of action o) (listing_at (place_in (given action o next ++ left_in o next loaded_here)) u)
+      new None w = absurd (false≢true w)
+      new (Some v) w =
+          let same : v ≡ u = eqb-true v u w in
+          let l : Loaded = record { value = v; register = numbered (result_register action) } in
+          let is_given : given action (Some v) next ≡ l ∷ [] = cond-true (is_among v next) (l ∷ []) [] (ap (λ x. is_among x next) same ∙ there) in
+          (same, sym (ap (λ (ls : List Loaded). place_in (ls ++ left_in (Some v) next loaded_here) u) is_given ∙ place_same l (left_in (Some v) next loaded_here) u same), refl)
+
+      old : (o : Option ℕ) → is_written o u ≡ false → place_in (given action o next ++ left_in o next loaded_here) u ≡ place_in loaded_here u
+      old None w = place_left None next loaded_here u there w
+      old (Some v) w =
+          let l : Loaded = record { value = v; register = numbered (result_register action) } in
+          cond_both (is_among v next) (l ∷ []) [] (λ (ls : List Loaded). place_in (ls ++ left_in (Some v) next loaded_here) u ≡ place_in loaded_here u)
+          (λ t. place_other l (left_in (Some v) next loaded_here) u (eqb-false v u w) ∙ place_left (Some v) next loaded_here u there w)
+          (λ t. place_left (Some v) next loaded_here u there w)
+
+      by_case : (is_written into u ≡ true) ⊎ (is_written into u ≡ false) → Stays before_here (place_in loaded_here) (result_of action into) (spoils action) (place_in pending_here) u
+      by_case (inl written) = inl (new into written)
+      by_case (inr unwritten) = stays_here (place_in pending_here) u alive unwritten (old into unwritten)
+
+  abbrev KeptBy : List Listed → Type 0
+  KeptBy next = All (IsKept (listings (place_in loaded_here) before_here) (marks (Some action) reads_here) (result_of action into) (spoils action)) next
+
+  kept_at_next : (next : List Listed) → next ≡ listings (place_in pending_here) (alive_values rest) → falls_to action (alive_values rest) ≡ alive_values rest → KeptBy next
+  kept_at_next next is falls =
+      subst KeptBy (sym is)
+      (all_kept_next before_here (alive_values rest) (place_in loaded_here) (place_in pending_here) (marks (Some action) reads_here) (result_of action into) (spoils action)
+      (λ l. unmarked action reads_here l formed.holds_none) (λ v there. at_next v (ap (is_among v) falls ∙ there)))
+
+  -- what is alive at a label where the line may go on
+  kept_at_label : (l : ℕ) (next : List Listed) → next ≡ listings (place_in []) (alive_values_at l rest) → ((u : ℕ) → is_among u (alive_values_at l rest) ≡ true → is_alive_behind u action rest ≡ true)
+      → hands_over action ≡ true → may_give action ≡ false → KeptBy next
+  kept_at_label l next is alive over none =
+      subst KeptBy (sym is)
+      (all_kept_next before_here (alive_values_at l rest) (place_in loaded_here) (place_in []) (marks (Some action) reads_here) (result_of action into) (spoils action)
+      (λ m. unmarked action reads_here m formed.holds_none)
+      (λ v there.
+      let unwritten : is_written into v ≡ false = ap (λ o. is_written o v) (none_given action into none formed.gives) in
+      stays_here (place_in []) v (alive v there) unwritten (sym (at_slot v (alive v there) unwritten over))))
+
+  abbrev FitsHere : List (List Listed) → Type 0
+  FitsHere nexts = (conforms action reads_here (result_of action into) ≡ true) × Fits (listings (place_in loaded_here) before_here) reads_here (result_of action into) (Some action) nexts
+
+  fits_by : (nexts : List (List Listed)) → ((v : ℕ) → is_among v behind_here ≡ true → IsListedIn nexts v) → AllByRecursion KeptBy nexts → FitsHere nexts
+  fits_by nexts listed kept = (
+    and_from _ _ (takes_args action args formed.few formed.holds_none formed.distinct) (gives_result action into formed.gives),
+    act_fits before_here (place_in loaded_here) reads_here (result_of action into) (Some action) nexts (distinct_before args into rest action)
+        (places_apart loaded_here (action_loads action args formed.few)) (λ v. places_handed loaded_here v (action_loads action args formed.few)) (result_handed action into)
+        (λ l. unmarked action reads_here l formed.holds_none)
+        (λ v there. needed v (or_cases (is_among v args) (not (is_written into v) && is_among v behind_here) (sym (among_before args into behind_here v) ∙ there)))
+        (all_made (IsAtPlace (listings (place_in loaded_here) before_here)) (operand_at (place_in loaded_here)) args
+        (λ v arg. stands_there (place_in loaded_here) before_here v (args_before v arg)))
+        kept,
+  )
+    where
+      distinct_before : (args : List ℕ) (into : Option ℕ) (rest : List Line) (action : Action) → AreDistinct (values_before args into (values_behind action (alive_values rest) (λ l. alive_values_at l rest)))
+      distinct_before args into rest action = alive_distinct (record { action = action; args = args; into = into } ∷ rest)
+
+      args_before : (v : ℕ) → is_among v args ≡ true → is_among v before_here ≡ true
+      args_before v arg = among_before args into behind_here v ∙ or_left (is_among v args) (not (is_written into v) && is_among v behind_here) arg
+
+      needed : (v : ℕ) → (is_among v args ≡ true) ⊎ ((not (is_written into v) && is_among v behind_here) ≡ true) → IsNeeded reads_here (result_of action into) nexts (listing_at (place_in loaded_here) v)
+      needed v (inl arg) = inl (read_among (place_in loaded_here) args v ∙ arg)
+      needed v (inr later) =
+          let parts = and_parts (not (is_written into v)) (is_among v behind_here) later in
+          inr (
+            λ w. false≢true (sym (not-true (is_written into v) parts.0) ∙ written_is (λ x. register (numbered (result_register action))) into v w),
+            listed v parts.1,
+          )
+
+-- a line fits between its loads and its stores
+pub line_fits : (whole after : List PlacedLine) (action : Action) (args : List ℕ) (into : Option ℕ) (rest : List Line) (formed : IsLineFormed (record { action = action; args = args; into = into }) rest)
+    → ((l : ℕ) → is_some (found (λ line. is_label l line.action) rest) ≡ true → option_map first_alive (found (is_label_line l) whole) ≡ Some (listings (place_in []) (alive_values_at l rest)))
+    → first_alive after ≡ listings (place_in (pending action into (alive_values rest) (load_from (first_register action) args))) (alive_values rest)
+    → LineFits whole after
+    (does (listings (place_in (load_from (first_register action) args)) (values_before args into (values_behind action (alive_values rest) (λ l. alive_values_at l rest)))) action
+    (map (operand_at (place_in (load_from (first_register action) args))) args) (result_of action into))
+line_fits whole after (Jump l) args into rest formed labels first =
+    let here = labels l formed.labels in
+    subst (λ (o : Option (List Listed)). FitsHere (Jump l) args into rest formed (both_of None o)) (sym here)
+    (fits_by (Jump l) args into rest formed (listings (place_in []) (alive_values_at l rest) ∷ []) (λ v there. inl (is_listed (place_in []) (alive_values_at l rest) v there))
+    (kept_at_label (Jump l) args into rest formed l (listings (place_in []) (alive_values_at l rest)) refl (λ u there. sym (alive_behind_exact u (Jump l) rest) ∙ there) refl refl, tt))
+line_fits whole after (Branch condition l) args into rest formed labels first =
+    let here = labels l formed.labels in
+    subst (λ (o : Option (List Listed)). FitsHere (Branch condition l) args into rest formed (both_of (Some (first_alive after)) o)) (sym here)
+    (fits_by (Branch condition l) args into rest formed (first_alive after ∷ listings (place_in []) (alive_values_at l rest) ∷ [])
+    (λ v there.
+    listed_in_two v (or_cases (is_among v (alive_values rest)) (is_among v (alive_values_at l rest)) (sym (among_with_values (alive_values rest) (alive_values_at l rest) v) ∙ there))) (
+      kept_at_next (Branch condition l) args into rest formed (first_alive after) first refl,
+      (
+        kept_at_label (Branch condition l) args into rest formed l (listings (place_in []) (alive_values_at l rest)) refl
+            (λ u there.
+            sym (alive_behind_exact u (Branch condition l) rest) ∙ among_with_values (alive_values rest) (alive_values_at l rest) u
+            ∙ or_right (is_among u (alive_values rest)) (is_among u (alive_values_at l rest)) there)
+            refl refl,
+        tt,
+      ),
+    ))
+  where
+    listed_in_two : (v : ℕ) → (is_among v (alive_values rest) ≡ true) ⊎ (is_among v (alive_values_at l rest) ≡ true)
+        → IsListedIn (first_alive after ∷ listings (place_in []) (alive_values_at l rest) ∷ []) v
+    listed_in_two v (inl there) =
+        inl (subst (λ (ls : List Listed). IsListed ls v) (sym first) (is_listed (place_in (pending_here (Branch condition l) args into rest formed)) (alive_values rest) v there))
+    listed_in_two v (inr there) = inr (inl (is_listed (place_in []) (alive_values_at l rest) v there))
+line_fits whole after (TailCall f) args into rest formed labels first = fits_by (TailCall f) args into rest formed [] (λ v there. absurd (false≢true there)) tt
+line_fits whole after Return args into rest formed labels first = fits_by Return args into rest formed [] (λ v there. absurd (false≢true there)) tt
+line_fits whole after Hold args into rest formed labels first = absurd formed.holds_none
+line_fits whole after Unhold args into rest formed labels first = absurd formed.holds_none
+line_fits whole after action args into rest formed labels first =
+    fits_by action args into rest formed (first_alive after ∷ [])
+    (λ v there. inl (subst (λ (ls : List Listed). IsListed ls v) (sym first) (is_listed (place_in (pending_here action args into rest formed)) (alive_values rest) v there)))
+    (kept_at_next action args into rest formed (first_alive after) first refl, tt)
+
+-- ---- what is stored behind a line
+
+-- what an action that hands its arguments over leaves in registers is its result alone
+pub none_left : (action : Action) (args : List ℕ) (into : Option ℕ) (rest : List Line) (formed : IsLineFormed (record { action = action; args = args; into = into }) rest) → hands_over action ≡ true
+    → left_in into (falls_to action (alive_values rest)) (load_from (first_register action) args) ≡ []
+none_left action args into rest formed over =
+    none_kept (stays into (falls_to action (alive_values rest))) (load_from (first_register action) args)
+    (load_values (λ u. (is_among u (falls_to action (alive_values rest)) && not (is_written into u)) ≡ false) (first_register action) args
+    (λ u arg. false_from_ne_true (is_among u (falls_to action (alive_values rest)) && not (is_written into u))
+    (λ t.
+    let parts = and_parts (is_among u (falls_to action (alive_values rest))) (not (is_written into u)) t in
+    spent_there action args into rest formed over u arg (alive_falling action rest u parts.0) (not-true (is_written into u) parts.1))))
+
+result_differs : (action : Action) (args : List ℕ) (into : Option ℕ) (rest : List Line) (formed : IsLineFormed (record { action = action; args = args; into = into }) rest) (v : ℕ) → into ≡ Some v
+    → AllByRecursion (Differ (record { value = v; register = numbered (result_register action) })) (left_in into (falls_to action (alive_values rest)) (load_from (first_register action) args))
+result_differs (Compute operation) args into rest formed v is =
+    let l : Loaded = record { value = v; register = numbered 7 } in
+    all_both (λ (m : Loaded). is_written into m.value ≡ false) (λ (m : Loaded). 7 ≢ m.register.number) (Differ l) (left_in into (alive_values rest) (load_from 5 args))
+    (λ m unwritten other. (eqb-false v m.value (ap (λ o. is_written o m.value) (sym is) ∙ unwritten), other))
+    (left_unwritten into (alive_values rest) (load_from 5 args))
+    (all_kept (λ (m : Loaded). 7 ≢ m.register.number) (stays into (alive_values rest)) (load_from 5 args)
+    (load_numbers (λ k. 7 ≢ k) 5 args (λ k low high e. omega (arith, e, number_is k (omega (arith, high, formed.few)), high, formed.few))))
+result_differs action args into rest formed v is =
+    subst (AllByRecursion (Differ (record { value = v; register = numbered (result_register action) }))) (sym (none_left action args into rest formed refl)) tt
+
+pub pending_loads : (action : Action) (args : List ℕ) (into : Option ℕ) (rest : List Line) (formed : IsLineFormed (record { action = action; args = args; into = into }) rest)
+    → AreLoads (pending action into (alive_values rest) (load_from (first_register action) args))
+pending_loads action args into rest formed = go into refl
+  where
+    kept : (o : Option ℕ) → AreLoads (left_in o (falls_to action (alive_values rest)) (load_from (first_register action) args))
+    kept o = loads_kept (stays o (falls_to action (alive_values rest))) (load_from (first_register action) args) (action_loads action args formed.few)
+
+    go : (o : Option ℕ) → into ≡ o → AreLoads (given action o (falls_to action (alive_values rest)) ++ left_in o (falls_to action (alive_values rest)) (load_from (first_register action) args))
+    go None is = kept None
+    go (Some v) is =
+        let l : Loaded = record { value = v; register = numbered (result_register action) } in
+        let left : List Loaded = left_in (Some v) (falls_to action (alive_values rest)) (load_from (first_register action) args) in
+        cond_both (is_among v (falls_to action (alive_values rest))) (l ∷ []) [] (λ (ls : List Loaded). AreLoads (ls ++ left))
+        (λ t. (
+          subst (λ (x : Option ℕ). AllByRecursion (Differ l) (left_in x (falls_to action (alive_values rest)) (load_from (first_register action) args))) is (result_differs action args into rest formed v is),
+          (result_handed action (Some v), kept (Some v)),
+        ))
+        (λ t. kept (Some v))
+
+falls_among : (action : Action) (next : List ℕ) (v : ℕ) → is_among v (falls_to action next) ≡ true → is_among v next ≡ true
+falls_among (Jump l) next v t = absurd (false≢true t)
+falls_among (TailCall f) next v t = absurd (false≢true t)
+falls_among Return next v t = absurd (false≢true t)
+falls_among action next v t = t
+
+pub pending_among : (action : Action) (into : Option ℕ) (behind : List ℕ) (loaded : List Loaded) → AreAmong behind (pending action into behind loaded)
+pending_among action into behind loaded =
+    all_weaker (λ (l : Loaded). is_among l.value (falls_to action behind) ≡ true) (λ (l : Loaded). is_among l.value behind ≡ true) (pending action into behind loaded)
+    (λ l t. falls_among action behind l.value t) (go into)
+  where
+    go : (o : Option ℕ) → AreAmong (falls_to action behind) (given action o (falls_to action behind) ++ left_in o (falls_to action behind) loaded)
+    go None = left_among None (falls_to action behind) loaded
+    go (Some v) =
+        let l : Loaded = record { value = v; register = numbered (result_register action) } in
+        cond_both (is_among v (falls_to action behind)) (l ∷ []) [] (λ (ls : List Loaded). AreAmong (falls_to action behind) (ls ++ left_in (Some v) (falls_to action behind) loaded))
+        (λ t. (t, left_among (Some v) (falls_to action behind) loaded)) (λ t. left_among (Some v) (falls_to action behind) loaded)
+
+-- the arguments of a line are alive before it
+pub args_alive : (line : Line) (rest : List Line) → AreAmong (alive_values (line ∷ rest)) (load_from (first_register line.action) line.args)
+args_alive line rest =
+    load_values (λ u. is_among u (alive_values (line ∷ rest)) ≡ true) (first_register line.action) line.args
+    (λ u arg.
+    among_before line.args line.into (values_behind line.action (alive_values rest) (λ m. alive_values_at m rest)) u
+    ∙ or_left (is_among u line.args) (not (is_written line.into u) && is_among u (values_behind line.action (alive_values rest) (λ m. alive_values_at m rest))) arg)

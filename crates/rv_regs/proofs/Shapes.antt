@@ -1,0 +1,239 @@
+-- The shape of code in the plainest places.
+use Rattle.std.proofs.Common.{◌≡◌, ◌<◌, ◌≤◌, ◌+◌, ◌*◌, ℕ, suc, List, [], ◌∷◌, Option, Some, None, Bool, true, All, refl, sym, subst, arith, map, length, length-append}
+use Rattle.std.specs.List.{AllByRecursion, filter}
+use Rattle.std.proofs.lemmas.Bool.{cond_both}
+use Rattle.rv_isa.specs.declared.asm.Action.{Action}
+use Rattle.rv_isa.specs.declared.asm.Action.TheVariants.{Compute}
+use Rattle.rv_isa.specs.declared.placed.Place.TheVariants.{Register as register}
+use Rattle.rv_isa.specs.declared.placed.Operand.{Operand}
+use Rattle.rv_isa.specs.declared.placed.Listed.{Listed}
+use Rattle.rv_isa.specs.declared.placed.Way.TheVariants.{Load}
+use Rattle.rv_isa.specs.AsmCode.{Line, Lines}
+use Rattle.rv_isa.specs.Conventions.{argument}
+use Rattle.rv_isa.specs.Frames.{is_among}
+use Rattle.rv_isa.specs.declared.placed.Placed.{Placed}
+use Rattle.rv_isa.specs.PlacedCode.{PlacedLine, moves, PlacedLines, placed_functions}
+use Rattle.rv_isa.specs.WellFormed.{IsLineFormed, AreLinesFormed, IsWellFormed, AreWellFormed, most_args, most_values, all_lines}
+use Rattle.rv_regs.specs.declared.slots.Loaded.{Loaded}
+use Rattle.rv_regs.specs.Alive.{alive_values}
+use Rattle.rv_regs.specs.Plain.{numbered, place_in, listing_at, listings, operand_at, first_register, result_register, load_from, falls_to, given, left_in, stays, pending, loads, stores, line_and_stores, placed_code, placed_function}
+use Rattle.rv_regs.specs.Relation.{leading, FewMoves, AllFewMoves}
+use Rattle.rv_regs.specs.Shape.{IsBelow, IsResultBelow, AllSlotsBelow, LineHoldsNone, all_items, IsPlainlyPlaced, most_moves, most_row, most_start}
+use Rattle.rv_regs.proofs.Lists.{all_made, each_among}
+use Rattle.rv_regs.proofs.Aliveness.{alive_small}
+use Rattle.rv_regs.proofs.InRegisters.{AreAmong, left_among}
+use Rattle.rv_regs.proofs.Acting.{result_of, most_registers, none_left, pending_among, args_alive}
+
+-- ---- how many
+
+few_loads : (n : ℕ) (vs : List ℕ) → length (load_from n vs) ≤ length vs
+few_loads n [] = omega arith
+few_loads n (v ∷ vs) =
+    let later = few_loads (suc n) vs in
+    cond_both (is_among v vs) (load_from (suc n) vs) (record { value = v; register = numbered n } ∷ load_from (suc n) vs) (λ (ls : List Loaded). length ls ≤ suc (length vs)) (λ t. omega (arith, later)) (λ t. omega (arith, later))
+
+few_kept : (test : Loaded → Bool) (ls : List Loaded) → length (filter test ls) ≤ length ls
+few_kept test [] = omega arith
+few_kept test (l ∷ ls) =
+    let later = few_kept test ls in
+    cond_both (test l) (l ∷ filter test ls) (filter test ls) (λ (ms : List Loaded). length ms ≤ suc (length ls)) (λ t. omega (arith, later)) (λ t. omega (arith, later))
+
+pub few_args : (action : Action) (args : List ℕ) → length args ≤ most_args action → length args ≤ 8
+few_args (Compute operation) args few = omega (arith, few)
+few_args action args few = omega (arith, few, most_registers action)
+
+few_given : (action : Action) (into : Option ℕ) (behind : List ℕ) → length (given action into behind) ≤ 1
+few_given action None behind = omega arith
+few_given action (Some v) behind =
+    cond_both (is_among v behind) (record { value = v; register = numbered (result_register action) } ∷ []) [] (λ (ls : List Loaded). length ls ≤ 1) (λ t. omega arith) (λ t. omega arith)
+
+few_left : (action : Action) (args : List ℕ) (into : Option ℕ) (rest : List Line) → IsLineFormed (record { action = action; args = args; into = into }) rest
+    → length (left_in into (falls_to action (alive_values rest)) (load_from (first_register action) args)) ≤ 2
+few_left (Compute operation) args into rest formed = omega (arith, few_kept (stays into (alive_values rest)) (load_from 5 args), few_loads 5 args, formed.few)
+few_left action args into rest formed = subst (λ (ls : List Loaded). length ls ≤ 2) (sym (none_left action args into rest formed refl)) (omega arith)
+
+few_pending : (line : Line) (rest : List Line) → IsLineFormed line rest → length (pending line.action line.into (alive_values rest) (load_from (first_register line.action) line.args)) ≤ 3
+few_pending line rest formed =
+    omega (
+      arith,
+      few_given line.action line.into (falls_to line.action (alive_values rest)),
+      few_left line.action line.args line.into rest formed,
+      length-append (given line.action line.into (falls_to line.action (alive_values rest))) (left_in line.into (falls_to line.action (alive_values rest)) (load_from (first_register line.action) line.args)),
+    )
+
+-- ---- moves in a row
+
+leading_stores : (values : List ℕ) (ls : List Loaded) (next : List PlacedLine) → leading (stores values ls next) ≡ length ls + leading next
+leading_stores values [] next = omega arith
+leading_stores values (l ∷ ls) next = omega (arith, leading_stores values ls next)
+
+leading_loads : (values : List ℕ) (ls : List Loaded) (after : List PlacedLine) → leading (loads values ls after) ≡ length ls + leading after
+leading_loads values [] after = omega arith
+leading_loads values (l ∷ ls) after = omega (arith, leading_loads values ls (moves (listings (place_in ls) values) l.value (Load l.value l.register) ∷ after))
+
+few_stores : (most : ℕ) (values : List ℕ) (ls : List Loaded) (next : List PlacedLine) → length ls + leading next ≤ most → FewMoves most next → FewMoves most (stores values ls next)
+few_stores most values [] next within few = few
+few_stores most values (l ∷ ls) next within few = (omega (arith, leading_stores values ls next, within), few_stores most values ls next (omega (arith, within)) few)
+
+few_loaded : (most : ℕ) (values : List ℕ) (ls : List Loaded) (after : List PlacedLine) → length ls + leading after ≤ most → FewMoves most after → FewMoves most (loads values ls after)
+few_loaded most values [] after within few = few
+few_loaded most values (l ∷ ls) after within few =
+    few_loaded most values ls (moves (listings (place_in ls) values) l.value (Load l.value l.register) ∷ after) (omega (arith, within)) (omega (arith, within), few)
+
+abbrev line_and_more : Line → List Line → List PlacedLine
+line_and_more line rest = line_and_stores line.action line.args line.into (alive_values (line ∷ rest)) (alive_values rest) (placed_code rest)
+
+leading_code : (code : List Line) → AreLinesFormed code → leading (placed_code code) ≤ 8
+leading_code [] formed = omega arith
+leading_code (line ∷ rest) formed =
+    omega (
+      arith,
+      leading_loads (alive_values (line ∷ rest)) (load_from (first_register line.action) line.args) (line_and_more line rest),
+      few_loads (first_register line.action) line.args,
+      few_args line.action line.args formed.0.few,
+    )
+
+few_code : (code : List Line) → AreLinesFormed code → FewMoves most_moves (placed_code code)
+few_code [] formed = tt
+few_code (line ∷ rest) formed =
+    let few_row = few_loads (first_register line.action) line.args in
+    let few_here = few_args line.action line.args formed.0.few in
+    few_loaded most_moves (alive_values (line ∷ rest)) (load_from (first_register line.action) line.args) (line_and_more line rest) (omega (arith, few_row, few_here)) (
+      omega arith,
+      few_stores most_moves (alive_values rest) (pending line.action line.into (alive_values rest) (load_from (first_register line.action) line.args)) (placed_code rest)
+          (omega (arith, few_pending line rest formed.0, leading_code rest formed.1)) (few_code rest formed.1),
+    )
+
+few_start : (params alive : List ℕ) → length params ≤ 8 → length (left_in None alive (load_from (argument 0) params)) ≤ 8
+few_start params alive few = omega (arith, few_kept (stays None alive) (load_from (argument 0) params), few_loads (argument 0) params, few)
+
+-- ---- lines
+
+length_stores : (values : List ℕ) (ls : List Loaded) (next : List PlacedLine) → length (stores values ls next) ≡ length ls + length next
+length_stores values [] next = omega arith
+length_stores values (l ∷ ls) next = omega (arith, length_stores values ls next)
+
+length_loads : (values : List ℕ) (ls : List Loaded) (after : List PlacedLine) → length (loads values ls after) ≡ length ls + length after
+length_loads values [] after = omega arith
+length_loads values (l ∷ ls) after = omega (arith, length_loads values ls (moves (listings (place_in ls) values) l.value (Load l.value l.register) ∷ after))
+
+length_code : (code : List Line) → AreLinesFormed code → length (placed_code code) ≤ most_row * length code
+length_code [] formed = omega arith
+length_code (line ∷ rest) formed =
+    omega (
+      arith,
+      length_loads (alive_values (line ∷ rest)) (load_from (first_register line.action) line.args) (line_and_more line rest),
+      few_loads (first_register line.action) line.args,
+      few_args line.action line.args formed.0.few,
+      few_pending line rest formed.0,
+      length_stores (alive_values rest) (pending line.action line.into (alive_values rest) (load_from (first_register line.action) line.args)) (placed_code rest),
+      length_code rest formed.1,
+    )
+
+length_function : (f : Lines) → IsWellFormed f → length (placed_function f).code ≤ most_row * length f.code + most_start
+length_function f formed =
+    omega (
+      arith,
+      length_stores (alive_values f.code) (left_in None (alive_values f.code) (load_from (argument 0) f.params)) (placed_code f.code),
+      few_start f.params (alive_values f.code) formed.few_params,
+      length_code f.code formed.lines,
+    )
+
+all_length : (functions : List Lines) → AreWellFormed functions → all_items (map placed_function functions) ≤ most_row * all_lines functions + most_start * length functions
+all_length [] formed = omega arith
+all_length (f ∷ fs) formed = omega (arith, length_function f formed.0, all_length fs formed.1)
+
+-- ---- slots
+
+below_place : (most : ℕ) (ls : List Loaded) (v : ℕ) → v < most → IsBelow most (place_in ls v)
+below_place most [] v small = small
+below_place most (l ∷ ls) v small = cond_both _ (register l.register) (place_in ls v) (IsBelow most) (λ t. tt) (λ t. below_place most ls v small)
+
+below_listed : (most : ℕ) (ls : List Loaded) (values : List ℕ) → ((v : ℕ) → is_among v values ≡ true → v < most) → All (λ (l : Listed). IsBelow most l.place) (listings (place_in ls) values)
+below_listed most ls values small = all_made (λ (l : Listed). IsBelow most l.place) (listing_at (place_in ls)) values (λ v there. below_place most ls v (small v there))
+
+below_stores : (most : ℕ) (values : List ℕ) (ls : List Loaded) (next : List PlacedLine) → ((v : ℕ) → is_among v values ≡ true → v < most) → AreAmong values ls → AllSlotsBelow most next → AllSlotsBelow most (stores values ls next)
+below_stores most values [] next small among below = below
+below_stores most values (l ∷ ls) next small among below = ((below_listed most (l ∷ ls) values small, (tt, small l.value among.0)), below_stores most values ls next small among.1 below)
+
+below_loads : (most : ℕ) (values : List ℕ) (ls : List Loaded) (after : List PlacedLine) → ((v : ℕ) → is_among v values ≡ true → v < most) → AreAmong values ls → AllSlotsBelow most after → AllSlotsBelow most (loads values ls after)
+below_loads most values [] after small among below = below
+below_loads most values (l ∷ ls) after small among below =
+    below_loads most values ls (moves (listings (place_in ls) values) l.value (Load l.value l.register) ∷ after) small among.1 ((below_listed most ls values small, (small l.value among.0, tt)), below)
+
+below_result : (most : ℕ) (action : Action) (into : Option ℕ) → IsResultBelow most (result_of action into)
+below_result most action None = tt
+below_result most action (Some v) = tt
+
+below_code : (code : List Line) → AreLinesFormed code → AllSlotsBelow most_values (placed_code code)
+below_code [] formed = tt
+below_code (line ∷ rest) formed =
+    let small : (v : ℕ) → is_among v (alive_values rest) ≡ true → v < most_values = λ v there. alive_small v rest formed.1 there in
+    let small_before : (v : ℕ) → is_among v (alive_values (line ∷ rest)) ≡ true → v < most_values = λ v there. alive_small v (line ∷ rest) formed there in
+    let loaded : List Loaded = load_from (first_register line.action) line.args in
+    below_loads most_values (alive_values (line ∷ rest)) loaded (line_and_more line rest) small_before (args_alive line rest) (
+      (
+        below_listed most_values loaded (alive_values (line ∷ rest)) small_before,
+        (
+          all_made (λ (arg : Operand). IsBelow most_values arg.place) (operand_at (place_in loaded)) line.args (λ v arg. below_place most_values loaded v (each_among (λ u. u < most_values) line.args v formed.0.args_small arg)),
+          below_result most_values line.action line.into,
+        ),
+      ),
+      below_stores most_values (alive_values rest) (pending line.action line.into (alive_values rest) loaded) (placed_code rest) small (pending_among line.action line.into (alive_values rest) loaded) (below_code rest formed.1),
+    )
+
+-- ---- tokens
+
+none_in_stores : (values : List ℕ) (ls : List Loaded) (next : List PlacedLine) → AllByRecursion LineHoldsNone next → AllByRecursion LineHoldsNone (stores values ls next)
+none_in_stores values [] next none = none
+none_in_stores values (l ∷ ls) next none = (tt, none_in_stores values ls next none)
+
+none_in_loads : (values : List ℕ) (ls : List Loaded) (after : List PlacedLine) → AllByRecursion LineHoldsNone after → AllByRecursion LineHoldsNone (loads values ls after)
+none_in_loads values [] after none = none
+none_in_loads values (l ∷ ls) after none = none_in_loads values ls (moves (listings (place_in ls) values) l.value (Load l.value l.register) ∷ after) (tt, none)
+
+none_in_code : (code : List Line) → AreLinesFormed code → AllByRecursion LineHoldsNone (placed_code code)
+none_in_code [] formed = tt
+none_in_code (line ∷ rest) formed =
+    none_in_loads (alive_values (line ∷ rest)) (load_from (first_register line.action) line.args) (line_and_more line rest) (
+      formed.0.holds_none,
+      none_in_stores (alive_values rest) (pending line.action line.into (alive_values rest) (load_from (first_register line.action) line.args)) (placed_code rest) (none_in_code rest formed.1),
+    )
+
+-- ---- all of it
+
+of_each : (P : PlacedLines → Type 0) (functions : List Lines) → ((f : Lines) → IsWellFormed f → P (placed_function f)) → AreWellFormed functions → AllByRecursion P (map placed_function functions)
+of_each P [] each formed = tt
+of_each P (f ∷ fs) each formed = (each f formed.0, of_each P fs each formed.1)
+
+record HasPlainShape (functions : List Lines) (placed : List PlacedLines) : Type 0 where
+  few_moves : AllFewMoves most_moves placed
+  slots : AllByRecursion (λ (function : PlacedLines). AllSlotsBelow most_values function.code) placed
+  holds_none : AllByRecursion (λ (function : PlacedLines). AllByRecursion LineHoldsNone function.code) placed
+  few_items : all_items placed ≤ most_row * all_lines functions + most_start * length functions
+
+plain_shape : (functions : List Lines) → AreWellFormed functions → HasPlainShape functions (map placed_function functions)
+plain_shape functions formed =
+    record {
+      few_moves = of_each (λ (p : PlacedLines). FewMoves most_moves p.code) functions
+          (λ f well.
+          few_stores most_moves (alive_values f.code) (left_in None (alive_values f.code) (load_from (argument 0) f.params)) (placed_code f.code)
+          (omega (arith, few_start f.params (alive_values f.code) well.few_params, leading_code f.code well.lines)) (few_code f.code well.lines))
+          formed;
+      slots = of_each (λ (p : PlacedLines). AllSlotsBelow most_values p.code) functions
+          (λ f well.
+          below_stores most_values (alive_values f.code) (left_in None (alive_values f.code) (load_from (argument 0) f.params)) (placed_code f.code) (λ v there. alive_small v f.code well.lines there)
+          (left_among None (alive_values f.code) (load_from (argument 0) f.params)) (below_code f.code well.lines))
+          formed;
+      holds_none = of_each (λ (p : PlacedLines). AllByRecursion LineHoldsNone p.code) functions
+          (λ f well. none_in_stores (alive_values f.code) (left_in None (alive_values f.code) (load_from (argument 0) f.params)) (placed_code f.code) (none_in_code f.code well.lines))
+          formed;
+      few_items = all_length functions formed;
+    }
+
+-- a text of such functions that has no memory of its own
+pub plainly_placed : (functions : List Lines) (placed : Placed) → AreWellFormed functions → placed_functions placed ≡ map placed_function functions → placed.memory ≡ record { size = 0; stack_bottom = 0 }
+    → IsPlainlyPlaced functions placed
+plainly_placed functions placed formed is memory =
+    let shape : HasPlainShape functions (placed_functions placed) = subst (HasPlainShape functions) (sym is) (plain_shape functions formed) in
+    record { few_moves = shape.few_moves; slots = shape.slots; holds_none = shape.holds_none; few_items = shape.few_items; memory = memory }

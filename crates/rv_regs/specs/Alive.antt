@@ -1,0 +1,43 @@
+-- Which values are alive at each point of assembler code, as lists without repetition.
+use Rattle.std.specs.Prelude.{ℕ, List, [], ◌∷◌, ◌++◌, Option, not, cond}
+use Rattle.std.specs.List.{filter}
+use Rattle.rv_isa.specs.declared.asm.Action.{Action}
+use Rattle.rv_isa.specs.declared.asm.Action.TheVariants.{Jump, Branch, TailCall, Return}
+use Rattle.rv_isa.specs.AsmCode.{Line}
+use Rattle.rv_isa.specs.AsmMachine.{is_label}
+use Rattle.rv_isa.specs.Frames.{is_among}
+use Rattle.rv_isa.specs.WellFormed.{is_written}
+
+-- a list with one value more, unless the value is in it
+abbrev pub with_value : ℕ → List ℕ → List ℕ
+with_value v values = cond (is_among v values) values (values ++ v ∷ [])
+
+abbrev pub with_values : List ℕ → List ℕ → List ℕ
+with_values [] values = values
+with_values (v ∷ vs) values = with_values vs (with_value v values)
+
+-- a list without the value that is written
+abbrev pub without : Option ℕ → List ℕ → List ℕ
+without into values = filter (λ v. not (is_written into v)) values
+
+-- what is alive before a line, by what is alive behind it
+abbrev pub values_before : List ℕ → Option ℕ → List ℕ → List ℕ
+values_before args into behind = with_values args (without into behind)
+
+-- what is alive behind an action: at the next line, and at the label where the action may go on
+abbrev pub values_behind : Action → List ℕ → (ℕ → List ℕ) → List ℕ
+values_behind (Jump l) next at_label = at_label l
+values_behind (Branch condition l) next at_label = with_values next (at_label l)
+values_behind (TailCall f) next at_label = []
+values_behind Return next at_label = []
+values_behind _ next at_label = next
+
+-- what is alive before code, and at a label in it
+abbrev mutual
+  pub alive_values : List Line → List ℕ
+  alive_values [] = []
+  alive_values (line ∷ rest) = values_before line.args line.into (values_behind line.action (alive_values rest) (λ l. alive_values_at l rest))
+
+  pub alive_values_at : ℕ → List Line → List ℕ
+  alive_values_at l [] = []
+  alive_values_at l (line ∷ rest) = cond (is_label l line.action) (alive_values rest) (alive_values_at l rest)

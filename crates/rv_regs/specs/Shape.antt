@@ -1,0 +1,62 @@
+-- The shape of code in the plainest places: what the layer below rests on.
+use Rattle.std.specs.Prelude.{◌≡◌, ◌+◌, ◌*◌, ◌<◌, ◌≤◌, ℕ, List, [], ◌∷◌, Option, Some, None, All, length}
+use Rattle.std.specs.List.{AllByRecursion}
+use Rattle.rv_isa.specs.declared.placed.Listed.{Listed}
+use Rattle.rv_isa.specs.declared.placed.Operand.{Operand}
+use Rattle.rv_isa.specs.declared.placed.Place.{Place}
+use Rattle.rv_isa.specs.declared.placed.Place.TheVariants.{Register as register, Slot as slot}
+use Rattle.rv_isa.specs.declared.placed.Placed.{Placed}
+use Rattle.rv_isa.specs.AsmCode.{Lines}
+use Rattle.rv_isa.specs.PlacedCode.{PlacedLine, does, moves, PlacedLines, placed_functions, from_of, to_of}
+use Rattle.rv_isa.specs.WellFormed.{HoldsNone, most_values, all_lines}
+use Rattle.rv_regs.specs.Relation.{AllFewMoves}
+
+-- the most moves that stand in a row
+abbrev pub most_moves : ℕ
+most_moves = 16
+
+-- ---- slots
+
+abbrev pub IsBelow : ℕ → Place → Type 0
+IsBelow most (register r) = Unit {0}
+IsBelow most (slot k) = k < most
+
+abbrev pub IsResultBelow : ℕ → Option Operand → Type 0
+IsResultBelow most None = Unit {0}
+IsResultBelow most (Some into) = IsBelow most into.place
+
+-- the slots of what is listed before a line, and of what it reads and writes
+abbrev pub HasSlotsBelow : ℕ → PlacedLine → Type 0
+HasSlotsBelow most (does alive action args into) = All (λ (l : Listed). IsBelow most l.place) alive × (All (λ (arg : Operand). IsBelow most arg.place) args × IsResultBelow most into)
+HasSlotsBelow most (moves alive value way) = All (λ (l : Listed). IsBelow most l.place) alive × (IsBelow most (from_of way) × IsBelow most (to_of way))
+
+abbrev pub AllSlotsBelow : ℕ → List PlacedLine → Type 0
+AllSlotsBelow most code = AllByRecursion (HasSlotsBelow most) code
+
+-- ---- tokens
+
+-- the line does not hold a token, and takes none back
+abbrev pub LineHoldsNone : PlacedLine → Type 0
+LineHoldsNone (does alive action args into) = HoldsNone action
+LineHoldsNone (moves alive value way) = Unit {0}
+
+-- ---- numbers of lines
+
+abbrev pub all_items : List PlacedLines → ℕ
+all_items [] = 0
+all_items (function ∷ functions) = length function.code + all_items functions
+
+-- a line has this many moves and itself at most, and the start of a function this many moves
+abbrev pub most_row : ℕ
+most_row = 12
+
+abbrev pub most_start : ℕ
+most_start = 8
+
+-- a program in the plainest places, which has no memory of its own
+pub record IsPlainlyPlaced (functions : List Lines) (placed : Placed) : Type 0 where
+  pub few_moves : AllFewMoves most_moves (placed_functions placed)
+  pub slots : AllByRecursion (λ (function : PlacedLines). AllSlotsBelow most_values function.code) (placed_functions placed)
+  pub holds_none : AllByRecursion (λ (function : PlacedLines). AllByRecursion LineHoldsNone function.code) (placed_functions placed)
+  pub few_items : all_items (placed_functions placed) ≤ most_row * all_lines functions + most_start * length functions
+  pub memory : placed.memory ≡ record { size = 0; stack_bottom = 0 }
