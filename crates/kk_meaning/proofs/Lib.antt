@@ -1,4 +1,5 @@
 pub mod Asked
+pub mod Changed
 pub mod Environments
 pub mod FreeVariables
 pub mod Listed

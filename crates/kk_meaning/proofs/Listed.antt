@@ -119,10 +119,6 @@ newest_changed items n newest len some =
     newest_first (set items (n - 1) newest) n newest all some (sym (get_or-set_same items (n - 1) newest newest last))
     ∙ ap (λ l. newest ∷ reverse l) (take-set items (n - 1) newest)
 
--- two lists that begin with the newest
-pub same_newest : {X : Type 0} (x y : X) (xs : List X) → x ∷ xs ≡ y ∷ xs → x ≡ y
-same_newest x y xs e = cc
-
 -- what a call knows
 pub call_fits : (n before : ℕ) (frame : Frame) (fs : List Frame) → IsCallOf before frame → FramesFit n (frame ∷ fs) → (before ≤ n) × FramesFit before fs
 call_fits n before (OfFrame.Call lent b) fs is f = (omega (arith, f.0), subst (λ k. FramesFit k fs) is f.1)
