@@ -1,11 +1,27 @@
--- The images of compiled programs.
-use Rattle.std.specs.Prelude.{◌<◌, ◌≤◌, ℕ, List, length}
-use Rattle.elf_image.specs.Program.{IsProgramImage, text_of, memory_size_of}
+-- The image of a program in core form: the loaded image does what the program does.
+use Rattle.std.specs.Prelude.{ℕ, ◌<◌, List, All}
+use Rattle.kk_base.specs.Agreements.{Agree}
+use Rattle.kk_syntax.specs.PositionsOf.{PositionTable}
+use Rattle.kk_core.specs.Codes.{ProgramCode}
+use Rattle.kk_core.specs.CoreStates.{core_first_state}
+use Rattle.rv_isa.specs.Processor.{start, goes}
+use Rattle.rv_isa.specs.Execution.{rv32im}
+use Rattle.rv_isa.specs.ProcessorMachine.{processor_machine}
+use Rattle.rv_place.specs.Images.{outside_lines}
+use Rattle.rv_regs.specs.Shape.{most_moves}
+use Rattle.rv_lower.specs.Meaning.{core_cost, core_outside, setting_of_core}
+use Rattle.elf_image.specs.Parts.{memory_of}
+use Rattle.elf_image.specs.Program.{IsProgramImage}
 use Rattle.elf_image.specs.declared.part.Part.{Part}
 
--- A text with the constants behind its instructions, to be read and executed; and behind it some memory, to be read and written. At most 4096
--- words of instructions and 480 strings of 256 bytes stand in the text.
-pub record IsCompiled (entry : ℕ) (parts : List Part) : Type 0 where
+-- the most instructions of a step of the core, with the moves that its lines have in a row
+abbrev pub step_instructions : ℕ
+step_instructions = core_cost most_moves
+
+-- An image of a program in core form, with so many cells and such a depth. On each input of bytes, for all lent positions, the processor's machine agrees
+-- with the core's: the image tells the same events and exits with the number of the end.
+pub record IsImageOf (code : ProgramCode) (cells depth entry : ℕ) (parts : List Part) : Type 0 where
   pub program : IsProgramImage entry parts
-  pub few_bytes : length (text_of parts) ≤ 139264
-  pub little_memory : memory_size_of parts < 2048
+  pub does : (positions : PositionTable) (input : List ℕ) → All (λ byte. byte < 256) input
+      → (up : ℕ → ℕ) × Agree (core_outside step_instructions (setting_of_core code positions cells depth)) (processor_machine rv32im) outside_lines up
+      (core_first_state (setting_of_core code positions cells depth) input) (goes (start (memory_of parts) entry input))

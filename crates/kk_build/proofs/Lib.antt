@@ -1,1 +1,3 @@
 pub mod FileSteps
+pub mod Agreeing
+pub mod Within

@@ -3,29 +3,52 @@
 
 ghost use Rattle.std.specs.Prelude.{IfOk, IfErr};
 ghost use Rattle.kk_base.specs.Sizes.{AreSizes};
+ghost use Rattle.kk_syntax.specs.PositionsOf.{PositionTable};
+ghost use Rattle.kk_syntax.specs.Programs.{program_tree};
+ghost use Rattle.kk_syntax.specs.Typing.{IsTyped};
 ghost use Rattle.kk_front.specs.Judgement.{Refuses};
-ghost use Rattle.kk_build.specs.Built.{IsBuilt};
+ghost use Rattle.kk_norm.specs.Normal.{IsWithin};
+ghost use Rattle.kk_build.specs.Agreement.{Agrees, IsBounded};
+ghost use Rattle.kk_build.specs.Built.{IsBuilt, as_run};
+ghost use Rattle.kk_build.specs.Images.{IsImageFile};
 
 use elf_image::write;
 use kk_back::image;
 use kk_base::{Bytes, NoMemory, Refusal};
-use kk_front::read;
+use kk_front::{accepted_programs_are_typed, read};
+use kk_norm::normal;
+use kk_syntax::Program;
 use std::alloc::Global;
 
 /// The bytes of the image of a text, or why the text is not accepted: its first failure.
 ///
-/// The image has a heap of `cells` cells, and at most `depth` of its calls are open at a time.
+/// The image has a heap of `cells` cells, and at most `depth` of its calls are open at a time. It agrees with the program: on
+/// every input it does on the outside what the program means, never traps, and exits exactly when and as the program ends;
+/// and it does so within a number of instructions that grows with the program's steps.
 pub fn build(alloc: Global, text: &[u8], cells: u32, depth: u32) -> Result<Bytes, Refusal>
     requires { AreSizes cells depth }
     ensures ok { IfOk result (IsBuilt text.now cells depth) }
     ensures err { IfErr result (Refuses text.now) }
 {
     let program = read(alloc, text)?;
-    let Ok(image) = image(alloc, &program, cells, depth) else {
-        return Err(Refusal::NoMemory);
-    };
-    match write(alloc, &image) {
+    accepted_programs_are_typed();
+    match file_of(alloc, &program, cells, depth) {
         Ok(bytes) => Ok(bytes),
         Err(NoMemory) => Err(Refusal::NoMemory),
     }
+}
+
+/// The file of the image of a program.
+fn file_of(alloc: Global, program: &Program, cells: u32, depth: u32) -> Result<Bytes, NoMemory>
+    requires typed { IsTyped (program_tree program.now) }
+    requires small { IsWithin (program_tree program.now) }
+    requires sizes { AreSizes cells depth }
+    ensures image { IfOk result IsImageFile }
+    ensures agrees { IfOk result (λ file. (positions : PositionTable) → Agrees file (as_run (program_tree program.now) positions cells depth)) }
+    ensures bounded { IfOk result (λ file. (positions : PositionTable) → IsBounded file (as_run (program_tree program.now) positions cells depth)) }
+{
+    let core = normal(alloc, program)?;
+    let image = image(alloc, &core, cells, depth)?;
+    let file = write(alloc, &image)?;
+    Ok(file)
 }

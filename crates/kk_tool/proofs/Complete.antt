@@ -1,22 +1,23 @@
 -- Where no count of faults rises, no fault is answered.
-use Rattle.std.proofs.Common.{◌≡◌, ℕ, List, Bool, true, false, not, nat_eq, cond, Option, refl, ap, subst, ◌∙◌}
+use Rattle.std.proofs.Common.{◌≡◌, ℕ, List, Bool, true, false, not, cond, Option, refl, ap, subst, ◌∙◌}
 use Rattle.kk_base.specs.Faults.{Rose, Rises}
 use Rattle.kk_base.specs.Sink.{SinkState}
 use Rattle.kk_base.specs.declared.refusal.Refusal.{Refusal}
 use Rattle.kk_base.specs.declared.refusal.Refusal.TheVariants as OfText
 use Rattle.kk_base.specs.declared.status.Status.{Status}
-use Rattle.kk_base.specs.declared.status.Status.TheVariants as Ended
+use Rattle.kk_base.specs.declared.status.Status.TheVariants as OfStatus
 use Rattle.kk_front.specs.Judgement.{wants_memory}
-use Rattle.rv_sim.specs.declared.halt.Halt.{Halt}
-use Rattle.rv_sim.specs.declared.halt.Halt.TheVariants.{Exit, StepsSpent, Trap, InputFault, OutputFault}
 use Rattle.kk_tool.specs.declared.answer.Answer.{Answer}
-use Rattle.kk_tool.specs.Answer.{fault_status, refusal_status, halt_status, status_of}
-use Rattle.kk_tool.specs.Answers.{Answers, usage, no_memory, unread, refused, checked, built, unwritten, ran, EndsWith, Faultless, is_fault}
+use Rattle.kk_tool.specs.declared.answer.RunEnd.{RunEnd}
+use Rattle.kk_tool.specs.declared.answer.RunEnd.TheVariants as OfRun
+use Rattle.kk_tool.specs.Answer.{fault_status, run_status, status_of}
+use Rattle.kk_tool.specs.Answers.{Answers, usage, no_memory, unread, refused, checked, built, unwritten, ran, EndsWith, Faultless, is_fault_status}
 use Rattle.kk_tool.specs.ImageRuns.{RunsImage}
 use Rattle.kk_tool.specs.Outside.{Outside}
 use Rattle.kk_tool.specs.Requests.{Request}
+use Rattle.kk_tool.specs.SourceRuns.{halt_for}
 
-fault_no_fault : (refusal : Refusal) → is_fault (fault_status refusal) ≡ false
+fault_no_fault : (refusal : Refusal) → is_fault_status (fault_status refusal) ≡ false
 fault_no_fault (OfText.Over limit) = refl
 fault_no_fault (OfText.Lex error) = refl
 fault_no_fault (OfText.Parse error) = refl
@@ -25,13 +26,9 @@ fault_no_fault (OfText.NotTyped function) = refl
 fault_no_fault (OfText.NotCovered function example) = refl
 fault_no_fault OfText.NoMemory = refl
 
-by_want : (refusal : Refusal) (wants : Bool) → is_fault (cond wants Ended.NoMemory (fault_status refusal)) ≡ false
+by_want : (refusal : Refusal) (wants : Bool) → is_fault_status (cond wants OfStatus.NoMemory (fault_status refusal)) ≡ false
 by_want refusal true = refl
 by_want refusal false = fault_no_fault refusal
-
-by_code : (zero : Bool) → is_fault (cond zero Ended.Done Ended.ImageExit) ≡ false
-by_code true = refl
-by_code false = refl
 
 -- a line that was not put whole is a fault of its sink
 failed_line : (answer : Answer) (status : Status) (err err' : SinkState) (ends : EndsWith answer status err err') → ends.whole ≡ false → Rose err.faults err'.faults
@@ -40,14 +37,15 @@ failed_line answer status err err' ends is =
     subst P is ends.line.faults
 
 module _ (before after : Outside) (err err' : SinkState) (faultless : Faultless before after err err') where
-  no_halt_fault : (image : List ℕ) (steps : ℕ) (halt : Halt) → RunsImage image steps halt before.input after.input before.out after.out → is_fault (halt_status halt) ≡ false
-  no_halt_fault image steps (Exit code) runs = by_code (nat_eq code 0)
-  no_halt_fault image steps StepsSpent runs = refl
-  no_halt_fault image steps (Trap cause pc word) runs = refl
-  no_halt_fault image steps InputFault runs = absurd (faultless.input runs.input_faults)
-  no_halt_fault image steps OutputFault runs = absurd (faultless.out runs.output_faults)
+  no_run_fault : (image : List ℕ) (steps : ℕ) (end : RunEnd) → RunsImage image steps (halt_for end) before.input after.input before.out after.out → is_fault_status (run_status end) ≡ false
+  no_run_fault image steps OfRun.Ended runs = refl
+  no_run_fault image steps OfRun.HeapFull runs = refl
+  no_run_fault image steps OfRun.StackFull runs = refl
+  no_run_fault image steps OfRun.StepsSpent runs = refl
+  no_run_fault image steps OfRun.InputFault runs = absurd (faultless.input runs.input_faults)
+  no_run_fault image steps OfRun.OutputFault runs = absurd (faultless.out runs.output_faults)
 
-  no_answer_fault : (request : Option Request) (answer : Answer) → Answers before after request answer → is_fault (status_of answer) ≡ false
+  no_answer_fault : (request : Option Request) (answer : Answer) → Answers before after request answer → is_fault_status (status_of answer) ≡ false
   no_answer_fault _ _ (usage kept) = refl
   no_answer_fault _ _ (no_memory request files streams image) = refl
   no_answer_fault _ _ (unread request name is fails streams image) = absurd (faultless.files fails.fails.faults)
@@ -55,14 +53,14 @@ module _ (before after : Outside) (err err' : SinkState) (faultless : Faultless 
   no_answer_fault _ _ (checked file text program has is kept) = refl
   no_answer_fault _ _ (built file out cells depth made written streams) = refl
   no_answer_fault _ _ (unwritten file out cells depth name is made fails streams) = absurd (faultless.files fails.fails.faults)
-  no_answer_fault _ _ (ran file cells depth steps halt made runs kept) = no_halt_fault after.image steps halt runs
+  no_answer_fault _ _ (ran file cells depth steps end made runs means kept) = no_run_fault after.image steps end runs
 
-  by_line : (answer : Answer) (status : Status) → is_fault (status_of answer) ≡ false → EndsWith answer status err err' → is_fault status ≡ false
+  by_line : (answer : Answer) (status : Status) → is_fault_status (status_of answer) ≡ false → EndsWith answer status err err' → is_fault_status status ≡ false
   by_line answer status none ends =
-      elim ends.whole as (λ b. ends.whole ≡ b → is_fault status ≡ false) [
-        | true ↦ λ is. ap is_fault (ends.told ∙ ap (λ (b : Bool). cond b (status_of answer) Ended.OutputFault) is) ∙ none
+      elim ends.whole as (λ b. ends.whole ≡ b → is_fault_status status ≡ false) [
+        | true ↦ λ is. ap is_fault_status (ends.told ∙ ap (λ (b : Bool). cond b (status_of answer) OfStatus.OutputFault) is) ∙ none
         | false ↦ λ is. absurd (faultless.line (failed_line answer status err err' ends is))
       ] refl
 
-pub no_fault : (before after : Outside) (err err' : SinkState) (request : Option Request) (answer : Answer) (status : Status) → Answers before after request answer → EndsWith answer status err err' → Faultless before after err err' → is_fault status ≡ false
+pub no_fault : (before after : Outside) (err err' : SinkState) (request : Option Request) (answer : Answer) (status : Status) → Answers before after request answer → EndsWith answer status err err' → Faultless before after err err' → is_fault_status status ≡ false
 no_fault before after err err' request answer status answers ends faultless = by_line before after err err' faultless answer status (no_answer_fault before after err err' faultless request answer answers) ends

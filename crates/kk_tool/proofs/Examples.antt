@@ -1,5 +1,5 @@
 -- Lines of words, and what they ask for.
-use Rattle.std.proofs.Common.{◌≡◌, List, [], ◌∷◌, codes, Some, None, refl}
+use Rattle.std.proofs.Common.{◌≡◌, [], ◌∷◌, codes, Some, None, refl}
 use Rattle.clap.proofs.OnLiterals.{clap_on_literals}
 use Rattle.kk_tool.specs.Requests.{request_of, check, build, run}
 

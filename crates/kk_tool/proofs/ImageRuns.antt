@@ -1,5 +1,5 @@
 -- The run of a loaded machine is the run of the image in its file.
-use Rattle.std.proofs.Common.{◌≡◌, ◌<◌, ℕ, ◌+◌, ◌-◌, List, [], ◌∷◌, ◌++◌, refl, sym, ap, ◌∙◌, arith}
+use Rattle.std.proofs.Common.{◌≡◌, ◌<◌, ℕ, ◌+◌, ◌-◌, List, [], ◌∷◌, ◌++◌, refl, sym, ap, subst, ◌∙◌, arith}
 use Rattle.kk_base.specs.Faults.{Rises}
 use Rattle.kk_base.specs.Sink.{SinkState}
 use Rattle.kk_base.specs.Source.{SourceState}
@@ -13,9 +13,9 @@ use Rattle.rv_sim.specs.Simulation.{Simulation, processor_of, progress_of}
 use Rattle.rv_sim.specs.Devices.{ending_at, ComesTo, HasRun, is_input_fault, is_output_fault, asked}
 use Rattle.rv_sim.specs.declared.halt.Halt.{Halt}
 use Rattle.rv_sim.specs.declared.halt.Halt.TheVariants.{Exit, StepsSpent, Trap, InputFault, OutputFault}
-use Rattle.kk_build.specs.ImageAfter.{Processor, Ending, going, Progress, goes, start, go_on, step, run, image_after, file_after}
+use Rattle.kk_build.specs.ImageAfter.{Ending, going, Progress, goes, start, go_on, step, run, image_after, file_after}
 use Rattle.kk_build.proofs.FileSteps.{one_more}
-use Rattle.kk_tool.specs.ImageRuns.{HasDone, AsksNext, PutsNext, Stops, RunsImage}
+use Rattle.kk_tool.specs.ImageRuns.{HasDone, Stops, RunsImage}
 
 fewer : (executed before steps : ℕ) → before ≡ 0 → executed < before + steps → executed - before < steps
 fewer executed before steps none less = omega arith
@@ -85,3 +85,7 @@ module _ (file : List ℕ) (entry : ℕ) (parts : List Part) (loaded : IsLoaded 
             next = next_is count ran.events (λ left. output put.piece) ran.comes ran.ending put.next;
           },
         )
+
+-- a run that stops for the same cause
+pub stops_alike : (image : List ℕ) (steps : ℕ) (halt other : Halt) (input input' : SourceState) (out out' : SinkState) → other ≡ halt → RunsImage image steps halt input input' out out' → RunsImage image steps other input input' out out'
+stops_alike image steps halt other input input' out out' same runs = subst (λ (h : Halt). RunsImage image steps h input input' out out') (sym same) runs

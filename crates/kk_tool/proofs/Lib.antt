@@ -4,5 +4,6 @@ mod ImageRuns
 mod Lines
 mod Numbers
 mod Rows
+mod SourceRuns
 mod Stores
 mod TakenLines

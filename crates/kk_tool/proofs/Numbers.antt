@@ -1,5 +1,5 @@
 -- What `parse` makes of a number's digits.
-use Rattle.std.proofs.Common.{◌≡◌, ℕ, ◌≤◌, ◌<◌, ◌^◌, List, length, Bool, true, false, nat_lt, ◌&&◌, not, Result, Ok, Err, Option, Some, None, IfSome, IfNone, arith, rules, refl}
+use Rattle.std.proofs.Common.{◌≡◌, ℕ, ◌≤◌, ◌<◌, ◌^◌, List, length, Bool, true, false, nat_lt, ◌&&◌, not, Result, Ok, Err, IfSome, IfNone, arith, rules, refl}
 use Rattle.std.specs.List.{list_all}
 use Rattle.std.specs.Char.{is_ascii_digit}
 use Rattle.std.specs.Result.{result_ok}

@@ -8,16 +8,18 @@ use Rattle.kk_base.specs.Store.{StoreState, SameFiles, SameOthers, HasFile, Reme
 use Rattle.kk_base.specs.declared.outside.StoreCall.{StoreCall}
 use Rattle.kk_base.specs.declared.outside.StoreCall.TheVariants.{Reading, Writing}
 use Rattle.kk_base.specs.declared.refusal.Refusal.{Refusal}
-use Rattle.kk_front.specs.Judgement.{IsProgramOf, IsRefusalOf, Refuses, wants_memory}
+use Rattle.kk_front.specs.Judgement.{IsProgramOf, Refuses, wants_memory}
 use Rattle.kk_build.specs.Built.{ProgramTree, IsBuilt}
-use Rattle.rv_sim.specs.declared.halt.Halt.{Halt}
 use Rattle.kk_tool.specs.declared.answer.Answer.{Answer}
 use Rattle.kk_tool.specs.declared.answer.Answer.TheVariants.{Done, Usage, Refused, NoMemory, FileFault, Ran}
-use Rattle.kk_tool.specs.Answers.{HasText, IsImageOf, Answers, usage, no_memory, unread, refused, checked, built, unwritten, ran}
+use Rattle.kk_tool.specs.declared.answer.RunEnd.{RunEnd}
+use Rattle.kk_tool.specs.Answers.{HasText, IsImageOfFile, Answers, usage, no_memory, unread, refused, checked, built, unwritten, ran}
 use Rattle.kk_tool.specs.Internal.{answer_of_refusal}
 use Rattle.kk_tool.specs.Requests.{Request, check, build, run, file_of}
 use Rattle.kk_tool.specs.ImageRuns.{RunsImage}
 use Rattle.kk_tool.specs.Outside.{Outside, KeepsFiles, KeepsStreams, KeepsAll}
+use Rattle.kk_tool.specs.SourceRuns.{halt_for}
+use Rattle.kk_tool.proofs.SourceRuns.{means_run}
 use Rattle.kk_tool.proofs.Stores.{same_files, then_kept, then_written, then_unwritten}
 
 abbrev outside : StoreState → SourceState → SinkState → List ℕ → Outside
@@ -61,7 +63,7 @@ module _ (store store' : StoreState) (input : SourceState) (out : SinkState) (im
       let P : List ℕ → Type 0 = λ t. IsProgramOf t program in
       checked file text program has (subst P same accepted) (all_kept kept)
 
-pub image_built : (store : StoreState) (file text slice : List ℕ) (cells depth : ℕ) (image : List ℕ) → slice ≡ text → HasText file text store → IsBuilt slice cells depth image → IsImageOf file cells depth store image
+pub image_built : (store : StoreState) (file text slice : List ℕ) (cells depth : ℕ) (image : List ℕ) → slice ≡ text → HasText file text store → IsBuilt slice cells depth image → IsImageOfFile file cells depth store image
 image_built store file text slice cells depth image same has made =
     let P : List ℕ → Type 0 = λ t. IsBuilt t cells depth image in
     record { text = text; has_text = has; built = subst P same made }
@@ -80,7 +82,7 @@ module _ (store : StoreState) (input : SourceState) (out : SinkState) (image : L
   no_words request = no_memory request nothing_changed (same_streams store store input out image image) (inl refl)
 
 -- what becomes of an image that was built: it is written, or it could not be, or it is run
-module _ (first second : StoreState) (kept : KeepsFiles first second) (image image' : List ℕ) (file : List ℕ) (cells depth : ℕ) (made : IsImageOf file cells depth first image') where
+module _ (first second : StoreState) (kept : KeepsFiles first second) (image image' : List ℕ) (file : List ℕ) (cells depth : ℕ) (made : IsImageOfFile file cells depth first image') where
   module _ (third : StoreState) (input : SourceState) (output : SinkState) where
     pub image_written : (out slice : List ℕ) (call : StoreCall) → slice ≡ image' → SameOthers out second.files third.files × HasFile out slice third.files → Counts false second.faults third.faults → Remembers false call second.last_failed third.last_failed
         → Answers (outside first input output image) (outside third input output image') (Some (build file out cells depth)) Done
@@ -99,11 +101,15 @@ module _ (first second : StoreState) (kept : KeepsFiles first second) (image ima
         no_memory (Some (build file out cells depth)) (then_kept call first second third kept same counts remembers) (record { input = refl; out = refl }) (inr made)
 
   module _ (input input' : SourceState) (output output' : SinkState) (steps : ℕ) where
-    pub image_ran : (slice : List ℕ) (halt : Halt) → slice ≡ image' → RunsImage slice steps halt input input' output output'
-        → Answers (outside first input output image) (outside second input' output' image') (Some (run file cells depth steps)) (Ran halt steps)
-    image_ran slice halt same runs =
-        let P : List ℕ → Type 0 = λ bytes. RunsImage bytes steps halt input input' output output' in
-        ran file cells depth steps halt made (subst P same runs) kept
+    ran_so : (end : RunEnd) → RunsImage image' steps (halt_for end) input input' output output'
+        → Answers (outside first input output image) (outside second input' output' image') (Some (run file cells depth steps)) (Ran end cells depth steps)
+    ran_so end runs = ran file cells depth steps end made runs (means_run made.built.program image' cells depth made.built.agrees end runs.count runs.events runs.done) kept
+
+    pub image_ran : (slice : List ℕ) (end : RunEnd) → slice ≡ image' → RunsImage slice steps (halt_for end) input input' output output'
+        → Answers (outside first input output image) (outside second input' output' image') (Some (run file cells depth steps)) (Ran end cells depth steps)
+    image_ran slice end same runs =
+        let P : List ℕ → Type 0 = λ bytes. RunsImage bytes steps (halt_for end) input input' output output' in
+        ran_so end (subst P same runs)
 
     pub image_idle : input' ≡ input → output' ≡ output → Answers (outside first input output image) (outside second input' output' image') (Some (run file cells depth steps)) NoMemory
     image_idle same_input same_out = no_memory (Some (run file cells depth steps)) kept (record { input = same_input; out = same_out }) (inr made)

@@ -1,5 +1,5 @@
 -- A store over two calls, of which the first kept its files.
-use Rattle.std.proofs.Common.{◌≡◌, ℕ, List, Bool, true, false, Option, Some, None, refl, sym, ◌∙◌, subst}
+use Rattle.std.proofs.Common.{ℕ, List, true, false, Option, Some, None, refl, ◌∙◌, subst}
 use Rattle.kk_base.specs.Faults.{Counts, Rises}
 use Rattle.kk_base.specs.Store.{Files, StoreState, SameFiles, SameOthers, HasFile, Remembers}
 use Rattle.kk_base.specs.declared.outside.StoreCall.{StoreCall}

@@ -8,15 +8,16 @@ use Rattle.kk_base.specs.Store.{Files, StoreState}
 use Rattle.kk_base.specs.declared.limit.LimitKind.TheVariants.{Source}
 use Rattle.kk_base.specs.declared.refusal.Refusal.{Refusal}
 use Rattle.kk_base.specs.declared.status.Status.{Status}
-use Rattle.kk_base.specs.declared.status.Status.TheVariants as Ended
+use Rattle.kk_base.specs.declared.status.Status.TheVariants as OfStatus
 use Rattle.kk_front.specs.Judgement.{IsProgramOf, IsRefusalOf}
 use Rattle.kk_build.specs.Built.{ProgramTree, IsBuilt}
-use Rattle.rv_sim.specs.declared.halt.Halt.{Halt}
 use Rattle.kk_tool.specs.declared.answer.Answer.{Answer}
 use Rattle.kk_tool.specs.declared.answer.Answer.TheVariants.{Done, Usage, Refused, NoMemory, FileFault, Ran}
+use Rattle.kk_tool.specs.declared.answer.RunEnd.{RunEnd}
 use Rattle.kk_tool.specs.Answer.{status_of}
 use Rattle.kk_tool.specs.Requests.{Request, check, build, run, file_of}
 use Rattle.kk_tool.specs.ImageRuns.{RunsImage}
+use Rattle.kk_tool.specs.SourceRuns.{halt_for, MeansRun}
 use Rattle.kk_tool.specs.Line.{line_of}
 use Rattle.kk_tool.specs.Outside.{Outside, KeepsFiles, KeepsStreams, KeepsAll, FailsToRead, FailsToWrite, WritesAlone, Puts}
 
@@ -26,15 +27,15 @@ HasText file text store =
     (files : Files) → store.files ≡ Some files → (content : List ℕ) × (files file ≡ Some content) × (text ≡ take (greatest_of Source + 1) content)
 
 -- these bytes are the image of the text in a file
-pub record IsImageOf (file : List ℕ) (cells depth : ℕ) (store : StoreState) (image : List ℕ) : Type 0 where
+pub record IsImageOfFile (file : List ℕ) (cells depth : ℕ) (store : StoreState) (image : List ℕ) : Type 0 where
   pub text : List ℕ
   pub has_text : HasText file text store
   pub built : IsBuilt text cells depth image
 
 -- these bytes are the image that is asked for
 abbrev pub IsRequestedImage : Option Request → StoreState → List ℕ → Type 0
-IsRequestedImage (Some (build file out cells depth)) store image = IsImageOf file cells depth store image
-IsRequestedImage (Some (run file cells depth steps)) store image = IsImageOf file cells depth store image
+IsRequestedImage (Some (build file out cells depth)) store image = IsImageOfFile file cells depth store image
+IsRequestedImage (Some (run file cells depth steps)) store image = IsImageOfFile file cells depth store image
 IsRequestedImage _ store image = ⊥
 
 -- The answers that the words of a line may have, with what each does to the outside. There is no other.
@@ -54,23 +55,24 @@ pub data Answers (before after : Outside) : Option Request → Answer → Type 0
   checked : (file text : List ℕ) (program : ProgramTree) → HasText file text before.files → IsProgramOf text program
       → KeepsAll before after → Answers before after (Some (check file)) Done
   -- build: OUT is the image
-  built : (file out : List ℕ) (cells depth : ℕ) → IsImageOf file cells depth before.files after.image
+  built : (file out : List ℕ) (cells depth : ℕ) → IsImageOfFile file cells depth before.files after.image
       → WritesAlone out after.image before.files after.files → KeepsStreams before after → Answers before after (Some (build file out cells depth)) Done
   -- build: OUT could not be written
-  unwritten : (file out : List ℕ) (cells depth : ℕ) (name : Bor (List ℕ)) → name.now ≡ out → IsImageOf file cells depth before.files after.image
+  unwritten : (file out : List ℕ) (cells depth : ℕ) (name : Bor (List ℕ)) → name.now ≡ out → IsImageOfFile file cells depth before.files after.image
       → FailsToWrite out before.files after.files → KeepsStreams before after → Answers before after (Some (build file out cells depth)) (FileFault name)
-  -- run: the image ran, for at most `steps` instructions, and stopped so
-  ran : (file : List ℕ) (cells depth steps : ℕ) (halt : Halt) → IsImageOf file cells depth before.files after.image
-      → RunsImage after.image steps halt before.input after.input before.out after.out → KeepsFiles before.files after.files
-      → Answers before after (Some (run file cells depth steps)) (Ran halt steps)
+  -- run: the image ran, for at most `steps` instructions, and stopped so; what it did is what the program means
+  ran : (file : List ℕ) (cells depth steps : ℕ) (end : RunEnd) (made : IsImageOfFile file cells depth before.files after.image)
+      (runs : RunsImage after.image steps (halt_for end) before.input after.input before.out after.out)
+      → MeansRun made.built.program cells depth end runs.events → KeepsFiles before.files after.files
+      → Answers before after (Some (run file cells depth steps)) (Ran end cells depth steps)
 
 -- an answer ends a command with its status, where its line was put; or where putting the line failed, with an output fault. A command that
 -- did its work has no line, and nothing is put
 pub record EndsWith (answer : Answer) (status : Status) (err err' : SinkState) : Type 0 where
   pub whole : Bool
   pub line : Puts whole (line_of answer) err err'
-  pub told : status ≡ (if whole then status_of answer else Ended.OutputFault)
-  pub silent : status_of answer ≡ Ended.Done → (whole ≡ true) × (err' ≡ err)
+  pub told : status ≡ (if whole then status_of answer else OfStatus.OutputFault)
+  pub silent : status_of answer ≡ OfStatus.Done → (whole ≡ true) × (err' ≡ err)
 
 -- the words of a line end with a status, by one of their answers
 pub record Ends (request : Option Request) (status : Status) (before after : Outside) (err err' : SinkState) : Type 0 where
@@ -86,8 +88,8 @@ pub record Faultless (before after : Outside) (err err' : SinkState) : Type 0 wh
   pub line : ¬ Rose err.faults err'.faults
 
 -- the status of a fault of a device
-abbrev pub is_fault : Status → Bool
-is_fault Ended.FileFault = true
-is_fault Ended.InputFault = true
-is_fault Ended.OutputFault = true
-is_fault _ = false
+abbrev pub is_fault_status : Status → Bool
+is_fault_status OfStatus.FileFault = true
+is_fault_status OfStatus.InputFault = true
+is_fault_status OfStatus.OutputFault = true
+is_fault_status _ = false

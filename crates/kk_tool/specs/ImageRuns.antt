@@ -28,7 +28,8 @@ pub record PutsNext (image : List ℕ) (count : ℕ) (events : List Event) (cut 
   pub first : cut ≡ take taken piece
   pub next : (input rest : List ℕ) → TakesFrom events input rest → (file_after image input (count + 1)).processor.trace ≡ events ++ output piece ∷ []
 
--- All of the budget counts, and all pieces are whole; but where a device has failed the run stops before the instruction that called it.
+-- Unless a device fails, the image is looked at after the whole budget, where it may have ended before, and all pieces are whole; where one has failed,
+-- the run stopped before the instruction that called it.
 abbrev pub Stops : Halt → List ℕ → ℕ → ℕ → List Event → List ℕ → Type 0
 Stops InputFault image steps count events cut = (count < steps) × (cut ≡ []) × AsksNext image count events
 Stops OutputFault image steps count events cut = (count < steps) × PutsNext image count events cut

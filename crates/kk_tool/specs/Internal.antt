@@ -1,7 +1,10 @@
 -- What only private functions speak of.
-use Rattle.std.specs.Prelude.{List, ℕ, decimal, flat_map, if◌then◌else◌}
+use Rattle.std.specs.Prelude.{List, All, ℕ, ◌<◌, decimal, flat_map, if◌then◌else◌}
 use Rattle.kk_base.specs.declared.refusal.Refusal.{Refusal}
+use Rattle.kk_source.specs.Ends.{exit_of}
 use Rattle.kk_front.specs.Judgement.{wants_memory}
+use Rattle.rv_isa.specs.ProcessorMachine.{ExitsWell}
+use Rattle.kk_build.specs.ImageAfter.{file_after}
 use Rattle.kk_tool.specs.declared.answer.Answer.{Answer}
 use Rattle.kk_tool.specs.declared.answer.Answer.TheVariants.{Refused, NoMemory}
 use Rattle.kk_tool.specs.declared.command.Command.{Command}
@@ -19,6 +22,10 @@ request_read (OfCommand.Run file sizes steps) = run file.now sizes.cells sizes.d
 -- the answer to a text that is refused, or that was not judged for want of memory
 abbrev pub answer_of_refusal : Refusal → Answer
 answer_of_refusal refusal = if wants_memory refusal then NoMemory else Refused refusal
+
+-- on each input of bytes an image never traps, and exits only with the number of a program's end
+abbrev pub EndsWell : List ℕ → Type 0
+EndsWell image = (input : List ℕ) → All (λ byte. byte < 256) input → (count : ℕ) → ExitsWell exit_of (file_after image input count).ending
 
 -- the bytes of a part of a line
 abbrev pub bytes_of : Piece → List ℕ

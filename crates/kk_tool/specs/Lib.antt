@@ -5,3 +5,4 @@ pub mod Internal
 pub mod Line
 pub mod Outside
 pub mod Requests
+pub mod SourceRuns

@@ -1,5 +1,5 @@
 -- The line that tells an answer on the error sink. Numbers are decimal, and each line ends with a line feed.
-use Rattle.std.specs.Prelude.{ℕ, List, [], ◌∷◌, ◌++◌, codes, decimal, nat_eq, Option, Some, None, if◌then◌else◌}
+use Rattle.std.specs.Prelude.{ℕ, List, [], ◌∷◌, ◌++◌, codes, decimal, Option, Some, None}
 use Rattle.kk_base.specs.Limits.{limit_word_of}
 use Rattle.kk_base.specs.Numbers.{lex_number_of, parse_number_of, name_number_of}
 use Rattle.kk_base.specs.declared.limit.Limit.{Limit}
@@ -11,10 +11,10 @@ use Rattle.kk_base.specs.declared.error.NameError.{NameError}
 use Rattle.kk_base.specs.declared.error.NameError.TheVariants as OfName
 use Rattle.kk_base.specs.declared.refusal.Refusal.{Refusal}
 use Rattle.kk_base.specs.declared.refusal.Refusal.TheVariants as OfText
-use Rattle.rv_sim.specs.declared.halt.Halt.{Halt}
-use Rattle.rv_sim.specs.declared.halt.Halt.TheVariants as OfHalt
 use Rattle.kk_tool.specs.declared.answer.Answer.{Answer}
 use Rattle.kk_tool.specs.declared.answer.Answer.TheVariants.{Done, Usage, Refused, NoMemory, FileFault, Ran}
+use Rattle.kk_tool.specs.declared.answer.RunEnd.{RunEnd}
+use Rattle.kk_tool.specs.declared.answer.RunEnd.TheVariants as OfRun
 
 abbrev pub line_feed : List ℕ
 line_feed = 10 ∷ []
@@ -98,17 +98,14 @@ refusal_line (OfText.NotCovered function example) = not_covered_line function ex
 refusal_line (OfText.Over limit) = limit_line limit
 refusal_line OfText.NoMemory = no_memory_line
 
--- a trap, with its cause, the address of its instruction and the word that stands there
-abbrev pub trap_line : ℕ → ℕ → ℕ → List ℕ
-trap_line cause pc word = codes "trap: cause " ++ (decimal cause ++ (codes " pc " ++ (decimal pc ++ (codes " word " ++ (decimal word ++ line_feed)))))
-
--- a run of an image out of a budget of `steps`; none where it exited with 0
-abbrev pub halt_line : Halt → ℕ → List ℕ
-halt_line (OfHalt.Exit code) steps = if nat_eq code 0 then [] else (codes "image exit: " ++ (decimal code ++ line_feed))
-halt_line OfHalt.StepsSpent steps = codes "steps spent: " ++ (decimal steps ++ line_feed)
-halt_line (OfHalt.Trap cause pc word) steps = trap_line cause pc word
-halt_line OfHalt.InputFault steps = codes "input fault" ++ line_feed
-halt_line OfHalt.OutputFault steps = codes "output fault" ++ line_feed
+-- a run of an image with so many cells and such a depth, out of a budget of `steps`; none where the program ended by itself
+abbrev pub run_line : RunEnd → ℕ → ℕ → ℕ → List ℕ
+run_line OfRun.Ended cells depth steps = []
+run_line OfRun.HeapFull cells depth steps = codes "heap full: " ++ (decimal cells ++ (codes " cells" ++ line_feed))
+run_line OfRun.StackFull cells depth steps = codes "stack full: " ++ (decimal depth ++ (codes " calls" ++ line_feed))
+run_line OfRun.StepsSpent cells depth steps = codes "steps spent: " ++ (decimal steps ++ line_feed)
+run_line OfRun.InputFault cells depth steps = codes "input fault" ++ line_feed
+run_line OfRun.OutputFault cells depth steps = codes "output fault" ++ line_feed
 
 -- the line of an answer; none where the command did its work
 abbrev pub line_of : Answer → List ℕ
@@ -117,4 +114,4 @@ line_of Usage = codes "usage: kokarv check FILE, build FILE -o OUT, run FILE, si
 line_of (Refused refusal) = refusal_line refusal
 line_of NoMemory = no_memory_line
 line_of (FileFault name) = codes "file fault: " ++ (name.now ++ line_feed)
-line_of (Ran halt steps) = halt_line halt steps
+line_of (Ran end cells depth steps) = run_line end cells depth steps

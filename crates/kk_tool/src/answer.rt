@@ -1,9 +1,8 @@
 ghost use Rattle.std.specs.Prelude.{◌≡◌};
 ghost use Rattle.kk_front.specs.Judgement.{wants_memory};
-ghost use Rattle.kk_tool.specs.Answer.{fault_status, halt_status, refusal_status, status_of};
+ghost use Rattle.kk_tool.specs.Answer.{fault_status, refusal_status, run_status, status_of};
 
 use kk_base::{LexError, NameError, ParseError, Refusal, Status};
-use rv_sim::Halt;
 
 /// How a command came to its end, with all that its line tells.
 #[derive(Debug, Drop)]
@@ -17,9 +16,33 @@ pub enum Answer<'a> {
     /// Memory was refused.
     NoMemory,
     /// The file of this name could not be read or written.
-    FileFault { name: &'a str },
-    /// The image was run, for at most so many instructions, and the run stopped so.
-    Ran { halt: Halt, steps: u64 },
+    FileFault {
+        name: &'a str,
+    },
+    /// The image, with so many cells and such a depth, was run for at most so many instructions, and the run ended so.
+    Ran {
+        end: RunEnd,
+        cells: u32,
+        depth: u32,
+        steps: u64,
+    },
+}
+
+/// How the run of an image ended.
+#[derive(Clone, Copy, Debug, PartialEq, Eq)]
+pub enum RunEnd {
+    /// The program ended by itself.
+    Ended,
+    /// The program ended at a construction that found the heap full.
+    HeapFull,
+    /// The program ended at a call that found the stack full.
+    StackFull,
+    /// All instructions of the budget were executed, and the image has not exited.
+    StepsSpent,
+    /// Reading the input failed.
+    InputFault,
+    /// Writing the output failed.
+    OutputFault,
 }
 
 impl Answer<'_> {
@@ -33,7 +56,23 @@ impl Answer<'_> {
             Answer::Refused(refusal) => refusal_status(refusal),
             Answer::NoMemory => Status::NoMemory,
             Answer::FileFault { .. } => Status::FileFault,
-            Answer::Ran { halt, .. } => halt_status(*halt),
+            Answer::Ran { end, .. } => end.status(),
+        }
+    }
+}
+
+impl RunEnd {
+    /// The status of a run that ended so.
+    pub fn status(self) -> Status
+        ensures { result ≡ run_status self }
+    {
+        match self {
+            RunEnd::Ended => Status::Done,
+            RunEnd::HeapFull => Status::HeapFull,
+            RunEnd::StackFull => Status::StackFull,
+            RunEnd::StepsSpent => Status::StepsSpent,
+            RunEnd::InputFault => Status::InputFault,
+            RunEnd::OutputFault => Status::OutputFault,
         }
     }
 }
@@ -67,18 +106,5 @@ fn fault_status(refusal: &Refusal) -> Status
     match refusal {
         Refusal::Over(_) => Status::Limit,
         _ => Status::Refused,
-    }
-}
-
-fn halt_status(halt: Halt) -> Status
-    ensures { result ≡ halt_status halt }
-{
-    match halt {
-        Halt::Exit(0) => Status::Done,
-        Halt::Exit(_) => Status::ImageExit,
-        Halt::StepsSpent => Status::StepsSpent,
-        Halt::Trap { .. } => Status::Trap,
-        Halt::InputFault => Status::InputFault,
-        Halt::OutputFault => Status::OutputFault,
     }
 }

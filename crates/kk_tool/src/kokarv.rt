@@ -1,5 +1,5 @@
 ghost use Rattle.std.specs.Prelude.{◌≡◌, false, map, string_bytes};
-ghost use Rattle.kk_tool.specs.Answers.{Answers, Ends, EndsWith, Faultless, is_fault};
+ghost use Rattle.kk_tool.specs.Answers.{Answers, Ends, EndsWith, Faultless, is_fault_status};
 ghost use Rattle.kk_tool.specs.Requests.{request_of};
 
 use crate::answer::Answer;
@@ -30,7 +30,7 @@ pub fn kokarv<F: Store, I: Source, O: Sink, E: Sink>(
     ensures complete { Faultless
         (record { files = F.state files.old; input = I.state input.old; out = O.state out.old; image = image.old })
         (record { files = F.state files.new; input = I.state input.new; out = O.state out.new; image = image.new })
-        (E.state err.old) (E.state err.new) → is_fault result ≡ false }
+        (E.state err.old) (E.state err.new) → is_fault_status result ≡ false }
 {
     let answer = answer_words(alloc, words, files, input, out, image);
     end_with(&answer, err)

@@ -1,16 +1,15 @@
 //! The line for the user that tells how a command ended.
 ghost use Rattle.std.specs.Prelude.{◌≡◌, ◌≢◌, ◌≤◌, length, [], Some, None, IfSome, option_map, unwrap_or};
 ghost use Rattle.kk_base.specs.declared.status.Status.TheVariants.{Done};
-ghost use Rattle.kk_tool.specs.Answer.{halt_status, status_of};
-ghost use Rattle.kk_tool.specs.Line.{line_of, halt_line, refusal_line, lex_line, lex_place_of, parse_line, parse_line_of, parse_column_of, name_line, name_spelled_of, name_place_of, limit_line, no_memory_line, trap_line};
+ghost use Rattle.kk_tool.specs.Answer.{run_status, status_of};
+ghost use Rattle.kk_tool.specs.Line.{line_of, run_line, refusal_line, lex_line, lex_place_of, parse_line, parse_line_of, parse_column_of, name_line, name_spelled_of, name_place_of, limit_line, no_memory_line};
 ghost use Rattle.kk_tool.specs.Internal.{bytes_of, joined};
 ghost use Rattle.kk_tool.specs.Outside.{Puts};
 
-use crate::answer::Answer;
+use crate::answer::{Answer, RunEnd};
 use arrayvec::ArrayVec;
 use itoa::Buffer;
 use kk_base::{LexError, Limit, NameError, ParseError, Put, Refusal, Sink};
-use rv_sim::Halt;
 
 const USAGE: &str =
     "usage: kokarv check FILE, build FILE -o OUT, run FILE, sim IMAGE, eval FILE, bench SEED SIZE\n";
@@ -82,7 +81,12 @@ impl Answer<'_> {
                 Piece::Text(name),
                 Piece::Text("\n"),
             ])),
-            Answer::Ran { halt, steps } => halt_line(*halt, *steps),
+            Answer::Ran {
+                end,
+                cells,
+                depth,
+                steps,
+            } => run_line(*end, *cells, *depth, *steps),
         }
     }
 }
@@ -93,40 +97,30 @@ fn no_memory_line<'a>() -> Line<'a>
     Line::text("no memory\n")
 }
 
-fn halt_line<'a>(halt: Halt, steps: u64) -> Option<Line<'a>>
-    ensures said { unwrap_or (option_map (λ line. joined line.pieces.items) result) [] ≡ halt_line halt steps }
-    ensures some { IfSome result (λ line. halt_status halt ≢ Done) }
+fn run_line<'a>(end: RunEnd, cells: u32, depth: u32, steps: u64) -> Option<Line<'a>>
+    ensures said { unwrap_or (option_map (λ line. joined line.pieces.items) result) [] ≡ run_line end cells depth steps }
+    ensures some { IfSome result (λ line. run_status end ≢ Done) }
 {
-    match halt {
-        Halt::Exit(0) => None,
-        Halt::Exit(code) => Some(Line::new(&[
-            Piece::Text("image exit: "),
-            Piece::Number(u64::from(code)),
-            Piece::Text("\n"),
+    match end {
+        RunEnd::Ended => None,
+        RunEnd::HeapFull => Some(Line::new(&[
+            Piece::Text("heap full: "),
+            Piece::Number(u64::from(cells)),
+            Piece::Text(" cells\n"),
         ])),
-        Halt::StepsSpent => Some(Line::new(&[
+        RunEnd::StackFull => Some(Line::new(&[
+            Piece::Text("stack full: "),
+            Piece::Number(u64::from(depth)),
+            Piece::Text(" calls\n"),
+        ])),
+        RunEnd::StepsSpent => Some(Line::new(&[
             Piece::Text("steps spent: "),
             Piece::Number(steps),
             Piece::Text("\n"),
         ])),
-        Halt::Trap { cause, pc, word } => Some(trap_line(cause, pc, word)),
-        Halt::InputFault => Some(Line::text("input fault\n")),
-        Halt::OutputFault => Some(Line::text("output fault\n")),
+        RunEnd::InputFault => Some(Line::text("input fault\n")),
+        RunEnd::OutputFault => Some(Line::text("output fault\n")),
     }
-}
-
-fn trap_line<'a>(cause: u8, pc: u32, word: u32) -> Line<'a>
-    ensures { joined result.pieces.items ≡ trap_line cause pc word }
-{
-    Line::new(&[
-        Piece::Text("trap: cause "),
-        Piece::Number(u64::from(cause)),
-        Piece::Text(" pc "),
-        Piece::Number(u64::from(pc)),
-        Piece::Text(" word "),
-        Piece::Number(u64::from(word)),
-        Piece::Text("\n"),
-    ])
 }
 
 fn refusal_line(refusal: &Refusal) -> Line<'_>

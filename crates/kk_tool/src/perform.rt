@@ -5,15 +5,22 @@ ghost use Rattle.kk_base.specs.Limits.{greatest_of};
 ghost use Rattle.kk_base.specs.declared.limit.LimitKind.TheVariants.{Source};
 ghost use Rattle.kk_base.specs.Sink.{SinkState};
 ghost use Rattle.kk_base.specs.Source.{SourceState};
-ghost use Rattle.kk_tool.specs.Answers.{Answers, HasText, IsImageOf};
-ghost use Rattle.kk_tool.specs.Internal.{answer_of_refusal};
+ghost use Rattle.kk_source.specs.Ends.{exit_of};
+ghost use Rattle.rv_isa.specs.Processor.{exited};
+ghost use Rattle.rv_isa.specs.ProcessorMachine.{ExitsWell};
+ghost use Rattle.rv_sim.specs.Devices.{ending_at};
+ghost use Rattle.rv_sim.specs.declared.halt.Halt.TheVariants.{Exit};
+ghost use Rattle.kk_tool.specs.Answers.{Answers, HasText, IsImageOfFile};
+ghost use Rattle.kk_tool.specs.Internal.{answer_of_refusal, EndsWell};
 ghost use Rattle.kk_tool.specs.Requests.{Request, check, build, run, file_of};
 ghost use Rattle.kk_tool.specs.Internal.{request_read};
 ghost use Rattle.kk_tool.specs.ImageRuns.{RunsImage};
+ghost use Rattle.kk_tool.specs.SourceRuns.{halt_for};
 ghost use Rattle.kk_tool.specs.Outside.{KeepsFiles};
 
-use crate::answer::{Answer, wants_memory};
+use crate::answer::{Answer, RunEnd, wants_memory};
 use crate::command::{Command, Sizes};
+use cell_runtime::Ending;
 use elf_image::BadImage;
 use kk_base::{Bytes, LimitKind, NoMemory, Read, Refusal, Sink, Source, Store, Wrote};
 use kk_build::build;
@@ -103,7 +110,12 @@ fn run_file<'a, F: Store, I: Source, O: Sink>(
 {
     match build_image(alloc, file, sizes, files, image) {
         Ok(()) => match run_image(alloc, image.as_slice(), steps, input, out) {
-            Ok(halt) => Answer::Ran { halt, steps },
+            Ok(end) => Answer::Ran {
+                end,
+                cells: sizes.cells,
+                depth: sizes.depth,
+                steps,
+            },
             Err(NoMemory) => Answer::NoMemory,
         },
         Err(answer) => answer,
@@ -142,7 +154,7 @@ fn build_image<'a, F: Store>(
     files: &mut F,
     image: &mut Bytes,
 ) -> Result<(), Answer<'a>>
-    ensures built { OnOk result (IsImageOf file.now sizes.cells sizes.depth (F.state files.old) image.new) }
+    ensures built { OnOk result (IsImageOfFile file.now sizes.cells sizes.depth (F.state files.old) image.new) }
     ensures kept { OnOk result (KeepsFiles (F.state files.old) (F.state files.new)) }
     ensures err { IfErr result (λ answer. (input : SourceState) (out : SinkState) (request : Request) → file_of request ≡ file.now → Answers
         (record { files = F.state files.old; input = input; out = out; image = image.old })
@@ -173,16 +185,17 @@ fn refusal_answer<'a>(refusal: Refusal) -> Answer<'a>
     }
 }
 
-/// Runs the image that a file loads, for at most so many instructions.
+/// Runs the image that a file loads, for at most so many instructions. It exits only as programs end.
 fn run_image<I: Source, O: Sink>(
     alloc: Global,
     file: &[u8],
     steps: u64,
     input: &mut I,
     out: &mut O,
-) -> Result<Halt, NoMemory>
-    requires { reason_of file.now ≡ None }
-    ensures ran { IfOk result (λ halt. RunsImage file.now steps halt (I.state input.old) (I.state input.new) (O.state out.old) (O.state out.new)) }
+) -> Result<RunEnd, NoMemory>
+    requires loads { reason_of file.now ≡ None }
+    requires ends_well { EndsWell file.now }
+    ensures ran { IfOk result (λ end. RunsImage file.now steps (halt_for end) (I.state input.old) (I.state input.new) (O.state out.old) (O.state out.new)) }
     ensures input_kept { OnErr result (I.state input.new ≡ I.state input.old) }
     ensures out_kept { OnErr result (O.state out.new ≡ O.state out.old) }
 {
@@ -192,5 +205,34 @@ fn run_image<I: Source, O: Sink>(
         Err(_) => unreachable!(),
     };
     let mut machine = Machine::load(alloc, &image)?;
-    Ok(machine.run(steps, input, out))
+    let halt = machine.run(steps, input, out);
+    Ok(run_end(halt))
+}
+
+/// How a run ended, by why the image stopped.
+fn run_end(halt: Halt) -> RunEnd
+    requires { ExitsWell exit_of (ending_at halt) }
+    ensures { halt_for result ≡ halt }
+{
+    match halt {
+        Halt::Exit(number) => program_end(u32::from(number)),
+        Halt::StepsSpent => RunEnd::StepsSpent,
+        Halt::Trap { .. } => unreachable!(),
+        Halt::InputFault => RunEnd::InputFault,
+        Halt::OutputFault => RunEnd::OutputFault,
+    }
+}
+
+/// How the program ended, by the number that its image exited with.
+fn program_end(number: u32) -> RunEnd
+    requires { ExitsWell exit_of (exited number) }
+    ensures { halt_for result ≡ Exit number }
+{
+    if number == Ending::Ended.number() {
+        RunEnd::Ended
+    } else if number == Ending::HeapFull.number() {
+        RunEnd::HeapFull
+    } else {
+        RunEnd::StackFull
+    }
 }

@@ -1,3 +1,5 @@
-pub mod Growth
-pub mod Size
-pub mod Words
+pub mod Form
+pub mod Lines
+pub mod Lowered
+pub mod Meaning
+pub mod Written

@@ -1,75 +1,78 @@
-ghost use Rattle.std.specs.Prelude.{◌≡◌, ◌+◌, ◌<◌, ◌≤◌, IfOk, Some, slice_get, vec_len};
-ghost use Rattle.kk_base.specs.Limits.{greatest_of};
-ghost use Rattle.kk_base.specs.declared.limit.LimitKind.TheVariants.{FunctionNodes};
-ghost use Rattle.kk_syntax.specs.Trees.{expr_tree};
-ghost use Rattle.kk_syntax.specs.Shapes.{nodes_of};
-ghost use Rattle.kk_syntax.specs.declared.program.Fun.{Fun};
+// The assembler code of programs.
 
-use crate::asm::Asm;
-use crate::code::Code;
-use crate::expr::lower_expr;
-use crate::frame::frame_bytes;
-use crate::immediate::upper_part;
-use crate::measure::{measure, slots};
-use crate::print::{PRINT_NUMBER_WORDS, add_print_number, exit_done};
-use crate::read::{READ_BYTE_WORDS, read_byte};
-use elf_image::TEXT_START;
-use kk_base::NoMemory;
-use kk_syntax::Program;
-use rv_isa::{Instr, JumpOffset, Register};
+ghost use Rattle.std.specs.Prelude.{◌≡◌, IfOk};
+ghost use Rattle.kk_core.specs.Codes.{core_code, function_code};
+ghost use Rattle.kk_core.specs.CoreTyping.{IsCoreTyped, IsSmall};
+ghost use Rattle.rv_isa.specs.AsmCode.{lines_of, asm_functions, asm_constants};
+ghost use Rattle.rv_lower.specs.Form.{IsLoweredForm};
+ghost use Rattle.rv_lower.specs.Lowered.{from_to};
+ghost use Rattle.rv_lower.specs.Meaning.{IsAsmOf};
+ghost use Rattle.rv_lower.specs.Written.{LoweredFunction};
+
+use crate::block::{Goal, write_block};
+use crate::lowering::Lowering;
+use kk_base::{NoMemory, Text};
+use kk_core::{Core, CoreFunction};
+use rv_isa::{Asm, AsmFunction};
 use std::alloc::Global;
 
-/// Instructions of the routines.
-const ROUTINE_WORDS: u32 = PRINT_NUMBER_WORDS + READ_BYTE_WORDS;
-/// Instructions before those of the body: the entry's and the routines'.
-const WORDS_BEFORE: u32 = 2 + ROUTINE_WORDS;
-/// Instructions behind those of the body.
-const WORDS_BEHIND: u32 = 3;
-
-/// The instructions of a program's `main`, which print what it prints and exit with 0.
-///
-/// Asks for a body within the limits. The constants follow the instructions, and their addresses in the code are those
-/// that they have where the text part begins.
-pub fn lower(alloc: Global, program: &Program) -> Result<Asm, NoMemory>
-    requires { (function : Fun) → slice_get program.now.functions.items program.now.main ≡ Some function → nodes_of (expr_tree function.body) ≤ greatest_of FunctionNodes }
-    ensures some_words { IfOk result (λ asm. 0 < vec_len asm.instructions) }
-    ensures few_words { IfOk result (λ asm. vec_len asm.instructions ≤ 4096) }
-    ensures few_constants { IfOk result (λ asm. vec_len asm.constants ≤ 122880) }
-    ensures memory { IfOk result (λ asm. (0 < asm.memory) × (asm.memory < 2048)) }
+/// The values that a function's caller passes: the first ones.
+fn parameters(alloc: Global, count: u32) -> Result<Vec<u32>, NoMemory>
+    ensures { IfOk result (λ params. params.items ≡ from_to 0 count) }
 {
-    let body = &program.main_function().body;
-    let size = measure(body);
-    let memory = frame_bytes(slots(body));
-    let words = WORDS_BEFORE + size.words + WORDS_BEHIND;
-    let constants_at = TEXT_START + 4 * words;
-    let memory_at = (constants_at + size.constants).next_multiple_of(0x1000);
-    let mut code = Code {
-        instructions: Vec::new(alloc),
-        constants: Vec::new(alloc),
-        constants_at,
+    let mut params = Vec::new(alloc);
+    for value in 0..count {
+        params.push(value)?;
+    }
+    Ok(params)
+}
+
+/// The assembler code of a function, and the texts of the program with its own behind them.
+pub fn lower_function(
+    alloc: Global,
+    function: &CoreFunction,
+    texts: Vec<Text>,
+) -> Result<(AsmFunction, Vec<Text>), NoMemory>
+    ensures { IfOk result (λ r. LoweredFunction (function_code function.now) (lines_of r.0) texts.items r.1.items) }
+{
+    let mut lowering = Lowering {
+        alloc,
+        code: Vec::new(alloc),
+        texts,
+        base: function.variables,
+        next_label: 0,
     };
-    code.emit(&entry(memory_at))?;
-    add_print_number(&mut code)?;
-    code.emit(&read_byte())?;
-    lower_expr(&mut code, body, 0)?;
-    code.emit(&exit_done())?;
+    write_block(&mut lowering, &function.body, Goal::Return)?;
+    let params = parameters(alloc, function.parameters)?;
+    let Lowering { code, texts, .. } = lowering;
+    Ok((AsmFunction { params, code }, texts))
+}
+
+/// The assembler code of a program in core form.
+fn lower_core(alloc: Global, core: &Core) -> Result<Asm, NoMemory>
+    requires typed { IsCoreTyped (core_code core.now) }
+    requires small { IsSmall (core_code core.now) }
+    ensures { IfOk result (λ asm. IsLoweredForm (core_code core.now) (asm_functions asm) (asm_constants asm)) }
+{
+    let mut functions = Vec::new(alloc);
+    let mut constants = Vec::new(alloc);
+    for function in &core.functions {
+        let (lowered, texts) = lower_function(alloc, function, constants)?;
+        constants = texts;
+        functions.push(lowered)?;
+    }
     Ok(Asm {
-        instructions: code.instructions,
-        constants: code.constants,
-        memory,
+        functions,
+        constants,
     })
 }
 
-/// The frame stands at the memory's start; the body is behind the routines.
-fn entry(memory_at: u32) -> [Instr; 2] {
-    [
-        Instr::Lui {
-            rd: Register::SP,
-            imm: upper_part(memory_at),
-        },
-        Instr::Jal {
-            rd: Register::ZERO,
-            offset: JumpOffset::new(4 * (1 + ROUTINE_WORDS)),
-        },
-    ]
+/// The assembler code of a program in core form. It is well formed and small, and does what the program does, on every input,
+/// wherever its constants stand in memory.
+pub fn lower(alloc: Global, core: &Core) -> Result<Asm, NoMemory>
+    requires typed { IsCoreTyped (core_code core.now) }
+    requires small { IsSmall (core_code core.now) }
+    ensures { IfOk result (λ asm. IsAsmOf (core_code core.now) (asm_functions asm) (asm_constants asm)) }
+{
+    lower_core(alloc, core)
 }

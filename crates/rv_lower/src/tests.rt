@@ -1,45 +1,45 @@
-ghost use Rattle.std.specs.Prelude.{◌≤◌};
-ghost use Rattle.kk_base.specs.Limits.{greatest_of};
-ghost use Rattle.kk_base.specs.declared.limit.LimitKind.TheVariants.{FunctionNodes};
-ghost use Rattle.kk_syntax.specs.Shapes.{nodes_of};
-ghost use Rattle.kk_syntax.specs.Trees.{expr_tree};
-
-use crate::lower;
-use kk_base::{Name, NoMemory};
-use kk_syntax::{Expr, Fun, Program, Ty};
-use rv_isa::Instr;
+use crate::program::lower_function;
+use kk_base::NoMemory;
+use kk_core::{Block, CoreFunction, Last, Operation, Step};
+use kk_syntax::{BinaryOperator, Form, PrintForm};
+use rv_isa::{Action, AsmFunction, Operation as AsmOperation, RegisterOperation};
 use std::alloc::Global;
 use std::test::Fail;
 
-/// The instructions of a program of a `main` with this body.
-fn instructions_of(alloc: Global, body: Expr) -> Result<Vec<Instr>, NoMemory>
-    requires { nodes_of (expr_tree body) ≤ greatest_of FunctionNodes }
-{
-    let name = Name::new(String::from_str(alloc, "main")?);
-    let mut functions = Vec::new(alloc);
-    functions.push(Fun {
-        name,
-        at: 4,
-        variables: 0,
-        parameters: Vec::new(alloc),
-        result: Ty::Unit,
-        body,
-    })?;
-    let program = Program {
-        types: Vec::new(alloc),
-        constructors: Vec::new(alloc),
-        functions,
-        main: 0,
+/// The code of a function that prints 2 - 3.
+fn printed_difference(alloc: Global) -> Result<AsmFunction, NoMemory> {
+    let mut steps = Vec::new(alloc);
+    steps.push(Step::Let(0, Operation::Number(2)))?;
+    steps.push(Step::Let(1, Operation::Number(3)))?;
+    let numbers = Vec::from_slice(alloc, &[0, 1])?;
+    steps.push(Step::Let(
+        2,
+        Operation::Apply(Form::Binary(BinaryOperator::Subtract), numbers),
+    ))?;
+    let difference = Vec::from_slice(alloc, &[2])?;
+    steps.push(Step::Let(
+        3,
+        Operation::Apply(Form::Print(PrintForm::PrintLine), difference),
+    ))?;
+    let body = Block {
+        steps,
+        last: Last::Return(3),
     };
-    Ok(lower(alloc, &program)?.instructions)
+    let function = CoreFunction {
+        parameters: 0,
+        variables: 4,
+        body,
+    };
+    let (lowered, _texts) = lower_function(alloc, &function, Vec::new(alloc))?;
+    Ok(lowered)
 }
 
-/// A number takes three instructions; a read calls its routine by three, and stores the value.
 #[test]
-fn a_read_takes_four_instructions(rt: HostRuntime) -> Result<(), Fail> {
-    let alloc = rt.alloc();
-    let number = instructions_of(alloc, Expr::Number(1))?;
-    let read = instructions_of(alloc, Expr::ReadByte)?;
-    assert_eq!(rt; read.len(), number.len() + 1);
+fn a_difference_is_printed_by_eight_lines(rt: HostRuntime) -> Result<(), Fail> {
+    let lowered = printed_difference(rt.alloc())?;
+    assert_eq!(rt; lowered.code.len(), 8);
+    let subtraction = Action::Compute(AsmOperation::Register(RegisterOperation::Sub));
+    let subtracts = lowered.code.iter().any(|line| line.action == subtraction);
+    assert!(rt; subtracts);
     Ok(())
 }

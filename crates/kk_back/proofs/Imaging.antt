@@ -1,0 +1,206 @@
+-- The image of a program in core form does what the program does, layer by layer: the assembler code, the placed code and the processor.
+use Rattle.std.proofs.Common.{◌≡◌, ◌+◌, ◌*◌, ◌^◌, ◌<◌, ◌≤◌, ◌≢◌, ℕ, List, [], ◌∷◌, All, Some, length, slice_get, refl, sym, ap, subst, ◌∙◌, arith}
+use Rattle.kk_base.specs.Agreements.{Agree}
+use Rattle.kk_base.specs.Machines.{state}
+use Rattle.kk_base.specs.Sizes.{AreSizes}
+use Rattle.kk_base.proofs.Agreements.{agree_through}
+use Rattle.kk_syntax.specs.PositionsOf.{PositionTable}
+use Rattle.kk_core.specs.Codes.{ProgramCode}
+use Rattle.kk_core.specs.CoreTyping.{IsSmall, all_forms}
+use Rattle.kk_core.specs.CoreStates.{core_first_state}
+use Rattle.rv_isa.specs.declared.asm.Asm.{Asm}
+use Rattle.rv_isa.specs.declared.placed.DataSection.{DataSection}
+use Rattle.rv_isa.specs.declared.placed.Placed.{Placed}
+use Rattle.rv_isa.specs.AsmCode.{Lines, asm_functions, asm_constants}
+use Rattle.rv_isa.specs.AsmMachine.{asm_machine, asm_start}
+use Rattle.rv_isa.specs.PlacedCode.{PlacedLines, placed_functions, placed_constants}
+use Rattle.rv_isa.specs.PlacedMachine.{PlacedTurn, placed_machine, placed_start}
+use Rattle.rv_isa.specs.Primitives.{stuck}
+use Rattle.rv_isa.specs.Processor.{Ending, start, goes}
+use Rattle.rv_isa.specs.Execution.{rv32im}
+use Rattle.rv_isa.specs.ProcessorMachine.{processor_machine}
+use Rattle.rv_isa.specs.WellFormed.{all_lines}
+use Rattle.elf_image.specs.Parts.{memory_of}
+use Rattle.elf_image.specs.Program.{IsProgramImage, program_parts, text_start}
+use Rattle.elf_image.specs.declared.part.Part.{Part}
+use Rattle.cell_runtime.specs.Texts.{IsText}
+use Rattle.rv_world.specs.Operations.{Constants, all_bytes}
+use Rattle.rv_world.specs.World.{World, primitives}
+use Rattle.rv_lower.specs.Meaning.{IsAsmOf, core_cost, core_outside, setting_of_core, first_world}
+use Rattle.rv_regs.specs.Valid.{IsValid}
+use Rattle.rv_regs.specs.Shape as Shape
+use Rattle.rv_regs.specs.Shape.{IsPlainlyPlaced, most_moves}
+use Rattle.rv_regs.specs.Relation.{NeverStuck as RegsNeverStuck}
+use Rattle.rv_regs.proofs.Simulating.{agrees, never_stuck}
+use Rattle.rv_place.specs.Addresses.{frame_size}
+use Rattle.rv_place.specs.Bytes.{IsTextOf}
+use Rattle.rv_place.specs.Images.{IsPlacedImage, first_processor, outside_lines}
+use Rattle.rv_place.specs.Running.{NeverStuck}
+use Rattle.rv_place.specs.Texts.{ArePlaceable, ArePlacedWords, map_of, constants_of, text_bytes, all_items}
+use Rattle.rv_place.proofs.BootFits.{FitsImage, fits-image}
+use Rattle.rv_place.proofs.BootSizes.{bytes_most}
+use Rattle.rv_place.specs.declared.words.Words.{Words}
+use Rattle.kk_back.specs.Images.{IsImageOf, step_instructions}
+use Rattle.kk_back.proofs.Placeable.{frame_most, as_many}
+use Rattle.kk_back.proofs.Plain.{placed_is_plain}
+
+-- ---- a runtime and a program that can be placed
+
+placeable_sizes : (forms lines items functions bytes : ℕ) → forms ≤ 17408 → functions ≤ 1024 → lines ≤ 12 * forms → items ≤ 12 * lines + 8 * functions → bytes ≤ 256 * forms
+    → (items ≤ 8388608) × (bytes ≤ 8388608)
+placeable_sizes forms lines items functions bytes few_forms few_functions few_lines few_items few_bytes =
+    (omega (arith, few_forms, few_functions, few_lines, few_items), omega (arith, few_forms, few_bytes))
+
+same_items : (functions : List PlacedLines) → all_items functions ≡ Shape.all_items functions
+same_items [] = refl
+same_items (function ∷ functions) = ap (λ n. length function.code + n) (same_items functions)
+
+-- what the layers before the placing promise can be placed behind the runtime
+pub placeable : (code : ProgramCode) (cells depth : ℕ) (asm : Asm) (placed runtime : Placed) → IsSmall code → IsAsmOf code (asm_functions asm) (asm_constants asm)
+    → IsValid asm placed → IsPlainlyPlaced (asm_functions asm) placed → IsText cells depth (frame_size (placed_functions placed)) runtime → AreSizes cells depth
+    → ArePlaceable runtime placed
+placeable code cells depth asm placed runtime small made valid plain runtime_is sizes =
+    let functions : List Lines = asm_functions asm in
+    let placed_are : List PlacedLines = placed_functions placed in
+    let same : length placed_are ≡ length functions = as_many functions placed_are valid.functions in
+    let frame : frame_size placed_are ≤ 2044 = frame_most placed_are plain.slots in
+    let few : length code.functions ≤ 1024 = small.few in
+    let few_functions : length functions ≤ 1024 = omega (arith, made.as_many, few) in
+    let bytes : length (all_bytes (placed_constants placed)) ≡ length (all_bytes (asm_constants asm)) = ap (λ (texts : List (List ℕ)). length (all_bytes texts)) valid.constants in
+    let both = placeable_sizes (all_forms code.functions) (all_lines functions) (Shape.all_items placed_are) (length functions) (length (all_bytes (asm_constants asm))) small.all few_functions made.few_lines plain.few_items made.few_bytes in
+    record {
+      lines = runtime_is.within;
+      runtime_size = omega (arith, runtime_is.words);
+      bottom = omega (arith, ap (λ (memory : DataSection). memory.stack_bottom) runtime_is.memory, sizes.few_cells);
+      frames = frame;
+      few_functions = omega (arith, same, few_functions);
+      few_items = omega (arith, same_items placed_are, both.0);
+      few_bytes = omega (arith, bytes, both.1);
+    }
+
+-- ---- the layers
+
+same_some : (a b : PlacedLines) → Some a ≡ Some b → a ≡ b
+same_some a b same = cc
+
+-- what a layer below the placing is promised of an image
+abbrev pub PlacedTextAgrees : Type 0
+PlacedTextAgrees =
+    (cells depth : ℕ) (runtime program : Placed) (words : Words) (text input : List ℕ) (main : PlacedLines)
+    → IsPlacedImage cells depth runtime program words text main → All (λ byte. byte < 256) input
+    → NeverStuck (map_of runtime program) (placed_functions program) depth (placed_start main (first_world input))
+    → (up : ℕ → ℕ) × Agree (placed_machine (primitives (constants_of runtime program)) depth (placed_functions program)) (processor_machine rv32im) outside_lines up (placed_start main (first_world input)) (goes (first_processor text runtime.memory.size input))
+
+-- The code of a program, its runtime and the text that is made of both.
+pub record Makes (code : ProgramCode) (cells depth : ℕ) (asm : Asm) (placed runtime : Placed) (words : Words) (text : List ℕ) : Type 0 where
+  pub small : IsSmall code
+  pub sizes : AreSizes cells depth
+  pub made : IsAsmOf code (asm_functions asm) (asm_constants asm)
+  pub valid : IsValid asm placed
+  pub plain : IsPlainlyPlaced (asm_functions asm) placed
+  pub runtime_is : IsText cells depth (frame_size (placed_functions placed)) runtime
+  pub words_are : ArePlacedWords runtime placed words
+  pub text_is : IsTextOf words text
+
+pub makes_of : {code : ProgramCode} {cells depth frame : ℕ} {asm : Asm} {placed runtime : Placed} {words : Words} {text : List ℕ} → IsSmall code → AreSizes cells depth → IsAsmOf code (asm_functions asm) (asm_constants asm)
+    → IsValid asm placed → IsPlainlyPlaced (asm_functions asm) placed → frame ≡ frame_size (placed_functions placed) → IsText cells depth frame runtime → ArePlacedWords runtime placed words → IsTextOf words text
+    → Makes code cells depth asm placed runtime words text
+makes_of {code} {cells} {depth} {frame} {asm} {placed} {runtime} {words} {text} small sizes made valid plain frame_is runtime_is words_are text_is = record {
+  small = small;
+  sizes = sizes;
+  made = made;
+  valid = valid;
+  plain = plain;
+  runtime_is = subst (λ (frame : ℕ). IsText cells depth frame runtime) frame_is runtime_is;
+  words_are = words_are;
+  text_is = text_is;
+}
+
+module _ {code : ProgramCode} {cells depth : ℕ} {asm : Asm} {placed runtime : Placed} {words : Words} {text : List ℕ} (makes : Makes code cells depth asm placed runtime words text) where
+  pub can_be_placed : ArePlaceable runtime placed
+  can_be_placed = placeable code cells depth asm placed runtime makes.small makes.made makes.valid makes.plain makes.runtime_is makes.sizes
+
+  pub fits : FitsImage runtime text
+  fits = fits-image makes.sizes.few_cells makes.sizes.small_depth makes.runtime_is can_be_placed makes.words_are makes.text_is
+
+  -- where the constants begin, and the constants as the assembler code has them
+  abbrev first : ℕ
+  first = (constants_of runtime placed).first
+
+  abbrev constants : Constants
+  constants = record { first = first; texts = asm_constants asm }
+
+  same_constants : constants_of runtime placed ≡ constants
+  same_constants = ap (λ (texts : List (List ℕ)). record { first = first; texts = texts }) makes.valid.constants
+
+  constants_fit : first + length (all_bytes (asm_constants asm)) < 2 ^ 32
+  constants_fit =
+      let most : text_bytes runtime placed ≤ 109084672 = bytes_most can_be_placed in
+      let bytes : length (all_bytes (placed_constants placed)) ≡ length (all_bytes (asm_constants asm)) = ap (λ (texts : List (List ℕ)). length (all_bytes texts)) makes.valid.constants in
+      omega (arith, most, bytes)
+
+  module _ (positions : PositionTable) (input : List ℕ) (bytes : All (λ byte. byte < 256) input) where
+    abbrev main : Lines
+    main = makes.made.main
+
+    never : RegsNeverStuck (primitives constants) depth (asm_functions asm) (asm_start main (first_world input))
+    never = λ n is. makes.made.does.never_stuck positions cells depth first n input makes.sizes.some_depth bytes constants_fit is
+
+    -- the assembler code agrees with the placed code from its first function on, which never is at a loss
+    placed_agrees : (placed_main : PlacedLines) × (slice_get (placed_functions placed) 0 ≡ Some placed_main)
+        × Agree (asm_machine (primitives constants) most_moves depth (asm_functions asm)) (placed_machine (primitives constants) depth (placed_functions placed)) 0 (λ steps. steps * 1 + 0 + 1) (asm_start main (first_world input)) (placed_start placed_main (first_world input))
+    placed_agrees = agrees (primitives constants) depth (asm_functions asm) (placed_functions placed) makes.valid.functions most_moves 0 main (first_world input) makes.plain.few_moves makes.made.main_is makes.made.main_params never
+
+    goes_on : (placed_main : PlacedLines) × (slice_get (placed_functions placed) 0 ≡ Some placed_main)
+        × ((steps : ℕ) → state (placed_machine (primitives constants) depth (placed_functions placed)) steps (placed_start placed_main (first_world input)) ≢ stuck)
+    goes_on = never_stuck (primitives constants) depth (asm_functions asm) (placed_functions placed) makes.valid.functions most_moves 0 main (first_world input) makes.plain.few_moves makes.made.main_is makes.made.main_params never
+
+    same_main : placed_agrees.0 ≡ goes_on.0
+    same_main = same_some placed_agrees.0 goes_on.0 (sym placed_agrees.1 ∙ goes_on.1)
+
+    -- the placed image
+    placed_image : IsPlacedImage cells depth runtime placed words text placed_agrees.0
+    placed_image = record {
+      sizes = makes.sizes;
+      runtime_is = makes.runtime_is;
+      placeable = can_be_placed;
+      plain = placed_is_plain asm placed makes.valid makes.made.formed;
+      words_are = makes.words_are;
+      text_is = makes.text_is;
+      first = placed_agrees.1;
+    }
+
+    placed_never : NeverStuck (map_of runtime placed) (placed_functions placed) depth (placed_start placed_agrees.0 (first_world input))
+    placed_never =
+        subst (λ (c : Constants). (steps : ℕ) → state (placed_machine (primitives c) depth (placed_functions placed)) steps (placed_start placed_agrees.0 (first_world input)) ≢ stuck) (sym same_constants)
+        (subst (λ (placed_main : PlacedLines). (steps : ℕ) → state (placed_machine (primitives constants) depth (placed_functions placed)) steps (placed_start placed_main (first_world input)) ≢ stuck) (sym same_main) goes_on.2)
+
+    pub does : PlacedTextAgrees
+        → (up : ℕ → ℕ) × Agree (core_outside step_instructions (setting_of_core code positions cells depth)) (processor_machine rv32im) outside_lines up
+        (core_first_state (setting_of_core code positions cells depth) input) (goes (first_processor text runtime.memory.size input))
+    does text_agrees =
+        let core = makes.made.does.agrees positions cells depth first most_moves input makes.sizes.some_depth bytes constants_fit in
+        let image = text_agrees cells depth runtime placed words text input placed_agrees.0 placed_image bytes placed_never in
+        let whole : PlacedTurn World Ending = placed_start placed_agrees.0 (first_world input) in
+        let low = subst (λ (c : Constants). Agree (placed_machine (primitives c) depth (placed_functions placed)) (processor_machine rv32im) outside_lines image.0 whole (goes (first_processor text runtime.memory.size input))) same_constants image.1 in
+        let high = agree_through (core_outside step_instructions (setting_of_core code positions cells depth)) (asm_machine (primitives constants) most_moves depth (asm_functions asm)) (placed_machine (primitives constants) depth (placed_functions placed))
+        0 0 core.0 (λ steps. steps * 1 + 0 + 1) (core_first_state (setting_of_core code positions cells depth) input) (asm_start main (first_world input)) whole core.1 placed_agrees.2 in (
+          (λ m. core.0 (image.0 m * 1 + 0 + 1)),
+          agree_through (core_outside step_instructions (setting_of_core code positions cells depth)) (placed_machine (primitives constants) depth (placed_functions placed)) (processor_machine rv32im)
+              0 outside_lines (λ m. core.0 (m * 1 + 0 + 1)) image.0 (core_first_state (setting_of_core code positions cells depth) input) whole (goes (first_processor text runtime.memory.size input)) high low,
+        )
+
+-- The image of the text, with the memory that the runtime asks for, is an image of the program.
+pub image_of : {code : ProgramCode} {cells depth : ℕ} {asm : Asm} {placed runtime : Placed} {words : Words} {text : List ℕ} → Makes code cells depth asm placed runtime words text → PlacedTextAgrees
+    → (entry : ℕ) (parts : List Part) → IsProgramImage entry parts → entry ≡ text_start → parts ≡ program_parts text runtime.memory.size → IsImageOf code cells depth entry parts
+image_of {code} {cells} {depth} {asm} {placed} {runtime} {words} {text} makes text_agrees entry parts program entry_is parts_are =
+    record {
+      program = program;
+      does = λ positions input bytes.
+          let whole = does makes positions input bytes text_agrees in (
+            whole.0,
+            subst (λ (parts : List Part). Agree (core_outside step_instructions (setting_of_core code positions cells depth)) (processor_machine rv32im) outside_lines whole.0 (core_first_state (setting_of_core code positions cells depth) input) (goes (start (memory_of parts) entry input))) (sym parts_are)
+                (subst (λ (entry : ℕ). Agree (core_outside step_instructions (setting_of_core code positions cells depth)) (processor_machine rv32im) outside_lines whole.0 (core_first_state (setting_of_core code positions cells depth) input) (goes (start (memory_of (program_parts text runtime.memory.size)) entry input))) (sym entry_is)
+                whole.1),
+          );
+    }

@@ -1,0 +1,3 @@
+pub mod Imaging
+pub mod Placeable
+pub mod Plain

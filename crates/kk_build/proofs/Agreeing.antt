@@ -1,0 +1,152 @@
+-- The file of an image agrees with the program: the core form keeps the program's meaning, and the image does what the core form does.
+use Rattle.std.proofs.Common.{◌≡◌, true, false, nat_eq, ℕ, ◌+◌, ◌*◌, ◌<◌, ◌≤◌, List, All, Option, Some, None, refl, sym, ap, subst, ◌∙◌, arith, flat_map}
+use Rattle.std.proofs.lemmas.Bool.Decides.{nat_tests}
+use Rattle.kk_base.specs.Trace.{IsPrefix}
+use Rattle.kk_base.specs.Machines.{Machine, trace, weight_of, weight_unless, ending_after, mapped}
+use Rattle.kk_base.specs.Agreements.{Agree}
+use Rattle.kk_base.proofs.Machines.{trace-weighing, state-weighing, weight_of-at_most}
+use Rattle.kk_base.proofs.Agreements.{agree_through, agree_mapped}
+use Rattle.kk_syntax.specs.PositionsOf.{PositionTable}
+use Rattle.kk_syntax.specs.Programs.{ProgramTree}
+use Rattle.kk_syntax.specs.Shapes.{greatest_nodes}
+use Rattle.kk_source.specs.Ends.{exit_of}
+use Rattle.kk_source.specs.Notes.{Note, events_of}
+use Rattle.kk_source.specs.State.{Setting, State, End, ended, heap_full, stack_full}
+use Rattle.kk_source.specs.SourceAfter.{step, ending_of, store_machine, first_state}
+use Rattle.kk_core.specs.Codes.{ProgramCode}
+use Rattle.kk_core.specs.CoreStates.{CoreSetting, core_first_state}
+use Rattle.kk_core.specs.CoreMachine.{core_machine}
+use Rattle.kk_norm.specs.Meaning.{heavy_store_machine, KeepsMeaning}
+use Rattle.rv_isa.specs.Processor.{Processor, Progress, exited, start, goes}
+use Rattle.rv_isa.specs.InstructionSet.{run_over}
+use Rattle.rv_isa.specs.Execution.{rv32im}
+use Rattle.rv_isa.specs.ProcessorMachine.{processor_machine, ImageAgrees, ImageKeepsUp}
+use Rattle.rv_isa.proofs.ImageAgreements.{image_agrees, image_keeps_up}
+use Rattle.rv_lower.specs.Meaning.{core_outside, setting_of_core}
+use Rattle.elf_image.specs.Loaded.{IsLoaded, parts_of}
+use Rattle.elf_image.specs.Parts.{memory_of}
+use Rattle.elf_image.specs.Fields.{entry_of}
+use Rattle.elf_image.specs.declared.part.Part.{Part}
+use Rattle.rv_place.specs.Images.{outside_lines}
+use Rattle.kk_back.specs.Images.{IsImageOf, step_instructions}
+use Rattle.kk_build.specs.Agreement.{Agrees, instructions_within, IsBounded}
+use Rattle.kk_build.specs.Built.{as_run}
+
+-- ---- what its steps weigh makes no difference to what the store machine does
+
+same_traces : (weight : ℕ) (setting : Setting) (n : ℕ) (s : State) → trace (heavy_store_machine weight setting) n s ≡ trace (store_machine setting) n s
+same_traces weight setting n s = trace-weighing (λ (t : State). weight) ending_of (step setting) n s
+
+same_endings : (weight : ℕ) (setting : Setting) (n : ℕ) (s : State) → ending_after (heavy_store_machine weight setting) n s ≡ ending_after (store_machine setting) n s
+same_endings weight setting n s = ap ending_of (state-weighing (λ (t : State). weight) ending_of (step setting) n s)
+
+agrees_unweighed : (weight : ℕ) (setting : Setting) (s : State) (image : ℕ → Progress)
+    → ImageAgrees (heavy_store_machine weight setting) events_of exit_of s image → ImageAgrees (store_machine setting) events_of exit_of s image
+agrees_unweighed weight setting s image agrees =
+    record {
+      ends_well = agrees.ends_well;
+      image_is_behind = λ m.
+          let found = agrees.image_is_behind m in
+          (found.0, subst (λ (told : List Note). IsPrefix (image m).processor.trace (flat_map events_of told)) (same_traces weight setting found.0 s) found.1);
+      machine_is_behind = λ n.
+          let found = agrees.machine_is_behind n in
+          (found.0, subst (λ (told : List Note). IsPrefix (flat_map events_of told) (image found.0).processor.trace) (same_traces weight setting n s) found.1);
+      end_alike = λ end.
+          let both = agrees.end_alike end in (
+            λ ended. both.0 (ended.0, same_endings weight setting ended.0 s ∙ ended.1),
+            λ exits. let found = both.1 exits in (found.0, sym (same_endings weight setting found.0 s) ∙ found.1),
+          );
+      same_trace = λ end n m ended exits.
+          ap (flat_map events_of) (sym (same_traces weight setting n s)) ∙ agrees.same_trace end n m (same_endings weight setting n s ∙ ended) exits;
+    }
+
+keeps_up_unweighed : (weight : ℕ) (setting : Setting) (within : ℕ → ℕ) (s : State) (image : ℕ → Progress)
+    → ImageKeepsUp (heavy_store_machine weight setting) events_of exit_of within s image → ImageKeepsUp (store_machine setting) events_of exit_of within s image
+keeps_up_unweighed weight setting within s image keeps =
+    record {
+      goes_on = λ n. subst (λ (told : List Note). IsPrefix (flat_map events_of told) (image (within n)).processor.trace) (same_traces weight setting n s) (keeps.goes_on n);
+      ends = λ n end ended. keeps.ends n end (same_endings weight setting n s ∙ ended);
+    }
+
+-- what so many steps weigh
+unless_at_most : (how : Option End) (weight : ℕ) → weight_unless how weight ≤ weight
+unless_at_most None weight = omega arith
+unless_at_most (Some end) weight = omega arith
+
+steps_weigh : (weight : ℕ) (setting : Setting) (n : ℕ) (s : State) → weight_of (heavy_store_machine weight setting) n s ≤ weight * n
+steps_weigh weight setting n s = weight_of-at_most (heavy_store_machine weight setting) weight (λ t. unless_at_most (ending_of t) weight) n s
+
+-- ---- the agreement
+
+-- no two ends have the same exit number
+-- numbers that are told apart are not the same
+apart : (n m : ℕ) → nat_eq n m ≡ false → n ≡ m → ⊥
+apart n m differs same = let equal : nat_eq n m ≡ true = subst (λ (k : ℕ). nat_eq n k ≡ true) same (grind (arith, nat_tests)) in cc
+
+differ : (a b : End) → exit_of a ≡ exit_of b → a ≡ b
+differ ended ended same = refl
+differ ended heap_full same = absurd (apart 0 101 refl same)
+differ ended stack_full same = absurd (apart 0 102 refl same)
+differ heap_full ended same = absurd (apart 101 0 refl same)
+differ heap_full heap_full same = refl
+differ heap_full stack_full same = absurd (apart 101 102 refl same)
+differ stack_full ended same = absurd (apart 102 0 refl same)
+differ stack_full heap_full same = absurd (apart 102 101 refl same)
+differ stack_full stack_full same = refl
+
+-- the loaded image agrees with the program, and keeps up with it
+module _ (program : ProgramTree) (code : ProgramCode) (cells depth entry : ℕ) (parts : List Part) (keeps : KeepsMeaning program code) (image : IsImageOf code cells depth entry parts)
+    (positions : PositionTable) (input : List ℕ) (bytes : All (λ byte. byte < 256) input) where
+  abbrev setting : Setting
+  setting = as_run program positions cells depth
+
+  abbrev weighed : Machine State Note End
+  weighed = heavy_store_machine (2 * step_instructions) setting
+
+  abbrev loaded : Processor
+  loaded = start (memory_of parts) entry input
+
+  abbrev core : CoreSetting
+  core = setting_of_core code positions cells depth
+
+  abbrev up : ℕ → ℕ
+  up m = m * (greatest_nodes program + 1) + greatest_nodes program + 1
+
+  whole : Agree (mapped events_of (λ end. exited (exit_of end)) weighed) (processor_machine rv32im) outside_lines (λ m. up ((image.does positions input bytes).0 m)) (first_state setting input) (goes loaded)
+  whole =
+      let high = agree_mapped events_of (λ end. exited (exit_of end)) weighed (core_machine (λ s. step_instructions) core) 0 up (first_state setting input) (core_first_state core input)
+      (keeps.agrees positions cells depth input step_instructions (λ s. step_instructions) (λ t. omega arith)) in
+      let low = image.does positions input bytes in
+      agree_through (mapped events_of (λ end. exited (exit_of end)) weighed) (core_outside step_instructions core) (processor_machine rv32im) 0 outside_lines up low.0
+      (first_state setting input) (core_first_state core input) (goes loaded) high low.1
+
+  image_does : ImageAgrees (store_machine setting) events_of exit_of (first_state setting input) (λ m. run_over rv32im m loaded)
+  image_does =
+      agrees_unweighed (2 * step_instructions) setting (first_state setting input) (λ m. run_over rv32im m loaded)
+      (image_agrees rv32im weighed events_of exit_of outside_lines (λ m. up ((image.does positions input bytes).0 m)) (first_state setting input) loaded whole refl differ)
+
+  image_is_bounded : ImageKeepsUp (store_machine setting) events_of exit_of instructions_within (first_state setting input) (λ m. run_over rv32im m loaded)
+  image_is_bounded =
+      keeps_up_unweighed (2 * step_instructions) setting instructions_within (first_state setting input) (λ m. run_over rv32im m loaded)
+      (image_keeps_up rv32im weighed events_of exit_of outside_lines (λ m. up ((image.does positions input bytes).0 m)) (first_state setting input) loaded whole refl
+      instructions_within (λ n. let most = steps_weigh (2 * step_instructions) setting n (first_state setting input) in omega (arith, most)))
+
+-- the file that loads it agrees with the program, and is bounded
+module _ {program : ProgramTree} {code : ProgramCode} {cells depth entry : ℕ} {file : List ℕ} {parts : List Part} (keeps : KeepsMeaning program code)
+    (image : IsImageOf code cells depth entry parts) (loaded : IsLoaded file entry parts) (positions : PositionTable) where
+  -- what holds of the image's entry and parts holds of the file's
+  of_file : (Holds : List Part → ℕ → Type 0) → Holds parts entry → Holds (parts_of file) (entry_of file)
+  of_file Holds holds = subst (λ (p : List Part). Holds p (entry_of file)) loaded.parts_are (subst (λ (e : ℕ). Holds parts e) loaded.entry_is holds)
+
+  pub file_agrees : Agrees file (as_run program positions cells depth)
+  file_agrees = record {
+    loads = loaded.sound;
+    agrees = λ input bytes.
+        of_file (λ p e. ImageAgrees (store_machine (as_run program positions cells depth)) events_of exit_of (first_state (as_run program positions cells depth) input) (λ m. run_over rv32im m (start (memory_of p) e input)))
+        (image_does program code cells depth entry parts keeps image positions input bytes);
+  }
+
+  pub file_is_bounded : IsBounded file (as_run program positions cells depth)
+  file_is_bounded input bytes =
+      of_file (λ p e. ImageKeepsUp (store_machine (as_run program positions cells depth)) events_of exit_of instructions_within (first_state (as_run program positions cells depth) input) (λ m. run_over rv32im m (start (memory_of p) e input)))
+      (image_is_bounded program code cells depth entry parts keeps image positions input bytes)

@@ -1,0 +1,318 @@
+-- The lines of a code are well formed, few, and have only its own labels.
+use Rattle.std.proofs.Common.{◌≡◌, ℕ, suc, ◌+◌, ◌*◌, ◌<◌, ◌≤◌, ◌==◌, ◌⊎◌, inl, inr, Bool, true, false, List, [], ◌∷◌, ◌++◌, length, None, IsSome, refl, sym, subst, ◌∙◌, arith, append_assoc, length-append}
+use Rattle.std.proofs.lemmas.Bool.{or_cases, or_left, or_right, false≢true}
+use Rattle.std.proofs.lemmas.List.Elements.{All-nil, All-cons}
+use Rattle.kk_syntax.specs.Shapes.{is_among as is_bound}
+use Rattle.kk_syntax.specs.Types.{TypeTree}
+use Rattle.kk_syntax.specs.Typing.{Signature, Scope}
+use Rattle.kk_core.specs.Codes.{Code, give, tail_call, branch, case, compute, use_of, unpack, inside}
+use Rattle.kk_core.specs.CoreTyping.{HasCodeType}
+use Rattle.kk_core.specs.Sizes.{forms, AreBound, Ordered}
+use Rattle.rv_isa.specs.declared.asm.Action.{Action}
+use Rattle.rv_isa.specs.declared.asm.Action.TheVariants.{Label, Jump, Branch, TailCall, Return}
+use Rattle.rv_isa.specs.declared.asm.Condition.TheVariants.{NotEqual}
+use Rattle.rv_isa.specs.declared.asm.Operation.TheVariants as Op
+use Rattle.rv_isa.specs.AsmCode.{Line}
+use Rattle.rv_isa.specs.WellFormed.{is_alive, is_alive_at, most_values, IsSpent, AreLinesFormed, AreLabelsAhead, HoldsNone, is_alive_behind}
+use Rattle.rv_lower.specs.Lines.{sets, copies_to, acts, copies, temporaries, constant_word}
+use Rattle.rv_lower.specs.Lowered.{Goal, returns, joins, goal_lines, test_lines, CodeLines}
+use Rattle.rv_lower.proofs.Formed.{none_some, Readable, Good, HasRoom, weaker, room_more, alive_line, to_variable, good_hands, readable_more}
+use Rattle.rv_lower.proofs.AbsentLabels.{HasNo, has_no_append, found_none, found_past, found_here, alive_at_past, alive_at_here, other_label}
+use Rattle.rv_lower.proofs.Labels.{found_label}
+use Rattle.rv_lower.proofs.Operations.{Leads, AreFew, copied, next_temporary, only_bound, operation_serves, as_many}
+
+-- the goal of a code stands ahead, in what follows: its label is none of the code's own, and there only variables that are bound, or the goal's, are alive
+abbrev pub IsGoalAhead : ℕ → List ℕ → Goal → ℕ → List Line → Type 0
+IsGoalAhead base bound returns low tail = Unit {0}
+IsGoalAhead base bound (joins y label) low tail =
+    (label < low) × (y < base) × IsSome (found_label label tail) × ((v : ℕ) → is_alive_at label v tail ≡ true → Readable base base (y ∷ bound) v)
+
+-- well-formed code that follows, without the labels from `low` on, below `high`
+pub record Ahead (base : ℕ) (bound : List ℕ) (goal : Goal) (low high : ℕ) (tail : List Line) : Type 0 where
+  pub formed : AreLinesFormed tail
+  pub fresh : (l : ℕ) → low ≤ l → l < high → HasNo l tail
+  pub goal_ahead : IsGoalAhead base bound goal low tail
+
+-- the lines of a code of so many forms
+pub record Fits (base : ℕ) (bound : List ℕ) (goal : Goal) (low high n : ℕ) (lines : List Line) : Type 0 where
+  pub up : low ≤ high
+  pub none : (l : ℕ) → (l < low) ⊎ (high ≤ l) → HasNo l lines
+  pub few : length lines ≤ 12 * n
+  pub good : (tail : List Line) → Ahead base bound goal low high tail → Good (Readable base base bound) (lines ++ tail)
+
+-- the goal is as well ahead of what comes later, with more labels between, and where more is bound
+goal_later : (base : ℕ) (bound : List ℕ) (goal : Goal) (low later : ℕ) (between tail : List Line) → low ≤ later → ((l : ℕ) → l < low → HasNo l between)
+    → IsGoalAhead base bound goal low tail → IsGoalAhead base bound goal later (between ++ tail)
+goal_later base bound returns low later between tail le none ahead = tt
+goal_later base bound (joins y label) low later between tail le none ahead =
+    (omega (arith, le, ahead.0), ahead.1, subst IsSome (sym (found_past label between tail (none label ahead.0))) ahead.2, λ v is. ahead.3 v (sym (alive_at_past label v between tail (none label ahead.0)) ∙ is))
+
+readable_under : (base limit : ℕ) (bound : List ℕ) (x y v : ℕ) → Readable base limit (y ∷ bound) v → Readable base limit (y ∷ x ∷ bound) v
+readable_under base limit bound x y v (inr is) = inr is
+readable_under base limit bound x y v (inl is) = split (or_cases (y == v) (is_bound bound v) is)
+  where
+    split : ((y == v) ≡ true) ⊎ (is_bound bound v ≡ true) → Readable base limit (y ∷ x ∷ bound) v
+    split (inl same) = inl (or_left (y == v) (is_bound (x ∷ bound) v) same)
+    split (inr bound_v) = inl (or_right (y == v) (is_bound (x ∷ bound) v) (or_right (x == v) (is_bound bound v) bound_v))
+
+goal_more : (base : ℕ) (bound : List ℕ) (x : ℕ) (goal : Goal) (low : ℕ) (tail : List Line) → IsGoalAhead base bound goal low tail → IsGoalAhead base (x ∷ bound) goal low tail
+goal_more base bound x returns low tail ahead = tt
+goal_more base bound x (joins y label) low tail ahead = (ahead.0, ahead.1, ahead.2, λ v is. readable_under base base bound x y v (ahead.3 v is))
+
+goal_up : (base : ℕ) (bound : List ℕ) (goal : Goal) (low later : ℕ) (tail : List Line) → low ≤ later → IsGoalAhead base bound goal low tail → IsGoalAhead base bound goal later tail
+goal_up base bound returns low later tail le ahead = tt
+goal_up base bound (joins y label) low later tail le ahead = (omega (arith, le, ahead.0), ahead.1, ahead.2, ahead.3)
+
+-- an action that reads and writes nothing
+good_alone : (B : ℕ → Type 0) (action : Action) (rest : List Line) → AreLabelsAhead action rest → HoldsNone action → ((v : ℕ) → is_alive_behind v action rest ≡ true → B v) → AreLinesFormed rest
+    → Good B (acts action [] ∷ rest)
+good_alone B action rest labels none alive formed = record {
+  formed = (
+    record {
+      labels = labels;
+      holds_none = none;
+      few = omega arith;
+      gives = λ is. absurd (false≢true is);
+      distinct = λ _. tt;
+      spent = λ _. All-nil (IsSpent (acts action []) rest);
+      args_small = All-nil (λ v. v < most_values);
+      into_small = λ v is. absurd (none_some is);
+    },
+    formed,
+  );
+  alive = alive_line B (acts action []) rest tt (λ v other is. alive v is);
+}
+
+-- a label before code in which it does not stand
+good_label : (B : ℕ → Type 0) (l : ℕ) (rest : List Line) → HasNo l rest → Good B rest → Good B (acts (Label l) [] ∷ rest)
+good_label B l rest none good = good_alone B (Label l) rest (found_none l rest none) tt good.alive good.formed
+
+-- a label, and the lines of the code behind it
+module _ (base : ℕ) (bound : List ℕ) (goal : Goal) (low middle high m : ℕ) (lines : List Line) (less : low < middle) (fits : Fits base bound goal middle high m lines) where
+  labelled_none : (l : ℕ) → (l < low) ⊎ (high ≤ l) → HasNo l (acts (Label low) [] ∷ lines)
+  labelled_none l (inl below) = (other_label l low (λ same. absurd (omega (arith, same, below))), fits.none l (inl (omega (arith, less, below))))
+  labelled_none l (inr above) = (other_label l low (λ same. let up = fits.up in absurd (omega (arith, same, less, above, up))), fits.none l (inr above))
+
+  module _ (tail : List Line) (ahead : Ahead base bound goal low high tail) where
+    labelled_good : Good (Readable base base bound) (acts (Label low) [] ∷ (lines ++ tail))
+    labelled_good = good_label (Readable base base bound) low (lines ++ tail)
+        (has_no_append low lines tail (fits.none low (inl less)) (ahead.fresh low (omega arith) (let up = fits.up in omega (arith, less, up))))
+        (fits.good tail (record {
+          formed = ahead.formed;
+          fresh = λ l le under. ahead.fresh l (omega (arith, le, less)) under;
+          goal_ahead = goal_up base bound goal low middle tail (omega (arith, less)) ahead.goal_ahead;
+        }))
+
+    labelled_fresh : (l : ℕ) → low + 1 ≤ l → l < middle → HasNo l (acts (Label low) [] ∷ (lines ++ tail))
+    labelled_fresh l le under = (
+      other_label l low (λ same. absurd (omega (arith, same, le))),
+      has_no_append l lines tail (fits.none l (inl under)) (ahead.fresh l (omega (arith, le)) (let up = fits.up in omega (arith, under, up))),
+    )
+
+-- the end of a code
+module _ (base : ℕ) (bound : List ℕ) (has : HasRoom base bound) where
+  good_return : (x : ℕ) (tail : List Line) → is_bound bound x ≡ true → AreLinesFormed tail → Good (Readable base base bound) (acts Return (x ∷ []) ∷ tail)
+  good_return x tail is formed = record {
+    formed = (
+      record {
+        labels = tt;
+        holds_none = tt;
+        few = omega arith;
+        gives = λ is. absurd (false≢true is);
+        distinct = λ _. (refl, tt);
+        spent = λ _. All-cons (IsSpent (acts Return (x ∷ [])) tail) x [] refl (All-nil (IsSpent (acts Return (x ∷ [])) tail));
+        args_small = All-cons (λ v. v < most_values) x [] (let low = has.low x is in let room = has.room in omega (arith, low, room)) (All-nil (λ v. v < most_values));
+        into_small = λ v is. absurd (none_some is);
+      },
+      formed,
+    );
+    alive = alive_line (Readable base base bound) (acts Return (x ∷ [])) tail (inl is, tt) (λ v other is. absurd (false≢true is));
+  }
+
+  fits_give : (x : ℕ) (goal : Goal) (low : ℕ) → is_bound bound x ≡ true → Fits base bound goal low low 1 (goal_lines goal x)
+  fits_give x returns low is = record { up = omega arith; none = λ l _. (refl, tt); few = omega arith; good = λ tail ahead. good_return x tail is ahead.formed }
+  fits_give x (joins y label) low is = record {
+    up = omega arith;
+    none = λ l _. (refl, (refl, tt));
+    few = omega arith;
+    good = λ tail ahead. to_variable base base bound Op.Mv (x ∷ []) y (acts (Jump label) [] ∷ tail) has (omega arith) refl (omega arith) (inl is, tt) ahead.goal_ahead.1
+        (good_alone (Readable base base (y ∷ bound)) (Jump label) tail ahead.goal_ahead.2 tt ahead.goal_ahead.3 ahead.formed);
+  }
+
+  fits_tail_call : (f : ℕ) (arguments : List ℕ) (goal : Goal) (low : ℕ) → length arguments ≤ 8 → AreBound bound arguments
+      → Fits base bound goal low low 1 (copies base arguments ++ acts (TailCall f) (temporaries base arguments) ∷ [])
+  fits_tail_call f arguments goal low few each = record {
+    up = omega arith;
+    none = λ l _. has_no_append l (copies base arguments) (last ∷ []) (lines.no_label l) (refl, tt);
+    few = let size : length (copies base arguments ++ last ∷ []) ≡ length (copies base arguments) + 1 = length-append (copies base arguments) (last ∷ []) in let own = lines.few in omega (arith, size, own, few);
+    good = λ tail ahead. subst (Good (Readable base base bound)) (sym (append_assoc (copies base arguments) (last ∷ []) tail))
+        (lines.good (last ∷ tail) (good_hands base bound arguments (TailCall f) None tail has tt tt few few (λ is. absurd (false≢true is)) (λ v is. absurd (none_some is)) (λ v other is. absurd (false≢true is)) ahead.formed));
+  }
+    where
+      last : Line
+      last = acts (TailCall f) (temporaries base arguments)
+
+      lines : Leads (Readable base base bound) (Readable base (base + length arguments) bound) (length arguments) (copies base arguments)
+      lines = copied base bound has arguments few each
+
+-- a branch on a variable, before the code of both ways
+module _ (base : ℕ) (bound : List ℕ) (has : HasRoom base bound) (x : ℕ) (is : is_bound bound x ≡ true) (goal : Goal) (low middle high n m : ℕ) (positive negative : List Line)
+    (first : Fits base bound goal (low + 1) middle n positive) (second : Fits base bound goal middle high m negative) where
+  abbrev Bound : ℕ → Type 0
+  Bound = Readable base base bound
+
+  less : low < middle
+  less = let up = first.up in omega (arith, up)
+
+  branch_none : (l : ℕ) → (l < low) ⊎ (high ≤ l) → HasNo l (positive ++ (acts (Label low) [] ∷ negative))
+  branch_none l apart = has_no_append l positive (acts (Label low) [] ∷ negative) (first.none l (apart_first apart)) (labelled_none base bound goal low middle high m negative less second l apart)
+    where
+      apart_first : (l < low) ⊎ (high ≤ l) → (l < low + 1) ⊎ (middle ≤ l)
+      apart_first (inl below) = inl (omega (arith, below))
+      apart_first (inr above) = let up = second.up in inr (omega (arith, above, up))
+
+  module _ (tail : List Line) (ahead : Ahead base bound goal low high tail) where
+    abbrev behind : List Line
+    behind = acts (Label low) [] ∷ (negative ++ tail)
+
+    behind_good : Good Bound behind
+    behind_good = labelled_good base bound goal low middle high m negative less second tail ahead
+
+    positive_good : Good Bound (positive ++ behind)
+    positive_good = first.good behind (record {
+      formed = behind_good.formed;
+      fresh = labelled_fresh base bound goal low middle high m negative less second tail ahead;
+      goal_ahead = goal_later base bound goal low (low + 1) (acts (Label low) [] ∷ negative) tail (omega arith)
+          (λ l below. labelled_none base bound goal low middle high m negative less second l (inl below)) ahead.goal_ahead;
+    })
+
+    no_label : HasNo low positive
+    no_label = first.none low (inl (omega arith))
+
+    alive_either : (v : ℕ) → (is_alive v (positive ++ behind) ≡ true) ⊎ (is_alive_at low v (positive ++ behind) ≡ true) → Bound v
+    alive_either v (inl alive) = positive_good.alive v alive
+    alive_either v (inr alive) = behind_good.alive v (is_alive_label (sym (alive_at_past low v positive behind no_label) ∙ alive))
+      where
+        is_alive_label : is_alive_at low v behind ≡ true → is_alive v behind ≡ true
+        is_alive_label alive = sym (alive_at_here low v (negative ++ tail)) ∙ alive
+
+    test_good : Good Bound (copies_to x base ∷ sets (constant_word 1) (base + 1) ∷ acts (Branch NotEqual low) (base ∷ (base + 1) ∷ []) ∷ (positive ++ behind))
+    test_good = copied_one.good _ (second_set.good _ (weaker (readable_more base (base + 2) (base + 1 + 1) bound (omega arith))
+        (good_hands base bound (x ∷ x ∷ []) (Branch NotEqual low) None (positive ++ behind) has
+        (subst IsSome (sym (found_past low positive behind no_label ∙ found_here low (negative ++ tail))) refl) tt (omega arith) (omega arith) (λ is. absurd (false≢true is))
+        (λ v is. absurd (none_some is))
+        (λ v other is. only_bound base bound has v (alive_either v (or_cases (is_alive v (positive ++ behind)) (is_alive_at low v (positive ++ behind)) is)))
+        positive_good.formed)))
+      where
+        copied_one : Leads Bound (Readable base (base + 1) bound) 1 (copies_to x base ∷ [])
+        copied_one = next_temporary base bound has base Op.Mv (x ∷ []) (omega arith) refl (omega arith) (inl is, tt)
+
+        second_set : Leads (Readable base (base + 1) bound) (Readable base (base + 1 + 1) bound) 1 (sets (constant_word 1) (base + 1) ∷ [])
+        second_set = next_temporary base bound has (base + 1) (Op.Li (constant_word 1)) [] (omega arith) refl (omega arith) tt
+
+  fits_branch : Fits base bound goal low high (n + m + 1) (test_lines base x low ++ (positive ++ (acts (Label low) [] ∷ negative)))
+  fits_branch = record {
+    up = let up = second.up in omega (arith, less, up);
+    none = λ l apart. (refl, (refl, (refl, branch_none l apart)));
+    few = let size : length (positive ++ (acts (Label low) [] ∷ negative)) ≡ length positive + suc (length negative) = length-append positive (acts (Label low) [] ∷ negative) in
+        let few_first = first.few in let few_second = second.few in omega (arith, size, few_first, few_second);
+    good = λ tail ahead. subst (λ (code : List Line). Good Bound (copies_to x base ∷ sets (constant_word 1) (base + 1) ∷ acts (Branch NotEqual low) (base ∷ (base + 1) ∷ []) ∷ code))
+        (sym (append_assoc positive (acts (Label low) [] ∷ negative) tail)) (test_good tail ahead);
+  }
+
+-- a block whose value a variable takes, before the code that follows
+module _ (base : ℕ) (bound : List ℕ) (x : ℕ) (less_x : x < base) (goal : Goal) (low middle high n m : ℕ) (part more : List Line)
+    (first : Fits base bound (joins x low) (low + 1) middle n part) (second : Fits base (x ∷ bound) goal middle high m more) where
+  less_inside : low < middle
+  less_inside = let up = first.up in omega (arith, up)
+
+  inside_none : (l : ℕ) → (l < low) ⊎ (high ≤ l) → HasNo l (part ++ (acts (Label low) [] ∷ more))
+  inside_none l apart = has_no_append l part (acts (Label low) [] ∷ more) (first.none l (apart_first apart)) (labelled_none base (x ∷ bound) goal low middle high m more less_inside second l apart)
+    where
+      apart_first : (l < low) ⊎ (high ≤ l) → (l < low + 1) ⊎ (middle ≤ l)
+      apart_first (inl below) = inl (omega (arith, below))
+      apart_first (inr above) = let up = second.up in inr (omega (arith, above, up))
+
+  module _ (tail : List Line) (ahead : Ahead base bound goal low high tail) where
+    ahead_more : Ahead base (x ∷ bound) goal low high tail
+    ahead_more = record { formed = ahead.formed; fresh = ahead.fresh; goal_ahead = goal_more base bound x goal low tail ahead.goal_ahead }
+
+    label_good : Good (Readable base base (x ∷ bound)) (acts (Label low) [] ∷ (more ++ tail))
+    label_good = labelled_good base (x ∷ bound) goal low middle high m more less_inside second tail ahead_more
+
+    inside_good : Good (Readable base base bound) (part ++ (acts (Label low) [] ∷ (more ++ tail)))
+    inside_good = first.good (acts (Label low) [] ∷ (more ++ tail)) (record {
+      formed = label_good.formed;
+      fresh = labelled_fresh base (x ∷ bound) goal low middle high m more less_inside second tail ahead_more;
+      goal_ahead = (omega arith, less_x, subst IsSome (sym (found_here low (more ++ tail))) refl, λ v is. label_good.alive v (sym (alive_at_here low v (more ++ tail)) ∙ is));
+    })
+
+  fits_inside : Fits base bound goal low high (n + m + 1) (part ++ (acts (Label low) [] ∷ more))
+  fits_inside = record {
+    up = let up = second.up in omega (arith, less_inside, up);
+    none = inside_none;
+    few = let size : length (part ++ (acts (Label low) [] ∷ more)) ≡ length part + suc (length more) = length-append part (acts (Label low) [] ∷ more) in
+        let few_first = first.few in let few_second = second.few in omega (arith, size, few_first, few_second);
+    good = λ tail ahead. subst (Good (Readable base base bound)) (sym (append_assoc part (acts (Label low) [] ∷ more) tail)) (inside_good tail ahead);
+  }
+
+-- an operation, before the code that follows
+fits_compute : (base : ℕ) (bound : List ℕ) (x : ℕ) (goal : Goal) (low high n : ℕ) (own more : List Line) → Leads (Readable base base bound) (Readable base base (x ∷ bound)) 9 own
+    → Fits base (x ∷ bound) goal low high n more → Fits base bound goal low high (n + 1) (own ++ more)
+fits_compute base bound x goal low high n own more leads fits = record {
+  up = fits.up;
+  none = λ l apart. has_no_append l own more (leads.no_label l) (fits.none l apart);
+  few = let size : length (own ++ more) ≡ length own + length more = length-append own more in let few_own = leads.few in let few_more = fits.few in omega (arith, size, few_own, few_more);
+  good = λ tail ahead. subst (Good (Readable base base bound)) (sym (append_assoc own more tail)) (leads.good (more ++ tail) (fits.good tail (record { formed = ahead.formed; fresh = ahead.fresh; goal_ahead = goal_more base bound x goal low tail ahead.goal_ahead })));
+}
+
+module _ (signatures : List Signature) (few_parameters : AreFew signatures) (base : ℕ) (texts : List (List ℕ)) where
+  -- the variables of a code in order are from a number on to another
+  pub ordered_up : (tail_place : Bool) (scope : Scope) (c : Code) (t : TypeTree) (bound : List ℕ) (from to : ℕ) → HasCodeType signatures tail_place scope c t → Ordered bound from c to → from ≤ to
+  ordered_up place scope (give x) t bound from to typed ordered = ordered.1
+  ordered_up place scope (tail_call f arguments) t bound from to typed ordered = ordered.1
+  ordered_up place scope (branch x positive negative) t bound from to typed ordered =
+      let first = ordered_up place scope positive t bound from ordered.0 typed.1 ordered.2 in
+      let second = ordered_up place scope negative t bound ordered.0 to typed.2 ordered.3 in omega (arith, first, second)
+  ordered_up place scope (case x arms) t bound from to typed ordered = absurd typed
+  ordered_up place scope (compute x operation rest) t bound from to typed ordered =
+      let more = ordered_up place _ rest t (x ∷ bound) (x + 1) to typed.2 ordered.2 in let le = ordered.1 in omega (arith, more, le)
+  ordered_up place scope (use_of x rest) t bound from to typed ordered = ordered_up place scope rest t bound from to typed.2 ordered.1
+  ordered_up place scope (unpack x fields rest) t bound from to typed ordered = absurd typed
+  ordered_up place scope (inside x block rest) t bound from to typed ordered =
+      let first = ordered_up false scope block typed.0 bound from x typed.1 ordered.0 in
+      let more = ordered_up place _ rest t (x ∷ bound) (x + 1) to typed.2 ordered.1 in omega (arith, first, more)
+
+  -- the lines of a typed code in order
+  pub code_fits : (tail_place : Bool) (scope : Scope) (c : Code) (t : TypeTree) (bound : List ℕ) (from to : ℕ) (goal : Goal) (low high : ℕ) (lines : List Line)
+      → HasRoom base bound → to ≤ base → HasCodeType signatures tail_place scope c t → Ordered bound from c to → CodeLines base texts goal low c lines high → Fits base bound goal low high (forms c) lines
+  code_fits place scope (give x) t bound from to goal low high lines has le typed ordered is =
+      subst (λ (lines : List Line). Fits base bound goal low high 1 lines) (sym is.0) (subst (λ (high : ℕ). Fits base bound goal low high 1 (goal_lines goal x)) is.1 (fits_give base bound has x goal low ordered.0))
+  code_fits place scope (tail_call f arguments) t bound from to goal low high lines has le typed ordered is =
+      subst (λ (lines : List Line). Fits base bound goal low high 1 lines) (sym is.0) (subst (λ (high : ℕ). Fits base bound goal low high 1 (copies base arguments ++ acts (TailCall f) (temporaries base arguments) ∷ [])) is.1
+      (fits_tail_call base bound has f arguments goal low (let same = as_many scope arguments typed.1 typed.2 in let few = few_parameters f _ typed.3 in omega (arith, same, few)) ordered.0))
+  code_fits place scope (branch x positive negative) t bound from to goal low high lines has le typed ordered is =
+      let up = ordered_up place scope negative t bound ordered.0 to typed.2 ordered.3 in
+      subst (λ (lines : List Line). Fits base bound goal low high (forms positive + forms negative + 1) lines) (sym is.5)
+      (fits_branch base bound has x ordered.1 goal low is.2 high (forms positive) (forms negative) is.0 is.1
+      (code_fits place scope positive t bound from ordered.0 goal (low + 1) is.2 is.0 has (omega (arith, le, up)) typed.1 ordered.2 is.3)
+      (code_fits place scope negative t bound ordered.0 to goal is.2 high is.1 has le typed.2 ordered.3 is.4))
+  code_fits place scope (case x arms) t bound from to goal low high lines has le typed ordered is = absurd typed
+  code_fits place scope (compute x operation rest) t bound from to goal low high lines has le typed ordered is =
+      let up = ordered_up place _ rest t (x ∷ bound) (x + 1) to typed.2 ordered.2 in
+      let less : x < base = omega (arith, up, le) in
+      subst (λ (lines : List Line). Fits base bound goal low high (forms rest + 1) lines) (sym is.4)
+      (fits_compute base bound x goal low high (forms rest) is.0 is.1 (operation_serves base bound has x less signatures few_parameters scope texts operation typed.0 is.0 typed.1 ordered.0 is.2)
+      (code_fits place _ rest t (x ∷ bound) (x + 1) to goal low high is.1 (room_more base bound x has less) le typed.2 ordered.2 is.3))
+  code_fits place scope (use_of x rest) t bound from to goal low high lines has le typed ordered is =
+      let fits = code_fits place scope rest t bound from to goal low high lines has le typed.2 ordered.1 is in
+      let few_rest = fits.few in
+      record { up = fits.up; none = fits.none; few = omega (arith, few_rest); good = fits.good }
+  code_fits place scope (unpack x fields rest) t bound from to goal low high lines has le typed ordered is = absurd typed
+  code_fits place scope (inside x block rest) t bound from to goal low high lines has le typed ordered is =
+      let up = ordered_up place _ rest t (x ∷ bound) (x + 1) to typed.2 ordered.1 in
+      let less : x < base = omega (arith, up, le) in
+      subst (λ (lines : List Line). Fits base bound goal low high (forms block + forms rest + 1) lines) (sym is.5)
+      (fits_inside base bound x less goal low is.2 high (forms block) (forms rest) is.0 is.1
+      (code_fits false scope block typed.0 bound from x (joins x low) (low + 1) is.2 is.0 has (omega (arith, less)) typed.1 ordered.0 is.3)
+      (code_fits place _ rest t (x ∷ bound) (x + 1) to goal is.2 high is.1 (room_more base bound x has less) le typed.2 ordered.1 is.4))

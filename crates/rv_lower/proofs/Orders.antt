@@ -1,0 +1,89 @@
+-- What follows from the order of a code's variables, and where its lines stand.
+use Rattle.std.proofs.Common.{◌≡◌, ◌+◌, ◌≤◌, ℕ, suc, List, [], ◌∷◌, ◌++◌, length, Option, Bool, true, false, refl, sym, ◌∙◌, ap, arith, append_assoc, true≢false}
+use Rattle.kk_syntax.specs.Types.{TypeTree}
+use Rattle.kk_syntax.specs.Typing.{Signature, Scope}
+use Rattle.kk_source.specs.State.{Environment}
+use Rattle.kk_core.specs.Codes.{Code, give, tail_call, branch, case, compute, use_of, unpack, inside}
+use Rattle.kk_core.specs.CoreStates.{Join, CallFrame}
+use Rattle.kk_core.specs.CoreTyping.{HasCodeType}
+use Rattle.kk_core.specs.Sizes.{forms, Ordered}
+use Rattle.rv_isa.specs.declared.asm.Action.TheVariants.{Label}
+use Rattle.rv_isa.specs.AsmCode.{Line}
+use Rattle.rv_isa.specs.Frames.{Frame}
+use Rattle.rv_lower.specs.Lines.{acts}
+use Rattle.rv_lower.specs.Lowered.{Goal, returns, joins, CodeLines}
+use Rattle.rv_lower.proofs.Following.{one_more, lead, most_forms, Placed, Continues, AllWait}
+
+pub lead_within : (code : Code) → lead code ≤ forms code
+lead_within (give x) = omega arith
+lead_within (tail_call f arguments) = omega arith
+lead_within (branch x positive negative) = omega arith
+lead_within (case x arms) = omega arith
+lead_within (compute x operation rest) = omega arith
+lead_within (use_of x rest) = omega (arith, lead_within rest)
+lead_within (unpack x fields rest) = omega arith
+lead_within (inside x block rest) = omega (arith, lead_within block)
+
+-- a code that is in order binds upwards
+pub order_rises : (signatures : List Signature) (tail : Bool) (scope : Scope) (code : Code) (t : TypeTree) (bound : List ℕ) (low high : ℕ) → HasCodeType signatures tail scope code t → Ordered bound low code high → low ≤ high
+order_rises signatures tail scope (give x) t bound low high typed ordered = ordered.1
+order_rises signatures tail scope (tail_call f arguments) t bound low high typed ordered = ordered.1
+order_rises signatures tail scope (branch x positive negative) t bound low high typed ordered =
+    omega (arith, order_rises signatures tail scope positive t bound low ordered.0 typed.1 ordered.2, order_rises signatures tail scope negative t bound ordered.0 high typed.2 ordered.3)
+order_rises signatures tail scope (case x arms) t bound low high typed ordered = absurd typed
+order_rises signatures tail scope (compute x operation rest) t bound low high typed ordered =
+    omega (arith, ordered.1, order_rises signatures tail (one_more x typed.0 ++ scope) rest t (x ∷ bound) (x + 1) high typed.2 ordered.2)
+order_rises signatures tail scope (use_of x rest) t bound low high typed ordered = order_rises signatures tail scope rest t bound low high typed.2 ordered.1
+order_rises signatures tail scope (unpack x fields rest) t bound low high typed ordered = absurd typed
+order_rises signatures tail scope (inside x block rest) t bound low high typed ordered =
+    omega (arith, order_rises signatures false scope block typed.0 bound low x typed.1 ordered.0, order_rises signatures tail (one_more x typed.0 ++ scope) rest t (x ∷ bound) (x + 1) high typed.2 ordered.1)
+
+-- where a list lies in another, by its parts
+pub split_at : (whole before left own more after : List Line) → whole ≡ before ++ left → left ≡ (own ++ more) ++ after → whole ≡ (before ++ own) ++ (more ++ after)
+split_at whole before left own more after place is =
+    place ∙ ap (λ lines. before ++ lines) (is ∙ append_assoc own more after) ∙ sym (append_assoc before own (more ++ after))
+
+module _ (texts : List (List ℕ)) (signatures : List Signature) where
+  -- a code whose lines stand behind a label
+  pub behind_label : (base : ℕ) (whole start other after : List Line) (l first last : ℕ) (goal : Goal) (tail : Bool) (t : TypeTree) (from high : ℕ) (bound : List ℕ) (scope : Scope) (code : Code) → CodeLines base texts goal first code other last
+      → whole ≡ start ++ (acts (Label l) [] ∷ (other ++ after)) → HasCodeType signatures tail scope code t → Ordered bound from code high → high ≤ base → forms code ≤ most_forms
+      → Placed texts signatures base whole goal tail t high scope from code (other ++ after)
+  behind_label base whole start other after l first last goal tail t from high bound scope code lines place typed ordered small short =
+      record {
+        bound = bound;
+        before = start ++ (acts (Label l) [] ∷ []);
+        own = other;
+        after = after;
+        first = first;
+        last = last;
+        lines = lines;
+        left_is = refl;
+        place = place ∙ sym (append_assoc start (acts (Label l) [] ∷ []) (other ++ after));
+        typed = typed;
+        ordered = ordered;
+        small = small;
+        short = short;
+      }
+
+  -- a code that binds fewer variables goes to the same place
+  pub continues_lower : (base : ℕ) (whole : List Line) (environment : Environment) (cells : ℕ → Option ℕ) (low : ℕ) (result : TypeTree) (inner : List Join) (goal : Goal) (tail : Bool) (high high' : ℕ) (t : TypeTree) → high' ≤ high
+      → Continues texts signatures base whole environment cells low result inner goal tail high t → Continues texts signatures base whole environment cells low result inner goal tail high' t
+  continues_lower base whole environment cells low result [] returns tail high high' t le goes = goes
+  continues_lower base whole environment cells low result [] (joins x l) tail high high' t le goes = absurd goes
+  continues_lower base whole environment cells low result (join ∷ outer) returns tail high high' t le goes = absurd goes
+  continues_lower base whole environment cells low result (join ∷ outer) (joins x l) tail high high' t le goes =
+      record { start = goes.start; left = goes.left; never = goes.never; variable_is = goes.variable_is; above = omega (arith, goes.above); place = goes.place; stands = goes.stands }
+
+  -- the value of a code that may end as a tail call is the function's
+  pub tail_result : (base : ℕ) (whole : List Line) (environment : Environment) (cells : ℕ → Option ℕ) (low : ℕ) (result : TypeTree) (inner : List Join) (goal : Goal) (tail : Bool) (high : ℕ) (t : TypeTree) → tail ≡ true
+      → Continues texts signatures base whole environment cells low result inner goal tail high t → t ≡ result
+  tail_result base whole environment cells low result [] returns tail high t is goes = goes
+  tail_result base whole environment cells low result [] (joins x l) tail high t is goes = absurd goes
+  tail_result base whole environment cells low result (join ∷ outer) returns tail high t is goes = absurd goes
+  tail_result base whole environment cells low result (join ∷ outer) (joins x l) tail high t is goes = absurd (true≢false (sym is ∙ goes.never))
+
+  pub as_many_wait : (frames : List CallFrame) (fs : List (Frame Line)) (t : TypeTree) → AllWait texts signatures frames fs t → length frames ≡ length fs
+  as_many_wait [] [] t waits = refl
+  as_many_wait [] (f ∷ fs) t waits = absurd waits
+  as_many_wait (frame ∷ frames) [] t waits = absurd waits
+  as_many_wait (frame ∷ frames) (f ∷ fs) t waits = ap suc (as_many_wait frames fs waits.0 waits.2)

@@ -1,0 +1,123 @@
+-- Runs of the assembler's machine over lines, one after the other.
+use Rattle.std.proofs.Common.{◌≡◌, ◌≢◌, ◌+◌, ◌-◌, ◌*◌, ◌<◌, ◌≤◌, ℕ, suc, List, [], ◌∷◌, ◌++◌, length, drop, map, Option, Some, option_map, refl, sym, ◌∙◌, ap, subst, inl, inr, arith, add-mul}
+use Rattle.std.proofs.Math.Seq.{drop-length}
+use Rattle.std.proofs.lemmas.List.{append-nil}
+use Rattle.std.proofs.lemmas.Bool.{cases_lt}
+use Rattle.kk_base.specs.Trace.{Event}
+use Rattle.kk_base.specs.Machines.{Machine, trace, state, weight_of}
+use Rattle.kk_base.proofs.Machines.{state-add, trace-add, weight_of-add}
+use Rattle.rv_isa.specs.declared.asm.Operation.{Operation}
+use Rattle.rv_isa.specs.declared.asm.Operation.TheVariants as Op
+use Rattle.rv_isa.specs.Processor.{Ending}
+use Rattle.rv_isa.specs.AsmCode.{Line, Lines}
+use Rattle.rv_isa.specs.AsmMachine.{AsmTurn, asm_acts, asm_next, asm_machine, asm_told, asm_goes}
+use Rattle.rv_isa.specs.Costs.{operation_instructions, instructions_of}
+use Rattle.rv_isa.specs.Frames.{Frame, put, put_into, all_of, top}
+use Rattle.rv_isa.specs.Primitives.{Primitives, go, ended, stuck, or_stuck}
+use Rattle.rv_world.specs.Operations.{Constants, computed}
+use Rattle.rv_world.specs.World.{World, primitives}
+use Rattle.rv_lower.specs.Lines.{computes}
+use Rattle.rv_lower.proofs.Following.{frame_at, turn_at}
+
+-- the most that a line weighs, with so many moves before it
+abbrev pub line_cost : ℕ → ℕ
+line_cost moves = 4 * moves + 90
+
+-- the assembler's machine of a program: its constants, how many moves may stand before a line, the depth, and its functions
+pub record Target : Type 0 where
+  pub constants : Constants
+  pub moves : ℕ
+  pub depth : ℕ
+  pub functions : List Lines
+
+module _ (target : Target) where
+  abbrev pub world_primitives : Primitives World Event Ending
+  world_primitives = primitives target.constants
+
+  abbrev pub machine : Machine (AsmTurn World Ending) Event Ending
+  machine = asm_machine (primitives target.constants) target.moves target.depth target.functions
+
+  -- so many steps lead from a turn to another, with these events, and none of them is stuck
+  pub record Runs (n : ℕ) (events : List Event) (t u : AsmTurn World Ending) : Type 0 where
+    pub within : weight_of machine n t ≤ n * line_cost target.moves
+    pub events_are : trace machine n t ≡ events
+    pub passes : (k : ℕ) → k < n → state machine k t ≢ stuck
+    pub arrives : state machine n t ≡ u
+
+  pub runs_none : (t : AsmTurn World Ending) → Runs 0 [] t t
+  runs_none t = record { within = omega arith; events_are = refl; passes = λ k less. absurd (omega arith); arrives = refl }
+
+  passes_both : (n m : ℕ) (t : AsmTurn World Ending) → ((k : ℕ) → k < n → state machine k t ≢ stuck) → ((k : ℕ) → k < m → state machine k (state machine n t) ≢ stuck)
+      → (k : ℕ) → k < n + m → state machine k t ≢ stuck
+  passes_both n m t before behind k less =
+      elim (cases_lt k n) as (λ _. state machine k t ≢ stuck) [
+        | inl near ↦ before k near
+        | inr far ↦
+            let whole : n + (k - n) ≡ k = omega arith in
+            subst (λ (j : ℕ). state machine j t ≢ stuck) whole (subst (λ (s : AsmTurn World Ending). s ≢ stuck) (sym (state-add machine n (k - n) t)) (behind (k - n) (omega arith)))
+      ]
+
+  pub runs_then : (n m : ℕ) (first second : List Event) (t u v : AsmTurn World Ending) → Runs n first t u → Runs m second u v → Runs (n + m) (first ++ second) t v
+  runs_then n m first second t u v before behind =
+      let there : Runs m second (state machine n t) v = subst (λ s. Runs m second s v) (sym before.arrives) behind in
+      record {
+        within = omega (arith, weight_of-add machine n m t, before.within, there.within, add-mul n m (line_cost target.moves));
+        events_are = trace-add machine n m t ∙ ap (λ es. es ++ trace machine m (state machine n t)) before.events_are ∙ ap (λ es. first ++ es) there.events_are;
+        passes = passes_both n m t before.passes there.passes;
+        arrives = state-add machine n m t ∙ there.arrives;
+      }
+
+  -- one line, and lines behind it
+  pub runs_on : (n : ℕ) (first second : List Event) (t u v : AsmTurn World Ending) → Runs 1 first t u → Runs n second u v → Runs (suc n) (first ++ second) t v
+  runs_on n first second t u v before behind =
+      let whole : 1 + n ≡ suc n = omega arith in
+      subst (λ m. Runs m (first ++ second) t v) whole (runs_then 1 n first second t u v before behind)
+
+  goes_not : (s : AsmTurn World Ending) (whole left : List Line) (cells : ℕ → Option ℕ) (into : Option ℕ) (fs : List (Frame Line)) (world : World) → s ≡ turn_at whole left cells into fs world → s ≢ stuck
+  goes_not s whole left cells into fs world is at = subst (λ (t : AsmTurn World Ending). elim t as (λ _. Type 0) [ go u ↦ Unit {0} | ended how shared ↦ Unit {0} | stuck ↦ ⊥ ]) (sym is ∙ at) tt
+
+  -- a line whose arguments have words
+  pub line_runs : (whole : List Line) (line : Line) (rest : List Line) (cells : ℕ → Option ℕ) (into : Option ℕ) (fs : List (Frame Line)) (world : World) (words : List ℕ) (events : List Event) (u : AsmTurn World Ending)
+      → all_of (map cells line.args) ≡ Some words
+      → asm_acts world_primitives target.depth target.functions (frame_at whole rest cells into) fs world line.action line.args line.into words ≡ u
+      → ((held : Option ℕ) → instructions_of world_primitives line.action (Some words) held world ≤ 90)
+      → drop (length world.trace) (asm_told world_primitives u) ≡ events
+      → Runs 1 events (turn_at whole (line ∷ rest) cells into fs world) u
+  line_runs whole line rest cells into fs world words events u words_are acts light told_are =
+      let t : AsmTurn World Ending = turn_at whole (line ∷ rest) cells into fs world in
+      let next : asm_next world_primitives target.depth target.functions t ≡ u
+      = ap (λ o. or_stuck o (λ ws. asm_acts world_primitives target.depth target.functions (frame_at whole rest cells into) fs world line.action line.args line.into ws)) words_are ∙ acts in
+      let told : drop (length world.trace) (asm_told world_primitives (asm_next world_primitives target.depth target.functions t)) ≡ events
+      = ap (λ (s : AsmTurn World Ending). drop (length world.trace) (asm_told world_primitives s)) next ∙ told_are in
+      let held : Option ℕ = top (frame_at whole (line ∷ rest) cells into ∷ fs) in
+      let weighs : machine.weight t ≡ target.moves * 4 + instructions_of world_primitives line.action (Some words) held world
+      = ap (λ o. target.moves * 4 + instructions_of world_primitives line.action o held world) words_are in
+      record {
+        within = omega (arith, weighs, light held);
+        events_are = append-nil (drop (length world.trace) (asm_told world_primitives (asm_next world_primitives target.depth target.functions t))) ∙ told;
+        passes = λ k less. let first : k ≡ 0 = omega arith in subst (λ j. state machine j t ≢ stuck) (sym first) (goes_not t whole (line ∷ rest) cells into fs world refl);
+        arrives = next;
+      }
+
+  pub silent : (world : World) → drop (length world.trace) world.trace ≡ []
+  silent world = drop-length world.trace
+
+  few_instructions : (operation : Operation) → operation_instructions operation ≤ 2
+  few_instructions (Op.Register operation) = omega arith
+  few_instructions (Op.Immediate operation immediate) = omega arith
+  few_instructions (Op.Shift operation amount) = omega arith
+  few_instructions (Op.Li word) = omega arith
+  few_instructions Op.Mv = omega arith
+  few_instructions (Op.La constant) = omega arith
+  few_instructions (Op.Lw offset) = omega arith
+  few_instructions (Op.Sw offset) = omega arith
+
+  -- an operation on words
+  pub compute_runs : (whole : List Line) (operation : Operation) (args : List ℕ) (x : ℕ) (rest : List Line) (cells : ℕ → Option ℕ) (into : Option ℕ) (fs : List (Frame Line)) (world : World) (words : List ℕ) (word : ℕ)
+      → all_of (map cells args) ≡ Some words → computed target.constants operation words ≡ Some word
+      → Runs 1 [] (turn_at whole (computes operation args x ∷ rest) cells into fs world) (turn_at whole rest (put x (Some word) cells) into fs world)
+  compute_runs whole operation args x rest cells into fs world words word words_are computed_is =
+      let answered : Option ℕ → Option (ℕ × World) = λ o. option_map (λ word. (word, world)) o in
+      line_runs whole (computes operation args x) rest cells into fs world words [] (turn_at whole rest (put x (Some word) cells) into fs world) words_are
+      (ap (λ o. or_stuck (answered o) (λ (r : ℕ × World). asm_goes (record { whole = whole; code = rest; cells = put_into (Some x) r.0 cells; held = []; into = into }) fs r.1)) computed_is)
+      (λ held. omega (arith, few_instructions operation)) (silent world)

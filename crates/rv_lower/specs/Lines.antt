@@ -1,0 +1,125 @@
+-- The assembler lines of the operations of the core form. Value x of a function's assembler code is variable x of its core form; the values behind
+-- all variables, from `base` on, are temporaries. An `int32` is its word, `()` is the word 1, `False` is 1 and `True` is 3.
+use Rattle.std.specs.Prelude.{◌≡◌, ℕ, ◌+◌, ◌*◌, ◌^◌, ◌<◌, List, [], ◌∷◌, ◌++◌, length, Some, None, slice_get}
+use Rattle.kk_syntax.specs.declared.operator.UnaryOperator.TheVariants.{Negate, Not}
+use Rattle.kk_syntax.specs.declared.operator.BinaryOperator.{BinaryOperator}
+use Rattle.kk_syntax.specs.declared.operator.BinaryOperator.TheVariants.{Add, Subtract, Multiply, Divide, Remainder, Equal, NotEqual, Less, LessEqual, Greater, GreaterEqual}
+use Rattle.kk_syntax.specs.declared.operator.PrintForm.{PrintForm}
+use Rattle.kk_syntax.specs.declared.operator.PrintForm.TheVariants as OfPrint
+use Rattle.kk_syntax.specs.declared.program.Form.{Form}
+use Rattle.kk_syntax.specs.declared.program.Form.TheVariants.{Unary, Binary, Print, Construct, Call}
+use Rattle.kk_source.specs.Step.{piece_of}
+use Rattle.kk_core.specs.Codes.{Operation, number, unit, read_byte, print_text, apply}
+use Rattle.rv_isa.specs.declared.asm.Action.{Action}
+use Rattle.rv_isa.specs.declared.asm.Operation.{Operation as AsmOperation}
+use Rattle.rv_isa.specs.declared.asm.Operation.TheVariants as Op
+use Rattle.rv_isa.specs.declared.asm.RegisterOperation.TheVariants as Register
+use Rattle.rv_isa.specs.declared.asm.ImmediateOperation.TheVariants as Immediate
+use Rattle.rv_isa.specs.declared.asm.ShiftOperation.TheVariants as Shift
+use Rattle.rv_isa.specs.declared.immediate.Immediate.{Immediate as ImmediateWord}
+use Rattle.rv_isa.specs.declared.immediate.ShiftAmount.{ShiftAmount}
+use Rattle.rv_isa.specs.declared.routine.Routine.{Routine}
+use Rattle.rv_isa.specs.Arithmetic.{signed}
+use Rattle.rv_isa.specs.AsmCode.{Line}
+
+-- an operation on values, whose word a value takes
+abbrev pub computes : AsmOperation → List ℕ → ℕ → Line
+computes operation args into = record { action = Action.Compute operation; args = args; into = Some into }
+
+-- a constant word
+abbrev pub sets : ℕ → ℕ → Line
+sets word into = computes (Op.Li word) [] into
+
+-- a copy
+abbrev pub copies_to : ℕ → ℕ → Line
+copies_to from into = computes Op.Mv (from ∷ []) into
+
+-- an action without a value
+abbrev pub acts : Action → List ℕ → Line
+acts action args = record { action = action; args = args; into = None }
+
+-- arguments that are handed over are copied to temporaries first, from one on
+abbrev pub copies : ℕ → List ℕ → List Line
+copies base [] = []
+copies base (x ∷ xs) = copies_to x base ∷ copies (base + 1) xs
+
+abbrev pub temporaries : ℕ → List ℕ → List ℕ
+temporaries base [] = []
+temporaries base (x ∷ xs) = base ∷ temporaries (base + 1) xs
+
+-- the word of `()`, and of `False` and `True` by their numbers
+abbrev pub unit_word : ℕ
+unit_word = 1
+
+abbrev pub constant_word : ℕ → ℕ
+constant_word c = 2 * c + 1
+
+-- 0 and 1 become the words of `False` and `True`
+abbrev pub MakesTruth : ℕ → List Line → Type 0
+MakesTruth x lines =
+    (one : ImmediateWord) × (place : ShiftAmount) × (one.word ≡ 1) × (place.places ≡ 1)
+    × (lines ≡ computes (Op.Shift Shift.Slli place) (x ∷ []) x ∷ computes (Op.Immediate Immediate.Addi one) (x ∷ []) x ∷ [])
+
+-- a comparison that gives 0 or 1 by `first`, and then a truth
+abbrev pub Compares : ℕ → List Line → List Line → Type 0
+Compares x first lines = (truth : List Line) × MakesTruth x truth × (lines ≡ first ++ truth)
+
+-- the same of the opposite comparison
+abbrev pub ComparesNot : ℕ → Line → List Line → Type 0
+ComparesNot x first lines =
+    (one : ImmediateWord) × (one.word ≡ 1) × Compares x (first ∷ computes (Op.Immediate Immediate.Xori one) (x ∷ []) x ∷ []) lines
+
+abbrev pub registers : ℕ → ℕ → ℕ → AsmOperation → Line
+registers x a b operation = computes operation (a ∷ b ∷ []) x
+
+-- x = a operator b. DIV by 0 gives -1 where the language wants 0: the quotient is multiplied by 1, or by 0 where b is 0.
+abbrev pub BinaryLines : ℕ → ℕ → BinaryOperator → ℕ → ℕ → List Line → Type 0
+BinaryLines base x Add a b lines = lines ≡ registers x a b (Op.Register Register.Add) ∷ []
+BinaryLines base x Subtract a b lines = lines ≡ registers x a b (Op.Register Register.Sub) ∷ []
+BinaryLines base x Multiply a b lines = lines ≡ registers x a b (Op.Register Register.Mul) ∷ []
+BinaryLines base x Remainder a b lines = lines ≡ registers x a b (Op.Register Register.Rem) ∷ []
+BinaryLines base x Divide a b lines =
+    lines ≡ registers x a b (Op.Register Register.Div) ∷ sets 0 base ∷ registers base base b (Op.Register Register.Sltu) ∷ registers x x base (Op.Register Register.Mul) ∷ []
+BinaryLines base x Equal a b lines =
+    (one : ImmediateWord) × (one.word ≡ 1)
+    × Compares x (registers x a b (Op.Register Register.Sub) ∷ computes (Op.Immediate Immediate.Sltiu one) (x ∷ []) x ∷ []) lines
+BinaryLines base x NotEqual a b lines =
+    Compares x (registers x a b (Op.Register Register.Sub) ∷ sets 0 base ∷ registers x base x (Op.Register Register.Sltu) ∷ []) lines
+BinaryLines base x Less a b lines = Compares x (registers x a b (Op.Register Register.Slt) ∷ []) lines
+BinaryLines base x Greater a b lines = Compares x (registers x b a (Op.Register Register.Slt) ∷ []) lines
+BinaryLines base x LessEqual a b lines = ComparesNot x (registers x b a (Op.Register Register.Slt)) lines
+BinaryLines base x GreaterEqual a b lines = ComparesNot x (registers x a b (Op.Register Register.Slt)) lines
+
+-- a line feed behind a print, or none
+abbrev pub choice_of : PrintForm → ℕ
+choice_of OfPrint.Print = 0
+choice_of OfPrint.PrintLine = 1
+
+-- A print of constant bytes, which stand among the texts. No bytes are not printed.
+abbrev pub PrintLines : ℕ → List (List ℕ) → List ℕ → List Line → Type 0
+PrintLines base texts [] lines = lines ≡ []
+PrintLines base texts (byte ∷ bytes) lines =
+    (index : ℕ) × (slice_get texts index ≡ Some (byte ∷ bytes))
+    × (lines ≡ computes (Op.La index) [] base ∷ sets (length (byte ∷ bytes)) (base + 1) ∷ acts (Action.Routine Routine.PrintText) (base ∷ (base + 1) ∷ []) ∷ [])
+
+-- A form on variables. One with another number of arguments is none, and so is a construction with fields.
+abbrev pub FormLines : ℕ → ℕ → Form → List ℕ → List Line → Type 0
+FormLines base x (Unary Negate) (a ∷ []) lines = lines ≡ sets 0 base ∷ registers x base a (Op.Register Register.Sub) ∷ []
+FormLines base x (Unary Not) (a ∷ []) lines =
+    (two : ImmediateWord) × (two.word ≡ 2) × (lines ≡ computes (Op.Immediate Immediate.Xori two) (a ∷ []) x ∷ [])
+FormLines base x (Binary operator) (a ∷ b ∷ []) lines = BinaryLines base x operator a b lines
+FormLines base x (Print form) (a ∷ []) lines =
+    lines ≡ copies_to a base ∷ sets (choice_of form) (base + 1) ∷ acts (Action.Routine Routine.PrintInt) (base ∷ (base + 1) ∷ []) ∷ sets unit_word x ∷ []
+FormLines base x (Construct c) [] lines = lines ≡ sets (constant_word c) x ∷ []
+FormLines base x (Call f) arguments lines =
+    lines ≡ copies base arguments ++ record { action = Action.Call f; args = temporaries base arguments; into = Some x } ∷ []
+FormLines base x form arguments lines = Unit {0}
+
+-- an operation, whose value variable x takes
+abbrev pub OperationLines : ℕ → List (List ℕ) → ℕ → Operation → List Line → Type 0
+OperationLines base texts x (number value) lines = (word : ℕ) × (signed word ≡ value) × (word < 2 ^ 32) × (lines ≡ sets word x ∷ [])
+OperationLines base texts x unit lines = lines ≡ sets unit_word x ∷ []
+OperationLines base texts x read_byte lines = lines ≡ record { action = Action.Routine Routine.ReadByte; args = []; into = Some x } ∷ []
+OperationLines base texts x (print_text form text) lines =
+    (print : List Line) × PrintLines base texts (piece_of form text) print × (lines ≡ print ++ sets unit_word x ∷ [])
+OperationLines base texts x (apply form arguments) lines = FormLines base x form arguments lines

@@ -1,0 +1,118 @@
+-- What was written of a function's assembler code.
+use Rattle.std.specs.Prelude.{◌≡◌, ℕ, ◌+◌, ◌*◌, ◌≤◌, List, [], ◌∷◌, ◌++◌, Option, Some, None, map, length}
+use Rattle.kk_core.specs.Codes.{Operation, Code, Piece, plug, FunctionCode}
+use Rattle.kk_core.specs.CoreTyping.{all_forms}
+use Rattle.kk_core.specs.Sizes.{forms}
+use Rattle.rv_isa.specs.AsmCode.{Line, Lines, line_of}
+use Rattle.rv_world.specs.Operations.{all_bytes}
+use Rattle.rv_lower.specs.declared.line.Reads.{Reads}
+use Rattle.rv_lower.specs.declared.line.Reads.TheVariants.{Nothing, One, Two}
+use Rattle.rv_lower.specs.declared.line.Short.{Short}
+use Rattle.rv_lower.specs.declared.lowering.Lowering.{Lowering}
+use Rattle.rv_lower.specs.Lines.{OperationLines, PrintLines}
+use Rattle.rv_lower.specs.declared.block.Goal.{Goal as CodeGoal}
+use Rattle.rv_lower.specs.declared.block.Goal.TheVariants as OfGoal
+use Rattle.rv_lower.specs.Lowered.{Goal, returns, joins, CodeLines, IsFunctionLowered, AreFunctionsLowered}
+
+abbrev pub read_list : Reads → List ℕ
+read_list Nothing = []
+read_list (One a) = a ∷ []
+read_list (Two a b) = a ∷ b ∷ []
+
+abbrev pub short_line : Short → Line
+short_line s = record { action = s.action; args = read_list s.reads; into = s.into }
+
+-- the lines and the constant bytes that stand there
+abbrev pub lines_written : Lowering → List Line
+lines_written lowering = map line_of lowering.code.items
+
+abbrev pub texts_written : Lowering → List (List ℕ)
+texts_written lowering = lowering.texts.items
+
+-- lines were written, and nothing else
+pub record Wrote (lines : List Line) (old new : Lowering) : Type 0 where
+  pub code : lines_written new ≡ lines_written old ++ lines
+  pub texts : texts_written new ≡ texts_written old
+  pub base : new.base ≡ old.base
+  pub label : new.next_label ≡ old.next_label
+
+-- a label was taken, and nothing written
+pub record TookLabel (label : ℕ) (old new : Lowering) : Type 0 where
+  pub is : label ≡ old.next_label
+  pub next : new.next_label ≡ old.next_label + 1
+  pub code : lines_written new ≡ lines_written old
+  pub texts : texts_written new ≡ texts_written old
+  pub base : new.base ≡ old.base
+
+-- lines were written, and texts: those have so many bytes at most
+pub record Grows (n : ℕ) (lines : List Line) (old new : Lowering) : Type 0 where
+  pub code : lines_written new ≡ lines_written old ++ lines
+  pub base : new.base ≡ old.base
+  pub more : List (List ℕ)
+  pub texts : texts_written new ≡ texts_written old ++ more
+  pub few : length (all_bytes more) ≤ 256 * n
+
+-- The lines of an operation were written. They are its lines however many texts come later.
+pub record WroteOperation (x : ℕ) (operation : Operation) (old new : Lowering) : Type 0 where
+  pub lines : List Line
+  pub grows : Grows 1 lines old new
+  pub label : new.next_label ≡ old.next_label
+  pub are : (later : List (List ℕ)) → OperationLines old.base (texts_written new ++ later) x operation lines
+
+-- the same of a code
+pub record WroteCode (goal : Goal) (code : Code) (old new : Lowering) : Type 0 where
+  pub lines : List Line
+  pub grows : Grows (forms code) lines old new
+  pub are : (later : List (List ℕ)) → CodeLines old.base (texts_written new ++ later) goal old.next_label code lines new.next_label
+
+-- the lines of steps were written: those of any code that follows stand behind them
+pub record WroteSteps (pieces : List Piece) (old new : Lowering) : Type 0 where
+  pub lines : List Line
+  pub n : ℕ
+  pub grows : Grows n lines old new
+  pub counted : (rest : Code) → forms (plug pieces rest) ≡ n + forms rest
+  pub are : (later : List (List ℕ)) (goal : Goal) (rest : Code) (more : List Line) (high : ℕ) → CodeLines old.base (texts_written new ++ later) goal new.next_label rest more high
+      → CodeLines old.base (texts_written new ++ later) goal old.next_label (plug pieces rest) (lines ++ more) high
+
+-- lines of a kind were written, and nothing else
+pub record WroteLines (Kind : List Line → Type 0) (old new : Lowering) : Type 0 where
+  pub lines : List Line
+  pub wrote : Wrote lines old new
+  pub are : Kind lines
+
+-- the lines of a print were written, and its bytes
+pub record WrotePrint (bytes : List ℕ) (old new : Lowering) : Type 0 where
+  pub lines : List Line
+  pub grows : Grows 1 lines old new
+  pub label : new.next_label ≡ old.next_label
+  pub are : (later : List (List ℕ)) → PrintLines old.base (texts_written new ++ later) bytes lines
+
+-- a text was added, and nothing written
+pub record AddedText (index : ℕ) (text : List ℕ) (old new : Lowering) : Type 0 where
+  pub is : index ≡ length (texts_written old)
+  pub texts : texts_written new ≡ texts_written old ++ text ∷ []
+  pub code : lines_written new ≡ lines_written old
+  pub base : new.base ≡ old.base
+  pub label : new.next_label ≡ old.next_label
+
+-- the two of a list of two
+abbrev pub pair_of : List ℕ → Option (ℕ × ℕ)
+pair_of (a ∷ b ∷ []) = Some (a, b)
+pair_of _ = None
+
+-- where the value of a block goes
+abbrev pub goal_of : CodeGoal → Goal
+goal_of OfGoal.Return = returns
+goal_of (OfGoal.Join variable label) = joins variable label
+
+-- a function was lowered, and texts were added behind those that stood there
+pub record LoweredFunction (function : FunctionCode) (lines : Lines) (old new : List (List ℕ)) : Type 0 where
+  pub more : List (List ℕ)
+  pub texts : new ≡ old ++ more
+  pub few : length (all_bytes more) ≤ 256 * forms function.body
+  pub is : (later : List (List ℕ)) → IsFunctionLowered (new ++ later) function lines
+
+-- functions were lowered, and these are their texts: they are lowered however many texts come later
+pub record LoweredFunctions (functions : List FunctionCode) (each : List Lines) (texts : List (List ℕ)) : Type 0 where
+  pub few : length (all_bytes texts) ≤ 256 * all_forms functions
+  pub are : (later : List (List ℕ)) → AreFunctionsLowered (texts ++ later) functions each

@@ -1,0 +1,129 @@
+// The code of blocks.
+
+ghost use Rattle.std.specs.Prelude.{◌≡◌, [], ◌∷◌, map, OnOk};
+ghost use Rattle.kk_core.specs.Codes.{block_code, last_code, step_piece, give, tail_call};
+ghost use Rattle.rv_isa.specs.declared.asm.Action.TheVariants.{Label};
+ghost use Rattle.rv_lower.specs.Lines.{acts};
+ghost use Rattle.rv_lower.specs.Lowered.{test_lines};
+ghost use Rattle.rv_lower.specs.Written.{goal_of, Wrote, WroteCode, WroteSteps};
+
+use crate::line::{Reads, act, copy, set};
+use crate::lowering::Lowering;
+use crate::operation::constant_of;
+use kk_base::NoMemory;
+use kk_core::{Block, Last, Step};
+use rv_isa::{Action, Condition};
+
+/// Where the value of a block goes.
+#[derive(Clone, Copy, Debug)]
+pub enum Goal {
+    /// To the caller.
+    Return,
+    /// To the variable, and the code goes on at the label.
+    Join(u32, u32),
+}
+
+/// The number of the constructor `True`.
+const TRUE: u32 = 1;
+
+/// Writes the code of a block. The recursion is as deep as the block.
+#[cycle(lower)]
+pub fn write_block(lowering: &mut Lowering, block: &Block, goal: Goal) -> Result<(), NoMemory>
+    ensures { OnOk result (WroteCode (goal_of goal) (block_code block.now) lowering.old lowering.new) }
+{
+    write_steps(lowering, &block.steps)?;
+    write_last(lowering, &block.last, goal)
+}
+
+#[cycle(lower)]
+fn write_steps(lowering: &mut Lowering, steps: &[Step]) -> Result<(), NoMemory>
+    ensures { OnOk result (WroteSteps (map step_piece steps.now) lowering.old lowering.new) }
+{
+    for step in steps {
+        write_step(lowering, step)?;
+    }
+    Ok(())
+}
+
+#[cycle(lower)]
+fn write_step(lowering: &mut Lowering, step: &Step) -> Result<(), NoMemory>
+    ensures { OnOk result (WroteSteps (step_piece step.now ∷ []) lowering.old lowering.new) }
+{
+    match step {
+        Step::Let(variable, operation) => lowering.operation(*variable, operation),
+        Step::Use(_) => Ok(()),
+        Step::Open(_, _) => Ok(()),
+        Step::Inside(variable, block) => {
+            let label = lowering.take_label()?;
+            write_block(lowering, block, Goal::Join(*variable, label))?;
+            write_label(lowering, label)
+        }
+    }
+}
+
+#[cycle(lower)]
+fn write_last(lowering: &mut Lowering, last: &Last, goal: Goal) -> Result<(), NoMemory>
+    ensures { OnOk result (WroteCode (goal_of goal) (last_code last.now) lowering.old lowering.new) }
+{
+    match last {
+        Last::Return(variable) => write_value(lowering, *variable, goal),
+        Last::TailCall(function, arguments) => {
+            write_tail_call(lowering, *function, arguments, goal)
+        }
+        Last::If(variable, positive, negative) => {
+            let label = lowering.take_label()?;
+            write_test(lowering, *variable, label)?;
+            write_block(lowering, positive, goal)?;
+            write_label(lowering, label)?;
+            write_block(lowering, negative, goal)
+        }
+        Last::Case(_, _) => Ok(()),
+    }
+}
+
+fn write_label(lowering: &mut Lowering, label: u32) -> Result<(), NoMemory>
+    ensures { OnOk result (Wrote (acts (Label label) [] ∷ []) lowering.old lowering.new) }
+{
+    lowering.write(&[act(Action::Label(label), Reads::Nothing)])
+}
+
+/// A branch to a label where the variable is not `True`.
+fn write_test(lowering: &mut Lowering, variable: u32, label: u32) -> Result<(), NoMemory>
+    ensures { OnOk result (Wrote (test_lines lowering.old.base variable label) lowering.old lowering.new) }
+{
+    let (tested, positive) = (lowering.base, lowering.temporary(1)?);
+    let word = constant_of(TRUE)?;
+    lowering.write(&[
+        copy(variable, tested),
+        set(word, positive),
+        act(
+            Action::Branch(Condition::NotEqual, label),
+            Reads::Two(tested, positive),
+        ),
+    ])
+}
+
+/// The value of a variable goes to the goal.
+fn write_value(lowering: &mut Lowering, variable: u32, goal: Goal) -> Result<(), NoMemory>
+    ensures { OnOk result (WroteCode (goal_of goal) (give variable) lowering.old lowering.new) }
+{
+    match goal {
+        Goal::Return => lowering.write(&[act(Action::Return, Reads::One(variable))]),
+        Goal::Join(into, label) => lowering.write(&[
+            copy(variable, into),
+            act(Action::Jump(label), Reads::Nothing),
+        ]),
+    }
+}
+
+fn write_tail_call(
+    lowering: &mut Lowering,
+    function: u32,
+    arguments: &[u32],
+    goal: Goal,
+) -> Result<(), NoMemory>
+    ensures { OnOk result (WroteCode (goal_of goal) (tail_call function arguments.now) lowering.old lowering.new) }
+{
+    let handed = lowering.hand_over(arguments)?;
+    lowering.push(Action::TailCall(function), &handed, None)
+}

@@ -1,0 +1,336 @@
+// The lines of operations.
+
+ghost use Rattle.std.specs.Prelude.{◌≡◌, ◌≤◌, [], ◌∷◌, map, length, OnOk, IfOk};
+ghost use Rattle.kk_syntax.specs.declared.program.Form.TheVariants.{Unary, Binary, Print, Construct, Call};
+ghost use Rattle.kk_syntax.specs.declared.operator.BinaryOperator.TheVariants.{Divide, Equal, NotEqual};
+ghost use Rattle.kk_source.specs.Step.{piece_of};
+ghost use Rattle.kk_core.specs.Codes.{operation_of};
+ghost use Rattle.rv_isa.specs.declared.asm.Operation.TheVariants.{Register};
+ghost use Rattle.rv_isa.specs.declared.asm.RegisterOperation.TheVariants.{Slt};
+ghost use Rattle.rv_isa.specs.Frames.{only_of};
+ghost use Rattle.rv_lower.specs.Lines.{choice_of, constant_word, registers, Compares, ComparesNot, BinaryLines, FormLines, PrintLines};
+ghost use Rattle.rv_lower.specs.Written.{pair_of, short_line, Wrote, WroteLines, WrotePrint, WroteOperation};
+
+use crate::line::{Reads, Short, act, binary, constant, copy, set, unary};
+use crate::lowering::Lowering;
+use kk_base::{NoMemory, Text};
+use kk_core::Operation as CoreOperation;
+use kk_syntax::{BinaryOperator, Form, PrintForm, StringLiteral, UnaryOperator};
+use rv_isa::{
+    Action, Immediate, ImmediateOperation, Operation, RegisterOperation, Routine, ShiftAmount,
+    ShiftOperation,
+};
+use std::alloc::Global;
+
+/// The word of `()`.
+const UNIT: u32 = 1;
+
+/// The word of a constructor without fields, by its number. A number whose word is none would want more memory than there is.
+pub fn constant_of(constructor: u32) -> Result<u32, NoMemory>
+    ensures { IfOk result (λ word. word ≡ constant_word constructor) }
+{
+    if constructor < 1 << 31 {
+        Ok(2 * constructor + 1)
+    } else {
+        Err(NoMemory)
+    }
+}
+
+/// The argument, where there is one.
+fn only(arguments: &[u32]) -> Option<u32>
+    ensures { result ≡ only_of arguments.now }
+{
+    match arguments {
+        [value] => Some(*value),
+        _ => None,
+    }
+}
+
+/// The arguments, where there are two.
+fn pair(arguments: &[u32]) -> Option<(u32, u32)>
+    ensures { result ≡ pair_of arguments.now }
+{
+    match arguments {
+        [first, second] => Some((*first, *second)),
+        _ => None,
+    }
+}
+
+/// Whether a print ends with a line feed, as the routine wants it.
+fn choice(form: PrintForm) -> u32
+    ensures { result ≡ choice_of form }
+{
+    match form {
+        PrintForm::Print => 0,
+        PrintForm::PrintLine => 1,
+    }
+}
+
+/// The bytes of a print.
+fn piece(alloc: Global, form: PrintForm, text: &StringLiteral) -> Result<Text, NoMemory>
+    ensures bytes { IfOk result (λ piece. piece ≡ piece_of form text.now) }
+    ensures short { IfOk result (λ piece. length piece ≤ 256) }
+{
+    let mut bytes = Vec::from_slice(alloc, text.as_slice())?;
+    match form {
+        PrintForm::Print => Ok(Text::from_vec(bytes)),
+        PrintForm::PrintLine => {
+            bytes.push(b'\n')?;
+            Ok(Text::from_vec(bytes))
+        }
+    }
+}
+
+impl Lowering {
+    /// Writes the lines of an operation, whose value `into` takes.
+    pub fn operation(&mut self, into: u32, operation: &CoreOperation) -> Result<(), NoMemory>
+        ensures { OnOk result (WroteOperation into (operation_of operation.now) self.old self.new) }
+    {
+        match operation {
+            CoreOperation::Number(value) => self.write(&[set(value.cast_unsigned(), into)]),
+            CoreOperation::Unit => self.write(&[set(UNIT, into)]),
+            CoreOperation::ReadByte => {
+                self.push(Action::Routine(Routine::ReadByte), &[], Some(into))
+            }
+            CoreOperation::PrintText(form, text) => {
+                self.print_text(*form, text)?;
+                self.write(&[set(UNIT, into)])
+            }
+            CoreOperation::Apply(form, arguments) => self.apply(into, *form, arguments),
+        }
+    }
+
+    /// Writes a form on variables. One with another number of arguments is none.
+    fn apply(&mut self, into: u32, form: Form, arguments: &[u32]) -> Result<(), NoMemory>
+        ensures { OnOk result (WroteLines (FormLines self.old.base into form arguments.now) self.old self.new) }
+    {
+        match form {
+            Form::Unary(operator) => self.unary(into, operator, arguments),
+            Form::Binary(operator) => self.binary(into, operator, arguments),
+            Form::Print(form) => self.print(into, form, arguments),
+            Form::Construct(constructor) => self.construct(into, constructor, arguments),
+            Form::Call(function) => self.call(into, function, arguments),
+        }
+    }
+
+    fn unary(
+        &mut self,
+        into: u32,
+        operator: UnaryOperator,
+        arguments: &[u32],
+    ) -> Result<(), NoMemory>
+        ensures { OnOk result (WroteLines (FormLines self.old.base into (Unary operator) arguments.now) self.old self.new) }
+    {
+        let Some(value) = only(arguments) else {
+            return Ok(());
+        };
+        match operator {
+            UnaryOperator::Negate => {
+                let zero = self.base;
+                self.write(&[
+                    set(0, zero),
+                    binary(RegisterOperation::Sub, zero, value, into),
+                ])
+            }
+            UnaryOperator::Not => {
+                let two = Immediate::new(2);
+                self.write(&[unary(
+                    Operation::Immediate(ImmediateOperation::Xori, two),
+                    value,
+                    into,
+                )])
+            }
+        }
+    }
+
+    fn binary(
+        &mut self,
+        into: u32,
+        operator: BinaryOperator,
+        arguments: &[u32],
+    ) -> Result<(), NoMemory>
+        ensures { OnOk result (WroteLines (FormLines self.old.base into (Binary operator) arguments.now) self.old self.new) }
+    {
+        let Some((first, second)) = pair(arguments) else {
+            return Ok(());
+        };
+        self.combine(into, operator, first, second)
+    }
+
+    fn combine(
+        &mut self,
+        into: u32,
+        operator: BinaryOperator,
+        first: u32,
+        second: u32,
+    ) -> Result<(), NoMemory>
+        ensures { OnOk result (WroteLines (BinaryLines self.old.base into operator first second) self.old self.new) }
+    {
+        match operator {
+            BinaryOperator::Add => self.register(RegisterOperation::Add, first, second, into),
+            BinaryOperator::Subtract => self.register(RegisterOperation::Sub, first, second, into),
+            BinaryOperator::Multiply => self.register(RegisterOperation::Mul, first, second, into),
+            BinaryOperator::Remainder => self.register(RegisterOperation::Rem, first, second, into),
+            BinaryOperator::Divide => self.divide(into, first, second),
+            BinaryOperator::Equal => self.equal(into, first, second),
+            BinaryOperator::NotEqual => self.not_equal(into, first, second),
+            BinaryOperator::Less => self.less(into, first, second),
+            BinaryOperator::Greater => self.less(into, second, first),
+            BinaryOperator::LessEqual => self.opposite(into, second, first),
+            BinaryOperator::GreaterEqual => self.opposite(into, first, second),
+        }
+    }
+
+    /// Writes an instruction on two values.
+    fn register(
+        &mut self,
+        operation: RegisterOperation,
+        first: u32,
+        second: u32,
+        into: u32,
+    ) -> Result<(), NoMemory>
+        ensures { OnOk result (Wrote (registers into first second (Register operation) ∷ []) self.old self.new) }
+    {
+        self.write(&[binary(operation, first, second, into)])
+    }
+
+    fn less(&mut self, into: u32, first: u32, second: u32) -> Result<(), NoMemory>
+        ensures { OnOk result (WroteLines (Compares into (registers into first second (Register Slt) ∷ [])) self.old self.new) }
+    {
+        self.truth(into, &[binary(RegisterOperation::Slt, first, second, into)])
+    }
+
+    /// A quotient. DIV by 0 gives -1 where 0 is wanted.
+    fn divide(&mut self, into: u32, first: u32, second: u32) -> Result<(), NoMemory>
+        ensures { OnOk result (WroteLines (BinaryLines self.old.base into Divide first second) self.old self.new) }
+    {
+        let factor = self.base;
+        self.write(&[
+            binary(RegisterOperation::Div, first, second, into),
+            set(0, factor),
+            binary(RegisterOperation::Sltu, factor, second, factor),
+            binary(RegisterOperation::Mul, into, factor, into),
+        ])
+    }
+
+    fn equal(&mut self, into: u32, first: u32, second: u32) -> Result<(), NoMemory>
+        ensures { OnOk result (WroteLines (BinaryLines self.old.base into Equal first second) self.old self.new) }
+    {
+        let one = Immediate::new(1);
+        self.truth(
+            into,
+            &[
+                binary(RegisterOperation::Sub, first, second, into),
+                unary(
+                    Operation::Immediate(ImmediateOperation::Sltiu, one),
+                    into,
+                    into,
+                ),
+            ],
+        )
+    }
+
+    fn not_equal(&mut self, into: u32, first: u32, second: u32) -> Result<(), NoMemory>
+        ensures { OnOk result (WroteLines (BinaryLines self.old.base into NotEqual first second) self.old self.new) }
+    {
+        let zero = self.base;
+        self.truth(
+            into,
+            &[
+                binary(RegisterOperation::Sub, first, second, into),
+                set(0, zero),
+                binary(RegisterOperation::Sltu, zero, into, into),
+            ],
+        )
+    }
+
+    /// Whether the first is not less than the second.
+    fn opposite(&mut self, into: u32, first: u32, second: u32) -> Result<(), NoMemory>
+        ensures { OnOk result (WroteLines (ComparesNot into (registers into first second (Register Slt))) self.old self.new) }
+    {
+        let one = Immediate::new(1);
+        self.truth(
+            into,
+            &[
+                binary(RegisterOperation::Slt, first, second, into),
+                unary(
+                    Operation::Immediate(ImmediateOperation::Xori, one),
+                    into,
+                    into,
+                ),
+            ],
+        )
+    }
+
+    /// Lines that give 0 or 1, and those that make `False` or `True` of it.
+    fn truth(&mut self, into: u32, first: &[Short]) -> Result<(), NoMemory>
+        ensures { OnOk result (WroteLines (Compares into (map short_line first.now)) self.old self.new) }
+    {
+        self.write(first)?;
+        let (place, one) = (ShiftAmount::new(1), Immediate::new(1));
+        self.write(&[
+            unary(Operation::Shift(ShiftOperation::Slli, place), into, into),
+            unary(
+                Operation::Immediate(ImmediateOperation::Addi, one),
+                into,
+                into,
+            ),
+        ])
+    }
+
+    fn print(&mut self, into: u32, form: PrintForm, arguments: &[u32]) -> Result<(), NoMemory>
+        ensures { OnOk result (WroteLines (FormLines self.old.base into (Print form) arguments.now) self.old self.new) }
+    {
+        let Some(value) = only(arguments) else {
+            return Ok(());
+        };
+        let (number, line_feed) = (self.base, self.temporary(1)?);
+        self.write(&[
+            copy(value, number),
+            set(choice(form), line_feed),
+            act(
+                Action::Routine(Routine::PrintInt),
+                Reads::Two(number, line_feed),
+            ),
+            set(UNIT, into),
+        ])
+    }
+
+    fn construct(&mut self, into: u32, constructor: u32, arguments: &[u32]) -> Result<(), NoMemory>
+        ensures { OnOk result (WroteLines (FormLines self.old.base into (Construct constructor) arguments.now) self.old self.new) }
+    {
+        if !arguments.is_empty() {
+            return Ok(());
+        }
+        let word = constant_of(constructor)?;
+        self.write(&[set(word, into)])
+    }
+
+    fn call(&mut self, into: u32, function: u32, arguments: &[u32]) -> Result<(), NoMemory>
+        ensures { OnOk result (WroteLines (FormLines self.old.base into (Call function) arguments.now) self.old self.new) }
+    {
+        let handed = self.hand_over(arguments)?;
+        self.push(Action::Call(function), &handed, Some(into))
+    }
+
+    /// A print of constant bytes. No bytes are not printed.
+    fn print_text(&mut self, form: PrintForm, text: &StringLiteral) -> Result<(), NoMemory>
+        ensures { OnOk result (WrotePrint (piece_of form text.now) self.old self.new) }
+    {
+        let bytes = piece(self.alloc, form, text)?;
+        if bytes.is_empty() {
+            return Ok(());
+        }
+        let (address, count) = (self.base, self.temporary(1)?);
+        let length = bytes.len() as u32;
+        let index = self.add_text(bytes)?;
+        self.write(&[
+            constant(Operation::La(index), address),
+            set(length, count),
+            act(
+                Action::Routine(Routine::PrintText),
+                Reads::Two(address, count),
+            ),
+        ])
+    }
+}

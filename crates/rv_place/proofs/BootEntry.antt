@@ -1,0 +1,97 @@
+-- From the start of the loaded image to the begin of main's lines.
+use Rattle.std.proofs.Common.{◌≡◌, ◌≢◌, ◌≤◌, ◌<◌, ℕ, zero, suc, ◌+◌, ◌*◌, ◌%◌, List, [], ◌∷◌, All, Some, true, refl, ap, sym, subst, ◌∙◌, arith}
+use Rattle.std.proofs.Math.Nat.{suc-mul, zero-mul}
+use Rattle.std.specs.List.{slice_get}
+use Rattle.kk_base.specs.Memory.{Part}
+use Rattle.rv_isa.specs.PlacedCode.{PlacedLines}
+use Rattle.rv_isa.specs.PlacedMachine.{PlacedState, placed_entered}
+use Rattle.rv_isa.specs.Frames.{empty}
+use Rattle.rv_isa.specs.Bytes.{bytes_at, with_number}
+use Rattle.rv_isa.specs.Processor.{Processor, value, can_store}
+use Rattle.rv_isa.specs.Execution.{Leads}
+use Rattle.rv_isa.specs.Standing.{Code}
+use Rattle.rv_isa.proofs.Memory.{bytes_at-with_number_apart}
+use Rattle.rv_world.specs.World.{World}
+use Rattle.rv_world.specs.Operations.{all_bytes}
+use Rattle.rv_place.specs.Images.{first_world}
+use Rattle.rv_place.specs.Lines.{Map, FunctionAt}
+use Rattle.rv_place.specs.Grounds.{stack_end, constant_bytes, Ground, Rests}
+use Rattle.rv_place.specs.Running.{AllPlain, most_lines, FramesAt, Running}
+use Rattle.rv_place.proofs.RunningRows.{Shifts, entry_takes}
+use Rattle.rv_place.proofs.RunningFrames.{frames_pushed}
+use Rattle.rv_place.proofs.RunningLines.{plain_found, few_found, entered_in}
+
+frames_word : (depth frame : ℕ) → frame % 4 ≡ 0 → depth * frame % 4 ≡ 0
+frames_word zero frame word = rw (zero-mul frame) refl
+frames_word (suc depth) frame word = let rest = frames_word depth frame word in rw (suc-mul depth frame) (omega arith)
+
+pub first_frame : (depth frame : ℕ) → 1 ≤ depth → frame ≤ depth * frame
+first_frame zero frame some = absurd (omega arith)
+first_frame (suc depth) frame some = rw (suc-mul depth frame) (omega arith)
+
+-- the first state of a function without parameters, with what is left of the input
+abbrev pub first_state : PlacedLines → List ℕ → PlacedState World
+first_state main input = record { frames = placed_entered main ∷ []; registers = empty; shared = first_world input }
+
+-- so many silent instructions lead to a processor that stands for the first state
+pub record Begins (map : Map) (functions : List PlacedLines) (depth stop : ℕ) (code : Code) (parts : List Part) (main : PlacedLines) (input : List ℕ) (steps : ℕ) (s : Processor) : Type 0 where
+  pub after : Processor
+  pub leads : Leads steps s after
+  pub told : after.trace ≡ s.trace
+  pub running : Running map functions depth stop code parts (first_state main input) after
+
+-- before main's entry: the stack is empty, and the way back is the stop
+pub record IsBefore (map : Map) (depth stop entry : ℕ) (code : Code) (parts : List Part) (input : List ℕ) (s : Processor) : Type 0 where
+  pub rests : Rests map code parts s
+  pub pc_is : s.pc ≡ entry
+  pub way_is : value s.registers 1 ≡ stop
+  pub base_is : value s.registers 2 ≡ stack_end map depth
+  pub trace_is : s.trace ≡ []
+  pub left_is : s.left ≡ input
+
+module _ {map : Map} {functions : List PlacedLines} {depth buffer stop : ℕ} {code : Code} {parts : List Part} (ground : Ground map functions depth buffer stop code parts) (plain : AllPlain functions)
+    {main : PlacedLines} {entry : ℕ} (first : slice_get functions 0 ≡ Some main) (main_at : FunctionAt map code entry main)
+    {input : List ℕ} (input_bytes : All (λ byte. byte < 256) input) {s : Processor} (before : IsBefore map depth stop entry code parts input s) (base : ℕ) (base_is : base + map.frame ≡ stack_end map depth) where
+  above : map.bottom ≤ base
+  above = omega (arith, base_is, first_frame depth map.frame ground.some_depth)
+
+  base_word : base % 4 ≡ 0
+  base_word = omega (arith, base_is, frames_word depth map.frame ground.frame_words, ground.frame_words, ground.bottom_word)
+
+  allowed : can_store parts base 4 ≡ true
+  allowed = ground.stores base above (omega (arith, base_is, ground.some_frame)) base_word
+
+  takes : Shifts code 5 (5 ∷ 2 ∷ []) (with_number base 4 stop s.memory) base (entry + 28) s
+  takes =
+      let full = ground.stack_full in
+      let more : base + map.frame ≢ map.bottom = λ e. omega (arith, above, ground.some_frame) in
+      entry_takes ground.below before.rests.stands map entry before.pc_is main_at.entry full.0 full.1 base stop (before.base_is ∙ sym base_is) before.way_is
+      more ground.small_frame (omega (arith, base_is, ground.in_range)) base_word (rw before.rests.parts_are allowed)
+
+  constants_stay : bytes_at takes.after.memory map.constants.first (constant_bytes map) ≡ all_bytes map.constants.texts
+  constants_stay =
+      ap (λ memory. bytes_at memory map.constants.first (constant_bytes map)) takes.done.memory_is
+      ∙ bytes_at-with_number_apart base 4 stop s.memory map.constants.first (constant_bytes map) (ground.constants_kept base 4 allowed (omega arith))
+      ∙ before.rests.constants
+
+  frames_stand : FramesAt map code (most_lines functions) stop (stack_end map depth) (with_number base 4 stop s.memory) (entry + 28) base (placed_entered main ∷ [])
+  frames_stand =
+      frames_pushed map code (most_lines functions) stop (stack_end map depth) ground.some_frame s.memory base stop (entry + 28) (placed_entered main) [] ground.stop_below
+      (entered_in (most_lines functions) entry main before.rests.stands ground.below main_at (plain_found functions plain 0 main first) (few_found functions 0 main first))
+      (λ k w e. cc) refl refl (refl, base_is)
+
+  pub entry-begins : Begins map functions depth stop code parts main input 5 s
+  entry-begins = record {
+    after = takes.after;
+    leads = takes.done.leads;
+    told = takes.done.trace_is;
+    running = record {
+      rests = record { stands = takes.done.stands; parts_are = takes.done.parts_are ∙ before.rests.parts_are; constants = constants_stay };
+      trace = takes.done.trace_is ∙ before.trace_is;
+      left = takes.done.left_is ∙ before.left_is;
+      bytes = subst (All (λ byte. byte < 256)) (sym (takes.done.left_is ∙ before.left_is)) input_bytes;
+      room = ground.some_depth;
+      frames = rw (takes.done.memory_is, takes.done.pc_is, takes.base_is) frames_stand;
+      registers = λ x word e. cc;
+    };
+  }

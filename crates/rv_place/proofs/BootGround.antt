@@ -1,0 +1,133 @@
+-- The image of a placed text gives what a run of its code rests on.
+use Rattle.std.proofs.Common.{◌≡◌, ◌≤◌, ◌<◌, ℕ, ◌+◌, ◌*◌, ◌%◌, inl, inr, ◌++◌, length, refl, ap, sym, subst, arith}
+use Rattle.std.proofs.lemmas.Option.{slice_get_within}
+use Rattle.rv_isa.specs.declared.placed.DataSection.{DataSection}
+use Rattle.rv_isa.specs.Standing.{Has}
+use Rattle.elf_image.specs.Program.{text_start}
+use Rattle.rv_isa.specs.declared.routine.Routine.TheVariants as routine
+use Rattle.rv_isa.specs.declared.placed.Placed.{Placed}
+use Rattle.rv_isa.specs.declared.placed.Symbol.{Symbol}
+use Rattle.rv_isa.specs.declared.placed.Symbol.TheVariants as symbol
+use Rattle.rv_isa.specs.PlacedCode.{placed_functions}
+use Rattle.rv_isa.specs.Standing.{Code}
+use Rattle.rv_isa.proofs.Standing.{Has-front, code_of-Has, code_of-place}
+use Rattle.cell_runtime.specs.Layouts.{next_page, layout_of}
+use Rattle.cell_runtime.specs.Texts.{IsRuntime, runtime_labels, IsText}
+use Rattle.kk_base.specs.Sizes.{greatest_cells, greatest_depth}
+use Rattle.cell_runtime.specs.declared.stop.Ending.TheVariants as ending
+use Rattle.cell_runtime.specs.Prints.{buffer_bytes, IsPrintInt, IsPrintText, IsReadByte}
+use Rattle.cell_runtime.specs.Stops.{IsStop}
+use Rattle.rv_place.specs.Images.{code_in}
+use Rattle.rv_place.specs.declared.words.Words.{Words}
+use Rattle.rv_place.specs.Addresses.{IsBehind, frame_size}
+use Rattle.rv_place.specs.Texts.{ArePlaceable, text_bytes, memory_of, map_of, ArePlacedWords}
+use Rattle.rv_place.specs.Grounds.{HasRoutine, Ground}
+use Rattle.rv_place.proofs.BootLoaded.{two_parts, text-loaded, memory-loaded, memory-stored, stored-behind}
+use Rattle.rv_place.proofs.BootSizes.{memory_behind, memory_page, page_behind, page_near, page_multiple, stack_most, words_most, bytes_most, memory_most}
+
+-- the stop behind the start, where main comes back to
+abbrev pub stop_address : ℕ
+stop_address = text_start + 36
+
+-- ---- the symbols
+
+behind_stop_full : IsBehind symbol.StackFull 12 runtime_labels
+behind_stop_full = inr (λ e. cc, inr (λ e. cc, inl (refl, refl)))
+
+behind_print_int : IsBehind (symbol.Routine routine.PrintInt) 70 runtime_labels
+behind_print_int =
+    inr (λ e. cc, inr (λ e. cc, inr (λ e. cc, inr (λ e. cc, inr (λ e. cc, inr (λ e. cc, inr (λ e. cc, inl (refl, refl))))))))
+
+behind_print_text : IsBehind (symbol.Routine routine.PrintText) 94 runtime_labels
+behind_print_text =
+    inr (λ e. cc, inr (λ e. cc, inr (λ e. cc, inr (λ e. cc, inr (λ e. cc, inr (λ e. cc, inr (λ e. cc, inr (λ e. cc, inl (refl, refl)))))))))
+
+behind_read_byte : IsBehind (symbol.Routine routine.ReadByte) 100 runtime_labels
+behind_read_byte =
+    inr (λ e. cc, inr (λ e. cc, inr (λ e. cc, inr (λ e. cc, inr (λ e. cc, inr (λ e. cc, inr (λ e. cc, inr (λ e. cc, inr (λ e. cc, inl (refl, refl))))))))))
+
+-- ---- the room in memory
+
+-- The text ends before the memory behind it. There the buffer and the cells come first, and the stack at the begin of a page; all is far below 2^32.
+pub record HasRoom (cells depth frame text memory bottom size : ℕ) : Type 0 where
+  pub few_text : text ≤ 109084672
+  pub behind : text_start + text ≤ memory
+  pub near : memory ≤ 109154304
+  pub memory_page : memory % 4096 ≡ 0
+  pub some_cells : 36 + 32 * cells ≤ bottom
+  pub few_cells : bottom ≤ 33558563
+  pub bottom_page : bottom % 4096 ≡ 0
+  pub size_is : size ≡ bottom + depth * frame
+  pub few_frames : depth * frame ≤ 133955584
+
+pub has-room : {cells depth : ℕ} {runtime program : Placed} → cells ≤ greatest_cells → depth ≤ greatest_depth → IsText cells depth (frame_size (placed_functions program)) runtime → ArePlaceable runtime program
+    → HasRoom cells depth (frame_size (placed_functions program)) (text_bytes runtime program) (memory_of runtime program) runtime.memory.stack_bottom runtime.memory.size
+has-room {cells} {depth} {runtime} {program} few_cells few_depth is_runtime placeable =
+    let low : ℕ = 32 + 32 * cells + 4 in
+    let bottom_is : runtime.memory.stack_bottom ≡ next_page low = ap (λ (section : DataSection). section.stack_bottom) is_runtime.memory in
+    let size_is : runtime.memory.size ≡ next_page low + depth * frame_size (placed_functions program) = ap (λ (section : DataSection). section.size) is_runtime.memory in
+    record {
+      few_text = bytes_most placeable;
+      behind = memory_behind (text_bytes runtime program);
+      near = memory_most placeable;
+      memory_page = memory_page (text_bytes runtime program);
+      some_cells = rw bottom_is (omega (arith, page_behind low));
+      few_cells = rw bottom_is (omega (arith, page_near low));
+      bottom_page = rw bottom_is (page_multiple low);
+      size_is = rw bottom_is size_is;
+      few_frames = stack_most depth (frame_size (placed_functions program)) few_depth placeable.frames;
+    }
+
+-- ---- the ground
+
+module _ {cells depth : ℕ} {runtime program : Placed} {words : Words} (is_runtime : IsText cells depth (frame_size (placed_functions program)) runtime)
+    (placed : ArePlacedWords runtime program words) where
+  -- the routines stand at the text's begin
+  pub runtime-stands : IsRuntime cells (layout_of cells depth (frame_size (placed_functions program))) (memory_of runtime program) (code_in words) text_start
+  runtime-stands =
+      let code : Code = code_in words in
+      let whole : Has code text_start (placed.own ++ placed.rest) = subst (λ is. Has code text_start is) placed.instructions (code_of-Has text_start words.instructions.items) in
+      is_runtime.routines (memory_of runtime program) placed.own code text_start placed.spelled (Has-front code text_start placed.own placed.rest whole)
+
+  -- what stands at a symbol, by the number of instructions before it
+  routine-at : (name : Symbol) (before : ℕ) (IsOfKind : ℕ → Type 0) → IsBehind name before runtime_labels → IsOfKind (text_start + 4 * before) → HasRoutine (map_of runtime program) name IsOfKind
+  routine-at name before IsOfKind behind stands = (text_start + 4 * before, (before, subst (IsBehind name before) (sym is_runtime.labels) behind, refl), stands)
+
+  pub has-ground : (text memory size : ℕ) → text ≡ text_bytes runtime program → memory ≡ memory_of runtime program → 1 ≤ depth → ArePlaceable runtime program
+      → HasRoom cells depth (frame_size (placed_functions program)) text memory runtime.memory.stack_bottom size
+      → Ground (map_of runtime program) (placed_functions program) depth memory stop_address (code_in words) (two_parts text memory size)
+  has-ground text memory size text_is memory_is some_depth placeable room =
+      let code : Code = code_in words in
+      let stands = runtime-stands in
+      record {
+        functions_at = placed.functions;
+        below = λ at i here.
+            let place = code_of-place text_start words.instructions.items at i here in
+            let where_is = place.1 in
+            let inside : place.0 < length words.instructions.items = slice_get_within words.instructions.items place.0 i place.2 in
+            omega (arith, placed.size, words_most placeable);
+        small_frame = placeable.frames;
+        some_frame = omega arith;
+        frame_words = omega arith;
+        some_depth = some_depth;
+        bottom_word = omega (arith, room.memory_page, room.bottom_page);
+        in_range = omega (arith, room.near, room.few_cells, room.few_frames);
+        loads = λ at low high word. memory-loaded text memory size at 4 (omega arith) (omega (arith, room.size_is));
+        stores = λ at low high word. memory-stored text memory size at 4 (omega arith) (omega (arith, room.size_is));
+        buffer_below = omega (arith, room.some_cells);
+        buffer_loads = memory-loaded text memory size memory buffer_bytes (omega arith) (omega (arith, room.size_is, room.some_cells));
+        buffer_stores = memory-stored text memory size memory buffer_bytes (omega arith) (omega (arith, room.size_is, room.some_cells));
+        byte_loads = memory-loaded text memory size memory 1 (omega arith) (omega (arith, room.size_is, room.some_cells));
+        byte_stores = memory-stored text memory size memory 1 (omega arith) (omega (arith, room.size_is, room.some_cells));
+        constants_below = omega (arith, room.few_text);
+        constants_load = λ at count low high. text-loaded text memory size at count (omega arith) (omega arith);
+        constants_kept = λ x count allowed some. let behind = stored-behind text memory size x count allowed some in inl (omega (arith, room.behind));
+        runtime_word = refl;
+        print_int = routine-at (symbol.Routine routine.PrintInt) 70 (IsPrintInt memory code) behind_print_int (rw memory_is stands.print_int);
+        print_text = routine-at (symbol.Routine routine.PrintText) 94 (IsPrintText code) behind_print_text stands.print_text;
+        read_byte = routine-at (symbol.Routine routine.ReadByte) 100 (IsReadByte memory code) behind_read_byte (rw memory_is stands.read_byte);
+        stack_full = routine-at symbol.StackFull 12 (IsStop ending.StackFull code) behind_stop_full stands.stack_full;
+        stop_word = refl;
+        stop_below = omega arith;
+        ends = stands.ended;
+      }

@@ -1,0 +1,119 @@
+-- The loaded image agrees with the machine of the placed form, where the processor simulates that machine.
+use Rattle.std.proofs.Common.{◌≡◌, ◌<◌, ℕ, ◌+◌, ◌-◌, ◌*◌, List, [], ◌∷◌, length, All, Some, refl, ap, sym, subst, ◌∙◌, arith}
+use Rattle.std.specs.List.{slice_get}
+use Rattle.kk_base.specs.Simulations.{Simulates}
+use Rattle.kk_base.specs.Agreements.{Agree}
+use Rattle.kk_base.proofs.Simulations.{simulates_agree}
+use Rattle.elf_image.specs.Program.{text_start, memory_start}
+use Rattle.rv_isa.specs.declared.placed.Placed.{Placed}
+use Rattle.rv_isa.specs.declared.placed.DataSection.{DataSection}
+use Rattle.rv_isa.specs.PlacedCode.{PlacedLines, placed_functions}
+use Rattle.rv_isa.specs.PlacedMachine.{placed_machine, placed_start}
+use Rattle.rv_isa.specs.Processor.{Processor, goes}
+use Rattle.rv_isa.specs.Execution.{rv32im}
+use Rattle.rv_isa.specs.ProcessorMachine.{processor_machine}
+use Rattle.rv_isa.proofs.Runs.{Leads-then}
+use Rattle.rv_isa.proofs.Standing.{Stands-leads}
+use Rattle.rv_isa.specs.Bytes.{bytes_at}
+use Rattle.cell_runtime.specs.Lines.{words_of}
+use Rattle.cell_runtime.specs.Layouts.{layout_of}
+use Rattle.cell_runtime.specs.Starts.{AfterStart, IsStart}
+use Rattle.cell_runtime.specs.Texts.{pool_of}
+use Rattle.rv_world.specs.World.{primitives}
+use Rattle.rv_place.specs.declared.words.Words.{Words}
+use Rattle.rv_place.specs.Addresses.{frame_size, entries_from}
+use Rattle.rv_place.specs.Lines.{FunctionAt}
+use Rattle.rv_place.specs.Texts.{text_bytes, memory_of, constants_of, map_of}
+use Rattle.rv_place.specs.Images.{first_processor, parts_of, code_in, main_entry, first_world, outside_lines, IsPlacedImage}
+use Rattle.rv_place.specs.Grounds.{stack_end, constant_bytes, Ground, Rests}
+use Rattle.rv_place.specs.Running.{NeverStuck, Related, Any}
+use Rattle.rv_place.proofs.RunningLines.{function_found}
+use Rattle.rv_place.proofs.BootAgreements.{agree_after_instructions}
+use Rattle.rv_place.proofs.BootSizes.{text_size}
+use Rattle.rv_place.proofs.BootGround.{stop_address, HasRoom, has-room, runtime-stands, has-ground}
+use Rattle.rv_place.proofs.BootFirst.{usable, first-stands, first-rests}
+use Rattle.rv_place.proofs.BootEntry.{first_frame, Begins, IsBefore, entry-begins}
+
+-- the first function stands first
+first_entry : (at : ℕ) (functions : List PlacedLines) (entry : ℕ) → slice_get (entries_from at functions) 0 ≡ Some entry → entry ≡ at
+first_entry at [] entry is = cc
+first_entry at (function ∷ functions) entry is = cc
+
+module _ {cells depth : ℕ} {runtime program : Placed} {words : Words} {text : List ℕ} {main : PlacedLines} (image : IsPlacedImage cells depth runtime program words text main) where
+  bytes_are : length text ≡ text_bytes runtime program
+  bytes_are = text_size image.words_are image.text_is
+
+  room : HasRoom cells depth (frame_size (placed_functions program)) (length text) (memory_start (length text)) runtime.memory.stack_bottom runtime.memory.size
+  room =
+      subst (λ n. HasRoom cells depth (frame_size (placed_functions program)) n (memory_start n) runtime.memory.stack_bottom runtime.memory.size) (sym bytes_are)
+      (has-room image.sizes.few_cells image.sizes.small_depth image.runtime_is image.placeable)
+
+  pub image-ground : Ground (map_of runtime program) (placed_functions program) depth (memory_start (length text)) stop_address (code_in words) (parts_of text runtime)
+  image-ground =
+      has-ground image.runtime_is image.words_are (length text) (memory_start (length text)) runtime.memory.size bytes_are (ap memory_start bytes_are) image.sizes.some_depth image.placeable room
+
+  -- main stands behind the runtime
+  main-at : FunctionAt (map_of runtime program) (code_in words) main_entry main
+  main-at =
+      let found = function_found (map_of runtime program) (code_in words) (map_of runtime program).entries (placed_functions program) image.words_are.functions 0 main image.first in
+      let entry_is : found.0 ≡ main_entry =
+      first_entry (text_start + 4 * words_of runtime.natives.items) (placed_functions program) found.0 found.1 ∙ ap (λ n. text_start + 4 * n) image.runtime_is.words in
+      subst (λ entry. FunctionAt (map_of runtime program) (code_in words) entry main) entry_is found.2
+
+  -- the stack ends with the memory
+  stack_ends : memory_start (length text) + (layout_of cells depth (frame_size (placed_functions program))).stack_end ≡ stack_end (map_of runtime program) depth
+  stack_ends =
+      let size_is : runtime.memory.size ≡ (layout_of cells depth (frame_size (placed_functions program))).stack_end = ap (λ (section : DataSection). section.size) image.runtime_is.memory in
+      let same : memory_start (length text) ≡ memory_of runtime program = ap memory_start bytes_are in
+      omega (arith, room.size_is)
+
+  module _ (input : List ℕ) (input_bytes : All (λ byte. byte < 256) input) where
+    -- the start comes to main's entry
+    started : (t : Processor) × AfterStart (pool_of cells (memory_start (length text))) (memory_start (length text) + (layout_of cells depth (frame_size (placed_functions program))).stack_end) main_entry text_start (first_processor text runtime.memory.size input) t
+    started =
+        let end : ℕ = (layout_of cells depth (frame_size (placed_functions program))).stack_end in
+        let starts : IsStart (pool_of cells (memory_start (length text))) (memory_start (length text) + end) main_entry (code_in words) text_start =
+        subst (λ n. IsStart (pool_of cells (memory_start n)) (memory_start n + end) main_entry (code_in words) text_start) (sym bytes_are) (runtime-stands image.runtime_is image.words_are).start in
+        starts (first_processor text runtime.memory.size input) (record { stands = first-stands image.placeable image.words_are image.text_is runtime.memory.size input; pc_is = refl })
+        (usable cells depth (frame_size (placed_functions program)) (length text) (memory_start (length text)) runtime.memory.stack_bottom runtime.memory.size room) (omega arith)
+
+    started-rests : Rests (map_of runtime program) (code_in words) (parts_of text runtime) started.0
+    started-rests =
+        let constants = (map_of runtime program).constants in
+        let rests = first-rests image.placeable image.words_are image.text_is runtime.memory.size input in
+        record {
+          stands = Stands-leads started.1.leads rests.stands;
+          parts_are = started.1.parts;
+          constants = ap (λ memory. bytes_at memory constants.first (constant_bytes (map_of runtime program))) started.1.memory ∙ rests.constants;
+        }
+
+    before-main : IsBefore (map_of runtime program) depth stop_address main_entry (code_in words) (parts_of text runtime) input started.0
+    before-main = record {
+      rests = started-rests;
+      pc_is = started.1.goes_to;
+      way_is = started.1.way_back;
+      base_is = started.1.stack ∙ stack_ends;
+      trace_is = started.1.trace;
+      left_is = started.1.left;
+    }
+
+    -- 14 silent instructions lead to the begin of main's lines
+    pub image-begins : Begins (map_of runtime program) (placed_functions program) depth stop_address (code_in words) (parts_of text runtime) main input 14 (first_processor text runtime.memory.size input)
+    image-begins =
+        let frame : ℕ = frame_size (placed_functions program) in
+        let base : ℕ = stack_end (map_of runtime program) depth - frame in
+        let base_is : base + frame ≡ stack_end (map_of runtime program) depth = omega (arith, first_frame depth frame image.sizes.some_depth) in
+        let behind = entry-begins image-ground image.plain image.first main-at input_bytes before-main base base_is in
+        record { after = behind.after; leads = Leads-then started.1.leads behind.leads; told = behind.told ∙ started.1.trace; running = behind.running }
+
+    -- and where the processor simulates the machine, they agree
+    module _ (pace : ℕ) (simulates : Simulates (placed_machine (primitives (constants_of runtime program)) depth (placed_functions program)) (processor_machine rv32im) (Related (map_of runtime program) (placed_functions program) depth stop_address (code_in words) (parts_of text runtime)) Any pace)
+        (never : NeverStuck (map_of runtime program) (placed_functions program) depth (placed_start main (first_world input))) where
+      begins-agree : Agree (placed_machine (primitives (constants_of runtime program)) depth (placed_functions program)) (processor_machine rv32im) 3 (λ m. m * pace + length main.code + 1) (placed_start main (first_world input)) (goes image-begins.after)
+      begins-agree =
+          simulates_agree _ _ _ _ pace simulates 3 (length main.code) (placed_start main (first_world input)) (goes image-begins.after)
+          (never, (image-begins.after, refl, omega arith, omega arith, image-begins.running))
+
+      pub image-agrees : Agree (placed_machine (primitives (constants_of runtime program)) depth (placed_functions program)) (processor_machine rv32im) outside_lines (λ m. m * pace + length main.code + 1) (placed_start main (first_world input)) (goes (first_processor text runtime.memory.size input))
+      image-agrees =
+          agree_after_instructions _ 3 14 (λ m. m * pace + length main.code + 1) (placed_start main (first_world input)) (first_processor text runtime.memory.size input) image-begins.after image-begins.leads image-begins.told begins-agree

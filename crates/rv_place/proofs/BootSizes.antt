@@ -1,0 +1,97 @@
+-- How large a text and the memory behind it are: their addresses are far below 2^32.
+use Rattle.std.proofs.Common.{◌≡◌, ◌≤◌, ℕ, ◌+◌, ◌*◌, ◌%◌, List, [], ◌∷◌, length, ap, ◌∙◌, arith}
+use Rattle.std.proofs.lemmas.Nat.{mul-le}
+use Rattle.kk_base.specs.Sizes.{greatest_depth}
+use Rattle.elf_image.specs.Program.{text_start, memory_start}
+use Rattle.rv_isa.specs.declared.asm.Action.{Action}
+use Rattle.rv_isa.specs.declared.asm.Action.TheVariants.{Compute, Label, Jump, Branch, Call, TailCall, Return, Routine, Hold, Unhold}
+use Rattle.rv_isa.specs.declared.asm.Operation.{Operation}
+use Rattle.rv_isa.specs.declared.placed.Placed.{Placed}
+use Rattle.rv_isa.specs.PlacedCode.{PlacedLine, does, moves, PlacedLines, placed_functions, placed_constants}
+use Rattle.cell_runtime.specs.Layouts.{next_page}
+use Rattle.rv_world.specs.Operations.{all_bytes}
+use Rattle.rv_place.specs.declared.words.Words.{Words}
+use Rattle.rv_place.specs.Instructions.{words_of_operation}
+use Rattle.rv_place.specs.Addresses.{words_of_action, words_of_line, words_of_lines, words_of_functions}
+use Rattle.rv_place.specs.Texts.{all_items, ArePlaceable, text_words, text_bytes, memory_of, ArePlacedWords}
+use Rattle.rv_place.specs.Bytes.{IsTextOf}
+
+-- ---- how many instructions code is
+
+operation_most : (operation : Operation) → words_of_operation operation ≤ 3
+operation_most (Operation.Register operation) = omega arith
+operation_most (Operation.Immediate operation immediate) = omega arith
+operation_most (Operation.Shift operation amount) = omega arith
+operation_most (Operation.Li word) = omega arith
+operation_most Operation.Mv = omega arith
+operation_most (Operation.La index) = omega arith
+operation_most (Operation.Lw offset) = omega arith
+operation_most (Operation.Sw offset) = omega arith
+
+action_most : (action : Action) → words_of_action action ≤ 3
+action_most (Compute operation) = operation_most operation
+action_most (Label l) = omega arith
+action_most (Jump l) = omega arith
+action_most (Branch condition l) = omega arith
+action_most (Call f) = omega arith
+action_most (TailCall f) = omega arith
+action_most Return = omega arith
+action_most (Routine routine) = omega arith
+action_most Hold = omega arith
+action_most Unhold = omega arith
+
+line_most : (line : PlacedLine) → words_of_line line ≤ 3
+line_most (does alive action args into) = action_most action
+line_most (moves alive value way) = omega arith
+
+lines_most : (lines : List PlacedLine) → words_of_lines lines ≤ 3 * length lines
+lines_most [] = omega arith
+lines_most (line ∷ lines) = omega (arith, line_most line, lines_most lines)
+
+functions_most : (functions : List PlacedLines) → words_of_functions functions ≤ 7 * length functions + 3 * all_items functions
+functions_most [] = omega arith
+functions_most (function ∷ functions) = omega (arith, lines_most function.code, functions_most functions)
+
+-- ---- pages
+
+pub memory_behind : (n : ℕ) → text_start + n ≤ memory_start n
+memory_behind n = omega arith
+
+pub memory_near : (n : ℕ) → memory_start n ≤ text_start + n + 4095
+memory_near n = omega arith
+
+pub memory_page : (n : ℕ) → memory_start n % 4096 ≡ 0
+memory_page n = omega arith
+
+pub page_behind : (n : ℕ) → n ≤ next_page n
+page_behind n = omega arith
+
+pub page_near : (n : ℕ) → next_page n ≤ n + 4095
+page_near n = omega arith
+
+pub page_multiple : (n : ℕ) → next_page n % 4096 ≡ 0
+page_multiple n = omega arith
+
+-- all frames
+pub stack_most : (depth frame : ℕ) → depth ≤ greatest_depth → frame ≤ 2044 → depth * frame ≤ 133955584
+stack_most depth frame few small = mul-le depth frame greatest_depth 2044 few small
+
+-- ---- the text
+
+module _ {runtime program : Placed} (placeable : ArePlaceable runtime program) where
+  pub words_most : text_words runtime program ≤ 25174016
+  words_most =
+      omega (arith, functions_most (placed_functions program), placeable.runtime_size, placeable.few_functions, placeable.few_items)
+
+  pub bytes_most : text_bytes runtime program ≤ 109084672
+  bytes_most = omega (arith, words_most, placeable.few_bytes)
+
+  pub memory_most : memory_of runtime program ≤ 109154304
+  memory_most = omega (arith, bytes_most, memory_near (text_bytes runtime program))
+
+-- the bytes of a text are as many as its instructions and constants take
+pub text_size : {runtime program : Placed} {words : Words} {text : List ℕ} → ArePlacedWords runtime program words → IsTextOf words text → length text ≡ text_bytes runtime program
+text_size {runtime} {program} {words} {text} placed bytes =
+    let instructions : length words.instructions.items ≡ text_words runtime program = placed.size in
+    let constants : length words.constants.items ≡ length (all_bytes (placed_constants program)) = ap length placed.constants in
+    bytes.size ∙ ap (λ n. 4 * n + length words.constants.items) instructions ∙ ap (λ n. 4 * text_words runtime program + n) constants

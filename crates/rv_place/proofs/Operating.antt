@@ -1,0 +1,133 @@
+-- Operations as instructions.
+use Rattle.std.proofs.Common.{◌≡◌, ℕ, List, [], ◌∷◌, Option, Some, refl, sym, ap, ◌∙◌, subst}
+use Rattle.std.specs.List.{slice_get}
+use Rattle.rv_isa.specs.declared.register.Register.{Register}
+use Rattle.rv_isa.specs.declared.immediate.Immediate.{Immediate}
+use Rattle.rv_isa.specs.declared.immediate.ShiftAmount.{ShiftAmount}
+use Rattle.rv_isa.specs.declared.instr.Instr.{Instr}
+use Rattle.rv_isa.specs.declared.instr.Instr.TheVariants.{Addi}
+use Rattle.rv_isa.specs.declared.asm.Operation.{Operation}
+use Rattle.rv_isa.specs.declared.asm.RegisterOperation.{RegisterOperation}
+use Rattle.rv_isa.specs.declared.asm.ImmediateOperation.{ImmediateOperation}
+use Rattle.rv_isa.specs.declared.asm.ShiftOperation.{ShiftOperation}
+use Rattle.rv_isa.specs.declared.placed.Operand.{Operand}
+use Rattle.rv_isa.specs.Standing.{Code}
+use Rattle.rv_world.specs.Operations.{Constants, address_in}
+use Rattle.rv_place.specs.Instructions.{Zero, LoadsWord, Computes, register_instruction, immediate_instruction, shift_instruction, words_of_operation}
+use Rattle.rv_place.specs.declared.chart.Chart.{Chart}
+use Rattle.rv_place.specs.Emitted.{Grew, register_or_zero, OperationBy}
+use Rattle.rv_place.proofs.Emitting.{grew_so}
+use Rattle.rv_place.proofs.Operands.{register_in, operand_register, register_of_into}
+
+-- what stands for an operation whose arguments are these registers, or any others
+module _ (constants : Constants) (code : Code) (at : ℕ) where
+  computes_two : (of : RegisterOperation) (registers : List Register) (rd : Register) → code at ≡ Some (register_instruction of rd (register_in registers 0) (register_in registers 1))
+      → Computes constants code at (Operation.Register of) registers rd
+  computes_two of [] rd here = tt
+  computes_two of (a ∷ []) rd here = tt
+  computes_two of (a ∷ b ∷ []) rd here = here
+  computes_two of (a ∷ b ∷ more ∷ rest) rd here = tt
+
+  computes_immediate : (of : ImmediateOperation) (imm : Immediate) (registers : List Register) (rd : Register) → code at ≡ Some (immediate_instruction of rd (register_in registers 0) imm)
+      → Computes constants code at (Operation.Immediate of imm) registers rd
+  computes_immediate of imm [] rd here = tt
+  computes_immediate of imm (a ∷ []) rd here = here
+  computes_immediate of imm (a ∷ more ∷ rest) rd here = tt
+
+  computes_shift : (of : ShiftOperation) (amount : ShiftAmount) (registers : List Register) (rd : Register) → code at ≡ Some (shift_instruction of rd (register_in registers 0) amount)
+      → Computes constants code at (Operation.Shift of amount) registers rd
+  computes_shift of amount [] rd here = tt
+  computes_shift of amount (a ∷ []) rd here = here
+  computes_shift of amount (a ∷ more ∷ rest) rd here = tt
+
+  computes_copy : (imm : Immediate) (registers : List Register) (rd : Register) → Zero imm → code at ≡ Some (Addi rd (register_in registers 0) imm)
+      → Computes constants code at Operation.Mv registers rd
+  computes_copy imm [] rd zero here = tt
+  computes_copy imm (a ∷ []) rd zero here = (imm, zero, here)
+  computes_copy imm (a ∷ more ∷ rest) rd zero here = tt
+
+  computes_word : (word : ℕ) (registers : List Register) (rd : Register) → LoadsWord code at rd word → Computes constants code at (Operation.Li word) registers rd
+  computes_word word [] rd here = here
+  computes_word word (more ∷ rest) rd here = tt
+
+  computes_address : (index : ℕ) (registers : List Register) (rd : Register)
+      → ((address : ℕ) → address_in constants.first constants.texts index ≡ Some address → LoadsWord code at rd address) → Computes constants code at (Operation.La index) registers rd
+  computes_address index [] rd here = here
+  computes_address index (more ∷ rest) rd here = tt
+
+module _ (chart : Chart) (args : List Operand) (into : Option Operand) {old new : List Instr} {operation : Operation} where
+  pub on_two : {of : RegisterOperation} {rd a b : Register} {i : Instr} → operation ≡ Operation.Register of
+      → rd ≡ register_or_zero into → a ≡ register_or_zero (slice_get args 0) → b ≡ register_or_zero (slice_get args 1) → i ≡ register_instruction of rd a b
+      → Grew 1 (λ code at. code at ≡ Some i) old new → Grew (words_of_operation operation) (OperationBy chart operation args into) old new
+  on_two {of} {rd} {a} {b} {i} is rd_is a_is b_is i_is emitted =
+      subst (λ o. Grew (words_of_operation o) (OperationBy chart o args into) old new) (sym is)
+      (grew_so refl
+      (λ code at here map charts registers goal are goes.
+      let to : rd ≡ goal = rd_is ∙ register_of_into into goal goes in
+      let first : a ≡ register_in registers 0 = a_is ∙ operand_register args registers 0 are in
+      let second : b ≡ register_in registers 1 = b_is ∙ operand_register args registers 1 are in
+      let named : i ≡ register_instruction of goal (register_in registers 0) (register_in registers 1) =
+      i_is ∙ ap (λ r. register_instruction of r a b) to ∙ ap (λ r. register_instruction of goal r b) first ∙ ap (register_instruction of goal (register_in registers 0)) second in
+      computes_two map.constants code at of registers goal (here ∙ ap Some named))
+      emitted)
+
+  pub on_immediate : {of : ImmediateOperation} {imm : Immediate} {rd a : Register} {i : Instr} → operation ≡ Operation.Immediate of imm
+      → rd ≡ register_or_zero into → a ≡ register_or_zero (slice_get args 0) → i ≡ immediate_instruction of rd a imm
+      → Grew 1 (λ code at. code at ≡ Some i) old new → Grew (words_of_operation operation) (OperationBy chart operation args into) old new
+  on_immediate {of} {imm} {rd} {a} {i} is rd_is a_is i_is emitted =
+      subst (λ o. Grew (words_of_operation o) (OperationBy chart o args into) old new) (sym is)
+      (grew_so refl
+      (λ code at here map charts registers goal are goes.
+      let to : rd ≡ goal = rd_is ∙ register_of_into into goal goes in
+      let first : a ≡ register_in registers 0 = a_is ∙ operand_register args registers 0 are in
+      let named : i ≡ immediate_instruction of goal (register_in registers 0) imm =
+      i_is ∙ ap (λ r. immediate_instruction of r a imm) to ∙ ap (λ r. immediate_instruction of goal r imm) first in
+      computes_immediate map.constants code at of imm registers goal (here ∙ ap Some named))
+      emitted)
+
+  pub on_shift : {of : ShiftOperation} {amount : ShiftAmount} {rd a : Register} {i : Instr} → operation ≡ Operation.Shift of amount
+      → rd ≡ register_or_zero into → a ≡ register_or_zero (slice_get args 0) → i ≡ shift_instruction of rd a amount
+      → Grew 1 (λ code at. code at ≡ Some i) old new → Grew (words_of_operation operation) (OperationBy chart operation args into) old new
+  on_shift {of} {amount} {rd} {a} {i} is rd_is a_is i_is emitted =
+      subst (λ o. Grew (words_of_operation o) (OperationBy chart o args into) old new) (sym is)
+      (grew_so refl
+      (λ code at here map charts registers goal are goes.
+      let to : rd ≡ goal = rd_is ∙ register_of_into into goal goes in
+      let first : a ≡ register_in registers 0 = a_is ∙ operand_register args registers 0 are in
+      let named : i ≡ shift_instruction of goal (register_in registers 0) amount =
+      i_is ∙ ap (λ r. shift_instruction of r a amount) to ∙ ap (λ r. shift_instruction of goal r amount) first in
+      computes_shift map.constants code at of amount registers goal (here ∙ ap Some named))
+      emitted)
+
+  pub on_copy : {imm : Immediate} {rd a : Register} → operation ≡ Operation.Mv
+      → rd ≡ register_or_zero into → a ≡ register_or_zero (slice_get args 0) → Zero imm
+      → Grew 1 (λ code at. code at ≡ Some (Addi rd a imm)) old new → Grew (words_of_operation operation) (OperationBy chart operation args into) old new
+  on_copy {imm} {rd} {a} is rd_is a_is zero emitted =
+      subst (λ o. Grew (words_of_operation o) (OperationBy chart o args into) old new) (sym is)
+      (grew_so refl
+      (λ code at here map charts registers goal are goes.
+      let to : rd ≡ goal = rd_is ∙ register_of_into into goal goes in
+      let first : a ≡ register_in registers 0 = a_is ∙ operand_register args registers 0 are in
+      computes_copy map.constants code at imm registers goal zero (here ∙ ap Some (ap (λ r. Addi r a imm) to ∙ ap (λ r. Addi goal r imm) first)))
+      emitted)
+
+  pub on_word : {word : ℕ} {rd : Register} → operation ≡ Operation.Li word → rd ≡ register_or_zero into
+      → Grew 2 (λ code at. LoadsWord code at rd word) old new → Grew (words_of_operation operation) (OperationBy chart operation args into) old new
+  on_word {word} {rd} is rd_is emitted =
+      subst (λ o. Grew (words_of_operation o) (OperationBy chart o args into) old new) (sym is)
+      (grew_so refl
+      (λ code at here map charts registers goal are goes.
+      computes_word map.constants code at word registers goal (subst (λ r. LoadsWord code at r word) (rd_is ∙ register_of_into into goal goes) here))
+      emitted)
+
+  pub on_address : {index word : ℕ} {rd : Register} → operation ≡ Operation.La index → rd ≡ register_or_zero into
+      → ((address : ℕ) → slice_get chart.constants.items index ≡ Some address → word ≡ address)
+      → Grew 2 (λ code at. LoadsWord code at rd word) old new → Grew (words_of_operation operation) (OperationBy chart operation args into) old new
+  on_address {index} {word} {rd} is rd_is word_is emitted =
+      subst (λ o. Grew (words_of_operation o) (OperationBy chart o args into) old new) (sym is)
+      (grew_so refl
+      (λ code at here map charts registers goal are goes.
+      computes_address map.constants code at index registers goal (λ address there.
+      subst (LoadsWord code at goal) (word_is address (charts.constants index address there))
+      (subst (λ r. LoadsWord code at r word) (rd_is ∙ register_of_into into goal goes) here)))
+      emitted)

@@ -1,0 +1,208 @@
+-- What the processor comes to by a line of the machine of the placed form, and how the relation is kept.
+use Rattle.std.proofs.Common.{◌≡◌, ◌≢◌, ◌≤◌, ◌<◌, ℕ, zero, suc, ◌+◌, ◌*◌, ◌%◌, ◌^◌, List, [], ◌∷◌, length, Option, Some, None, true, false, All, option_map, refl, sym, ap, ◌∙◌, subst, arith, lit<}
+use Rattle.std.proofs.Math.Nat.{suc-mul, mul-le-mul_right}
+use Rattle.kk_base.specs.Memory.{Part}
+use Rattle.rv_isa.specs.PlacedCode.{PlacedLine, PlacedLines}
+use Rattle.rv_isa.specs.Conventions.{is_handed_out}
+use Rattle.rv_isa.specs.Primitives.{Turn, go, ended, stuck, or_stuck}
+use Rattle.rv_isa.specs.Frames.{Frame, put}
+use Rattle.rv_isa.specs.PlacedMachine.{PlacedState, PlacedTurn, placed_goes, placed_told}
+use Rattle.rv_isa.specs.Bytes.{bytes_at, with_number}
+use Rattle.rv_isa.specs.Processor.{Processor, Ending, Progress, goes, value, can_store}
+use Rattle.rv_isa.specs.Execution.{rv32im, run, Leads}
+use Rattle.rv_isa.specs.Standing.{Code}
+use Rattle.rv_isa.proofs.Memory.{bytes_at-with_number_apart}
+use Rattle.rv_isa.proofs.Runs.{run-zero, Leads-run}
+use Rattle.cell_runtime.specs.Registers.{IsOutside}
+use Rattle.rv_world.specs.World.{World, primitives}
+use Rattle.rv_place.specs.Lines.{Map}
+use Rattle.rv_place.specs.Grounds.{Ground, stack_end, constant_bytes}
+use Rattle.rv_place.specs.Running.{most_lines, IsIn, FramesAt, Agrees, Running, lines_left, StandsFor}
+use Rattle.rv_place.proofs.RunningExecuting.{Done, Gets}
+use Rattle.rv_place.proofs.RunningFrames.{handed_apart, agrees_put, agrees_kept, frames_sum}
+
+-- ---- turns
+
+-- where nothing is stuck, a value that is gone on with is there
+pub or_stuck_some : {A S H W : Type 0} (o : Option A) (next : A → Turn S H W) (turn : Turn S H W) → or_stuck o next ≡ turn → turn ≢ stuck → (a : A) × (o ≡ Some a) × (next a ≡ turn)
+or_stuck_some None next turn is good = absurd (good (sym is))
+or_stuck_some (Some a) next turn is good = (a, refl, is)
+
+pub mapped_some : {A B : Type 0} (f : A → B) (o : Option A) (b : B) → option_map f o ≡ Some b → (a : A) × (o ≡ Some a) × (f a ≡ b)
+mapped_some f None b is = cc
+mapped_some f (Some a) b is = (a, refl, cc)
+
+-- the lines that are left where a run goes on
+abbrev pub left_in : PlacedTurn World Ending → ℕ
+left_in (go t) = lines_left t.frames
+left_in (ended how shared) = 0
+left_in stuck = 0
+
+-- the end behind main has an exit of 3 instructions
+abbrev pub spare : PlacedTurn World Ending → ℕ
+spare (go t) = 0
+spare (ended how shared) = 3
+spare stuck = 0
+
+-- ---- the stack pointer
+
+pub base_low : (base n frame bottom depth : ℕ) → base + n * frame ≡ bottom + depth * frame → n ≤ depth → bottom ≤ base
+base_low base n frame bottom depth sum few = let less : n * frame ≤ depth * frame = mul-le-mul_right frame few in omega arith
+
+pub base_room : (base n frame bottom depth : ℕ) → base + n * frame ≡ bottom + depth * frame → suc n ≤ depth → bottom + frame ≤ base
+base_room base n frame bottom depth sum few =
+    let less : suc n * frame ≤ depth * frame = mul-le-mul_right frame few in let more = suc-mul n frame in omega arith
+
+pub base_full : (base n frame bottom depth : ℕ) → base + n * frame ≡ bottom + depth * frame → n ≡ depth → base ≡ bottom
+base_full base n frame bottom depth sum same = let equal : n * frame ≡ depth * frame = ap (λ k. k * frame) same in omega arith
+
+times_word : (n frame : ℕ) → frame % 4 ≡ 0 → (n * frame) % 4 ≡ 0
+times_word zero frame word = let none : 0 * frame ≡ 0 = omega arith in rw none refl
+times_word (suc n) frame word = let rest = times_word n frame word in let more = suc-mul n frame in omega arith
+
+pub base_word : (base n frame bottom depth : ℕ) → base + n * frame ≡ bottom + depth * frame → frame % 4 ≡ 0 → bottom % 4 ≡ 0 → base % 4 ≡ 0
+base_word base n frame bottom depth sum word bottom_word =
+    let a = times_word n frame word in let b = times_word depth frame word in omega arith
+
+-- ---- registers
+
+-- registers of which no value has any
+abbrev pub NoneHanded : List ℕ → Type 0
+NoneHanded [] = Unit {0}
+NoneHanded (y ∷ ys) = (is_handed_out y ≡ false) × NoneHanded ys
+
+pub outside_handed : (changed : List ℕ) → NoneHanded changed → (x : ℕ) → is_handed_out x ≡ true → IsOutside x changed
+outside_handed [] none x handed = tt
+outside_handed (y ∷ ys) none x handed = (handed_apart x y none.0 handed, outside_handed ys none.1 x handed)
+
+pub agrees_done : {code : Code} {n : ℕ} {changed : List ℕ} {memory : ℕ → ℕ} {next : ℕ} (s u : Processor) (known : ℕ → Option ℕ) → Done code n changed memory next s u → NoneHanded changed → Agrees known s.registers → Agrees known u.registers
+agrees_done {changed = changed} s u known done none agrees = agrees_kept known s.registers u.registers agrees (λ x handed. done.kept x (outside_handed changed none x handed))
+
+-- a register that got a word, which may be known
+pub agrees_got : {code : Code} {n rd word next : ℕ} (s : Processor) (known : ℕ → Option ℕ) (w : Option ℕ) (gets : Gets code n (rd ∷ []) rd word next s) → is_handed_out rd ≡ true
+    → ((v : ℕ) → w ≡ Some v → (word ≡ v) × (v < 2 ^ 32)) → Agrees known s.registers → Agrees (put rd w known) gets.after.registers
+agrees_got {rd = rd} {word = word} s known w gets handed new agrees =
+    agrees_put rd w known s.registers gets.after.registers agrees handed
+    (λ v is. let both = new v is in (gets.value_is (handed_apart rd 0 refl handed) ∙ both.0, both.1))
+    (λ x some apart. gets.done.kept x (apart, tt))
+
+-- ---- what is come to
+
+module _ (map : Map) (functions : List PlacedLines) (depth stop : ℕ) (code : Code) (parts : List Part) where
+  -- The processor comes to what stands for a turn, by so many instructions at most. Where there is none, a line is behind it.
+  pub record Comes (most old : ℕ) (turn : PlacedTurn World Ending) (s : Processor) : Type 0 where
+    pub steps : ℕ
+    pub after : Progress
+    pub runs : run steps s ≡ after
+    pub stands_for : (credit idle : ℕ) → 3 ≤ credit → left_in turn ≤ idle → StandsFor map functions depth stop code parts credit idle turn after
+    pub told : placed_told (primitives map.constants) turn ≡ after.processor.trace
+    pub within : steps ≤ most + spare turn
+    pub moves : 1 + left_in turn ≤ steps * suc (most_lines functions) + old
+
+  left_few : (t : PlacedState World) (at base : ℕ) (memory : ℕ → ℕ) → FramesAt map code (most_lines functions) stop (stack_end map depth) memory at base t.frames → lines_left t.frames ≤ most_lines functions
+  left_few t at base memory stand = by t.frames stand
+    where
+      by : (frames : List (Frame PlacedLine)) → FramesAt map code (most_lines functions) stop (stack_end map depth) memory at base frames → lines_left frames ≤ most_lines functions
+      by [] stand = omega arith
+      by (frame ∷ frames) stand = stand.0.few
+
+  some_moves : (n left most old : ℕ) → 1 ≤ n → left ≤ most → 1 + left ≤ n * suc most + old
+  some_moves zero left most old some few = omega arith
+  some_moves (suc n) left most old some few = let more = suc-mul n (suc most) in omega arith
+
+  pub comes_go : (most old : ℕ) (t : PlacedState World) (s u : Processor) (n : ℕ) → Leads n s u → Running map functions depth stop code parts t u → 1 ≤ n → n ≤ most → Comes most old (go t) s
+  comes_go most old t s u n leads running some within = record {
+    steps = n;
+    after = goes u;
+    runs = Leads-run leads;
+    stands_for = λ credit idle saved left. (u, refl, saved, left, running);
+    told = sym running.trace;
+    within = omega arith;
+    moves = some_moves n (lines_left t.frames) (most_lines functions) old some (left_few t u.pc (value u.registers 2) u.memory running.frames);
+  }
+
+  -- nothing is done, and a line is behind
+  pub comes_idle : (most old : ℕ) (t : PlacedState World) (s : Processor) → Running map functions depth stop code parts t s → 1 + lines_left t.frames ≤ old → Comes most old (go t) s
+  comes_idle most old t s running less = record {
+    steps = 0;
+    after = goes s;
+    runs = run-zero rv32im s;
+    stands_for = λ credit idle saved left. (s, refl, saved, left, running);
+    told = sym running.trace;
+    within = omega arith;
+    moves = omega arith;
+  }
+
+  -- the end of a run
+  pub comes_ended : (most old : ℕ) (how : Ending) (world : World) (s : Processor) (n : ℕ) (after : Progress) → run n s ≡ after → StandsFor map functions depth stop code parts 3 0 (ended how world) after → 1 ≤ n → n ≤ most + 3 → Comes most old (ended how world) s
+  comes_ended most old how world s n after runs stands some within = record {
+    steps = n;
+    after = after;
+    runs = runs;
+    stands_for = λ credit idle saved left. stands;
+    told = sym stands.1;
+    within = within;
+    moves = some_moves n 0 (most_lines functions) old some (omega arith);
+  }
+
+  -- ---- the relation is kept
+
+  pub runs_on : {n : ℕ} {changed : List ℕ} {memory : ℕ → ℕ} {next : ℕ} (t : PlacedState World) (s u : Processor) (frames : List (Frame PlacedLine)) (known : ℕ → Option ℕ) (base : ℕ)
+      → Running map functions depth stop code parts t s → Done code n changed memory next s u
+      → bytes_at memory map.constants.first (constant_bytes map) ≡ bytes_at s.memory map.constants.first (constant_bytes map)
+      → length frames ≤ depth → value u.registers 2 ≡ base → FramesAt map code (most_lines functions) stop (stack_end map depth) memory next base frames → Agrees known u.registers
+      → Running map functions depth stop code parts (record { frames = frames; registers = known; shared = t.shared }) u
+  runs_on {memory = memory} {next = next} t s u frames known base running done same room base_is stand agrees =
+      let at_pc : FramesAt map code (most_lines functions) stop (stack_end map depth) memory u.pc base frames = subst (λ a. FramesAt map code (most_lines functions) stop (stack_end map depth) memory a base frames) (sym done.pc_is) stand in
+      let at_base : FramesAt map code (most_lines functions) stop (stack_end map depth) memory u.pc (value u.registers 2) frames = subst (λ b. FramesAt map code (most_lines functions) stop (stack_end map depth) memory u.pc b frames) (sym base_is) at_pc in
+      record {
+        rests = record {
+          stands = done.stands;
+          parts_are = done.parts_are ∙ running.rests.parts_are;
+          constants = ap (λ m. bytes_at m map.constants.first (constant_bytes map)) done.memory_is ∙ (same ∙ running.rests.constants);
+        };
+        trace = done.trace_is ∙ running.trace;
+        left = done.left_is ∙ running.left;
+        bytes = subst (λ bytes. All (λ byte. byte < 256) bytes) (sym done.left_is) running.bytes;
+        room = room;
+        frames = subst (λ m. FramesAt map code (most_lines functions) stop (stack_end map depth) m u.pc (value u.registers 2) frames) (sym done.memory_is) at_base;
+        registers = agrees;
+      }
+
+-- ---- a line of the newest frame
+
+module _ {map : Map} {functions : List PlacedLines} {depth buffer stop : ℕ} {code : Code} {parts : List Part} (ground : Ground map functions depth buffer stop code parts)
+    (f : Frame PlacedLine) (fs : List (Frame PlacedLine)) (known : ℕ → Option ℕ) (world : World) (s : Processor)
+    (running : Running map functions depth stop code parts (record { frames = f ∷ fs; registers = known; shared = world }) s) where
+  base_sum : value s.registers 2 + suc (length fs) * map.frame ≡ map.bottom + depth * map.frame
+  base_sum = frames_sum map code (most_lines functions) stop (stack_end map depth) s.memory s.pc (value s.registers 2) (f ∷ fs) running.frames
+
+  pub sp_low : map.bottom ≤ value s.registers 2
+  sp_low = base_low (value s.registers 2) (suc (length fs)) map.frame map.bottom depth base_sum running.room
+
+  pub sp_word : value s.registers 2 % 4 ≡ 0
+  sp_word = base_word (value s.registers 2) (suc (length fs)) map.frame map.bottom depth base_sum ground.frame_words ground.bottom_word
+
+  pub sp_high : value s.registers 2 + map.frame ≤ stack_end map depth
+  sp_high =
+      let sum = base_sum in let more = suc-mul (length fs) map.frame in omega arith
+
+  pub sp_room : suc (length (f ∷ fs)) ≤ depth → map.bottom + map.frame ≤ value s.registers 2
+  sp_room room = base_room (value s.registers 2) (suc (length fs)) map.frame map.bottom depth base_sum room
+
+  pub sp_last : depth ≤ length (f ∷ fs) → value s.registers 2 ≡ map.bottom
+  sp_last full = let room = running.room in base_full (value s.registers 2) (suc (length fs)) map.frame map.bottom depth base_sum (omega arith)
+
+  -- a store to the stack leaves the constants alone
+  pub constants_kept : (at v : ℕ) → can_store parts at 4 ≡ true → bytes_at (with_number at 4 v s.memory) map.constants.first (constant_bytes map) ≡ bytes_at s.memory map.constants.first (constant_bytes map)
+  constants_kept at v allowed = bytes_at-with_number_apart at 4 v s.memory map.constants.first (constant_bytes map) (ground.constants_kept at 4 allowed (lit< tt))
+
+  -- instructions that change no memory lead on in the same frame
+  pub stays : (most old : ℕ) {n : ℕ} {changed : List ℕ} {next : ℕ} (u : Processor) (behind : List PlacedLine) (known' : ℕ → Option ℕ) → Done code n changed s.memory next s u → IsOutside 2 changed
+      → IsIn map code (most_lines functions) next (record f { code = behind }) → Agrees known' u.registers → 1 ≤ n → n ≤ most
+      → Comes map functions depth stop code parts most old (placed_goes (record f { code = behind }) fs known' world) s
+  stays most old {n = n} u behind known' done outside is_in agrees some within =
+      let stand = running.frames in
+      comes_go map functions depth stop code parts most old (record { frames = record f { code = behind } ∷ fs; registers = known'; shared = world }) s u n done.leads
+      (runs_on map functions depth stop code parts (record { frames = f ∷ fs; registers = known; shared = world }) s u (record f { code = behind } ∷ fs) known' (value s.registers 2) running done refl running.room
+      (done.kept 2 outside) (is_in, stand.1, stand.2, stand.3, stand.4) agrees) some within

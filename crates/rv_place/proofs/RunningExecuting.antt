@@ -1,0 +1,233 @@
+-- Instructions of placed code, executed: what they change is told by facts, so that no state of the machine stands in what follows.
+use Rattle.std.proofs.Common.{◌≡◌, ◌≢◌, ◌<◌, ℕ, ◌+◌, ◌%◌, ◌^◌, List, [], ◌∷◌, ◌++◌, Some, Bool, true, false, not, refl, sym, ap, ◌∙◌, subst, arith}
+use Rattle.rv_isa.specs.declared.register.Register.{Register}
+use Rattle.rv_isa.specs.declared.immediate.Immediate.{Immediate}
+use Rattle.rv_isa.specs.declared.immediate.UpperImmediate.{UpperImmediate}
+use Rattle.rv_isa.specs.declared.immediate.ShiftAmount.{ShiftAmount}
+use Rattle.rv_isa.specs.declared.immediate.BranchOffset.{BranchOffset}
+use Rattle.rv_isa.specs.declared.act.Act.TheVariants as Act
+use Rattle.rv_isa.specs.declared.instr.Instr.{Instr}
+use Rattle.rv_isa.specs.declared.asm.Condition.{Condition}
+use Rattle.rv_isa.specs.declared.asm.Condition.TheVariants.{Equal, NotEqual, Less, GreaterEqual, LessUnsigned, GreaterEqualUnsigned}
+use Rattle.rv_isa.specs.declared.asm.RegisterOperation.{RegisterOperation}
+use Rattle.rv_isa.specs.declared.asm.RegisterOperation.TheVariants.{Add, Sub, Sll, Slt, Sltu, Xor, Srl, Sra, Or, And, Mul, Mulh, Mulhsu, Mulhu, Div, Divu, Rem, Remu}
+use Rattle.rv_isa.specs.declared.asm.ImmediateOperation.{ImmediateOperation}
+use Rattle.rv_isa.specs.declared.asm.ImmediateOperation.TheVariants.{Addi, Slti, Sltiu, Xori, Ori, Andi}
+use Rattle.rv_isa.specs.declared.asm.ShiftOperation.{ShiftOperation}
+use Rattle.rv_isa.specs.declared.asm.ShiftOperation.TheVariants.{Slli, Srli, Srai}
+use Rattle.rv_isa.specs.Arithmetic.{sum_word}
+use Rattle.rv_isa.specs.Operands.{rd_of, rs1_of, rs2_of}
+use Rattle.rv_isa.specs.Meaning.{sets, branches, effect_of}
+use Rattle.rv_isa.specs.Bytes.{number_at, with_number}
+use Rattle.rv_isa.specs.Processor.{Processor, value, put, can_load, can_store}
+use Rattle.rv_isa.specs.Environment.{stepped}
+use Rattle.rv_isa.specs.Execution.{effect_at, Leads}
+use Rattle.rv_isa.specs.Standing.{Code, Stands}
+use Rattle.rv_isa.proofs.Fits.{EffectFits, effect_of_fits}
+use Rattle.rv_isa.proofs.Runs.{Leads-then}
+use Rattle.rv_isa.proofs.Standing.{Stands-leads}
+use Rattle.rv_isa.proofs.Instructions.{value-put_same, value-put_other, leads-sets, leads-to, leads-lw, leads-sw, leads-jalr}
+use Rattle.cell_runtime.specs.Registers.{IsOutside}
+use Rattle.rv_world.specs.Operations.{register_word, immediate_word, shift_word, compares}
+use Rattle.rv_place.specs.Instructions.{register_instruction, immediate_instruction, shift_instruction, opposite_branch}
+
+-- ---- the table
+
+-- an instruction that sets a register to a word of its sources
+pub record IsPlain (i : Instr) (rd a b : ℕ) (word : ℕ → ℕ → ℕ) : Type 0 where
+  pub rd_is : rd_of i ≡ rd
+  pub rs1_is : rs1_of i ≡ a
+  pub rs2_is : rs2_of i ≡ b
+  pub effect : (pc x y : ℕ) → effect_of i pc x y ≡ sets pc (word x y)
+
+pub addi_row : (rd a : Register) (imm : Immediate) → IsPlain (Instr.Addi rd a imm) rd.number a.number 0 (λ x y. sum_word x imm.word)
+addi_row rd a imm = record { rd_is = refl; rs1_is = refl; rs2_is = refl; effect = λ pc x y. refl }
+
+pub lui_row : (rd : Register) (imm : UpperImmediate) → IsPlain (Instr.Lui rd imm) rd.number 0 0 (λ x y. imm.word)
+lui_row rd imm = record { rd_is = refl; rs1_is = refl; rs2_is = refl; effect = λ pc x y. refl }
+
+pub register_row : (operation : RegisterOperation) (rd a b : Register) → IsPlain (register_instruction operation rd a b) rd.number a.number b.number (register_word operation)
+register_row Add rd a b = record { rd_is = refl; rs1_is = refl; rs2_is = refl; effect = λ pc x y. refl }
+register_row Sub rd a b = record { rd_is = refl; rs1_is = refl; rs2_is = refl; effect = λ pc x y. refl }
+register_row Sll rd a b = record { rd_is = refl; rs1_is = refl; rs2_is = refl; effect = λ pc x y. refl }
+register_row Slt rd a b = record { rd_is = refl; rs1_is = refl; rs2_is = refl; effect = λ pc x y. refl }
+register_row Sltu rd a b = record { rd_is = refl; rs1_is = refl; rs2_is = refl; effect = λ pc x y. refl }
+register_row Xor rd a b = record { rd_is = refl; rs1_is = refl; rs2_is = refl; effect = λ pc x y. refl }
+register_row Srl rd a b = record { rd_is = refl; rs1_is = refl; rs2_is = refl; effect = λ pc x y. refl }
+register_row Sra rd a b = record { rd_is = refl; rs1_is = refl; rs2_is = refl; effect = λ pc x y. refl }
+register_row Or rd a b = record { rd_is = refl; rs1_is = refl; rs2_is = refl; effect = λ pc x y. refl }
+register_row And rd a b = record { rd_is = refl; rs1_is = refl; rs2_is = refl; effect = λ pc x y. refl }
+register_row Mul rd a b = record { rd_is = refl; rs1_is = refl; rs2_is = refl; effect = λ pc x y. refl }
+register_row Mulh rd a b = record { rd_is = refl; rs1_is = refl; rs2_is = refl; effect = λ pc x y. refl }
+register_row Mulhsu rd a b = record { rd_is = refl; rs1_is = refl; rs2_is = refl; effect = λ pc x y. refl }
+register_row Mulhu rd a b = record { rd_is = refl; rs1_is = refl; rs2_is = refl; effect = λ pc x y. refl }
+register_row Div rd a b = record { rd_is = refl; rs1_is = refl; rs2_is = refl; effect = λ pc x y. refl }
+register_row Divu rd a b = record { rd_is = refl; rs1_is = refl; rs2_is = refl; effect = λ pc x y. refl }
+register_row Rem rd a b = record { rd_is = refl; rs1_is = refl; rs2_is = refl; effect = λ pc x y. refl }
+register_row Remu rd a b = record { rd_is = refl; rs1_is = refl; rs2_is = refl; effect = λ pc x y. refl }
+
+pub immediate_row : (operation : ImmediateOperation) (rd a : Register) (imm : Immediate) → IsPlain (immediate_instruction operation rd a imm) rd.number a.number 0 (λ x y. immediate_word operation x imm.word)
+immediate_row Addi rd a imm = record { rd_is = refl; rs1_is = refl; rs2_is = refl; effect = λ pc x y. refl }
+immediate_row Slti rd a imm = record { rd_is = refl; rs1_is = refl; rs2_is = refl; effect = λ pc x y. refl }
+immediate_row Sltiu rd a imm = record { rd_is = refl; rs1_is = refl; rs2_is = refl; effect = λ pc x y. refl }
+immediate_row Xori rd a imm = record { rd_is = refl; rs1_is = refl; rs2_is = refl; effect = λ pc x y. refl }
+immediate_row Ori rd a imm = record { rd_is = refl; rs1_is = refl; rs2_is = refl; effect = λ pc x y. refl }
+immediate_row Andi rd a imm = record { rd_is = refl; rs1_is = refl; rs2_is = refl; effect = λ pc x y. refl }
+
+pub shift_row : (operation : ShiftOperation) (rd a : Register) (amount : ShiftAmount) → IsPlain (shift_instruction operation rd a amount) rd.number a.number 0 (λ x y. shift_word operation x amount.places)
+shift_row Slli rd a amount = record { rd_is = refl; rs1_is = refl; rs2_is = refl; effect = λ pc x y. refl }
+shift_row Srli rd a amount = record { rd_is = refl; rs1_is = refl; rs2_is = refl; effect = λ pc x y. refl }
+shift_row Srai rd a amount = record { rd_is = refl; rs1_is = refl; rs2_is = refl; effect = λ pc x y. refl }
+
+-- the word is one of 32 bits
+pub plain_fits : {i : Instr} {rd a b : ℕ} {word : ℕ → ℕ → ℕ} → IsPlain i rd a b word → (x y : ℕ) → x < 2 ^ 32 → y < 2 ^ 32 → word x y < 2 ^ 32
+plain_fits {i} plain x y x_fits y_fits = (subst EffectFits (plain.effect 0 x y) (effect_of_fits i 0 x y x_fits y_fits)).act
+
+twice : (test : Bool) → not (not test) ≡ test
+twice true = refl
+twice false = refl
+
+-- the opposite branch goes to its target where the condition does not hold
+pub branch_effect : (condition : Condition) (a b : Register) (over : BranchOffset) (s : Processor)
+    → effect_at s (opposite_branch condition a b over) ≡ branches s.pc (not (compares condition (value s.registers a.number) (value s.registers b.number))) over
+branch_effect Equal a b over s = refl
+branch_effect NotEqual a b over s = ap (λ t. branches s.pc t over) (sym (twice _))
+branch_effect Less a b over s = refl
+branch_effect GreaterEqual a b over s = ap (λ t. branches s.pc t over) (sym (twice _))
+branch_effect LessUnsigned a b over s = refl
+branch_effect GreaterEqualUnsigned a b over s = ap (λ t. branches s.pc t over) (sym (twice _))
+
+-- ---- what instructions have done
+
+-- So many instructions lead from one state to another, which is at `next` and has this memory. They change none but these registers.
+pub record Done (code : Code) (steps : ℕ) (changed : List ℕ) (memory : ℕ → ℕ) (next : ℕ) (s t : Processor) : Type 0 where
+  pub leads : Leads steps s t
+  pub stands : Stands code t
+  pub pc_is : t.pc ≡ next
+  pub memory_is : t.memory ≡ memory
+  pub parts_are : t.parts ≡ s.parts
+  pub left_is : t.left ≡ s.left
+  pub trace_is : t.trace ≡ s.trace
+  pub kept : (x : ℕ) → IsOutside x changed → value t.registers x ≡ value s.registers x
+
+-- and a register then holds a word, unless it is the zero register
+pub record Gets (code : Code) (steps : ℕ) (changed : List ℕ) (rd word : ℕ) (next : ℕ) (s : Processor) : Type 0 where
+  pub after : Processor
+  pub done : Done code steps changed s.memory next s after
+  pub value_is : rd ≢ 0 → value after.registers rd ≡ word
+
+-- or nothing else is said of the registers
+pub record Goes (code : Code) (steps : ℕ) (changed : List ℕ) (memory : ℕ → ℕ) (next : ℕ) (s : Processor) : Type 0 where
+  pub after : Processor
+  pub done : Done code steps changed memory next s after
+
+pub outside_front : (x : ℕ) (front back : List ℕ) → IsOutside x (front ++ back) → IsOutside x front
+outside_front x [] back out = tt
+outside_front x (y ∷ front) back out = (out.0, outside_front x front back out.1)
+
+pub outside_back : (x : ℕ) (front back : List ℕ) → IsOutside x (front ++ back) → IsOutside x back
+outside_back x [] back out = out
+outside_back x (y ∷ front) back out = outside_back x front back out.1
+
+pub done_then : {code : Code} {n k : ℕ} {front back : List ℕ} {m m' : ℕ → ℕ} {next next' : ℕ} {s t u : Processor}
+    → Done code n front m next s t → Done code k back m' next' t u → Done code (n + k) (front ++ back) m' next' s u
+done_then {code} {n} {k} {front} {back} first second = record {
+  leads = Leads-then first.leads second.leads;
+  stands = second.stands;
+  pc_is = second.pc_is;
+  memory_is = second.memory_is;
+  parts_are = second.parts_are ∙ first.parts_are;
+  left_is = second.left_is ∙ first.left_is;
+  trace_is = second.trace_is ∙ first.trace_is;
+  kept = λ x out. second.kept x (outside_back x front back out) ∙ first.kept x (outside_front x front back out);
+}
+
+-- the same of another name of the memory and of the address, and of registers among which those are
+pub done_as : {code : Code} {n : ℕ} {changed changed' : List ℕ} {m m' : ℕ → ℕ} {next next' : ℕ} {s t : Processor}
+    → Done code n changed m next s t → m ≡ m' → next ≡ next' → ((x : ℕ) → IsOutside x changed' → IsOutside x changed) → Done code n changed' m' next' s t
+done_as done memory address among = record {
+  leads = done.leads;
+  stands = done.stands;
+  pc_is = done.pc_is ∙ address;
+  memory_is = done.memory_is ∙ memory;
+  parts_are = done.parts_are;
+  left_is = done.left_is;
+  trace_is = done.trace_is;
+  kept = λ x out. done.kept x (among x out);
+}
+
+-- a part that was done in a state with the memory of another
+pub done_on : {code : Code} {n k : ℕ} {front back : List ℕ} {m : ℕ → ℕ} {next next' : ℕ} {s t u : Processor}
+    → Done code n front m next s t → Done code k back t.memory next' t u → Done code (n + k) (front ++ back) m next' s u
+done_on first second = done_as (done_then first second) first.memory_is refl (λ x out. out)
+
+pub next_of : (at : ℕ) → at + 4 < 2 ^ 32 → sum_word at 4 ≡ at + 4
+next_of at below = omega arith
+
+pub target_of : (at : ℕ) → at + 12 < 2 ^ 32 → sum_word at 12 ≡ at + 12
+target_of at below = omega arith
+
+-- ---- one instruction
+
+module _ {code : Code} (below : (at : ℕ) (i : Instr) → code at ≡ Some i → at + 4 < 2 ^ 32) {s : Processor} (stands : Stands code s) {at : ℕ} (pc_is : s.pc ≡ at) where
+  here_is : {i : Instr} → code at ≡ Some i → code s.pc ≡ Some i
+  here_is here = ap code pc_is ∙ here
+
+  pub next_is : {i : Instr} → code at ≡ Some i → sum_word s.pc 4 ≡ at + 4
+  next_is {i} here = ap (λ pc. sum_word pc 4) pc_is ∙ next_of at (below at i here)
+
+  -- an instruction that leads to these registers, this memory and this address
+  one_done : {changed : List ℕ} (registers memory : ℕ → ℕ) (next : ℕ) → Leads 1 s (record (stepped next s) { registers = registers; memory = memory })
+      → ((x : ℕ) → IsOutside x changed → value registers x ≡ value s.registers x) → Done code 1 changed memory next s (record (stepped next s) { registers = registers; memory = memory })
+  one_done registers memory next leads kept = record {
+    leads = leads;
+    stands = Stands-leads leads stands;
+    pc_is = refl;
+    memory_is = refl;
+    parts_are = refl;
+    left_is = refl;
+    trace_is = refl;
+    kept = kept;
+  }
+
+  one_gets : (rd word next : ℕ) → Leads 1 s (record (stepped next s) { registers = put rd word s.registers }) → Gets code 1 (rd ∷ []) rd word next s
+  one_gets rd word next leads = record {
+    after = record (stepped next s) { registers = put rd word s.registers };
+    done = one_done (put rd word s.registers) s.memory next leads (λ x out. value-put_other rd word s.registers x out.0);
+    value_is = λ some. value-put_same rd word s.registers some;
+  }
+
+  one_goes : (memory : ℕ → ℕ) (next : ℕ) → Leads 1 s (record (stepped next s) { memory = memory }) → Goes code 1 [] memory next s
+  one_goes memory next leads = record { after = record (stepped next s) { memory = memory }; done = one_done s.registers memory next leads (λ x out. refl) }
+
+  pub plain_gets : {i : Instr} {rd a b : ℕ} {word : ℕ → ℕ → ℕ} → IsPlain i rd a b word → code at ≡ Some i
+      → Gets code 1 (rd ∷ []) rd (word (value s.registers a) (value s.registers b)) (at + 4) s
+  plain_gets {i} {rd} {a} {b} {word} plain here =
+      let v = word (value s.registers a) (value s.registers b) in
+      let effect : effect_at s i ≡ sets s.pc v = rw (plain.rs1_is, plain.rs2_is) (plain.effect s.pc (value s.registers a) (value s.registers b)) in
+      one_gets rd v (at + 4)
+      (subst (λ r. Leads 1 s (record (stepped (at + 4) s) { registers = put r v s.registers })) plain.rd_is (leads-sets stands i v {v = v} {next = at + 4} (here_is here) effect refl (next_is here)))
+
+  pub load_gets : {rd base : Register} {offset : Immediate} {address word : ℕ} → code at ≡ Some (Instr.Lw rd base offset)
+      → sum_word (value s.registers base.number) offset.word ≡ address → address % 4 ≡ 0 → can_load s.parts address 4 ≡ true → number_at s.memory address 4 ≡ word
+      → Gets code 1 (rd.number ∷ []) rd.number word (at + 4) s
+  load_gets {rd} {base} {offset} {address} {word} here address_is aligned allowed word_is =
+      one_gets rd.number word (at + 4)
+      (leads-lw stands {rd = rd} {rs1 = base} {imm = offset} {at = address} {v = word} {next = at + 4} (here_is here) address_is aligned allowed word_is (next_is here))
+
+  pub store_goes : {base from : Register} {offset : Immediate} {address word : ℕ} → code at ≡ Some (Instr.Sw base from offset)
+      → sum_word (value s.registers base.number) offset.word ≡ address → value s.registers from.number ≡ word → address % 4 ≡ 0 → can_store s.parts address 4 ≡ true
+      → Goes code 1 [] (with_number address 4 word s.memory) (at + 4) s
+  store_goes {base} {from} {offset} {address} {word} here address_is word_is aligned allowed =
+      one_goes (with_number address 4 word s.memory) (at + 4)
+      (leads-sw stands {rs1 = base} {rs2 = from} {imm = offset} {at = address} {v = word} {next = at + 4} (here_is here) address_is word_is aligned allowed (next_is here))
+
+  pub jump_gets : {back by : Register} {offset : Immediate} {target : ℕ} → code at ≡ Some (Instr.Jalr back by offset)
+      → sum_word (value s.registers by.number) offset.word ≡ target → target % 4 ≡ 0
+      → Gets code 1 (back.number ∷ []) back.number (at + 4) target s
+  jump_gets {back} {by} {offset} {target} here target_is aligned =
+      one_gets back.number (at + 4) target (leads-jalr stands {rd = back} {rs1 = by} {imm = offset} {next = target} {back = at + 4} (here_is here) target_is aligned (next_is here))
+
+  -- an instruction that does nothing but go on at an address
+  pub branch_goes : (i : Instr) (target : ℕ) {next : ℕ} → code at ≡ Some i → effect_at s i ≡ record { next = target; act = Act.Nothing } → target ≡ next → next % 4 ≡ 0 → Goes code 1 [] s.memory next s
+  branch_goes i target {next} here effect target_is aligned = one_goes s.memory next (leads-to stands i target {next = next} (here_is here) effect target_is aligned)

@@ -1,0 +1,148 @@
+-- Lines as they stand in the code: where labels and functions are found, and what is kept of the code that is left.
+use Rattle.std.proofs.Common.{◌≡◌, ◌≤◌, ◌<◌, ℕ, zero, suc, ◌+◌, ◌*◌, ◌%◌, ◌^◌, max, List, [], ◌∷◌, length, Option, Some, None, Bool, true, false, cond, slice_get, IsSome, refl, sym, ap, subst, arith}
+use Rattle.rv_isa.specs.declared.instr.Instr.{Instr}
+use Rattle.rv_isa.specs.declared.register.Register.{Register}
+use Rattle.rv_isa.specs.PlacedCode.{PlacedLine, PlacedLines}
+use Rattle.rv_isa.specs.Frames.{Frame, found}
+use Rattle.rv_isa.specs.PlacedMachine.{is_label_line, placed_entered}
+use Rattle.rv_isa.specs.Processor.{Processor}
+use Rattle.rv_isa.specs.Standing.{Code, Stands}
+use Rattle.rv_place.specs.Addresses.{words_of_line, label_address}
+use Rattle.rv_place.specs.Instructions.{JumpsBy}
+use Rattle.rv_place.specs.Lines.{Map, LineAt, LinesAt, FunctionAt, FunctionsAt}
+use Rattle.rv_place.specs.Running.{IsPlain, ArePlain, AllPlain, most_lines, IsIn}
+
+-- ---- labels
+
+-- the lines from a label on, which stand at its address
+pub record Labelled (map : Map) (code : Code) (start : ℕ) (whole : List PlacedLine) (most : ℕ) (address : Option ℕ) (lines : List PlacedLine) : Type 0 where
+  pub target : ℕ
+  pub target_is : address ≡ Some target
+  pub word : target % 4 ≡ 0
+  pub stand : LinesAt map code start whole target lines
+  pub plain : ArePlain whole lines
+  pub few : length lines ≤ most
+
+module _ (map : Map) (code : Code) (start : ℕ) (whole : List PlacedLine) (most l : ℕ) where
+  label_step : (b : Bool) (at : ℕ) (lines later behind : List PlacedLine) (address : Option ℕ) (rest : Option (List PlacedLine)) → at % 4 ≡ 0 → LinesAt map code start whole at lines → ArePlain whole lines → length lines ≤ most
+      → (rest ≡ Some behind → Labelled map code start whole most address behind) → cond b (Some lines) rest ≡ Some behind → Labelled map code start whole most (cond b (Some at) address) behind
+  label_step true at lines later behind address rest word stand plain few further is =
+      let same : lines ≡ behind = cc in
+      record {
+        target = at;
+        target_is = refl;
+        word = word;
+        stand = subst (λ c. LinesAt map code start whole at c) same stand;
+        plain = subst (ArePlain whole) same plain;
+        few = subst (λ (c : List PlacedLine). length c ≤ most) same few;
+      }
+  label_step false at lines later behind address rest word stand plain few further is = further is
+
+  pub label_found : (at : ℕ) (lines behind : List PlacedLine) → at % 4 ≡ 0 → LinesAt map code start whole at lines → ArePlain whole lines → length lines ≤ most
+      → found (is_label_line l) lines ≡ Some behind → Labelled map code start whole most (label_address l at lines) behind
+  label_found at [] behind word stand plain few is = cc
+  label_found at (line ∷ lines) behind word stand plain few is =
+      label_step (is_label_line l line) at (line ∷ lines) lines behind (label_address l (at + 4 * words_of_line line) lines) (found (is_label_line l) lines) word stand plain few
+      (λ later. label_found (at + 4 * words_of_line line) lines behind (omega arith) stand.1 plain.1 (omega arith) later) is
+
+-- a label that is there
+pub label_there : {A : Type 0} (o : Option A) → IsSome o → (a : A) × (o ≡ Some a)
+label_there None some = cc
+label_there (Some a) some = (a, refl)
+
+-- the address of a jump is a word
+pub jump_below : (code : Code) (at : ℕ) (by back : Register) (target : ℕ) → JumpsBy code at by back target → target < 2 ^ 32
+jump_below code at by back target (upper, lower, sum, has) = omega arith
+
+-- ---- functions
+
+pub function_found : (map : Map) (code : Code) (entries : List ℕ) (functions : List PlacedLines) → FunctionsAt map code entries functions → (g : ℕ) (callee : PlacedLines) → slice_get functions g ≡ Some callee
+    → (entry : ℕ) × (slice_get entries g ≡ Some entry) × FunctionAt map code entry callee
+function_found map code entries [] stand g callee is = cc
+function_found map code [] (function ∷ functions) stand g callee is = absurd stand
+function_found map code (entry ∷ entries) (function ∷ functions) stand zero callee is =
+    let same : function ≡ callee = cc in (entry, refl, subst (λ f. FunctionAt map code entry f) same stand.0)
+function_found map code (entry ∷ entries) (function ∷ functions) stand (suc g) callee is = function_found map code entries functions stand.1 g callee is
+
+pub plain_found : (functions : List PlacedLines) → AllPlain functions → (g : ℕ) (callee : PlacedLines) → slice_get functions g ≡ Some callee → ArePlain callee.code callee.code
+plain_found [] plain g callee is = cc
+plain_found (function ∷ functions) plain zero callee is = let same : function ≡ callee = cc in subst (λ (f : PlacedLines). ArePlain f.code f.code) same plain.0
+plain_found (function ∷ functions) plain (suc g) callee is = plain_found functions plain.1 g callee is
+
+max_left : (a b : ℕ) → a ≤ max a b
+max_left a b = grind arith
+
+max_right : (a b : ℕ) → b ≤ max a b
+max_right a b = grind arith
+
+pub few_found : (functions : List PlacedLines) (g : ℕ) (callee : PlacedLines) → slice_get functions g ≡ Some callee → length callee.code ≤ most_lines functions
+few_found [] g callee is = cc
+few_found (function ∷ functions) zero callee is =
+    let same : function ≡ callee = cc in subst (λ (f : PlacedLines). length f.code ≤ most_lines (function ∷ functions)) same (max_left (length function.code) (most_lines functions))
+few_found (function ∷ functions) (suc g) callee is =
+    let rest = few_found functions g callee is in let less = max_right (length function.code) (most_lines functions) in omega arith
+
+-- a function behind its entry
+pub entered_in : {map : Map} {code : Code} {s : Processor} (most entry : ℕ) (callee : PlacedLines) → Stands code s → ((at : ℕ) (i : Instr) → code at ≡ Some i → at + 4 < 2 ^ 32)
+    → FunctionAt map code entry callee → ArePlain callee.code callee.code → length callee.code ≤ most → IsIn map code most (entry + 28) (placed_entered callee)
+entered_in most entry callee stands below function plain few =
+    let first = stands.aligned entry _ function.entry.bottom.3.0 in
+    let last = below (entry + 20 + 4) _ function.entry.takes.1.0 in
+    record {
+      start = entry + 28;
+      start_word = omega arith;
+      whole = function.lines;
+      here = function.lines;
+      at_word = omega arith;
+      below = omega arith;
+      whole_plain = plain;
+      plain = plain;
+      few_whole = few;
+      few = few;
+    }
+
+-- ---- the lines behind
+
+module _ {map : Map} {code : Code} {most at : ℕ} {f : Frame PlacedLine} (is_in : IsIn map code most at f) where
+  -- other lines of the same function
+  moves_to : (next : ℕ) (lines : List PlacedLine) (g : Frame PlacedLine) → g.whole ≡ f.whole → g.code ≡ lines → LinesAt map code is_in.start f.whole next lines → next % 4 ≡ 0 → next < 2 ^ 32 → ArePlain f.whole lines → length lines ≤ most
+      → IsIn map code most next g
+  moves_to next lines g whole_is code_is stand word below plain few = record {
+    start = is_in.start;
+    start_word = is_in.start_word;
+    whole = subst (λ w. LinesAt map code is_in.start w is_in.start w) (sym whole_is) is_in.whole;
+    here = subst (λ c. LinesAt map code is_in.start g.whole next c) (sym code_is) (subst (λ w. LinesAt map code is_in.start w next lines) (sym whole_is) stand);
+    at_word = word;
+    below = below;
+    whole_plain = subst (λ w. ArePlain w w) (sym whole_is) is_in.whole_plain;
+    plain = subst (ArePlain g.whole) (sym code_is) (subst (λ w. ArePlain w lines) (sym whole_is) plain);
+    few_whole = subst (λ (c : List PlacedLine). length c ≤ most) (sym whole_is) is_in.few_whole;
+    few = subst (λ (c : List PlacedLine). length c ≤ most) (sym code_is) few;
+  }
+
+  -- the lines from a label on
+  pub goes_to_label : (l : ℕ) (lines : List PlacedLine) (g : Frame PlacedLine) → g.whole ≡ f.whole → g.code ≡ lines
+      → (labelled : Labelled map code is_in.start f.whole most (label_address l is_in.start f.whole) lines) → labelled.target < 2 ^ 32 → IsIn map code most labelled.target g
+  goes_to_label l lines g whole_is code_is labelled below = moves_to labelled.target lines g whole_is code_is labelled.stand labelled.word below labelled.plain labelled.few
+
+  module _ (line : PlacedLine) (rest : List PlacedLine) (code_is : f.code ≡ line ∷ rest) where
+    lines_at : LinesAt map code is_in.start f.whole at (line ∷ rest)
+    lines_at = subst (λ c. LinesAt map code is_in.start f.whole at c) code_is is_in.here
+
+    lines_plain : ArePlain f.whole (line ∷ rest)
+    lines_plain = subst (ArePlain f.whole) code_is is_in.plain
+
+    pub line_at : LineAt map code is_in.start f.whole at line
+    line_at = lines_at.0
+
+    pub line_plain : IsPlain f.whole line
+    line_plain = lines_plain.0
+
+    rest_few : length rest ≤ most
+    rest_few = let all = is_in.few in let size : length f.code ≡ suc (length rest) = ap length code_is in omega arith
+
+    -- the next line
+    pub goes_behind : (next : ℕ) (g : Frame PlacedLine) → g.whole ≡ f.whole → g.code ≡ rest → at + 4 * words_of_line line ≡ next → next < 2 ^ 32 → IsIn map code most next g
+    goes_behind next g whole_is rest_is next_is below =
+        let word = is_in.at_word in
+        moves_to next rest g whole_is rest_is (subst (λ a. LinesAt map code is_in.start f.whole a rest) next_is lines_at.1) (omega arith) below lines_plain.1 rest_few

@@ -1,0 +1,400 @@
+-- Calls of the runtime's routines by the machine of the placed form, followed by the processor.
+use Rattle.std.proofs.Common.{◌≡◌, ◌≢◌, ◌==◌, ◌≤◌, ◌<◌, ◌&&◌, ◌⊎◌, inl, inr, ℕ, zero, suc, ◌+◌, ◌-◌, ◌%◌, ◌^◌, List, [], ◌∷◌, ◌++◌, length, take, drop, Option, Some, None, Bool, true, false, All, cond, map, nat_lt, nat_le, slice_get, if◌then◌else◌, refl, sym, ap, ◌∙◌, subst, arith, lit<}
+use Rattle.std.specs.List.{list_any}
+use Rattle.std.proofs.Math.Seq.{drop-append_seam, take-append_seam}
+use Rattle.std.proofs.lemmas.Bool.{and_parts, or_parts, eqb-true, eqb-false}
+use Rattle.std.proofs.lemmas.Bool.Decides.{nat_tests}
+use Rattle.std.proofs.lemmas.List.Elements.{All-head, All-tail}
+use Rattle.kk_base.specs.Memory.{Part}
+use Rattle.kk_base.specs.Trace.{output, input, input_end}
+use Rattle.rv_isa.specs.declared.asm.Action.{Action}
+use Rattle.rv_isa.specs.declared.asm.Action.TheVariants.{Routine}
+use Rattle.rv_isa.specs.declared.routine.Routine.{Routine as Called}
+use Rattle.rv_isa.specs.declared.placed.Symbol.{Symbol}
+use Rattle.rv_isa.specs.declared.routine.Routine.TheVariants.{Take, Drop, PrintInt, PrintText, ReadByte}
+use Rattle.rv_isa.specs.declared.placed.Symbol.TheVariants as symbol
+use Rattle.rv_isa.specs.declared.placed.Place.{Place}
+use Rattle.rv_isa.specs.declared.placed.Place.TheVariants.{Register as register, Slot as slot}
+use Rattle.rv_isa.specs.declared.placed.Operand.{Operand}
+use Rattle.rv_isa.specs.PlacedCode.{PlacedLine, PlacedLines}
+use Rattle.rv_isa.specs.Arithmetic.{signed}
+use Rattle.rv_isa.specs.Conventions.{is_in, is_in_any, argument, conforms, takes_at, take_from, gives_into}
+use Rattle.rv_isa.specs.Routines.{spoilt_by, given_by, is_spoilt_by}
+use Rattle.rv_isa.specs.Primitives.{answers, fails, stuck}
+use Rattle.rv_isa.specs.Frames.{Frame, put, all_of, top}
+use Rattle.rv_isa.specs.PlacedMachine.{PlacedTurn, read_at, kept_by, passed, placed_goes, placed_gives, placed_writes, placed_served, placed_acts}
+use Rattle.rv_isa.specs.Bytes.{bytes_at}
+use Rattle.rv_isa.specs.Processor.{Processor, Ending, value}
+use Rattle.rv_isa.specs.Execution.{Leads}
+use Rattle.rv_isa.specs.Standing.{Code}
+use Rattle.rv_isa.proofs.Bytes.{length-bytes_at, bytes_at-same}
+use Rattle.rv_isa.proofs.Memory.{bytes_at-add, number_at-same}
+use Rattle.rv_isa.proofs.Runs.{Leads-then}
+use Rattle.rv_isa.proofs.Standing.{Stands-leads}
+use Rattle.cell_runtime.specs.Registers.{IsOutside, own_of, KeptBy}
+use Rattle.cell_runtime.specs.Calls.{IsAt, HasWayBack, Returns, KeepsOutside}
+use Rattle.cell_runtime.specs.Prints.{put_of, buffer_bytes, int_piece, int_count, TakesNext}
+use Rattle.rv_world.specs.Operations.{Constants, all_bytes}
+use Rattle.rv_world.specs.Operations as OfConstants
+use Rattle.rv_world.specs.World.{World, primitives, told_more, print_bytes, read_next, served, lasts}
+use Rattle.rv_place.specs.Registers.{ra}
+use Rattle.rv_place.specs.Instructions.{CallsTo}
+use Rattle.rv_place.specs.Lines.{Map, IsSymbolAt, ActsAt}
+use Rattle.rv_place.specs.Grounds.{Ground, stack_end, constant_bytes}
+use Rattle.rv_place.specs.Running.{most_lines, IsIn, FramesAt, Agrees, Running}
+use Rattle.rv_place.proofs.RunningExecuting.{Gets}
+use Rattle.rv_place.proofs.RunningRows.{jump_to}
+use Rattle.rv_place.proofs.RunningFrames.{handed_apart, agrees_put, frames_kept}
+use Rattle.rv_place.proofs.RunningWords.{passed_known}
+use Rattle.rv_place.proofs.RunningComes.{Comes, comes_go, sp_low}
+
+-- ---- registers that a routine keeps
+
+outside_spoilt : (x : ℕ) (spoilt : List ℕ) → list_any (λ y. y == x) spoilt ≡ false → IsOutside x spoilt
+outside_spoilt x [] none = tt
+outside_spoilt x (y ∷ ys) none =
+    let both = or_parts (y == x) (list_any (λ y. y == x) ys) none in
+    ((λ e. eqb-false y x both.0 (sym e)), outside_spoilt x ys both.1)
+
+known_kept : (test : Bool) (other : Option ℕ) (w : ℕ) → cond test None other ≡ Some w → (test ≡ false) × (other ≡ Some w)
+known_kept true other w is = cc
+known_kept false other w is = (refl, is)
+
+-- ---- constant bytes in memory
+
+slice_take : (at d count rest : ℕ) (memory : ℕ → ℕ) → take count (drop d (bytes_at memory at (d + (count + rest)))) ≡ bytes_at memory (at + d) count
+slice_take at d count rest memory =
+    let front = bytes_at memory at d in
+    let middle = bytes_at memory (at + d) count in
+    let back = bytes_at memory (at + d + count) rest in
+    let whole : bytes_at memory at (d + (count + rest)) ≡ front ++ (middle ++ back) = bytes_at-add memory at d (count + rest) ∙ ap (λ l. front ++ l) (bytes_at-add memory (at + d) count rest) in
+    let dropped : drop d (front ++ (middle ++ back)) ≡ middle ++ back = ap (λ n. drop n (front ++ (middle ++ back))) (sym (length-bytes_at memory at d)) ∙ drop-append_seam front (middle ++ back) in
+    let taken : take count (middle ++ back) ≡ middle = ap (λ n. take n (middle ++ back)) (sym (length-bytes_at memory (at + d) count)) ∙ take-append_seam middle back in
+    ap (λ l. take count (drop d l)) whole ∙ (ap (take count) dropped ∙ taken)
+
+slice_is : (first at count size : ℕ) (memory : ℕ → ℕ) (bytes : List ℕ) → bytes_at memory first size ≡ bytes → first ≤ at → at + count ≤ first + size → take count (drop (at - first) bytes) ≡ bytes_at memory at count
+slice_is first at count size memory bytes is low high =
+    let d = at - first in
+    let rest = size - (d + count) in
+    let size_is : size ≡ d + (count + rest) = omega arith in
+    let at_is : first + d ≡ at = omega arith in
+    ap (λ l. take count (drop d l)) (sym is ∙ ap (λ n. bytes_at memory first n) size_is) ∙ (slice_take first d count rest memory ∙ ap (λ a. bytes_at memory a count) at_is)
+
+-- constants that are asked for are there
+pub record Slice (constants : Constants) (at count : ℕ) (bytes : List ℕ) : Type 0 where
+  pub low : constants.first ≤ at
+  pub high : at + count ≤ constants.first + length (all_bytes constants.texts)
+  pub bytes_are : take count (drop (at - constants.first) (all_bytes constants.texts)) ≡ bytes
+
+slice_by : (constants : Constants) (at count : ℕ) (bytes : List ℕ) (low high : Bool) → nat_le constants.first at ≡ low → nat_le (at + count) (constants.first + length (all_bytes constants.texts)) ≡ high
+    → (if low && high then Some (take count (drop (at - constants.first) (all_bytes constants.texts))) else None) ≡ Some bytes → Slice constants at count bytes
+slice_by constants at count bytes true true low high is = record { low = grind (arith, nat_tests); high = grind (arith, nat_tests); bytes_are = cc }
+slice_by constants at count bytes true false low high is = cc
+slice_by constants at count bytes false high low high_is is = cc
+
+slice_there : (constants : Constants) (at count : ℕ) (bytes : List ℕ) → OfConstants.bytes_at constants at count ≡ Some bytes → Slice constants at count bytes
+slice_there constants at count bytes is = slice_by constants at count bytes (nat_le constants.first at) (nat_le (at + count) (constants.first + length (all_bytes constants.texts))) refl refl is
+
+-- ---- the way there and back
+
+module _ {map_of : Map} {functions : List PlacedLines} {depth buffer stop : ℕ} {code : Code} {parts : List Part} (ground : Ground map_of functions depth buffer stop code parts)
+    (f : Frame PlacedLine) (fs : List (Frame PlacedLine)) (known : ℕ → Option ℕ) (world : World) (s : Processor)
+    (running : Running map_of functions depth stop code parts (record { frames = f ∷ fs; registers = known; shared = world }) s) (rest : List PlacedLine) (old : ℕ) where
+  abbrev behind : Frame PlacedLine
+  behind = record f { code = rest }
+
+  symbol_word : (name : Symbol) (target : ℕ) → IsSymbolAt map_of name target → target % 4 ≡ 0
+  symbol_word name target (before, place, is) = let word = ground.runtime_word in omega arith
+
+  way_below : (target : ℕ) → CallsTo code s.pc target → s.pc + 8 < 2 ^ 32
+  way_below target calls = let last = ground.below (s.pc + 4) _ calls.3.1.0 in omega arith
+
+  -- the state in which a routine begins
+  pub record Begins (target : ℕ) : Type 0 where
+    pub called : Gets code 2 (1 ∷ 1 ∷ []) 1 (s.pc + 8) target s
+    pub is_at : IsAt code target called.after
+    pub way_back : HasWayBack called.after
+    pub way_fits : s.pc + 8 < 2 ^ 32
+    pub same : (x : ℕ) → x ≢ 1 → value called.after.registers x ≡ value s.registers x
+
+  begins : (name : Symbol) (target : ℕ) → IsSymbolAt map_of name target → CallsTo code s.pc target → Begins target
+  begins name target there calls =
+      let called = jump_to ground.below running.rests.stands s.pc refl ra ra target calls (λ e. cc) (symbol_word name target there) in
+      let way = called.value_is (λ e. cc) in
+      let fits = way_below target calls in
+      let word = running.frames.0.at_word in
+      let behind_word : (s.pc + 8) % 4 ≡ 0 = omega arith in
+      record {
+        called = called;
+        is_at = record { stands = called.done.stands; pc_is = called.done.pc_is };
+        way_back = record { aligned = rw way behind_word; in_range = rw way fits };
+        way_fits = fits;
+        same = λ x apart. called.done.kept x (apart, (apart, tt));
+      }
+
+  -- the state in which a routine is back
+  pub record Back (routine : Called) (count : ℕ) (t : Processor) : Type 0 where
+    pub leads : Leads (2 + count) s t
+    pub pc_is : t.pc ≡ s.pc + 8
+    pub parts_are : t.parts ≡ s.parts
+    pub kept : (x : ℕ) → x ≢ 1 → is_spoilt_by routine x ≡ false → value t.registers x ≡ value s.registers x
+
+  back : (routine : Called) → own_of routine ≡ [] → {target : ℕ} (start : Begins target) (count : ℕ) (t : Processor) → Returns (symbol.Routine routine) count start.called.after t → Back routine count t
+  back routine none start count t returns = record {
+    leads = Leads-then start.called.done.leads returns.leads;
+    pc_is = returns.back ∙ start.called.value_is (λ e. cc);
+    parts_are = returns.parts ∙ start.called.done.parts_are;
+    kept = λ x apart spoilt. returns.registers x (outside x spoilt) ∙ start.same x apart;
+  }
+    where
+      outside : (x : ℕ) → is_spoilt_by routine x ≡ false → KeptBy (symbol.Routine routine) x
+      outside x spoilt = rw none (outside_spoilt x (spoilt_by routine) spoilt)
+
+  kept_agree : (routine : Called) {count : ℕ} (t : Processor) → Back routine count t → Agrees (kept_by (Routine routine) known) t.registers
+  kept_agree routine t back x w is =
+      let both = known_kept (is_spoilt_by routine x) (known x) w is in
+      let holds = running.registers x w both.1 in
+      (holds.0, back.kept x (handed_apart x 1 refl holds.0) both.0 ∙ holds.1, holds.2)
+
+  -- ---- the run goes on behind the call
+
+  comes_back : (most : ℕ) {routine : Called} {count : ℕ} (world' : World) (t : Processor) (known' : ℕ → Option ℕ) → Back routine count t → is_spoilt_by routine 2 ≡ false → 2 + count ≤ most
+      → IsIn map_of code (most_lines functions) (s.pc + 8) behind → KeepsOutside buffer buffer_bytes s t → t.trace ≡ world'.trace → t.left ≡ world'.left → All (λ byte. byte < 256) t.left → Agrees known' t.registers
+      → Comes map_of functions depth stop code parts most old (placed_goes behind fs known' world') s
+  comes_back most {routine} {count} world' t known' back keeps within is_behind memory trace left bytes agrees =
+      let stand = running.frames in
+      let sp = value s.registers 2 in
+      let low = sp_low ground f fs known world s running in
+      let under = ground.buffer_below in
+      let base_is : value t.registers 2 ≡ sp = back.kept 2 (λ e. cc) keeps in
+      let waiting : FramesAt map_of code (most_lines functions) stop (stack_end map_of depth) s.memory (s.pc + 8) sp (behind ∷ fs) = (is_behind, stand.1, stand.2, stand.3, stand.4) in
+      let frames : FramesAt map_of code (most_lines functions) stop (stack_end map_of depth) t.memory (s.pc + 8) sp (behind ∷ fs) =
+      frames_kept map_of code (most_lines functions) stop (stack_end map_of depth) ground.some_frame s.memory t.memory (s.pc + 8) sp (behind ∷ fs)
+      (λ x above high. number_at-same t.memory s.memory x 4 (λ y from below. memory y (inr (omega arith)))) waiting in
+      let at_pc = subst (λ a. FramesAt map_of code (most_lines functions) stop (stack_end map_of depth) t.memory a sp (behind ∷ fs)) (sym back.pc_is) frames in
+      comes_go map_of functions depth stop code parts most old (record { frames = behind ∷ fs; registers = known'; shared = world' }) s t (2 + count) back.leads (record {
+        rests = record {
+          stands = Stands-leads back.leads running.rests.stands;
+          parts_are = back.parts_are ∙ running.rests.parts_are;
+          constants = constants_same (ground.constants_kept buffer buffer_bytes ground.buffer_stores (lit< tt)) ∙ running.rests.constants;
+        };
+        trace = trace;
+        left = left;
+        bytes = bytes;
+        room = running.room;
+        frames = subst (λ b. FramesAt map_of code (most_lines functions) stop (stack_end map_of depth) t.memory t.pc b (behind ∷ fs)) (sym base_is) at_pc;
+        registers = agrees;
+      }) (omega arith) within
+    where
+      constants_same : (map_of.constants.first + constant_bytes map_of ≤ buffer) ⊎ (buffer + buffer_bytes ≤ map_of.constants.first)
+          → bytes_at t.memory map_of.constants.first (constant_bytes map_of) ≡ bytes_at s.memory map_of.constants.first (constant_bytes map_of)
+      constants_same (inl before) = bytes_at-same t.memory s.memory map_of.constants.first (constant_bytes map_of) (λ x low high. memory x (inl (omega arith)))
+      constants_same (inr after) = bytes_at-same t.memory s.memory map_of.constants.first (constant_bytes map_of) (λ x low high. memory x (inr (omega arith)))
+
+  -- ---- arguments and results
+
+  two_taken : (k : ℕ) (place : Place) → is_in_any (slice_get (10 ∷ 11 ∷ []) k) place ≡ true → is_in (argument k) place ≡ true
+  two_taken zero place is = is
+  two_taken (suc zero) place is = is
+  two_taken (suc (suc k)) place is = cc
+
+  none_taken : (k : ℕ) (place : Place) → is_in_any (slice_get [] k) place ≡ true → is_in (argument k) place ≡ true
+  none_taken k place is = cc
+
+  -- a word that is passed is held
+  abbrev pub PassesHeld : List ℕ → Type 0
+  PassesHeld words = (x w : ℕ) → passed 0 words x ≡ Some w → (value s.registers x ≡ w) × (w < 2 ^ 32)
+
+  held_words : (action : Action) (args : List Operand) (words : List ℕ) → ((k : ℕ) (place : Place) → takes_at action k place ≡ true → is_in (argument k) place ≡ true) → take_from action 0 args ≡ true
+      → all_of (map (λ (arg : Operand). read_at known f.cells arg.place) args) ≡ Some words → PassesHeld words
+  held_words action args words takes taken words_are x w is =
+      let holds = running.registers x w (passed_known known f.cells s.registers running.registers action 0 args words takes taken words_are x w is) in (holds.1, holds.2)
+
+  -- a routine that gives no word
+  gives_none : (routine : Called) → given_by routine ≡ None → (into : Option Operand) → gives_into (Routine routine) into ≡ true → (word : ℕ) (known' : ℕ → Option ℕ) (world' : World) → (t : PlacedTurn World Ending)
+      → placed_gives into word behind fs known' world' ≡ t → placed_goes behind fs known' world' ≡ t
+  gives_none routine none None gives word known' world' t is = is
+  gives_none routine none (Some into) gives word known' world' t is =
+      let never : is_in_any None into.place ≡ true = subst (λ given. is_in_any given into.place ≡ true) none gives in cc
+
+  keeps_from : (count : ℕ) (c t : Processor) → count ≤ buffer_bytes → c.memory ≡ s.memory → KeepsOutside buffer count c t → KeepsOutside buffer buffer_bytes s t
+  keeps_from count c t few same keeps x (inl before) = keeps x (inl before) ∙ ap (λ (m : ℕ → ℕ). m x) same
+  keeps_from count c t few same keeps x (inr after) = keeps x (inr (omega arith)) ∙ ap (λ (m : ℕ → ℕ). m x) same
+
+  module _ (is_behind : (next : ℕ) → s.pc + 8 ≡ next → next < 2 ^ 32 → IsIn map_of code (most_lines functions) next behind) (into : Option Operand) (turn : PlacedTurn World Ending) (good : turn ≢ stuck) where
+    -- ---- print-int
+
+    print_int_comes : (word choice : ℕ) → value s.registers 10 ≡ word → word < 2 ^ 32 → value s.registers 11 ≡ choice → choice ≤ 1 → CallsTo code s.pc ground.print_int.0
+        → Comes map_of functions depth stop code parts (2 + int_count (signed word)) old (placed_goes behind fs (kept_by (Routine PrintInt) known) (told_more (output (int_piece word choice) ∷ []) world)) s
+    print_int_comes word choice word_is fits choice_is few calls =
+        let start = begins (symbol.Routine PrintInt) ground.print_int.0 ground.print_int.1 calls in
+        let c = start.called.after in
+        let on_parts : c.parts ≡ parts = start.called.done.parts_are ∙ running.rests.parts_are in
+        let first : value c.registers 10 ≡ word = start.same 10 (λ e. cc) ∙ word_is in
+        let second : value c.registers 11 ≡ choice = start.same 11 (λ e. cc) ∙ choice_is in
+        let under = ground.buffer_below in
+        let range = ground.in_range in
+        let printed = ground.print_int.2 c start.is_at (record {
+          way_back = start.way_back;
+          word = rw first fits;
+          choice = rw second few;
+          in_range = omega arith;
+          stored = rw on_parts ground.buffer_stores;
+          loaded = rw on_parts ground.buffer_loads;
+        }) in
+        let t = printed.0 in
+        let done = printed.1 in
+        let count_is : int_count (signed (value c.registers 10)) ≡ int_count (signed word) = ap (λ w. int_count (signed w)) first in
+        let back_at = back PrintInt refl start (int_count (signed (value c.registers 10))) t done.returns in
+        comes_back (2 + int_count (signed word)) (told_more (output (int_piece word choice) ∷ []) world) t (kept_by (Routine PrintInt) known) back_at refl (omega arith) (is_behind (s.pc + 8) refl start.way_fits)
+        (keeps_from buffer_bytes c t (omega arith) start.called.done.memory_is done.memory)
+        (done.trace ∙ (rw (first, second) (ap (λ l. l ++ output (int_piece word choice) ∷ []) (start.called.done.trace_is ∙ running.trace))))
+        (done.left ∙ (start.called.done.left_is ∙ running.left)) (subst (λ bytes. All (λ byte. byte < 256) bytes) (sym (done.left ∙ start.called.done.left_is)) running.bytes) (kept_agree PrintInt t back_at)
+
+    print_int_by : (word choice : ℕ) (small : Bool) → nat_le choice 1 ≡ small → (fitting : Bool) → nat_lt word (2 ^ 32) ≡ fitting → value s.registers 10 ≡ word → value s.registers 11 ≡ choice → CallsTo code s.pc ground.print_int.0 → gives_into (Routine PrintInt) into ≡ true
+        → placed_served into (behind ∷ fs) (kept_by (Routine PrintInt) known) (if fitting && small then answers 0 (told_more (output (int_piece word choice) ∷ []) world) false else fails) ≡ turn
+        → Comes map_of functions depth stop code parts (2 + int_count (signed word)) old turn s
+    print_int_by word choice true small true fitting word_is choice_is calls gives is =
+        let few : choice ≤ 1 = grind (arith, nat_tests) in
+        let fits : word < 2 ^ 32 = grind (arith, nat_tests) in
+        subst (λ t. Comes map_of functions depth stop code parts (2 + int_count (signed word)) old t s)
+        (gives_none PrintInt refl into gives 0 (kept_by (Routine PrintInt) known) (told_more (output (int_piece word choice) ∷ []) world) turn is)
+        (print_int_comes word choice word_is fits choice_is few calls)
+    print_int_by word choice false small true fitting word_is choice_is calls gives is = absurd (good (sym is))
+    print_int_by word choice small small_is false fitting word_is choice_is calls gives is = absurd (good (sym is))
+
+    print_int_words : (words : List ℕ) (held : Option ℕ) → PassesHeld words → CallsTo code s.pc ground.print_int.0 → gives_into (Routine PrintInt) into ≡ true
+        → placed_served into (behind ∷ fs) (kept_by (Routine PrintInt) known) (served map_of.constants PrintInt words held world) ≡ turn
+        → Comes map_of functions depth stop code parts (2 + lasts PrintInt words held world) old turn s
+    print_int_words [] held passes calls gives is = absurd (good (sym is))
+    print_int_words (word ∷ []) held passes calls gives is = absurd (good (sym is))
+    print_int_words (word ∷ choice ∷ []) held passes calls gives is =
+        print_int_by word choice (nat_le choice 1) refl (nat_lt word (2 ^ 32)) refl (passes 10 word refl).0 (passes 11 choice refl).0 calls gives is
+    print_int_words (word ∷ choice ∷ other ∷ words) held passes calls gives is = absurd (good (sym is))
+
+    -- ---- print-text
+
+    print_text_comes : (at count : ℕ) (bytes : List ℕ) → value s.registers 10 ≡ at → value s.registers 11 ≡ count → at < 2 ^ 32 → count < 2 ^ 32 → OfConstants.bytes_at map_of.constants at count ≡ Some bytes → CallsTo code s.pc ground.print_text.0
+        → Comes map_of functions depth stop code parts 8 old (placed_goes behind fs (kept_by (Routine PrintText) known) (told_more (put_of bytes) world)) s
+    print_text_comes at count bytes at_is count_is at_fits count_fits bytes_are calls =
+        let start = begins (symbol.Routine PrintText) ground.print_text.0 ground.print_text.1 calls in
+        let c = start.called.after in
+        let on_parts : c.parts ≡ parts = start.called.done.parts_are ∙ running.rests.parts_are in
+        let first : value c.registers 10 ≡ at = start.same 10 (λ e. cc) ∙ at_is in
+        let second : value c.registers 11 ≡ count = start.same 11 (λ e. cc) ∙ count_is in
+        let slice = slice_there map_of.constants at count bytes bytes_are in
+        let printed = ground.print_text.2 c start.is_at (record {
+          way_back = start.way_back;
+          address = rw first at_fits;
+          count = rw second count_fits;
+          loaded = rw (first, second, on_parts) (ground.constants_load at count slice.low slice.high);
+        }) in
+        let t = printed.0 in
+        let done = printed.1 in
+        let memory_is : t.memory ≡ s.memory = done.memory ∙ start.called.done.memory_is in
+        let put_is : bytes_at c.memory (value c.registers 10) (value c.registers 11) ≡ bytes =
+        rw (first, second, start.called.done.memory_is) (sym (slice_is map_of.constants.first at count (constant_bytes map_of) s.memory (all_bytes map_of.constants.texts) running.rests.constants slice.low slice.high) ∙ slice.bytes_are) in
+        let back_at = back PrintText refl start 6 t done.returns in
+        comes_back 8 (told_more (put_of bytes) world) t (kept_by (Routine PrintText) known) back_at refl (omega arith) (is_behind (s.pc + 8) refl start.way_fits)
+        (λ x out. ap (λ (m : ℕ → ℕ). m x) memory_is)
+        (done.trace ∙ (rw put_is (ap (λ l. l ++ put_of bytes) (start.called.done.trace_is ∙ running.trace))))
+        (done.left ∙ (start.called.done.left_is ∙ running.left)) (subst (λ left. All (λ byte. byte < 256) left) (sym (done.left ∙ start.called.done.left_is)) running.bytes) (kept_agree PrintText t back_at)
+
+    print_text_by : (at count : ℕ) (bytes : Option (List ℕ)) → OfConstants.bytes_at map_of.constants at count ≡ bytes → value s.registers 10 ≡ at → value s.registers 11 ≡ count → at < 2 ^ 32 → count < 2 ^ 32 → CallsTo code s.pc ground.print_text.0
+        → gives_into (Routine PrintText) into ≡ true → placed_served into (behind ∷ fs) (kept_by (Routine PrintText) known) (print_bytes bytes world) ≡ turn → Comes map_of functions depth stop code parts 8 old turn s
+    print_text_by at count None bytes_are at_is count_is at_fits count_fits calls gives is = absurd (good (sym is))
+    print_text_by at count (Some bytes) bytes_are at_is count_is at_fits count_fits calls gives is =
+        subst (λ t. Comes map_of functions depth stop code parts 8 old t s)
+        (gives_none PrintText refl into gives 0 (kept_by (Routine PrintText) known) (told_more (put_of bytes) world) turn is)
+        (print_text_comes at count bytes at_is count_is at_fits count_fits bytes_are calls)
+
+    print_text_words : (words : List ℕ) (held : Option ℕ) → PassesHeld words → CallsTo code s.pc ground.print_text.0 → gives_into (Routine PrintText) into ≡ true
+        → placed_served into (behind ∷ fs) (kept_by (Routine PrintText) known) (served map_of.constants PrintText words held world) ≡ turn → Comes map_of functions depth stop code parts 8 old turn s
+    print_text_words [] held passes calls gives is = absurd (good (sym is))
+    print_text_words (at ∷ []) held passes calls gives is = absurd (good (sym is))
+    print_text_words (at ∷ count ∷ []) held passes calls gives is =
+        let first = passes 10 at refl in
+        let second = passes 11 count refl in
+        print_text_by at count (OfConstants.bytes_at map_of.constants at count) refl first.0 second.0 first.1 second.1 calls gives is
+    print_text_words (at ∷ count ∷ other ∷ words) held passes calls gives is = absurd (good (sym is))
+
+    -- ---- read-byte
+
+    -- its word goes to the first register of arguments, or is lost
+    read_gives : {count : ℕ} (word : ℕ) (world' : World) (t : Processor) → Back ReadByte count t → count ≤ 10 → s.pc + 8 < 2 ^ 32 → KeepsOutside buffer buffer_bytes s t → value t.registers 10 ≡ word → word < 2 ^ 32
+        → t.trace ≡ world'.trace → t.left ≡ world'.left → All (λ byte. byte < 256) t.left → gives_into (Routine ReadByte) into ≡ true
+        → placed_gives into word behind fs (kept_by (Routine ReadByte) known) world' ≡ turn → Comes map_of functions depth stop code parts 12 old turn s
+    read_gives {count} word world' t back_at few way memory word_is fits trace left bytes gives is = by into gives is
+      where
+        kept : Agrees (kept_by (Routine ReadByte) known) t.registers
+        kept = kept_agree ReadByte t back_at
+
+        comes : (known' : ℕ → Option ℕ) → Agrees known' t.registers → Comes map_of functions depth stop code parts 12 old (placed_goes behind fs known' world') s
+        comes known' agrees = comes_back 12 world' t known' back_at refl (omega arith) (is_behind (s.pc + 8) refl way) memory trace left bytes agrees
+
+        at_place : (place : Place) → is_in 10 place ≡ true → placed_writes place (Some word) behind fs (kept_by (Routine ReadByte) known) world' ≡ turn → Comes map_of functions depth stop code parts 12 old turn s
+        at_place (slot k) gives is = cc
+        at_place (register r) gives is =
+            let number : r.number ≡ 10 = eqb-true r.number 10 gives in
+            let agrees : Agrees (put r.number (Some word) (kept_by (Routine ReadByte) known)) t.registers =
+            agrees_put r.number (Some word) (kept_by (Routine ReadByte) known) t.registers t.registers kept (rw number refl)
+            (λ w same. let e : word ≡ w = cc in (rw number (word_is ∙ e), subst (λ v. v < 2 ^ 32) e fits)) (λ x handed apart. refl) in
+            subst (λ u. Comes map_of functions depth stop code parts 12 old u s) is (comes (put r.number (Some word) (kept_by (Routine ReadByte) known)) agrees)
+
+        by : (o : Option Operand) → gives_into (Routine ReadByte) o ≡ true → placed_gives o word behind fs (kept_by (Routine ReadByte) known) world' ≡ turn → Comes map_of functions depth stop code parts 12 old turn s
+        by None gives is = subst (λ u. Comes map_of functions depth stop code parts 12 old u s) is (comes (kept_by (Routine ReadByte) known) kept)
+        by (Some o) gives is = at_place o.place gives is
+
+    read_by : (input_left : List ℕ) (start : Begins ground.read_byte.0) (t : Processor) → TakesNext input_left start.called.after t → s.left ≡ input_left → KeepsOutside buffer buffer_bytes s t → gives_into (Routine ReadByte) into ≡ true
+        → placed_served into (behind ∷ fs) (kept_by (Routine ReadByte) known) (read_next input_left world) ≡ turn → Comes map_of functions depth stop code parts 12 old turn s
+    read_by [] start t takes left_is memory gives is =
+        let back_at = back ReadByte refl start 9 t takes.0 in
+        let none : t.left ≡ world.left = takes.3 ∙ (sym left_is ∙ running.left) in
+        read_gives (2 ^ 32 - 1) (told_more (input_end ∷ []) world) t back_at (omega arith) start.way_fits memory takes.1 (lit< tt)
+        (takes.2 ∙ ap (λ l. l ++ input_end ∷ []) (start.called.done.trace_is ∙ running.trace)) none (subst (λ bytes. All (λ byte. byte < 256) bytes) (sym (takes.3 ∙ sym left_is)) running.bytes) gives is
+    read_by (byte ∷ later) start t takes left_is memory gives is =
+        let back_at = back ReadByte refl start 10 t takes.0 in
+        let bytes : All (λ byte. byte < 256) (byte ∷ later) = subst (λ bytes. All (λ byte. byte < 256) bytes) left_is running.bytes in
+        let small : byte < 256 = All-head (λ byte. byte < 256) byte later bytes in
+        read_gives byte (record (told_more (input byte ∷ []) world) { left = later }) t back_at (omega arith) start.way_fits memory takes.1 (omega arith)
+        (takes.2 ∙ ap (λ l. l ++ input byte ∷ []) (start.called.done.trace_is ∙ running.trace)) takes.3 (subst (λ bytes. All (λ byte. byte < 256) bytes) (sym takes.3) (All-tail (λ byte. byte < 256) byte later bytes)) gives is
+
+    read_byte_comes : CallsTo code s.pc ground.read_byte.0 → gives_into (Routine ReadByte) into ≡ true
+        → placed_served into (behind ∷ fs) (kept_by (Routine ReadByte) known) (read_next world.left world) ≡ turn → Comes map_of functions depth stop code parts 12 old turn s
+    read_byte_comes calls gives is =
+        let start = begins (symbol.Routine ReadByte) ground.read_byte.0 ground.read_byte.1 calls in
+        let c = start.called.after in
+        let on_parts : c.parts ≡ parts = start.called.done.parts_are ∙ running.rests.parts_are in
+        let under = ground.buffer_below in
+        let range = ground.in_range in
+        let taken = ground.read_byte.2 c start.is_at (record {
+          way_back = start.way_back;
+          in_range = omega arith;
+          stored = rw on_parts ground.byte_stores;
+          loaded = rw on_parts ground.byte_loads;
+        }) in
+        let left_is : c.left ≡ world.left = start.called.done.left_is ∙ running.left in
+        read_by world.left start taken.0 (subst (λ left. TakesNext left c taken.0) left_is taken.1.takes) running.left (keeps_from 1 c taken.0 (omega arith) start.called.done.memory_is taken.1.memory) gives is
+
+    read_byte_words : (words : List ℕ) (held : Option ℕ) → CallsTo code s.pc ground.read_byte.0 → gives_into (Routine ReadByte) into ≡ true
+        → placed_served into (behind ∷ fs) (kept_by (Routine ReadByte) known) (served map_of.constants ReadByte words held world) ≡ turn → Comes map_of functions depth stop code parts 12 old turn s
+    read_byte_words [] held calls gives is = read_byte_comes calls gives is
+    read_byte_words (word ∷ words) held calls gives is = absurd (good (sym is))
+
+    -- ---- all routines
+
+    pub follow_routine : (routine : Called) (start : ℕ) (args : List Operand) (words : List ℕ) → ActsAt map_of code start f.whole s.pc (Routine routine) args into → conforms (Routine routine) args into ≡ true
+        → all_of (map (λ (arg : Operand). read_at known f.cells arg.place) args) ≡ Some words
+        → placed_acts (primitives map_of.constants) depth functions behind fs known world (Routine routine) args into words ≡ turn
+        → Comes map_of functions depth stop code parts (2 + lasts routine words (top (f ∷ fs)) world) old turn s
+    follow_routine PrintInt start args words here conform words_are is =
+        let fit = and_parts (take_from (Routine PrintInt) 0 args) (gives_into (Routine PrintInt) into) conform in
+        print_int_words words (top (f ∷ fs)) (held_words (Routine PrintInt) args words two_taken fit.0 words_are) (here ground.print_int.0 ground.print_int.1) fit.1 is
+    follow_routine PrintText start args words here conform words_are is =
+        let fit = and_parts (take_from (Routine PrintText) 0 args) (gives_into (Routine PrintText) into) conform in
+        print_text_words words (top (f ∷ fs)) (held_words (Routine PrintText) args words two_taken fit.0 words_are) (here ground.print_text.0 ground.print_text.1) fit.1 is
+    follow_routine ReadByte start args words here conform words_are is =
+        let fit = and_parts (take_from (Routine ReadByte) 0 args) (gives_into (Routine ReadByte) into) conform in
+        read_byte_words words (top (f ∷ fs)) (here ground.read_byte.0 ground.read_byte.1) fit.1 is
+    follow_routine Take start args words here conform words_are is = absurd (good (sym is))
+    follow_routine Drop start args words here conform words_are is = absurd (good (sym is))

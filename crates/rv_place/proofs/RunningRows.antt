@@ -1,0 +1,153 @@
+-- The rows of instructions that placed code is made of, executed: constants, jumps, branches, entries of functions and returns.
+use Rattle.std.proofs.Common.{◌≡◌, ◌≢◌, ◌≤◌, ◌<◌, ℕ, ◌+◌, ◌-◌, ◌%◌, ◌^◌, List, [], ◌∷◌, Some, Bool, true, false, not, nat_eq, refl, sym, ap, ◌∙◌, subst, arith}
+use Rattle.std.proofs.lemmas.Bool.Decides.{nat_tests}
+use Rattle.rv_isa.specs.declared.register.Register.{Register}
+use Rattle.rv_isa.specs.declared.immediate.BranchOffset.{BranchOffset}
+use Rattle.rv_isa.specs.declared.instr.Instr.{Instr}
+use Rattle.rv_isa.specs.declared.instr.Instr.TheVariants.{Lw, Addi}
+use Rattle.rv_isa.specs.declared.immediate.Immediate.{Immediate}
+use Rattle.rv_isa.specs.declared.asm.Condition.{Condition}
+use Rattle.rv_isa.specs.declared.asm.Condition.TheVariants.{Equal}
+use Rattle.rv_isa.specs.declared.placed.Symbol.TheVariants as symbol
+use Rattle.rv_isa.specs.Arithmetic.{sum_word}
+use Rattle.rv_isa.specs.Meaning.{branches}
+use Rattle.rv_isa.specs.Bytes.{number_at, with_number}
+use Rattle.rv_isa.specs.Processor.{Processor, value, can_load, can_store}
+use Rattle.rv_isa.specs.Standing.{Code, Stands}
+use Rattle.rv_world.specs.Operations.{compares}
+use Rattle.rv_place.specs.Registers.{zero_register, ra, sp, t0}
+use Rattle.rv_place.specs.Instructions.{opposite_branch, Zero, LoadsWord, JumpsBy, JumpsTo}
+use Rattle.rv_place.specs.Lines.{Map, IsSymbolAt, ReturnsFrom, EntersAt}
+use Rattle.rv_place.proofs.RunningExecuting.{addi_row, lui_row, branch_effect, Done, Gets, Goes, done_then, done_as, done_on, target_of, next_is, plain_gets, load_gets, store_goes, jump_gets, branch_goes}
+
+-- instructions that leave a word in the stack pointer
+pub record Shifts (code : Code) (steps : ℕ) (changed : List ℕ) (memory : ℕ → ℕ) (base next : ℕ) (s : Processor) : Type 0 where
+  pub after : Processor
+  pub done : Done code steps changed memory next s after
+  pub base_is : value after.registers 2 ≡ base
+
+shifted : (base frame : ℕ) → frame ≤ 2044 → base + frame < 2 ^ 32 → sum_word (base + frame) (2 ^ 32 - frame) ≡ base
+shifted base frame small below = omega arith
+
+same_address : (base : ℕ) → base < 2 ^ 32 → sum_word base 0 ≡ base
+same_address base below = omega arith
+
+module _ {code : Code} (below : (at : ℕ) (i : Instr) → code at ≡ Some i → at + 4 < 2 ^ 32) where
+  pub word_gets : {s : Processor} → Stands code s → (at : ℕ) → s.pc ≡ at → (rd : Register) (word : ℕ) → LoadsWord code at rd word → Gets code 2 (rd.number ∷ []) rd.number word (at + 8) s
+  word_gets stands at pc_is rd word (upper, lower, sum, has) =
+      let first = plain_gets below stands pc_is (lui_row rd upper) has.0 in
+      let second = plain_gets below first.done.stands first.done.pc_is (addi_row rd rd lower) has.1.0 in
+      record {
+        after = second.after;
+        done = done_as (done_on first.done second.done) refl (omega arith) (λ x out. (out.0, (out.0, tt)));
+        value_is = λ some. second.value_is some ∙ (ap (λ v. sum_word v lower.word) (first.value_is some) ∙ sum);
+      }
+
+  pub jump_to : {s : Processor} → Stands code s → (at : ℕ) → s.pc ≡ at → (by back : Register) (target : ℕ) → JumpsBy code at by back target → by.number ≢ 0 → target % 4 ≡ 0
+      → Gets code 2 (by.number ∷ back.number ∷ []) back.number (at + 8) target s
+  jump_to stands at pc_is by back target (upper, lower, sum, has) some aligned =
+      let first = plain_gets below stands pc_is (lui_row by upper) has.0 in
+      let target_is : sum_word (value first.after.registers by.number) lower.word ≡ target = ap (λ v. sum_word v lower.word) (first.value_is some) ∙ sum in
+      let second = jump_gets below first.done.stands first.done.pc_is has.1.0 target_is aligned in
+      let behind : at + 4 + 4 ≡ at + 8 = omega arith in
+      record { after = second.after; done = done_on first.done second.done; value_is = λ kept. second.value_is kept ∙ behind }
+
+  -- a condition that holds leads to the target, and another over the jump
+  module _ {s : Processor} (stands : Stands code s) (at : ℕ) (pc_is : s.pc ≡ at) (condition : Condition) (a b : Register) (target : ℕ) (over : BranchOffset) (over_is : over.word ≡ 12)
+      (here : code at ≡ Some (opposite_branch condition a b over)) (jump : JumpsTo code (at + 4) target) where
+    pub branch_taken : target % 4 ≡ 0 → compares condition (value s.registers a.number) (value s.registers b.number) ≡ true → Goes code 3 (1 ∷ 0 ∷ []) s.memory target s
+    branch_taken aligned holds =
+        let effect = branch_effect condition a b over s ∙ ap (λ t. branches s.pc (not t) over) holds in
+        let word = stands.aligned at (opposite_branch condition a b over) here in
+        let first = branch_goes below stands pc_is (opposite_branch condition a b over) (sum_word s.pc 4) {next = at + 4} here effect (next_is below stands pc_is here) (omega arith) in
+        let second = jump_to first.done.stands (at + 4) first.done.pc_is ra zero_register target jump (λ e. cc) aligned in
+        record { after = second.after; done = done_on first.done second.done }
+
+    pub branch_passed : compares condition (value s.registers a.number) (value s.registers b.number) ≡ false → Goes code 1 [] s.memory (at + 12) s
+    branch_passed fails =
+        let effect = branch_effect condition a b over s ∙ ap (λ t. branches s.pc (not t) over) fails in
+        let word = stands.aligned at (opposite_branch condition a b over) here in
+        let last = below (at + 4 + 4) _ jump.3.1.0 in
+        let target_is : sum_word s.pc over.word ≡ at + 12 = rw (pc_is, over_is) (target_of at (omega arith)) in
+        branch_goes below stands pc_is (opposite_branch condition a b over) (sum_word s.pc over.word) {next = at + 12} here effect target_is (omega arith)
+
+  -- ---- entries
+
+  module _ {s : Processor} (stands : Stands code s) (map : Map) (at : ℕ) (pc_is : s.pc ≡ at) (entry : EntersAt map code at) (full : ℕ) (full_at : IsSymbolAt map symbol.StackFull full) where
+    jump_full : JumpsTo code (at + 8 + 4) full
+    jump_full = let e : at + 12 ≡ at + 8 + 4 = omega arith in subst (λ a. JumpsTo code a full) e (entry.full full full_at)
+
+    bottom_gets : Gets code 2 (5 ∷ []) 5 map.bottom (at + 8) s
+    bottom_gets = word_gets stands at pc_is t0 map.bottom entry.bottom
+
+    same_sp : value bottom_gets.after.registers 2 ≡ value s.registers 2
+    same_sp = bottom_gets.done.kept 2 ((λ e. cc), tt)
+
+    test_is : (test : Bool) → nat_eq (value s.registers 2) map.bottom ≡ test → compares Equal (value bottom_gets.after.registers 2) (value bottom_gets.after.registers 5) ≡ test
+    test_is test is = rw (same_sp, bottom_gets.value_is (λ e. cc)) is
+
+    -- at the lowest frame the stack is full
+    pub entry_full : full % 4 ≡ 0 → value s.registers 2 ≡ map.bottom → Goes code 5 (5 ∷ 1 ∷ 0 ∷ []) s.memory full s
+    entry_full aligned last =
+        let test : nat_eq (value s.registers 2) map.bottom ≡ true = grind (arith, nat_tests) in
+        let second = branch_taken bottom_gets.done.stands (at + 8) bottom_gets.done.pc_is Equal sp t0 full entry.over entry.over_is entry.test jump_full aligned (test_is true test) in
+        record { after = second.after; done = done_on bottom_gets.done second.done }
+
+    -- else the test leads over the jump
+    entry_passes : value s.registers 2 ≢ map.bottom → Goes code 3 (5 ∷ []) s.memory (at + 20) s
+    entry_passes more =
+        let test : nat_eq (value s.registers 2) map.bottom ≡ false = grind (arith, nat_tests) in
+        let second = branch_passed bottom_gets.done.stands (at + 8) bottom_gets.done.pc_is Equal sp t0 full entry.over entry.over_is entry.test jump_full (test_is false test) in
+        record { after = second.after; done = done_as {changed' = 5 ∷ []} (done_on bottom_gets.done second.done) refl (omega arith) (λ x out. out) }
+
+    -- and a frame is taken
+    entry_shifts : (base : ℕ) → value s.registers 2 ≡ base + map.frame → base + map.frame ≢ map.bottom → map.frame ≤ 2044 → base + map.frame < 2 ^ 32
+        → Shifts code 4 (5 ∷ 2 ∷ []) s.memory base (at + 20 + 4) s
+    entry_shifts base base_is more small fits =
+        let tested : Goes code 3 (5 ∷ []) s.memory (at + 20) s = entry_passes (λ e. more (sym base_is ∙ e)) in
+        let old_base : value tested.after.registers 2 ≡ base + map.frame = tested.done.kept 2 ((λ e. cc), tt) ∙ base_is in
+        let third = plain_gets below tested.done.stands {at = at + 20} tested.done.pc_is (addi_row sp sp entry.frame) entry.takes.0 in
+        record {
+          after = third.after;
+          done = done_on tested.done third.done;
+          base_is = third.value_is (λ e. cc) ∙ rw (old_base, entry.frame_is) (shifted base map.frame small fits);
+        }
+
+    pub entry_takes : (base way : ℕ) → value s.registers 2 ≡ base + map.frame → value s.registers 1 ≡ way → base + map.frame ≢ map.bottom → map.frame ≤ 2044 → base + map.frame < 2 ^ 32
+        → base % 4 ≡ 0 → can_store s.parts base 4 ≡ true → Shifts code 5 (5 ∷ 2 ∷ []) (with_number base 4 way s.memory) base (at + 28) s
+    entry_takes base way base_is way_is more small fits aligned allowed =
+        let moved : Shifts code 4 (5 ∷ 2 ∷ []) s.memory base (at + 20 + 4) s = entry_shifts base base_is more small fits in
+        let address : sum_word (value moved.after.registers 2) entry.zero.word ≡ base = rw (moved.base_is, entry.zero_is) (same_address base (omega arith)) in
+        let saved : value moved.after.registers 1 ≡ way = moved.done.kept 1 ((λ e. cc), ((λ e. cc), tt)) ∙ way_is in
+        let fourth = store_goes below moved.done.stands {at = at + 20 + 4} moved.done.pc_is {base = sp} {from = ra} {offset = entry.zero} {address = base} {word = way} entry.takes.1.0 address saved aligned (rw moved.done.parts_are allowed) in
+        record {
+          after = fourth.after;
+          done = done_as {changed' = 5 ∷ 2 ∷ []} (done_then moved.done fourth.done) (ap (λ m. with_number base 4 way m) moved.done.memory_is) (omega arith) (λ x out. out);
+          base_is = fourth.done.kept 2 tt ∙ moved.base_is;
+        }
+
+  -- ---- returns
+
+  -- the way back is loaded, and the frame given back
+  return_shifts : {s : Processor} → Stands code s → (map : Map) (at : ℕ) → s.pc ≡ at → (zero frame : Immediate) → Zero zero → frame.word ≡ map.frame → code at ≡ Some (Lw ra sp zero) → code (at + 4) ≡ Some (Addi sp sp frame)
+      → (base way : ℕ) → value s.registers 2 ≡ base → number_at s.memory base 4 ≡ way → base + map.frame < 2 ^ 32 → base % 4 ≡ 0 → can_load s.parts base 4 ≡ true
+      → (t : Processor) × Done code 2 (1 ∷ 2 ∷ []) s.memory (at + 4 + 4) s t × (value t.registers 1 ≡ way) × (value t.registers 2 ≡ base + map.frame)
+  return_shifts {s} stands map at pc_is zero frame zero_is frame_is loads shifts base way base_is way_is fits aligned allowed =
+      let address : sum_word (value s.registers 2) zero.word ≡ base = rw (base_is, zero_is) (same_address base (omega arith)) in
+      let first = load_gets below stands pc_is {rd = ra} {base = sp} {offset = zero} {address = base} {word = way} loads address aligned allowed way_is in
+      let second = plain_gets below first.done.stands first.done.pc_is (addi_row sp sp frame) shifts in
+      let old_base : value first.after.registers 2 ≡ base = first.done.kept 2 ((λ e. cc), tt) ∙ base_is in (
+        second.after,
+        done_on first.done second.done,
+        second.done.kept 1 ((λ e. cc), tt) ∙ first.value_is (λ e. cc),
+        second.value_is (λ e. cc) ∙ rw (old_base, frame_is) (omega arith),
+      )
+
+  pub return_goes : {s : Processor} → Stands code s → (map : Map) (at : ℕ) → s.pc ≡ at → ReturnsFrom map code at → (base way : ℕ) → value s.registers 2 ≡ base → number_at s.memory base 4 ≡ way
+      → way % 4 ≡ 0 → way < 2 ^ 32 → base + map.frame < 2 ^ 32 → base % 4 ≡ 0 → can_load s.parts base 4 ≡ true → Shifts code 3 (1 ∷ 2 ∷ 0 ∷ []) s.memory (base + map.frame) way s
+  return_goes {s} stands map at pc_is (zero, frame, zero_is, frame_is, has) base way base_is way_is way_word way_fits fits aligned allowed =
+      let back = return_shifts stands map at pc_is zero frame zero_is frame_is has.0 has.1.0 base way base_is way_is fits aligned allowed in
+      let moved : Done code 2 (1 ∷ 2 ∷ []) s.memory (at + 4 + 4) s back.0 = back.1 in
+      let target_is : sum_word (value back.0.registers 1) zero.word ≡ way = rw (back.2, zero_is) (same_address way way_fits) in
+      let third = jump_gets below moved.stands moved.pc_is {back = zero_register} {by = ra} {offset = zero} has.1.1.0 target_is way_word in
+      record { after = third.after; done = done_on moved third.done; base_is = third.done.kept 2 ((λ e. cc), tt) ∙ back.3 }

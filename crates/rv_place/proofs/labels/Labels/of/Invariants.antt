@@ -1,0 +1,15 @@
+use Rattle.std.proofs.Common.{◌≡◌, ℕ, ◌+◌, ◌*◌, ◌≤◌, map, drop}
+use Rattle.std.specs.Ordering.{nat_cmp}
+use Rattle.std.specs.BTreeMap.{get}
+use Rattle.rv_isa.specs.PlacedCode.{placed_line_of}
+use Rattle.rv_place.specs.Addresses.{label_address}
+use Rattle.rv_place.specs.Emitted.{or_next}
+use Rattle.rv_place.proofs.labels.Labels.of.Given as goal
+
+-- what is found already, or else in the rest, is what is found in all
+abbrev pub invariant-loop-item : goal.invariant-loop-item
+invariant-loop-item l = record {
+  same : (label : ℕ) → or_next (get nat_cmp l.labels.addresses label) (label_address label l.at (map placed_line_of (drop l.item-index l.items)))
+      ≡ label_address label l.start (map placed_line_of l.items);
+  low : l.at ≤ l.start + 12 * l.item-index;
+}

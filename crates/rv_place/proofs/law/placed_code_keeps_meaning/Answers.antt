@@ -1,0 +1,6 @@
+-- The law is the simulation of the lines.
+use Rattle.rv_place.proofs.RunningSimulating.{simulates}
+use Rattle.rv_place.proofs.law.placed_code_keeps_meaning.Goals as goal
+
+pub returns : goal.returns
+returns c = λ map functions depth buffer stop code parts ground plain. simulates ground plain

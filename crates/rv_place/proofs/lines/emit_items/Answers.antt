@@ -1,0 +1,28 @@
+use Rattle.std.proofs.Common.{List, map, sym, ap, subst, arith}
+use Rattle.rv_isa.specs.PlacedCode.{PlacedLine, placed_line_of}
+use Rattle.rv_place.specs.Addresses.{words_of_lines, slots_of_lines}
+use Rattle.rv_place.specs.Emitted.{Grew, LinesBy}
+use Rattle.rv_place.proofs.Emitting.{grew_nothing}
+use Rattle.rv_place.proofs.Rests.{rest_at, nothing_left}
+use Rattle.rv_place.proofs.Acting.{line_then}
+use Rattle.rv_place.proofs.lines.emit_items.Goals as goal
+
+pub loop-item-preserved : goal.loop-item-preserved
+loop-item-preserved c =
+    let items = c.args.items.now in
+    let here = ap (map placed_line_of) (rest_at items c.loop-item.item-index c.item-item.result c.loop-item-test.true c.item-item.is) in
+    let slots = ap slots_of_lines here in
+    record {
+      grows = λ new more. c.loop-item.invariant.grows new
+          (subst (λ (lines : List PlacedLine). Grew (words_of_lines lines) (LinesBy c.args.chart.now c.args.labels.now lines) c.loop-item.code.items new) (sym here)
+          (line_then c.args.chart.now c.args.labels.now _ _ c.in_ok-emit_item.ensures more));
+      slots = omega (arith, slots, c.loop-item.invariant.slots);
+    }
+
+pub returns : goal.returns
+returns c =
+    let items = c.args.items.now in
+    let none = ap (map placed_line_of) (nothing_left items c.loop-item.item-index c.loop-item-test.false) in
+    c.loop-item.invariant.grows _
+    (subst (λ (lines : List PlacedLine). Grew (words_of_lines lines) (LinesBy c.args.chart.now c.args.labels.now lines) c.loop-item.code.items c.loop-item.code.items) (sym none)
+    (grew_nothing _ _ (λ code at map charts start whole has. tt)))

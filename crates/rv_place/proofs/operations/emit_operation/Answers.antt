@@ -1,0 +1,33 @@
+use Rattle.std.proofs.Common.{refl}
+use Rattle.rv_place.proofs.Emitting.{on_so}
+use Rattle.rv_place.proofs.Operating.{on_two, on_immediate, on_shift, on_copy, on_word, on_address}
+use Rattle.rv_place.proofs.operations.emit_operation.Goals as goal
+
+pub returns-in-Register : goal.returns-in-Register
+returns-in-Register c =
+    on_so c.emit.result
+    (on_two c.args.chart.now c.args.args.now c.args.into c.in-Register.is c.register_or_zero-rd.ensures c.argument-rs1.ensures c.argument-rs2.ensures c.register_instruction.ensures)
+    c.emit.ensures
+
+pub returns-in-Immediate : goal.returns-in-Immediate
+returns-in-Immediate c =
+    on_so c.emit-in-Immediate.result
+    (on_immediate c.args.chart.now c.args.args.now c.args.into c.in-Immediate.is c.register_or_zero-rd.ensures c.argument-rs1.ensures c.immediate_instruction.ensures)
+    c.emit-in-Immediate.ensures
+
+pub returns-in-Shift : goal.returns-in-Shift
+returns-in-Shift c =
+    on_so c.emit-in-Shift.result
+    (on_shift c.args.chart.now c.args.args.now c.args.into c.in-Shift.is c.register_or_zero-rd.ensures c.argument-rs1.ensures c.shift_instruction.ensures)
+    c.emit-in-Shift.ensures
+
+pub returns-in-Li : goal.returns-in-Li
+returns-in-Li c = on_so c.emit_load.result (on_word c.args.chart.now c.args.args.now c.args.into c.in-Li.is c.register_or_zero-rd.ensures) c.emit_load.ensures
+
+pub returns-in-Mv : goal.returns-in-Mv
+returns-in-Mv c =
+    on_so c.emit-in-Mv.result (on_copy c.args.chart.now c.args.args.now c.args.into c.in-Mv.is c.register_or_zero-rd.ensures c.argument-rs1.ensures refl) c.emit-in-Mv.ensures
+
+pub returns-in-La : goal.returns-in-La
+returns-in-La c =
+    on_so c.emit_load-in-La.result (on_address c.args.chart.now c.args.args.now c.args.into c.in-La.is c.register_or_zero-rd.ensures c.constant.ensures) c.emit_load-in-La.ensures

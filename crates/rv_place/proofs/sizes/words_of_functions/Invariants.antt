@@ -1,0 +1,15 @@
+use Rattle.std.proofs.Common.{◌≡◌, ◌+◌, ◌*◌, ◌≤◌, map, drop}
+use Rattle.rv_isa.specs.PlacedCode.{placed_lines_of}
+use Rattle.rv_place.specs.Addresses.{words_of_functions}
+use Rattle.rv_place.specs.Texts.{all_items}
+use Rattle.rv_place.proofs.sizes.words_of_functions.Given as goal
+
+abbrev pub invariant-loop-function : goal.invariant-loop-function
+invariant-loop-function l =
+    let rest = map placed_lines_of (drop l.function-index l.functions) in
+    let whole = map placed_lines_of l.functions in
+    record {
+      words : l.words + words_of_functions rest ≡ words_of_functions whole;
+      few : l.words + 3 * all_items rest ≤ 7 * l.function-index + 3 * all_items whole;
+      items : all_items rest ≤ all_items whole;
+    }

@@ -1,0 +1,141 @@
+-- Emitted instructions: what they are wherever they stand, and what a chart says of where things stand.
+use Rattle.std.specs.Prelude.{◌≡◌, ℕ, ◌+◌, ◌-◌, ◌*◌, ◌^◌, ◌<◌, List, [], ◌∷◌, ◌++◌, length, Option, Some, None, slice_get}
+use Rattle.std.specs.Ordering.{nat_cmp}
+use Rattle.std.specs.BTreeMap.{get}
+use Rattle.rv_isa.specs.declared.instr.Instr.{Instr}
+use Rattle.rv_isa.specs.declared.instr.Instr.TheVariants.{Addi, Sw}
+use Rattle.rv_isa.specs.declared.immediate.Immediate.{Immediate}
+use Rattle.rv_isa.specs.declared.immediate.BranchOffset.{BranchOffset}
+use Rattle.rv_isa.specs.declared.register.Register.{Register}
+use Rattle.rv_isa.specs.declared.asm.Condition.{Condition}
+use Rattle.rv_isa.specs.declared.asm.Operation.{Operation}
+use Rattle.rv_isa.specs.declared.asm.Action.{Action}
+use Rattle.rv_isa.specs.declared.placed.Native.{Native}
+use Rattle.rv_isa.specs.declared.placed.Operand.{Operand}
+use Rattle.rv_isa.specs.declared.placed.Place.{Place}
+use Rattle.rv_isa.specs.declared.placed.Place.TheVariants.{Register as register, Slot as slot}
+use Rattle.rv_isa.specs.declared.placed.Way.{Way}
+use Rattle.rv_isa.specs.declared.placed.Symbol.{Symbol}
+use Rattle.rv_isa.specs.declared.placed.Symbol.TheVariants as symbol
+use Rattle.rv_isa.specs.declared.routine.Routine.TheVariants.{Take, Drop, PrintInt, PrintText, ReadByte}
+use Rattle.rv_isa.specs.PlacedCode.{PlacedLine, PlacedLines}
+use Rattle.rv_isa.specs.Standing.{Code, Has}
+use Rattle.cell_runtime.specs.Lines.{Spells, words_of_line}
+use Rattle.rv_world.specs.Operations.{address_in}
+use Rattle.rv_place.specs.Addresses.{entry_words, entries_from, IsBehind, label_address}
+use Rattle.rv_place.specs.Lines.{Map, ActsAt, LineAt, LinesAt, FunctionAt, FunctionsAt, EntersAt, MovesBy, ReturnsFrom, registers_of, register_into}
+use Rattle.rv_place.specs.Registers.{zero_register, ra, sp}
+use Rattle.rv_place.specs.Instructions.{Zero, JumpsTo, Computes, opposite_branch}
+use Rattle.rv_place.specs.declared.chart.Chart.{Chart}
+use Rattle.rv_place.specs.declared.labels.Labels.{Labels}
+use Rattle.rv_place.specs.declared.symbols.Symbols.{Symbols}
+
+-- so many instructions, which are code of a kind wherever they stand: by the code and the address of the first one
+pub record Spelled (words : ℕ) (Kind : Code → ℕ → Type 0) (is : List Instr) : Type 0 where
+  pub size : length is ≡ words
+  pub stands : (code : Code) (at : ℕ) → Has code at is → Kind code at
+
+-- instructions of a kind were added at the end
+pub record Grew (words : ℕ) (Kind : Code → ℕ → Type 0) (old new : List Instr) : Type 0 where
+  pub added : List Instr
+  pub whole : new ≡ old ++ added
+  pub spelled : Spelled words Kind added
+
+-- the instructions of a line of a runtime were added at the end
+pub record NativeGrew (memory : ℕ) (line : Native) (old new : List Instr) : Type 0 where
+  pub added : List Instr
+  pub whole : new ≡ old ++ added
+  pub size : length added ≡ words_of_line line
+  pub spells : (lines : List Native) (rest : List Instr) → Spells memory lines rest → Spells memory (line ∷ lines) (added ++ rest)
+
+-- ---- charts
+
+-- the addresses of constants that stand one behind the other
+abbrev pub addresses_from : ℕ → List (List ℕ) → List ℕ
+addresses_from at [] = []
+addresses_from at (text ∷ texts) = at ∷ addresses_from (at + length text) texts
+
+-- the address of a symbol, if the runtime has its label
+abbrev pub IsAddressOf : ℕ → List (Symbol × ℕ) → Symbol → ℕ → Type 0
+IsAddressOf runtime labels symbol address = (before : ℕ) → IsBehind symbol before labels → address ≡ runtime + 4 * before
+
+-- the addresses of the symbols of a runtime, whose text begins at an address
+pub record AreSymbols (runtime : ℕ) (labels : List (Symbol × ℕ)) (symbols : Symbols) : Type 0 where
+  pub stack_full : IsAddressOf runtime labels symbol.StackFull symbols.stack_full
+  pub hold : IsAddressOf runtime labels symbol.Hold symbols.hold
+  pub unhold : IsAddressOf runtime labels symbol.Unhold symbols.unhold
+  pub take : IsAddressOf runtime labels (symbol.Routine Take) symbols.take
+  pub give_up : IsAddressOf runtime labels (symbol.Routine Drop) symbols.give_up
+  pub print_int : IsAddressOf runtime labels (symbol.Routine PrintInt) symbols.print_int
+  pub print_text : IsAddressOf runtime labels (symbol.Routine PrintText) symbols.print_text
+  pub read_byte : IsAddressOf runtime labels (symbol.Routine ReadByte) symbols.read_byte
+
+-- a chart has the numbers of a map
+pub record Charts (chart : Chart) (map : Map) : Type 0 where
+  pub frame : chart.frame ≡ map.frame
+  pub bottom : chart.bottom ≡ map.bottom
+  pub entries : chart.entries.items ≡ map.entries
+  pub low : (f entry : ℕ) → slice_get map.entries f ≡ Some entry → entry + 4 * entry_words < 2 ^ 32
+  pub symbols : AreSymbols map.runtime map.labels chart.symbols
+  pub constants : (index address : ℕ) → address_in map.constants.first map.constants.texts index ≡ Some address → slice_get chart.constants.items index ≡ Some address
+
+-- the register of an operand; the zero register where the operand is in a slot, or there is none
+abbrev pub register_or_zero : Option Operand → Register
+register_or_zero None = zero_register
+register_or_zero (Some operand) = register_at operand.place
+  where
+    register_at : Place → Register
+    register_at (register r) = r
+    register_at (slot k) = zero_register
+
+-- the first of two, if there is one
+abbrev pub or_next : Option ℕ → Option ℕ → Option ℕ
+or_next (Some n) next = Some n
+or_next None next = next
+
+-- labels are those of lines that stand at an address
+abbrev pub HasLabels : Labels → ℕ → List PlacedLine → Type 0
+HasLabels labels start whole = (l : ℕ) → get nat_cmp labels.addresses l ≡ label_address l start whole
+
+-- code of each kind, by every map that the chart is of; lines are those of a function that has these labels
+abbrev pub ActionBy : Chart → Labels → Action → List Operand → Option Operand → Code → ℕ → Type 0
+ActionBy chart labels action args into code at =
+    (map : Map) → Charts chart map → (start : ℕ) (whole : List PlacedLine) → HasLabels labels start whole → ActsAt map code start whole at action args into
+
+abbrev pub OperationBy : Chart → Operation → List Operand → Option Operand → Code → ℕ → Type 0
+OperationBy chart operation args into code at =
+    (map : Map) → Charts chart map → (registers : List Register) (rd : Register) → registers_of args ≡ Some registers → register_into into ≡ Some rd
+    → Computes map.constants code at operation registers rd
+
+abbrev pub LineBy : Chart → Labels → PlacedLine → Code → ℕ → Type 0
+LineBy chart labels line code at = (map : Map) → Charts chart map → (start : ℕ) (whole : List PlacedLine) → HasLabels labels start whole → LineAt map code start whole at line
+
+abbrev pub LinesBy : Chart → Labels → List PlacedLine → Code → ℕ → Type 0
+LinesBy chart labels lines code at = (map : Map) → Charts chart map → (start : ℕ) (whole : List PlacedLine) → HasLabels labels start whole → LinesAt map code start whole at lines
+
+abbrev pub ReturnBy : Chart → Code → ℕ → Type 0
+ReturnBy chart code at = (map : Map) → Charts chart map → ReturnsFrom map code at
+
+abbrev pub MoveBy : Chart → Way → Code → ℕ → Type 0
+MoveBy chart way code at = (map : Map) → Charts chart map → MovesBy map code at way
+
+-- a branch on two registers
+abbrev pub BranchesBy : Code → ℕ → Condition → Register → Register → ℕ → Type 0
+BranchesBy code at condition a b target =
+    (over : BranchOffset) × (over.word ≡ 12) × (code at ≡ Some (opposite_branch condition a b over)) × JumpsTo code (at + 4) target
+
+-- a frame of so many bytes is taken, and the way back saved
+abbrev pub TakesFrame : ℕ → Code → ℕ → Type 0
+TakesFrame size code at =
+    (frame : Immediate) × (zero : Immediate) × (frame.word ≡ 2 ^ 32 - size) × Zero zero × Has code at (Addi sp sp frame ∷ Sw sp ra zero ∷ [])
+
+abbrev pub EntryBy : Chart → Code → ℕ → Type 0
+EntryBy chart code at = (map : Map) → Charts chart map → EntersAt map code at
+
+-- a function, and functions, that were emitted for an address
+abbrev pub FunctionBy : Chart → ℕ → PlacedLines → Code → ℕ → Type 0
+FunctionBy chart entry function code at = at ≡ entry → (map : Map) → Charts chart map → FunctionAt map code entry function
+
+abbrev pub FunctionsBy : Chart → ℕ → List PlacedLines → Code → ℕ → Type 0
+FunctionsBy chart entry functions code at =
+    at ≡ entry → (map : Map) → Charts chart map → FunctionsAt map code (entries_from entry functions) functions

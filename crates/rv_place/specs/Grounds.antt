@@ -1,0 +1,65 @@
+-- What a run of placed code rests on: where the code, the constants, the stack and the runtime stand, and what stays so in each state.
+use Rattle.std.specs.Prelude.{◌≡◌, ℕ, ◌+◌, ◌*◌, ◌%◌, ◌^◌, ◌≤◌, ◌<◌, List, Some, length, true}
+use Rattle.kk_base.specs.Memory.{Part}
+use Rattle.rv_isa.specs.declared.instr.Instr.{Instr}
+use Rattle.rv_isa.specs.declared.routine.Routine.TheVariants as routine
+use Rattle.rv_isa.specs.declared.placed.Symbol.{Symbol}
+use Rattle.rv_isa.specs.declared.placed.Symbol.TheVariants as symbol
+use Rattle.rv_isa.specs.PlacedCode.{PlacedLines}
+use Rattle.rv_isa.specs.Bytes.{Apart, bytes_at}
+use Rattle.rv_isa.specs.Processor.{Processor, can_load, can_store}
+use Rattle.rv_isa.specs.Standing.{Code, Stands}
+use Rattle.cell_runtime.specs.declared.stop.Ending.TheVariants as ending
+use Rattle.cell_runtime.specs.Prints.{buffer_bytes, IsPrintInt, IsPrintText, IsReadByte}
+use Rattle.cell_runtime.specs.Stops.{IsStop}
+use Rattle.rv_world.specs.Operations.{all_bytes}
+use Rattle.rv_place.specs.Lines.{Map, IsSymbolAt, FunctionsAt}
+
+-- what stands at a symbol of the runtime is of a kind
+abbrev pub HasRoutine : Map → Symbol → (ℕ → Type 0) → Type 0
+HasRoutine map name IsOfKind = (target : ℕ) × IsSymbolAt map name target × IsOfKind target
+
+-- how many constant bytes there are
+abbrev pub constant_bytes : Map → ℕ
+constant_bytes map = length (all_bytes map.constants.texts)
+
+-- the address behind the stack: that of the frame of main is one frame below it
+abbrev pub stack_end : Map → ℕ → ℕ
+stack_end map depth = map.bottom + depth * map.frame
+
+-- The functions and the routines stand in the code, whose addresses are below 2^32. The frames of the stack are words that may be loaded and
+-- stored; the buffer of the prints lies below them. The constants may be loaded, and no store reaches them. Behind the end of main the run comes
+-- to a stop.
+pub record Ground (map : Map) (functions : List PlacedLines) (depth buffer stop : ℕ) (code : Code) (parts : List Part) : Type 0 where
+  pub functions_at : FunctionsAt map code map.entries functions
+  pub below : (at : ℕ) (i : Instr) → code at ≡ Some i → at + 4 < 2 ^ 32
+  pub small_frame : map.frame ≤ 2044
+  pub some_frame : 4 ≤ map.frame
+  pub frame_words : map.frame % 4 ≡ 0
+  pub some_depth : 1 ≤ depth
+  pub bottom_word : map.bottom % 4 ≡ 0
+  pub in_range : stack_end map depth < 2 ^ 32
+  pub loads : (at : ℕ) → map.bottom ≤ at → at + 4 ≤ stack_end map depth → at % 4 ≡ 0 → can_load parts at 4 ≡ true
+  pub stores : (at : ℕ) → map.bottom ≤ at → at + 4 ≤ stack_end map depth → at % 4 ≡ 0 → can_store parts at 4 ≡ true
+  pub buffer_below : buffer + buffer_bytes ≤ map.bottom
+  pub buffer_loads : can_load parts buffer buffer_bytes ≡ true
+  pub buffer_stores : can_store parts buffer buffer_bytes ≡ true
+  pub byte_loads : can_load parts buffer 1 ≡ true
+  pub byte_stores : can_store parts buffer 1 ≡ true
+  pub constants_below : map.constants.first + constant_bytes map < 2 ^ 32
+  pub constants_load : (at count : ℕ) → map.constants.first ≤ at → at + count ≤ map.constants.first + constant_bytes map → can_load parts at count ≡ true
+  pub constants_kept : (x count : ℕ) → can_store parts x count ≡ true → 0 < count → Apart x count map.constants.first (constant_bytes map)
+  pub runtime_word : map.runtime % 4 ≡ 0
+  pub print_int : HasRoutine map (symbol.Routine routine.PrintInt) (IsPrintInt buffer code)
+  pub print_text : HasRoutine map (symbol.Routine routine.PrintText) (IsPrintText code)
+  pub read_byte : HasRoutine map (symbol.Routine routine.ReadByte) (IsReadByte buffer code)
+  pub stack_full : HasRoutine map symbol.StackFull (IsStop ending.StackFull code)
+  pub stop_word : stop % 4 ≡ 0
+  pub stop_below : stop < 2 ^ 32
+  pub ends : IsStop ending.Ended code stop
+
+-- what is so in each state of the run
+pub record Rests (map : Map) (code : Code) (parts : List Part) (s : Processor) : Type 0 where
+  pub stands : Stands code s
+  pub parts_are : s.parts ≡ parts
+  pub constants : bytes_at s.memory map.constants.first (constant_bytes map) ≡ all_bytes map.constants.texts

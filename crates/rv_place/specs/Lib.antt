@@ -1,0 +1,10 @@
+pub mod Registers
+pub mod Instructions
+pub mod Addresses
+pub mod Lines
+pub mod Texts
+pub mod Bytes
+pub mod Grounds
+pub mod Running
+pub mod Images
+pub mod Emitted

@@ -1,0 +1,19 @@
+-- The registers that placed code uses by itself, by their names in the RISC-V calling convention.
+use Rattle.std.proofs.Common.{lit<}
+use Rattle.rv_isa.specs.declared.register.Register.{Register}
+
+-- always zero
+abbrev pub zero_register : Register
+zero_register = record { number = 0; in_range = lit< tt }
+
+-- the return address
+abbrev pub ra : Register
+ra = record { number = 1; in_range = lit< tt }
+
+-- the stack pointer
+abbrev pub sp : Register
+sp = record { number = 2; in_range = lit< tt }
+
+-- a temporary
+abbrev pub t0 : Register
+t0 = record { number = 5; in_range = lit< tt }

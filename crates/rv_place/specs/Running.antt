@@ -1,0 +1,131 @@
+-- When a processor stands for a state of the machine of the placed form: where it is in the code, its registers and the frames of its stack.
+use Rattle.std.specs.Prelude.{◌≡◌, ◌≢◌, ℕ, ◌+◌, ◌%◌, ◌^◌, ◌≤◌, ◌<◌, max, List, [], ◌∷◌, length, Option, Some, None, true, All, IsSome}
+use Rattle.kk_base.specs.Memory.{Part}
+use Rattle.kk_base.specs.Machines.{state}
+use Rattle.rv_isa.specs.declared.asm.Action.{Action}
+use Rattle.rv_isa.specs.declared.asm.Action.TheVariants.{Branch}
+use Rattle.rv_isa.specs.declared.placed.Place.{Place}
+use Rattle.rv_isa.specs.declared.placed.Place.TheVariants.{Register as register, Slot as slot}
+use Rattle.rv_isa.specs.declared.placed.Operand.{Operand}
+use Rattle.rv_isa.specs.PlacedCode.{PlacedLine, does, moves, PlacedLines, to_of}
+use Rattle.rv_isa.specs.Conventions.{is_handed_out}
+use Rattle.rv_isa.specs.WellFormed.{HoldsNone}
+use Rattle.rv_isa.specs.Primitives.{go, ended, stuck}
+use Rattle.rv_isa.specs.Frames.{Frame, found}
+use Rattle.rv_isa.specs.PlacedMachine.{PlacedState, PlacedTurn, is_label_line, placed_machine}
+use Rattle.rv_isa.specs.Bytes.{number_at}
+use Rattle.rv_isa.specs.Processor.{Processor, Ending, Progress, goes, value}
+use Rattle.rv_isa.specs.ProcessorMachine as OfProcessor
+use Rattle.rv_isa.specs.Standing.{Code}
+use Rattle.rv_world.specs.World.{World, primitives}
+use Rattle.rv_place.specs.Addresses.{slot_offset}
+use Rattle.rv_place.specs.Lines.{Map, LinesAt}
+use Rattle.rv_place.specs.Grounds.{stack_end, Rests}
+
+-- ---- what code is asked for
+
+-- a register that is written is one that values may have
+abbrev pub IsHandedOut : Place → Type 0
+IsHandedOut (register r) = is_handed_out r.number ≡ true
+IsHandedOut (slot k) = Unit {0}
+
+abbrev pub GivesHandedOut : Option Operand → Type 0
+GivesHandedOut None = Unit {0}
+GivesHandedOut (Some into) = IsHandedOut into.place
+
+-- a branch is to a label of its function
+abbrev pub HasLabel : List PlacedLine → Action → Type 0
+HasLabel whole (Branch condition l) = IsSome (found (is_label_line l) whole)
+HasLabel whole _ = Unit {0}
+
+-- a line of a function, `whole`: it holds no token yet, writes only what is handed out, and has its label
+abbrev pub IsPlain : List PlacedLine → PlacedLine → Type 0
+IsPlain whole (does alive action args into) = HoldsNone action × GivesHandedOut into × HasLabel whole action
+IsPlain whole (moves alive value way) = IsHandedOut (to_of way)
+
+abbrev pub ArePlain : List PlacedLine → List PlacedLine → Type 0
+ArePlain whole [] = Unit {0}
+ArePlain whole (line ∷ lines) = IsPlain whole line × ArePlain whole lines
+
+abbrev pub AllPlain : List PlacedLines → Type 0
+AllPlain [] = Unit {0}
+AllPlain (function ∷ functions) = ArePlain function.code function.code × AllPlain functions
+
+-- the most lines of a function
+abbrev pub most_lines : List PlacedLines → ℕ
+most_lines [] = 0
+most_lines (function ∷ functions) = max (length function.code) (most_lines functions)
+
+-- ---- states
+
+-- the code that is left of a frame stands at an address, and the whole of its function stands somewhere
+pub record IsIn (map : Map) (code : Code) (most at : ℕ) (frame : Frame PlacedLine) : Type 0 where
+  pub start : ℕ
+  pub start_word : start % 4 ≡ 0
+  pub whole : LinesAt map code start frame.whole start frame.whole
+  pub here : LinesAt map code start frame.whole at frame.code
+  pub at_word : at % 4 ≡ 0
+  pub below : at < 2 ^ 32
+  pub whole_plain : ArePlain frame.whole frame.whole
+  pub plain : ArePlain frame.whole frame.code
+  pub few_whole : length frame.whole ≤ most
+  pub few : length frame.code ≤ most
+
+-- the words of the slots of a frame
+abbrev pub Slots : Map → (ℕ → ℕ) → ℕ → (ℕ → Option ℕ) → Type 0
+Slots map memory base cells =
+    (k word : ℕ) → cells k ≡ Some word → (slot_offset k + 4 ≤ map.frame) × (number_at memory (base + slot_offset k) 4 ≡ word) × (word < 2 ^ 32)
+
+-- a frame that waits for the result of a call waits for it in a0
+abbrev pub AwaitsFirst : Option ℕ → Type 0
+AwaitsFirst None = Unit {0}
+AwaitsFirst (Some x) = x ≡ 10
+
+-- The frames from the newest one on, which goes on at an address, and whose base is the stack pointer. The first word of each is the address where
+-- the frame goes on that waits for it; behind the oldest frame that is the stop, and the stack ends.
+abbrev pub FramesAt : Map → Code → ℕ → ℕ → ℕ → (ℕ → ℕ) → ℕ → ℕ → List (Frame PlacedLine) → Type 0
+FramesAt map code most stop roof memory at base [] = (at ≡ stop) × (base ≡ roof)
+FramesAt map code most stop roof memory at base (frame ∷ frames) =
+    IsIn map code most at frame × Slots map memory base frame.cells × (frame.held ≡ []) × AwaitsFirst frame.into
+    × FramesAt map code most stop roof memory (number_at memory base 4) (base + map.frame) frames
+
+-- a register whose word is known is handed out, and holds it
+abbrev pub Agrees : (ℕ → Option ℕ) → (ℕ → ℕ) → Type 0
+Agrees known registers = (x word : ℕ) → known x ≡ Some word → (is_handed_out x ≡ true) × (value registers x ≡ word) × (word < 2 ^ 32)
+
+-- the processor stands for a state: its frames number `depth` at most, and what is left of the input are bytes
+pub record Running (map : Map) (functions : List PlacedLines) (depth stop : ℕ) (code : Code) (parts : List Part) (t : PlacedState World) (s : Processor) : Type 0 where
+  pub rests : Rests map code parts s
+  pub trace : s.trace ≡ t.shared.trace
+  pub left : s.left ≡ t.shared.left
+  pub bytes : All (λ byte. byte < 256) s.left
+  pub room : length t.frames ≤ depth
+  pub frames : FramesAt map code (most_lines functions) stop (stack_end map depth) s.memory s.pc (value s.registers 2) t.frames
+  pub registers : Agrees t.registers s.registers
+
+-- the lines that are left of the running frame
+abbrev pub lines_left : List (Frame PlacedLine) → ℕ
+lines_left [] = 0
+lines_left (frame ∷ frames) = length frame.code
+
+-- What a run has come to stands for a turn. While it goes on, 3 instructions are saved for the exit behind main, and labels, which are no
+-- instructions, go by within the lines that are left.
+abbrev pub StandsFor : Map → List PlacedLines → ℕ → ℕ → Code → List Part → ℕ → ℕ → PlacedTurn World Ending → Progress → Type 0
+StandsFor map functions depth stop code parts credit idle (go t) progress =
+    (s : Processor) × (progress ≡ goes s) × (3 ≤ credit) × (lines_left t.frames ≤ idle) × Running map functions depth stop code parts t s
+StandsFor map functions depth stop code parts credit idle (ended how shared) progress =
+    (OfProcessor.ended progress.ending ≡ Some how) × (progress.processor.trace ≡ shared.trace)
+StandsFor map functions depth stop code parts credit idle stuck progress = ⊥
+
+-- no run from a turn comes to one that can do nothing more
+abbrev pub NeverStuck : Map → List PlacedLines → ℕ → PlacedTurn World Ending → Type 0
+NeverStuck map functions depth turn = (n : ℕ) → state (placed_machine (primitives map.constants) depth functions) n turn ≢ stuck
+
+-- what the simulation keeps
+abbrev pub Related : Map → List PlacedLines → ℕ → ℕ → Code → List Part → ℕ → ℕ → PlacedTurn World Ending → Progress → Type 0
+Related map functions depth stop code parts credit idle turn progress =
+    NeverStuck map functions depth turn × StandsFor map functions depth stop code parts credit idle turn progress
+
+-- the processor may pass any state
+abbrev pub Any : Progress → Type 0
+Any progress = Unit {0}

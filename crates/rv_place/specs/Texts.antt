@@ -1,0 +1,73 @@
+-- What a text is made of: the runtime's instructions, those of the functions behind them, and the constants behind these.
+use Rattle.std.specs.Prelude.{◌≡◌, ℕ, ◌+◌, ◌*◌, ◌≤◌, List, [], ◌∷◌, ◌++◌, length}
+use Rattle.elf_image.specs.Program.{text_start, memory_start}
+use Rattle.rv_isa.specs.declared.instr.Instr.{Instr}
+use Rattle.rv_isa.specs.declared.placed.Native.{Native}
+use Rattle.rv_isa.specs.declared.placed.Native.TheVariants.{Instruction, Address, Label}
+use Rattle.rv_isa.specs.declared.placed.Section.TheVariants.{Data}
+use Rattle.rv_isa.specs.declared.placed.Placed.{Placed}
+use Rattle.rv_isa.specs.PlacedCode.{PlacedLines, placed_functions, placed_constants}
+use Rattle.rv_isa.specs.Standing.{code_of}
+use Rattle.cell_runtime.specs.Lines.{Spells, AreWithin, words_of, labels_of}
+use Rattle.cell_runtime.specs.Texts.{greatest_reach}
+use Rattle.rv_world.specs.Operations.{Constants, all_bytes}
+use Rattle.rv_place.specs.Addresses.{words_of_functions, entries_from, frame_size}
+use Rattle.rv_place.specs.Lines.{Map, FunctionsAt}
+use Rattle.rv_place.specs.declared.words.Words.{Words}
+
+-- ---- what can be placed
+
+-- the lines of all functions
+abbrev pub all_items : List PlacedLines → ℕ
+all_items [] = 0
+all_items (function ∷ functions) = length function.code + all_items functions
+
+-- A runtime and a program that can be placed: frames are at most 2,044 bytes, so that each slot is within reach of the stack pointer; and the text
+-- is small enough for a text part.
+pub record ArePlaceable (runtime program : Placed) : Type 0 where
+  pub lines : AreWithin greatest_reach runtime.natives.items
+  pub runtime_size : words_of runtime.natives.items ≤ 1024
+  pub bottom : runtime.memory.stack_bottom ≤ 268435456
+  pub frames : frame_size (placed_functions program) ≤ 2044
+  pub few_functions : length (placed_functions program) ≤ 1024
+  pub few_items : all_items (placed_functions program) ≤ 8388608
+  pub few_bytes : length (all_bytes (placed_constants program)) ≤ 8388608
+
+-- ---- the text
+
+-- how many instructions a text has
+abbrev pub text_words : Placed → Placed → ℕ
+text_words runtime program = words_of runtime.natives.items + words_of_functions (placed_functions program)
+
+-- how many bytes: its instructions and the constants
+abbrev pub text_bytes : Placed → Placed → ℕ
+text_bytes runtime program = 4 * text_words runtime program + length (all_bytes (placed_constants program))
+
+-- the address of the memory behind it
+abbrev pub memory_of : Placed → Placed → ℕ
+memory_of runtime program = memory_start (text_bytes runtime program)
+
+abbrev pub constants_of : Placed → Placed → Constants
+constants_of runtime program = record { first = text_start + 4 * text_words runtime program; texts = placed_constants program }
+
+-- where what the code names stands
+abbrev pub map_of : Placed → Placed → Map
+map_of runtime program = record {
+  frame = frame_size (placed_functions program);
+  bottom = memory_of runtime program + runtime.memory.stack_bottom;
+  entries = entries_from (text_start + 4 * words_of runtime.natives.items) (placed_functions program);
+  runtime = text_start;
+  labels = labels_of 0 runtime.natives.items;
+  constants = constants_of runtime program;
+}
+
+-- These are the words of a runtime and a program: the runtime's instructions, and behind them the functions; all at the text's begin.
+pub record ArePlacedWords (runtime program : Placed) (words : Words) : Type 0 where
+  pub own : List Instr
+  pub rest : List Instr
+  pub instructions : words.instructions.items ≡ own ++ rest
+  pub spelled : Spells (memory_of runtime program) runtime.natives.items own
+  pub own_size : length own ≡ words_of runtime.natives.items
+  pub size : length words.instructions.items ≡ text_words runtime program
+  pub functions : FunctionsAt (map_of runtime program) (code_of text_start words.instructions.items) (map_of runtime program).entries (placed_functions program)
+  pub constants : words.constants.items ≡ all_bytes (placed_constants program)

@@ -1,0 +1,21 @@
+//! Placed code as instructions: every line, label, function and routine of the runtime has its address.
+#![tactic(auto)]
+
+mod boot;
+mod bytes;
+mod chart;
+mod emit;
+mod labels;
+mod law;
+mod lines;
+mod operations;
+mod sizes;
+mod symbols;
+mod text;
+mod words;
+
+pub use boot::placed_text_agrees;
+pub use law::placed_code_keeps_meaning;
+pub use sizes::frame_bytes;
+pub use text::place;
+pub use words::Words;

@@ -1,0 +1,171 @@
+// Lines and functions as instructions.
+
+ghost use Rattle.std.specs.Prelude.{◌≡◌, ⊤, ℕ, ◌+◌, ◌*◌, ◌^◌, ◌<◌, ◌≤◌, Some, OnOk, length, map, slice_get};
+ghost use Rattle.rv_isa.specs.PlacedCode.{placed_line_of, placed_lines_of};
+ghost use Rattle.rv_isa.specs.PlacedMachine.{is_label_line};
+ghost use Rattle.rv_place.specs.Addresses.{words_of_action, words_of_line, words_of_lines, words_of_function, words_of_functions, label_address, slots_of_operands, slots_of_line, slots_of_lines, slots_of_functions};
+ghost use Rattle.rv_place.specs.Texts.{all_items};
+ghost use Rattle.rv_place.specs.Emitted.{Grew, ActionBy, LineBy, LinesBy, FunctionBy, FunctionsBy};
+
+use crate::chart::Chart;
+use crate::emit::{
+    emit, emit_branch, emit_call, emit_entry, emit_jump, emit_move, emit_return, slot_offset,
+};
+use crate::labels::Labels;
+use crate::operations::{argument, emit_operation};
+use crate::sizes::{ENTRY_WORDS, words_of_function};
+use kk_base::NoMemory;
+use rv_isa::{Action, Immediate, Instr, Item, Operand, Place, PlacedFunction, Register};
+use std::alloc::Global;
+
+/// The offset of the slot of a token from the stack pointer.
+fn token_offset(args: &[Operand]) -> Immediate
+    requires { 4 * slots_of_operands args.now + 4 ≤ 2044 }
+{
+    match args.first() {
+        Some(
+            Operand {
+                place: Place::Slot(slot),
+                ..
+            },
+        ) => slot_offset(*slot),
+        _ => Immediate::ZERO,
+    }
+}
+
+/// A token that is held or taken back: a call with the address of its slot in `a0`.
+fn emit_token(code: &mut Vec<Instr>, args: &[Operand], target: u32) -> Result<(), NoMemory>
+    requires { 4 * slots_of_operands args.now + 4 ≤ 2044 }
+    ensures { OnOk result (Grew 3 (λ c at. ⊤) code.old.items code.new.items) }
+{
+    emit(
+        code,
+        Instr::Addi {
+            rd: Register::A0,
+            rs1: Register::SP,
+            imm: token_offset(args),
+        },
+    )?;
+    emit_call(code, target)?;
+    Ok(())
+}
+
+/// An action of a function that has these labels.
+fn emit_action(
+    code: &mut Vec<Instr>,
+    chart: &Chart,
+    labels: &Labels,
+    action: Action,
+    args: &[Operand],
+    into: Option<Operand>,
+) -> Result<(), NoMemory>
+    requires frame { chart.now.frame ≤ 2044 }
+    requires slots { 4 * slots_of_operands args.now + 4 ≤ chart.now.frame }
+    ensures { OnOk result (Grew (words_of_action action) (ActionBy chart.now labels.now action args.now into) code.old.items code.new.items) }
+{
+    match action {
+        Action::Compute(operation) => emit_operation(code, chart, operation, args, into),
+        Action::Label(_) => Ok(()),
+        Action::Jump(label) => emit_jump(code, labels.address(label)),
+        Action::Branch(condition, label) => {
+            let target = labels.address(label);
+            emit_branch(
+                code,
+                condition,
+                argument(args, 0),
+                argument(args, 1),
+                target,
+            )
+        }
+        Action::Call(function) => emit_call(code, chart.entry(function)),
+        Action::TailCall(function) => emit_jump(code, chart.body(function)),
+        Action::Return => emit_return(code, chart),
+        Action::Routine(routine) => emit_call(code, chart.symbols.routine(routine)),
+        Action::Hold => emit_token(code, args, chart.symbols.hold),
+        Action::Unhold => emit_token(code, args, chart.symbols.unhold),
+    }
+}
+
+/// An item of a function that has these labels.
+fn emit_item(
+    code: &mut Vec<Instr>,
+    chart: &Chart,
+    labels: &Labels,
+    item: &Item,
+) -> Result<(), NoMemory>
+    requires frame { chart.now.frame ≤ 2044 }
+    requires slots { 4 * slots_of_line (placed_line_of item.now) + 4 ≤ chart.now.frame }
+    ensures { OnOk result (Grew (words_of_line (placed_line_of item.now)) (LineBy chart.now labels.now (placed_line_of item.now)) code.old.items code.new.items) }
+{
+    match item {
+        Item::Does {
+            action,
+            args,
+            into,
+            ..
+        } => emit_action(code, chart, labels, *action, args, *into),
+        Item::Moves { way, .. } => emit_move(code, chart, *way),
+    }
+}
+
+/// Items of a function that has these labels.
+fn emit_items(
+    code: &mut Vec<Instr>,
+    chart: &Chart,
+    labels: &Labels,
+    items: &[Item],
+) -> Result<(), NoMemory>
+    requires frame { chart.now.frame ≤ 2044 }
+    requires slots { 4 * slots_of_lines (map placed_line_of items.now) + 4 ≤ chart.now.frame }
+    ensures { OnOk result (Grew (words_of_lines (map placed_line_of items.now)) (LinesBy chart.now labels.now (map placed_line_of items.now)) code.old.items code.new.items) }
+{
+    for item in items {
+        emit_item(code, chart, labels, item)?;
+    }
+    Ok(())
+}
+
+/// A function that stands at `entry`.
+fn emit_function(
+    alloc: Global,
+    code: &mut Vec<Instr>,
+    chart: &Chart,
+    entry: u32,
+    function: &PlacedFunction,
+) -> Result<(), NoMemory>
+    requires entry { entry + 28 ≤ 268435456 }
+    requires items { length function.now.code.items ≤ 8388608 }
+    requires some_frame { 1 ≤ chart.now.frame }
+    requires frame { chart.now.frame ≤ 2044 }
+    requires slots { 4 * slots_of_lines (map placed_line_of function.now.code.items) + 4 ≤ chart.now.frame }
+    ensures { OnOk result (Grew (words_of_function (placed_lines_of function.now)) (FunctionBy chart.now entry (placed_lines_of function.now)) code.old.items code.new.items) }
+{
+    emit_entry(code, chart)?;
+    let labels = Labels::of(alloc, entry + 4 * ENTRY_WORDS, &function.code)?;
+    emit_items(code, chart, &labels, &function.code)?;
+    Ok(())
+}
+
+/// Functions that stand one behind the other from `entry` on.
+pub fn emit_functions(
+    alloc: Global,
+    code: &mut Vec<Instr>,
+    chart: &Chart,
+    entry: u32,
+    functions: &[PlacedFunction],
+) -> Result<(), NoMemory>
+    requires entry { entry ≤ 134217728 }
+    requires few { length functions.now ≤ 1024 }
+    requires items { all_items (map placed_lines_of functions.now) ≤ 8388608 }
+    requires some_frame { 1 ≤ chart.now.frame }
+    requires frame { chart.now.frame ≤ 2044 }
+    requires slots { 4 * slots_of_functions (map placed_lines_of functions.now) + 4 ≤ chart.now.frame }
+    ensures { OnOk result (Grew (words_of_functions (map placed_lines_of functions.now)) (FunctionsBy chart.now entry (map placed_lines_of functions.now)) code.old.items code.new.items) }
+{
+    let mut at = entry;
+    for function in functions {
+        emit_function(alloc, code, chart, at, function)?;
+        at += 4 * words_of_function(function);
+    }
+    Ok(())
+}

@@ -1,0 +1,184 @@
+// How many instructions code is, how many bytes constants, and how large frames are.
+
+ghost use Rattle.std.specs.Prelude.{◌≡◌, ◌+◌, ◌*◌, ◌≤◌, length, map, max};
+ghost use Rattle.rv_isa.specs.PlacedCode.{placed_line_of, placed_lines_of, placed_functions, from_of, to_of};
+ghost use Rattle.rv_world.specs.Operations.{all_bytes};
+ghost use Rattle.cell_runtime.specs.Lines.{words_of};
+ghost use Rattle.rv_place.specs.Instructions.{words_of_operation};
+ghost use Rattle.rv_place.specs.Addresses.{words_of_action, words_of_line, words_of_lines, words_of_function, words_of_functions, slots_of_place, slots_of_operands, slots_of_line, slots_of_lines, slots_of_functions, frame_size};
+ghost use Rattle.rv_place.specs.Texts.{all_items};
+
+use crate::symbols::words_of_native;
+use kk_base::Text;
+use rv_isa::{Action, Item, Native, Operand, Operation, Place, Placed, PlacedFunction, Way};
+
+/// How many instructions an operation is.
+fn words_of_operation(operation: Operation) -> u32
+    ensures { result ≡ words_of_operation operation }
+{
+    match operation {
+        Operation::Li(_) | Operation::La(_) => 2,
+        _ => 1,
+    }
+}
+
+/// How many instructions an action is.
+fn words_of_action(action: Action) -> u32
+    ensures words { result ≡ words_of_action action }
+    ensures few { result ≤ 3 }
+{
+    match action {
+        Action::Compute(operation) => words_of_operation(operation),
+        Action::Label(_) => 0,
+        Action::Jump(_) | Action::Call(_) | Action::TailCall(_) | Action::Routine(_) => 2,
+        Action::Branch(_, _) | Action::Return | Action::Hold | Action::Unhold => 3,
+    }
+}
+
+/// How many instructions an item is.
+pub fn words_of_item(item: &Item) -> u32
+    ensures words { result ≡ words_of_line (placed_line_of item.now) }
+    ensures few { result ≤ 3 }
+{
+    match item {
+        Item::Does { action, .. } => words_of_action(*action),
+        Item::Moves { .. } => 1,
+    }
+}
+
+fn words_of_items(items: &[Item]) -> u32
+    requires { length items.now ≤ 8388608 }
+    ensures words { result ≡ words_of_lines (map placed_line_of items.now) }
+    ensures few { result ≤ 3 * length items.now }
+{
+    let mut words = 0;
+    for item in items {
+        words += words_of_item(item);
+    }
+    words
+}
+
+/// How many instructions a function is, its entry included.
+pub fn words_of_function(function: &PlacedFunction) -> u32
+    requires { length function.now.code.items ≤ 8388608 }
+    ensures words { result ≡ words_of_function (placed_lines_of function.now) }
+    ensures few { result ≤ 7 + 3 * length function.now.code.items }
+{
+    ENTRY_WORDS + words_of_items(&function.code)
+}
+
+/// How many instructions the entry of a function is.
+pub const ENTRY_WORDS: u32 = 7;
+
+/// How many instructions functions are.
+pub fn words_of_functions(functions: &[PlacedFunction]) -> u32
+    requires functions { length functions.now ≤ 1024 }
+    requires items { all_items (map placed_lines_of functions.now) ≤ 8388608 }
+    ensures words { result ≡ words_of_functions (map placed_lines_of functions.now) }
+    ensures few { result ≤ 7 * length functions.now + 3 * all_items (map placed_lines_of functions.now) }
+{
+    let mut words = 0;
+    for function in functions {
+        words += words_of_function(function);
+    }
+    words
+}
+
+/// How many instructions the lines of a runtime are.
+pub fn words_of_natives(natives: &[Native]) -> u32
+    requires { words_of natives.now ≤ 1024 }
+    ensures { result ≡ words_of natives.now }
+{
+    let mut words = 0;
+    for line in natives {
+        words += words_of_native(line);
+    }
+    words
+}
+
+/// How many bytes constants are.
+pub fn bytes_of_constants(constants: &[Text]) -> u32
+    requires { length (all_bytes constants.now) ≤ 8388608 }
+    ensures { result ≡ length (all_bytes constants.now) }
+{
+    let mut bytes = 0;
+    for text in constants {
+        bytes += text.len() as u32;
+    }
+    bytes
+}
+
+// ---- frames
+
+fn slots_of_place(place: Place) -> u32
+    requires { slots_of_place place ≤ 1024 }
+    ensures { result ≡ slots_of_place place }
+{
+    match place {
+        Place::Register(_) => 0,
+        Place::Slot(slot) => slot + 1,
+    }
+}
+
+fn slots_of_operands(operands: &[Operand]) -> u32
+    requires { slots_of_operands operands.now ≤ 1024 }
+    ensures { result ≡ slots_of_operands operands.now }
+{
+    let mut slots = 0;
+    for operand in operands {
+        slots = slots.max(slots_of_place(operand.place));
+    }
+    slots
+}
+
+fn slots_of_way(way: Way) -> u32
+    requires { max (slots_of_place (from_of way)) (slots_of_place (to_of way)) ≤ 1024 }
+    ensures { result ≡ max (slots_of_place (from_of way)) (slots_of_place (to_of way)) }
+{
+    match way {
+        Way::Copy { .. } => 0,
+        Way::Load { from, .. } => from + 1,
+        Way::Store { to, .. } => to + 1,
+    }
+}
+
+fn slots_of_item(item: &Item) -> u32
+    requires { slots_of_line (placed_line_of item.now) ≤ 1024 }
+    ensures { result ≡ slots_of_line (placed_line_of item.now) }
+{
+    match item {
+        Item::Does { args, .. } => slots_of_operands(args),
+        Item::Moves { way, .. } => slots_of_way(*way),
+    }
+}
+
+fn slots_of_items(items: &[Item]) -> u32
+    requires { slots_of_lines (map placed_line_of items.now) ≤ 1024 }
+    ensures { result ≡ slots_of_lines (map placed_line_of items.now) }
+{
+    let mut slots = 0;
+    for item in items {
+        slots = slots.max(slots_of_item(item));
+    }
+    slots
+}
+
+fn slots_of_functions(functions: &[PlacedFunction]) -> u32
+    requires { slots_of_functions (map placed_lines_of functions.now) ≤ 1024 }
+    ensures { result ≡ slots_of_functions (map placed_lines_of functions.now) }
+{
+    let mut slots = 0;
+    for function in functions {
+        slots = slots.max(slots_of_items(&function.code));
+    }
+    slots
+}
+
+/// The bytes of a frame of a program's functions: one word for the way back, and one for each slot up to the last that any
+/// of them uses. All functions have frames of one size.
+pub fn frame_bytes(program: &Placed) -> u32
+    requires { slots_of_functions (placed_functions program.now) ≤ 1024 }
+    ensures { result ≡ frame_size (placed_functions program.now) }
+{
+    4 * slots_of_functions(&program.functions) + 4
+}

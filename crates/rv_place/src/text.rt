@@ -1,0 +1,161 @@
+// The whole text.
+
+ghost use Rattle.std.specs.Prelude.{◌≡◌, ◌+◌, ◌*◌, ◌^◌, ◌<◌, ◌≤◌, [], ◌∷◌, IfOk, OnOk, length, map};
+ghost use Rattle.elf_image.specs.Program.{text_start};
+ghost use Rattle.rv_isa.specs.PlacedCode.{placed_lines_of, placed_functions};
+ghost use Rattle.rv_world.specs.Operations.{all_bytes};
+ghost use Rattle.cell_runtime.specs.Lines.{Spells, words_of};
+ghost use Rattle.rv_place.specs.Addresses.{entries_from};
+ghost use Rattle.cell_runtime.specs.Lines.{AreWithin};
+ghost use Rattle.cell_runtime.specs.Texts.{greatest_reach};
+ghost use Rattle.rv_place.specs.Texts.{ArePlaceable, ArePlacedWords, all_items, text_words, memory_of, map_of};
+ghost use Rattle.rv_place.specs.Emitted.{Charts, NativeGrew, addresses_from};
+
+use crate::chart::Chart;
+use crate::emit::{emit, emit_load};
+use crate::lines::emit_functions;
+use crate::sizes::{
+    bytes_of_constants, frame_bytes, words_of_function, words_of_functions, words_of_natives,
+};
+use crate::symbols::Symbols;
+use crate::words::Words;
+use elf_image::{PAGE_SIZE, TEXT_START};
+use kk_base::{NoMemory, Text};
+use rv_isa::{Instr, Native, Placed, PlacedFunction};
+use std::alloc::Global;
+
+/// How many instructions the text has.
+fn text_words(runtime: &Placed, program: &Placed) -> u32
+    requires { ArePlaceable runtime.now program.now }
+    ensures words { result ≡ text_words runtime.now program.now }
+    ensures few { result ≤ 25174016 }
+{
+    words_of_natives(&runtime.natives) + words_of_functions(&program.functions)
+}
+
+/// The address of the memory behind the text.
+fn memory_of(runtime: &Placed, program: &Placed) -> u32
+    requires { ArePlaceable runtime.now program.now }
+    ensures address { result ≡ memory_of runtime.now program.now }
+    ensures low { result ≤ 134217728 }
+{
+    let bytes = 4 * text_words(runtime, program) + bytes_of_constants(&program.constants);
+    (TEXT_START + bytes).next_multiple_of(PAGE_SIZE)
+}
+
+/// The address of the first function of a program, behind the runtime.
+fn first_entry(runtime: &Placed) -> u32
+    requires { words_of runtime.now.natives.items ≤ 1024 }
+    ensures { result ≡ text_start + 4 * words_of runtime.now.natives.items }
+{
+    TEXT_START + 4 * words_of_natives(&runtime.natives)
+}
+
+/// The addresses of functions that stand one behind the other.
+fn entries(alloc: Global, first: u32, functions: &[PlacedFunction]) -> Result<Vec<u32>, NoMemory>
+    requires first { first ≤ 134217728 }
+    requires few { length functions.now ≤ 1024 }
+    requires items { all_items (map placed_lines_of functions.now) ≤ 8388608 }
+    ensures { IfOk result (λ entries. entries.items ≡ entries_from first (map placed_lines_of functions.now)) }
+{
+    let mut entries = Vec::new(alloc);
+    let mut at = first;
+    for function in functions {
+        entries.push(at)?;
+        at += 4 * words_of_function(function);
+    }
+    Ok(entries)
+}
+
+/// The addresses of constants that stand one behind the other.
+fn constant_addresses(alloc: Global, first: u32, constants: &[Text]) -> Result<Vec<u32>, NoMemory>
+    requires first { first ≤ 134217728 }
+    requires few { length (all_bytes constants.now) ≤ 8388608 }
+    ensures { IfOk result (λ addresses. addresses.items ≡ addresses_from first constants.now) }
+{
+    let mut addresses = Vec::new(alloc);
+    let mut at = first;
+    for text in constants {
+        addresses.push(at)?;
+        at += text.len() as u32;
+    }
+    Ok(addresses)
+}
+
+/// The constants' bytes, one behind the other.
+fn constant_bytes(alloc: Global, constants: &[Text]) -> Result<Vec<u8>, NoMemory>
+    ensures { IfOk result (λ bytes. bytes.items ≡ all_bytes constants.now) }
+{
+    let mut bytes = Vec::new(alloc);
+    for text in constants {
+        bytes.extend_from_slice(text.as_slice())?;
+    }
+    Ok(bytes)
+}
+
+/// Where everything stands.
+fn chart_of(alloc: Global, runtime: &Placed, program: &Placed) -> Result<Chart, NoMemory>
+    requires { ArePlaceable runtime.now program.now }
+    ensures { IfOk result (λ chart. Charts chart (map_of runtime.now program.now)) }
+{
+    let entries = entries(alloc, first_entry(runtime), &program.functions)?;
+    let first = TEXT_START + 4 * text_words(runtime, program);
+    let constants = constant_addresses(alloc, first, &program.constants)?;
+    Ok(Chart {
+        frame: frame_bytes(program),
+        bottom: memory_of(runtime, program) + runtime.memory.stack_bottom,
+        entries,
+        symbols: Symbols::of(&runtime.natives),
+        constants,
+    })
+}
+
+/// A line of a runtime, where the memory that it may write begins at an address.
+fn emit_native(code: &mut Vec<Instr>, memory: u32, line: &Native) -> Result<(), NoMemory>
+    requires memory { memory ≤ 134217728 }
+    requires line { AreWithin greatest_reach (line.now ∷ []) }
+    ensures { OnOk result (NativeGrew memory line.now code.old.items code.new.items) }
+{
+    match line {
+        Native::Instruction(instruction) => emit(code, *instruction),
+        Native::Address { rd, offset, .. } => emit_load(code, *rd, memory + *offset),
+        Native::Label(_) | Native::Jump(_) | Native::Branch { .. } | Native::Call(_) => Ok(()),
+    }
+}
+
+/// The lines of a runtime.
+fn natives_code(alloc: Global, memory: u32, natives: &[Native]) -> Result<Vec<Instr>, NoMemory>
+    requires memory { memory ≤ 134217728 }
+    requires lines { AreWithin greatest_reach natives.now }
+    ensures spelled { IfOk result (λ code. Spells memory natives.now code.items) }
+    ensures size { IfOk result (λ code. length code.items ≡ words_of natives.now) }
+{
+    let mut code = Vec::new(alloc);
+    for line in natives {
+        emit_native(&mut code, memory, line)?;
+    }
+    Ok(code)
+}
+
+/// The words of a text: the runtime first, then the program's functions, and the constants behind them. Every label,
+/// function, routine and constant has its address.
+pub fn place(alloc: Global, runtime: &Placed, program: &Placed) -> Result<Words, NoMemory>
+    requires placeable { ArePlaceable runtime.now program.now }
+    ensures { IfOk result (ArePlacedWords runtime.now program.now) }
+{
+    let chart = chart_of(alloc, runtime, program)?;
+    let memory = memory_of(runtime, program);
+    let mut instructions = natives_code(alloc, memory, &runtime.natives)?;
+    emit_functions(
+        alloc,
+        &mut instructions,
+        &chart,
+        first_entry(runtime),
+        &program.functions,
+    )?;
+    let constants = constant_bytes(alloc, &program.constants)?;
+    Ok(Words {
+        instructions,
+        constants,
+    })
+}
