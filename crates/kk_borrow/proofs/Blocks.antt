@@ -1,0 +1,54 @@
+-- The owned places, the constructions and the tail calls of a block, by its statements and its last expression.
+use Rattle.std.proofs.Common.{◌≡◌, ℕ, ◌==◌, Bool, true, false, not, ◌||◌, ◌&&◌, List, [], ◌∷◌, length, map, refl, ap, sym, ◌∙◌, arith}
+use Rattle.std.proofs.lemmas.Bool.{eqb-true, false_from_ne_true}
+use Rattle.kk_syntax.specs.declared.program.Form.TheVariants.{Construct}
+use Rattle.kk_syntax.specs.Patterns.{Pattern, constructor, patterns_of}
+use Rattle.kk_syntax.specs.Trees.{Tree, trees_of, StatementTree, block_of}
+use Rattle.kk_borrow.specs.Sets.{PositionSet}
+use Rattle.kk_borrow.specs.OwnedPlaces.{is_val, opens, makes, builds, uses}
+use Rattle.kk_borrow.specs.Statements.{builds_statements, uses_statements}
+use Rattle.kk_borrow.specs.TailCalls.{is_lent_variable, handed}
+
+-- whether a list has no element
+abbrev pub is_none : {X : Type 0} → List X → Bool
+is_none [] = true
+is_none (x ∷ xs) = false
+
+or_assoc : (a b c : Bool) → (a || (b || c)) ≡ ((a || b) || c)
+or_assoc true b c = refl
+or_assoc false b c = refl
+
+pub builds_block : (ss : List StatementTree) (last : Tree) → builds (block_of ss last) ≡ (builds_statements ss || builds last)
+builds_block [] last = refl
+builds_block (s ∷ ss) last = ap (λ b. builds s.value || b) (builds_block ss last) ∙ or_assoc (builds s.value) (builds_statements ss) (builds last)
+
+pub uses_block : (set : PositionSet) (owned : Bool) (x : ℕ) (ss : List StatementTree) (last : Tree) → uses set owned x (block_of ss last) ≡ (uses_statements set x ss || uses set (owned || not (is_none ss)) x last)
+uses_block set true x [] last = refl
+uses_block set false x [] last = refl
+uses_block set true x (s ∷ ss) last = ap (λ b. uses set (is_val s.binder) x s.value || b) (uses_block set true x ss last) ∙ or_assoc (uses set (is_val s.binder) x s.value) (uses_statements set x ss) (uses set true x last)
+uses_block set false x (s ∷ ss) last = ap (λ b. uses set (is_val s.binder) x s.value || b) (uses_block set true x ss last) ∙ or_assoc (uses set (is_val s.binder) x s.value) (uses_statements set x ss) (uses set true x last)
+
+pub lent_block : (lent : List ℕ) (ss : List StatementTree) (last : Tree) → is_lent_variable lent (block_of ss last) ≡ (is_none ss && is_lent_variable lent last)
+lent_block lent [] last = refl
+lent_block lent (s ∷ ss) last = refl
+
+pub handed_block : (lent : List ℕ) (ss : List StatementTree) (last : Tree) → handed lent (block_of ss last) ≡ handed lent last
+handed_block lent [] last = refl
+handed_block lent (s ∷ ss) last = handed_block lent ss last
+
+pub none_map : {X Y : Type 0} (f : X → Y) (xs : List X) → is_none (map f xs) ≡ is_none xs
+none_map f [] = refl
+none_map f (x ∷ xs) = refl
+
+pub opens_by : (by : ℕ) (ps : List Pattern) → opens (constructor by (patterns_of ps)) ≡ not (is_none ps)
+opens_by by [] = refl
+opens_by by (p ∷ ps) = refl
+
+pub makes_by : (by : ℕ) (ts : List Tree) → makes (Construct by) (trees_of ts) ≡ not (is_none ts)
+makes_by by [] = refl
+makes_by by (t ∷ ts) = refl
+
+-- what a test for emptiness says
+pub none_by : {X : Type 0} (xs : List X) (n : ℕ) (b : Bool) → n ≡ length xs → b ≡ (n == 0) → is_none xs ≡ b
+none_by [] n b len is = sym (is ∙ ap (λ k. k == 0) len)
+none_by (x ∷ xs) n b len is = sym (is ∙ false_from_ne_true (n == 0) (λ e. let z = eqb-true n 0 e in omega (arith, len, z)))
