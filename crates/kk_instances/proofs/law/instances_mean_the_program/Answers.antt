@@ -1,0 +1,5 @@
+use Rattle.kk_instances.proofs.Meaning.{means_the_same}
+use Rattle.kk_instances.proofs.law.instances_mean_the_program.Goals as goal
+
+pub returns : goal.returns
+returns c = means_the_same

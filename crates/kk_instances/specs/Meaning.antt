@@ -1,0 +1,28 @@
+-- What it is that the instances of a program mean what the program means.
+use Rattle.std.specs.Prelude.{◌≡◌, ℕ, List, [], map, slice_index_or}
+use Rattle.kk_base.specs.Machines.{trace, ending_after}
+use Rattle.kk_syntax.specs.Programs.{ProgramTree}
+use Rattle.kk_syntax.specs.PositionsOf.{PositionTable}
+use Rattle.kk_syntax.specs.Typing.{IsTyped}
+use Rattle.kk_source.specs.State.{Setting}
+use Rattle.kk_source.specs.SourceAfter.{store_machine, first_state}
+use Rattle.kk_mono.specs.Instances.{AreInstances, numbered}
+
+-- the positions of instances, in their order: those of the functions that they are
+abbrev pub positions_in : List ℕ → PositionTable → PositionTable
+positions_in order table = map (λ f. slice_index_or table f []) order
+
+-- a program as it is run, with these positions lent, on so many cells and with such a depth
+abbrev pub setting_of : ProgramTree → PositionTable → ℕ → ℕ → Setting
+setting_of program table cells depth = record { program = program; positions = table; cells = cells; depth = depth }
+
+-- The instances of a program are typed. Where positions of the program are lent, `positions` are those of the instances:
+-- each instance has those of the function that it is. Then the instances do what the program does, on every input, with
+-- every number of cells and every depth: after each number of steps they have told the same, also of live places and of
+-- call frames, and have ended alike.
+pub record MeansTheSame (program instances : ProgramTree) : Type 0 where
+  pub typed : IsTyped instances
+  pub positions : PositionTable → PositionTable
+  pub positions_are : (numbers : List ℕ) × AreInstances program numbers × ((table : PositionTable) → positions table ≡ positions_in (numbered program numbers) table)
+  pub traces : (table : PositionTable) (cells depth : ℕ) (input : List ℕ) (n : ℕ) → trace (store_machine (setting_of instances (positions table) cells depth)) n (first_state (setting_of instances (positions table) cells depth) input) ≡ trace (store_machine (setting_of program table cells depth)) n (first_state (setting_of program table cells depth) input)
+  pub endings : (table : PositionTable) (cells depth : ℕ) (input : List ℕ) (n : ℕ) → ending_after (store_machine (setting_of instances (positions table) cells depth)) n (first_state (setting_of instances (positions table) cells depth) input) ≡ ending_after (store_machine (setting_of program table cells depth)) n (first_state (setting_of program table cells depth) input)
