@@ -9,6 +9,8 @@ mod infer;
 mod program;
 mod same;
 mod scope;
+#[cfg(test)]
+mod tests;
 
 pub use error::TypeError;
 pub use program::{check, each_program_is_checked};
