@@ -1,6 +1,6 @@
 -- The instances of a program that keeps its limits keep them too: copies have the nodes of what they copy.
 use Rattle.std.proofs.Common.{◌≡◌, ℕ, ◌+◌, ◌<◌, ◌≤◌, Bool, true, false, nat_lt, zero, suc, List, [], ◌∷◌, length, map, get_or, cond, sum, sum_by, find, All, Option, Some, None, refl, ap, sym, ◌∙◌, subst, inl, inr, arith}
-use Rattle.std.proofs.lemmas.Bool.{cases_Bool, ltb-false, cond-true}
+use Rattle.std.proofs.lemmas.Bool.{cases_Bool, ltb-false, cond-true, cond-false}
 use Rattle.std.proofs.lemmas.List.{length-map}
 use Rattle.std.proofs.lemmas.List.Elements.{All-map}
 use Rattle.std.proofs.lemmas.List.Sums.{sum-map}
@@ -36,15 +36,14 @@ mutual
 -- no function has too many
 each_few : (functions : List FunctionTree) (f : ℕ) → too_many_nodes functions ≡ None → nodes_of (get_or functions f no_function).body ≤ 480
 each_few [] f none = omega arith
-each_few (function ∷ functions) f none = elim (cases_Bool (nat_lt 480 (nodes_of function.body))) [
+each_few (function ∷ functions) zero none = elim (cases_Bool (nat_lt 480 (nodes_of function.body))) [
   | inl many ↦ let some = sym (cond-true (nat_lt 480 (nodes_of function.body)) (Some (nodes_of function.body)) (too_many_nodes functions) many) ∙ none in cc
-  | inr few ↦ here f (ltb-false 480 (nodes_of function.body) few)
-      (sym (ap (λ b. cond b (Some (nodes_of function.body)) (too_many_nodes functions)) few) ∙ none)
+  | inr few ↦ ltb-false 480 (nodes_of function.body) few
 ]
-  where
-    here : (f : ℕ) → nodes_of function.body ≤ 480 → too_many_nodes functions ≡ None → nodes_of (get_or (function ∷ functions) f no_function).body ≤ 480
-    here zero le rest = le
-    here (suc f) le rest = each_few functions f rest
+each_few (function ∷ functions) (suc f) none = elim (cases_Bool (nat_lt 480 (nodes_of function.body))) [
+  | inl many ↦ let some = sym (cond-true (nat_lt 480 (nodes_of function.body)) (Some (nodes_of function.body)) (too_many_nodes functions) many) ∙ none in cc
+  | inr few ↦ each_few functions f (sym (cond-false (nat_lt 480 (nodes_of function.body)) (Some (nodes_of function.body)) (too_many_nodes functions) few) ∙ none)
+]
 
 sum_same : (f g : ℕ → ℕ) (xs : List ℕ) → ((x : ℕ) → f x ≡ g x) → sum (map f xs) ≡ sum (map g xs)
 sum_same f g xs same = ap (λ h. sum (map h xs)) (λ i x. same x i)
@@ -70,3 +69,10 @@ small_instances program instances main_in keeps made =
       few = let count = length-map order function in omega (arith, count, few);
       nodes = let most = keeps.small in omega (arith, nodes, most);
     })
+
+-- the instances in their order are few
+pub few_in_order : (program : ProgramTree) (order slice : List ℕ) → slice ≡ order → program.main < length program.functions → AreNumbered program order → KeepsCounts program → length slice ≤ 1024
+few_in_order program order slice same main_in are keeps =
+    let count = ap length same ∙ (same_length program order main_in are ∙ ap length (one_list program are.numbers keeps.numbers are.are keeps.are)) in
+    let most = keeps.few in
+    omega (arith, count, most)
