@@ -11,8 +11,8 @@ use Rattle.kk_syntax.specs.declared.program.Program.{Program}
 use Rattle.kk_syntax.specs.Programs.{FunctionTree, function_tree, program_tree, no_function, body_of}
 use Rattle.kk_syntax.specs.Shapes.{nodes_of}
 use Rattle.kk_syntax.specs.Trees.{expr_tree}
-use Rattle.kk_mono.specs.Counts.{too_many_nodes, summed_nodes, of_function, of_instances, of_program, CountsAs, AnswersCounts}
-use Rattle.kk_mono.specs.Reaching.{AreNumbered, told_limit}
+use Rattle.kk_mono.specs.Counts.{too_many_nodes, summed_nodes, of_function, of_instances, of_program, CountsAs, AnswersCounts, told_limit}
+use Rattle.kk_mono.specs.Reaching.{AreNumbered}
 use Rattle.kk_mono.proofs.Counting.{only_counts}
 use Rattle.kk_mono.proofs.Ordering.{order_within, same_length, same_nodes}
 

@@ -52,6 +52,13 @@ map-map : {X Y Z : Type 0} (f : X → Y) (g : Y → Z) (xs : List X) → map g (
 map-map f g [] = refl
 map-map f g (x ∷ xs) = ap (λ ys. g (f x) ∷ ys) (map-map f g xs)
 
+-- the instances in their order are few
+pub few_in_order : (program : ProgramTree) (order slice : List ℕ) → slice ≡ order → program.main < length program.functions → AreNumbered program order → KeepsCounts program → length slice ≤ 1024
+few_in_order program order slice same main_in are keeps =
+    let count = ap length same ∙ (same_length program order main_in are ∙ ap length (one_list program are.numbers keeps.numbers are.are keeps.are)) in
+    let most = keeps.few in
+    omega (arith, count, most)
+
 pub small_instances : (program instances : ProgramTree) → program.main < length program.functions → KeepsCounts program → IsInstanceProgram program instances → IsSmall instances
 small_instances program instances main_in keeps made =
     let order : List ℕ = numbered program made.numbers in
@@ -59,7 +66,7 @@ small_instances program instances main_in keeps made =
     let are : AreNumbered program order = record { numbers = made.numbers; are = made.are; is = refl } in
     let same : made.numbers ≡ keeps.numbers = one_list program made.numbers keeps.numbers made.are keeps.are in
     let function : ℕ → FunctionTree = λ f. instance_of new (get_or program.functions f no_function) in
-    let few : length order ≤ 1024 = let count = same_length program order main_in are ∙ ap length same in let most = keeps.few in omega (arith, count, most) in
+    let few = few_in_order program order order refl main_in are keeps in
     let nodes : sum (map (λ (x : FunctionTree). nodes_of x.body) (map function order)) ≡ summed_nodes program keeps.numbers =
     ap sum (map-map function (λ (x : FunctionTree). nodes_of x.body) order)
     ∙ (sum_same (λ f. nodes_of (renamed new (body_of program f))) (λ f. nodes_of (body_of program f)) order (λ f. nodes_renamed new (body_of program f))
@@ -69,10 +76,3 @@ small_instances program instances main_in keeps made =
       few = let count = length-map order function in omega (arith, count, few);
       nodes = let most = keeps.small in omega (arith, nodes, most);
     })
-
--- the instances in their order are few
-pub few_in_order : (program : ProgramTree) (order slice : List ℕ) → slice ≡ order → program.main < length program.functions → AreNumbered program order → KeepsCounts program → length slice ≤ 1024
-few_in_order program order slice same main_in are keeps =
-    let count = ap length same ∙ (same_length program order main_in are ∙ ap length (one_list program are.numbers keeps.numbers are.are keeps.are)) in
-    let most = keeps.few in
-    omega (arith, count, most)
