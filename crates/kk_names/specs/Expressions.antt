@@ -47,7 +47,7 @@ abbrev mutual
   meant functions scope next (branch_alone condition positive) =
       program.branch (meant functions scope next condition) (meant functions scope (next + binders_in condition) positive) program.unit
   meant functions scope next (sequence binder first rest) =
-      program.sequence (binder_of binder next) (meant functions scope (next + binder_count binder) first) (meant functions (with_binder binder next scope) (next + binder_count binder + binders_in first) rest)
+      program.sequence (binder_of binder next) (meant functions scope (next + binder_count binder) first) (meant functions (with_binder binder next scope) (next + (binder_count binder + binders_in first)) rest)
   meant functions scope next _ = program.unit
 
   pub meant_all : List Declared → Scope → ℕ → Writtens → program.Trees

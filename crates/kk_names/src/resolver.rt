@@ -80,8 +80,8 @@ impl Resolver {
         name: &Identifier,
         arguments: Vec<Expr>,
     ) -> Result<Expr, NoMemory>
-        ensures notes { IfOk result (λ _. Notes (use_faults callee name.now (vec_len arguments)) self.old self.new) }
-        ensures tree { IfOk result (λ e. expr_tree e ≡ applied callee (trees_of (map expr_tree arguments.items))) }
+        ensures { IfOk result (λ e. Notes (use_faults callee name.now (vec_len arguments)) self.old self.new
+            × (expr_tree e ≡ applied callee (trees_of (map expr_tree arguments.items)))) }
     {
         match callee {
             Some(callee) => {
