@@ -12,8 +12,13 @@ use Rattle.kk_syntax.specs.declared.tree.SurfaceExpr.{SurfaceExpr}
 use Rattle.kk_syntax.specs.declared.tree.SurfaceExpr.TheVariants as surface
 use Rattle.kk_syntax.specs.declared.tree.SurfaceExpr.TheFolds.{fold-roll-SurfaceExpr, fold_out-SurfaceStatement}
 use Rattle.kk_syntax.specs.declared.tree.SurfaceStatement.{SurfaceStatement}
+use Rattle.kk_syntax.specs.declared.tree.SurfaceType.{SurfaceType}
+use Rattle.kk_syntax.specs.declared.tree.SurfaceType.TheVariants as OfType
+use Rattle.kk_syntax.specs.declared.tree.SurfaceType.TheFolds.{fold-roll-SurfaceType}
+use Rattle.kk_syntax.specs.declared.tree.Parameter.{Parameter}
+use Rattle.kk_syntax.specs.declared.tree.Declaration.{Declaration}
 use Rattle.kk_syntax.specs.Surface as written
-use Rattle.kk_syntax.specs.Surface.{Written, WrittenRow, WrittenStatement, written_expr, written_statement, writtens_of}
+use Rattle.kk_syntax.specs.Surface.{Written, WrittenRow, WrittenStatement, written_expr, written_statement, writtens_of, WrittenType, type_step, written_type, written_parameter, written_declaration}
 use Rattle.kk_syntax.specs.Trees.{Tree, Trees, RowTree, StatementTree, expr_step, row_step, statement_step, expr_tree, statement_tree, trees_of, unit, variable, apply}
 use Rattle.kk_names.proofs.Tables.{drop_more}
 
@@ -110,3 +115,15 @@ unit_tree e is = ap expr_tree (is ∙ sym program.rolls-Unit) ∙ fold-roll-Expr
 
 pub variable_tree : (number : ℕ) → expr_tree (program.Variable number) ≡ variable number
 variable_tree number = ap expr_tree (sym (program.rolls-Variable number)) ∙ fold-roll-Expr Tree RowTree StatementTree expr_step row_step statement_step _
+
+-- ---- types
+
+pub named_written : (t : SurfaceType) (name : Identifier) (arguments : _) → t ≡ OfType.Named name arguments → written_type t ≡ written.named name (written.types_of (map written_type arguments.items))
+named_written t name arguments is =
+    ap written_type (is ∙ sym (OfType.rolls-Named name arguments)) ∙ fold-roll-SurfaceType WrittenType type_step _
+
+pub next_parameter : (ps : List Parameter) (i : ℕ) (p : Parameter) → p ≡ get_or ps i p → i < length ps → map written_parameter (drop i ps) ≡ written_parameter p ∷ map written_parameter (drop (i + 1) ps)
+next_parameter ps i p is less = ap (map written_parameter) (left_is ps i p is less)
+
+pub next_declaration : (ds : List Declaration) (i : ℕ) (d : Declaration) → d ≡ get_or ds i d → i < length ds → map written_declaration (drop i ds) ≡ written_declaration d ∷ map written_declaration (drop (i + 1) ds)
+next_declaration ds i d is less = ap (map written_declaration) (left_is ds i d is less)

@@ -5,6 +5,7 @@ use Rattle.kk_base.specs.declared.error.NameError.TheVariants.{NoMain, NoMemory}
 use Rattle.kk_syntax.specs.declared.program.Fun.{Fun}
 use Rattle.kk_syntax.specs.declared.program.Program.{Program}
 use Rattle.kk_syntax.specs.declared.program.Ty.{Ty}
+use Rattle.kk_syntax.specs.declared.tree.Identifier.{Identifier}
 use Rattle.kk_syntax.specs.Programs.{FunctionTree, program_tree}
 use Rattle.kk_syntax.specs.Surface.{Written, Writtens, WrittenStatement, WrittenParameter, WrittenDeclaration, block_of}
 use Rattle.kk_syntax.specs.Trees as program
@@ -16,7 +17,7 @@ use Rattle.kk_names.specs.declared.resolver.Resolver.{Resolver}
 use Rattle.kk_names.specs.declared.scope.Bound.{Bound}
 use Rattle.kk_names.specs.declared.table.Declared.{Declared}
 use Rattle.kk_names.specs.Expressions.{meant, meant_all}
-use Rattle.kk_names.specs.Faults.{rank, faults_in, faults_in_all, parameter_faults, second_functions, inside_faults}
+use Rattle.kk_names.specs.Faults.{fault_at, rank, faults_in, faults_in_all, parameter_faults, second_functions, inside_faults}
 use Rattle.kk_names.specs.Names.{MakesProgram, LacksMain, HasOtherMain}
 use Rattle.kk_names.specs.Scopes.{Scope, names_in, with_parameters, with_binder, binder_of, binder_count, binders_in, binders_in_all}
 use Rattle.kk_names.specs.Tables.{numbered}
@@ -79,6 +80,10 @@ meant_at state e = meant state.functions state.scope state.next e
 
 abbrev pub meant_all_at : State → Writtens → program.Trees
 meant_all_at state es = meant_all state.functions state.scope state.next es
+
+-- a fault, if it is one
+abbrev pub faults_if : Bool → FaultKind → Identifier → List Fault
+faults_if is_fault kind name = if is_fault then fault_at kind name ∷ [] else []
 
 -- some faults were noted, and nothing else was changed
 pub record Notes (faults : List Fault) (old new : Resolver) : Type 0 where

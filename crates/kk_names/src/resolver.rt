@@ -3,7 +3,7 @@ ghost use Rattle.kk_syntax.specs.Trees.{expr_tree, trees_of};
 ghost use Rattle.kk_names.specs.Expressions.{applied};
 ghost use Rattle.kk_syntax.specs.Surface.{variable};
 ghost use Rattle.kk_names.specs.Faults.{fault_at, use_faults};
-ghost use Rattle.kk_names.specs.Methods.{Notes, Resolves, Binds};
+ghost use Rattle.kk_names.specs.Methods.{Notes, Resolves, Binds, faults_if};
 ghost use Rattle.kk_names.specs.Scopes.{binding};
 ghost use Rattle.kk_names.specs.Tables.{built_in_functions};
 
@@ -56,6 +56,21 @@ impl Resolver {
             let at = name.at;
             let name = name.name.copied(self.alloc)?;
             self.first = Some(Fault { kind, name, at });
+        }
+        Ok(())
+    }
+
+    /// Notes a fault, if it is one.
+    pub fn note_if(
+        &mut self,
+        is_fault: bool,
+        kind: FaultKind,
+        name: &Identifier,
+    ) -> Result<(), NoMemory>
+        ensures { IfOk result (λ _. Notes (faults_if is_fault kind name.now) self.old self.new) }
+    {
+        if is_fault {
+            self.note(kind, name)?;
         }
         Ok(())
     }
