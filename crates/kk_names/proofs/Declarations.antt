@@ -14,11 +14,11 @@ use Rattle.kk_names.specs.declared.resolver.Resolver.{Resolver}
 use Rattle.kk_names.specs.declared.table.Callee.{Callee}
 use Rattle.kk_names.specs.declared.table.Declared.{Declared}
 use Rattle.kk_names.specs.Expressions.{meant}
-use Rattle.kk_names.specs.Faults.{fault_at, twice_faults, type_faults, parameter_faults, result_faults, faults_in, second_functions, inside_faults, inside_all}
+use Rattle.kk_names.specs.Faults.{fault_at, twice_faults, type_faults, parameter_faults, result_faults, faults_in, second_functions, inside_faults, inside_all, faults_of}
 use Rattle.kk_names.specs.Methods.{State, state_of, grown, first_with, newest_first, faults_if, Notes, Binds, Declares, Resolves, ResolvesParameters, ResolvesFunction}
 use Rattle.kk_names.specs.Names.{function_of, functions_of}
 use Rattle.kk_names.specs.Scopes.{Scope, binding, number_in, names_in, is_among, with_parameters, parameter_names}
-use Rattle.kk_names.specs.Tables.{means, meaning_in, numbered}
+use Rattle.kk_names.specs.Tables.{built_in_functions, functions_in, means, meaning_in, numbered}
 use Rattle.kk_names.specs.TypeNames.{type_meant}
 use Rattle.kk_names.proofs.Growing.{first_more}
 use Rattle.kk_names.proofs.Tables.{newest_more, is_meant, is_seen}
@@ -188,3 +188,16 @@ body_meant parameters result body old start first second new types t functions s
     z.tree_is
     ∙ (ap (λ fs. meant fs (newest_first second.scope.items) second.next body) table
     ∙ (ap (λ s. meant old.functions.items s second.next body) seen ∙ ap (λ n. meant old.functions.items (with_parameters 0 parameters []) n body) number))
+
+-- all faults of declarations were noted
+pub all_noted : (start declared : Resolver) (last : Option Fault) (ds : List WrittenDeclaration) → start.functions.items ≡ built_in_functions → start.first ≡ None → Declares ds start declared
+    → last ≡ first_with declared.first (inside_all declared.functions.items ds) → last ≡ first_with None (faults_of ds)
+all_noted start declared last ds table none declares is =
+    let seconds = second_functions (map (λ d. d.name) built_in_functions) ds in
+    let declared_first : declared.first ≡ first_with None seconds =
+        declares.first ∙ (ap (λ f. first_with f (second_functions (map (λ d. d.name) start.functions.items) ds)) none ∙ ap (λ fs. first_with None (second_functions (map (λ d. d.name) fs) ds)) table) in
+    let functions : declared.functions.items ≡ functions_in ds = declares.functions ∙ ap (λ fs. fs ++ numbered 0 ds) table in
+    is
+    ∙ (ap (λ f. first_with f (inside_all declared.functions.items ds)) declared_first
+    ∙ (ap (λ fs. first_with (first_with None seconds) (inside_all fs ds)) functions
+    ∙ sym (first_more None seconds (inside_all (functions_in ds) ds))))

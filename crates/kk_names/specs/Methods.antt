@@ -1,7 +1,7 @@
 -- What the calls of the resolver promise: how far they have come, and which fault is the first so far.
 use Rattle.std.specs.Prelude.{◌≡◌, ◌≤◌, ℕ, ◌+◌, List, [], ◌∷◌, ◌++◌, map, length, take, position, bytes_eq, codes, ◌==◌, nat_lt, ◌||◌, ◌&&◌, ◌⊎◌, Bool, Option, Some, None, Result, Ok, Err, if◌then◌else◌}
 use Rattle.kk_base.specs.declared.error.NameError.{NameError}
-use Rattle.kk_base.specs.declared.error.NameError.TheVariants.{NoMain, NoMemory}
+use Rattle.kk_base.specs.declared.error.NameError.TheVariants.{NoMain, MainShape, NoMemory}
 use Rattle.kk_syntax.specs.declared.program.Fun.{Fun}
 use Rattle.kk_syntax.specs.declared.program.Program.{Program}
 use Rattle.kk_syntax.specs.declared.program.Ty.{Ty}
@@ -187,3 +187,8 @@ main_among functions = position (λ function. bytes_eq function.name (codes "mai
 abbrev pub IsNoMain : ℕ → NameError → Type 0
 IsNoMain length NoMemory = Unit {0}
 IsNoMain length error = error ≡ NoMain (codes "main") length
+
+-- the error that `main` has a parameter or a result, unless memory ran out
+abbrev pub IsOtherMain : Fun → NameError → Type 0
+IsOtherMain function NoMemory = Unit {0}
+IsOtherMain function error = error ≡ MainShape function.name function.at
