@@ -11,9 +11,9 @@ use Rattle.kk_names.specs.declared.fault.FaultKind.TheVariants.{Unknown}
 use Rattle.kk_names.specs.declared.resolver.Resolver.{Resolver}
 use Rattle.kk_names.specs.declared.table.Callee.{Callee}
 use Rattle.kk_names.specs.declared.table.Declared.{Declared}
-use Rattle.kk_names.specs.Expressions.{applied, variable_or_unit, meant, meant_all}
+use Rattle.kk_names.specs.Expressions.{applied, variable_or_unit, meant_all}
 use Rattle.kk_names.specs.Faults.{fault_at, faults_in, faults_in_all, use_faults, count_of}
-use Rattle.kk_names.specs.Methods.{State, state_of, grown, behind, behind_all, meant_at, meant_all_at, newest_first, Notes, Resolves, ResolvesAll}
+use Rattle.kk_names.specs.Methods.{State, state_of, grown, behind_all, meant_at, meant_all_at, newest_first, Notes, Resolves, ResolvesAll}
 use Rattle.kk_names.specs.Scopes.{Scope, number_in, names_in, binders_in, binders_in_all}
 use Rattle.kk_names.specs.Tables.{meaning_in, constructors}
 use Rattle.kk_names.proofs.Growing.{grown_twice, grown_none, grown_noting}

@@ -1,6 +1,6 @@
 -- How far the loops over parameters and declarations have come.
-use Rattle.std.proofs.Common.{◌≡◌, ℕ, ◌+◌, List, [], ◌∷◌, ◌++◌, length, map, Bool, true, false, Option, Some, None, refl, sym, ap, subst, ◌∙◌, arith, append_assoc}
-use Rattle.std.specs.Prelude.{if◌then◌else◌, is_some}
+use Rattle.std.proofs.Common.{◌≡◌, ℕ, ◌+◌, List, [], ◌∷◌, ◌++◌, length, map, Option, None, refl, sym, ap, ◌∙◌, arith, append_assoc}
+use Rattle.std.specs.Prelude.{is_some}
 use Rattle.std.proofs.lemmas.List.{map-append, append-nil}
 use Rattle.kk_syntax.specs.declared.program.Form.TheVariants.{Call}
 use Rattle.kk_syntax.specs.declared.tree.Identifier.{Identifier}
@@ -11,17 +11,16 @@ use Rattle.kk_syntax.specs.Types.{TypeTree}
 use Rattle.kk_names.specs.declared.fault.Fault.{Fault}
 use Rattle.kk_names.specs.declared.fault.FaultKind.TheVariants.{Twice}
 use Rattle.kk_names.specs.declared.resolver.Resolver.{Resolver}
-use Rattle.kk_names.specs.declared.table.Callee.{Callee}
 use Rattle.kk_names.specs.declared.table.Declared.{Declared}
 use Rattle.kk_names.specs.Expressions.{meant}
-use Rattle.kk_names.specs.Faults.{fault_at, twice_faults, type_faults, parameter_faults, result_faults, faults_in, second_functions, inside_faults, inside_all, faults_of}
-use Rattle.kk_names.specs.Methods.{State, state_of, grown, first_with, newest_first, faults_if, Notes, Binds, Declares, Resolves, ResolvesParameters, ResolvesFunction}
-use Rattle.kk_names.specs.Names.{function_of, functions_of}
-use Rattle.kk_names.specs.Scopes.{Scope, binding, number_in, names_in, is_among, with_parameters, parameter_names}
-use Rattle.kk_names.specs.Tables.{built_in_functions, functions_in, means, meaning_in, numbered}
+use Rattle.kk_names.specs.Faults.{twice_faults, type_faults, parameter_faults, result_faults, faults_in, second_functions, inside_faults, inside_all, faults_of}
+use Rattle.kk_names.specs.Methods.{first_with, newest_first, faults_if, Notes, Binds, Declares, Resolves, ResolvesParameters, ResolvesFunction}
+use Rattle.kk_names.specs.Names.{functions_of}
+use Rattle.kk_names.specs.Scopes.{Scope, binding, number_in, names_in, with_parameters, parameter_names}
+use Rattle.kk_names.specs.Tables.{built_in_functions, functions_in, means, numbered}
 use Rattle.kk_names.specs.TypeNames.{type_meant}
 use Rattle.kk_names.proofs.Growing.{first_more}
-use Rattle.kk_names.proofs.Tables.{newest_more, is_meant, is_seen}
+use Rattle.kk_names.proofs.Tables.{newest_more, is_seen}
 
 -- ---- parameters
 
@@ -46,13 +45,13 @@ parameters_more old now checked typed numbered new parameter left all types numb
     let items : new.scope.items ≡ now.scope.items ++ binding parameter.name number ∷ [] = binds.scope ∙ ap (λ xs. xs ++ binding parameter.name number ∷ []) (scope ∙ (notes.scope ∙ twice.scope)) in
     let number_so : number ≡ now.next = number_is ∙ same_next in
     let seen : newest_first new.scope.items ≡ binding parameter.name now.next ∷ newest_first now.scope.items =
-        ap newest_first items ∙ (newest_more [] now.scope.items (binding parameter.name number) ∙ ap (λ n. binding parameter.name n ∷ newest_first now.scope.items) number_so) in
+    ap newest_first items ∙ (newest_more [] now.scope.items (binding parameter.name number) ∙ ap (λ n. binding parameter.name n ∷ newest_first now.scope.items) number_so) in
     let next_so : new.next ≡ now.next + 1 = omega (arith, binds.next, same_next, next) in
     let checked_first : checked.first ≡ first_with now.first (twice_faults names parameter.name) =
-        ap (λ state. state.first) twice.state ∙ ap (λ b. first_with now.first (faults_if b Twice parameter.name)) (is_seen (newest_first now.scope.items) parameter.name.name) in
+    ap (λ state. state.first) twice.state ∙ ap (λ b. first_with now.first (faults_if b Twice parameter.name)) (is_seen (newest_first now.scope.items) parameter.name.name) in
     let first_so : new.first ≡ first_with now.first (twice_faults names parameter.name ++ type_faults parameter.of_type) =
-        binds.first ∙ (first ∙ (ap (λ state. state.first) notes.state ∙ (ap (λ f. first_with f (type_faults parameter.of_type)) checked_first
-        ∙ sym (first_more now.first (twice_faults names parameter.name) (type_faults parameter.of_type))))) in
+    binds.first ∙ (first ∙ (ap (λ state. state.first) notes.state ∙ (ap (λ f. first_with f (type_faults parameter.of_type)) checked_first
+    ∙ sym (first_more now.first (twice_faults names parameter.name) (type_faults parameter.of_type))))) in
     record {
       functions = binds.functions ∙ (functions ∙ (ap (λ state. state.functions) notes.state ∙ (ap (λ state. state.functions) twice.state ∙ so_far.functions)));
       scope = ap (λ n. with_parameters n left (newest_first new.scope.items)) next_so ∙ (ap (with_parameters (now.next + 1) left) seen ∙ so_far.scope);
@@ -182,7 +181,7 @@ pub body_meant : (parameters : List WrittenParameter) (result : Option WrittenTy
     → t ≡ meant old.functions.items (with_parameters 0 parameters []) (length parameters) body
 body_meant parameters result body old start first second new types t functions scope next x y z =
     let seen : newest_first second.scope.items ≡ with_parameters 0 parameters [] =
-        ap newest_first y.scope ∙ (x.scope ∙ (ap (λ n. with_parameters n parameters (newest_first start.scope.items)) next ∙ ap (λ xs. with_parameters 0 parameters (newest_first xs)) scope)) in
+    ap newest_first y.scope ∙ (x.scope ∙ (ap (λ n. with_parameters n parameters (newest_first start.scope.items)) next ∙ ap (λ xs. with_parameters 0 parameters (newest_first xs)) scope)) in
     let table : second.functions.items ≡ old.functions.items = ap (λ state. state.functions) y.state ∙ (x.functions ∙ functions) in
     let number : second.next ≡ length parameters = omega (arith, ap (λ state. state.next) y.state, x.next, next) in
     z.tree_is
@@ -195,7 +194,7 @@ pub all_noted : (start declared : Resolver) (last : Option Fault) (ds : List Wri
 all_noted start declared last ds table none declares is =
     let seconds = second_functions (map (λ d. d.name) built_in_functions) ds in
     let declared_first : declared.first ≡ first_with None seconds =
-        declares.first ∙ (ap (λ f. first_with f (second_functions (map (λ d. d.name) start.functions.items) ds)) none ∙ ap (λ fs. first_with None (second_functions (map (λ d. d.name) fs) ds)) table) in
+    declares.first ∙ (ap (λ f. first_with f (second_functions (map (λ d. d.name) start.functions.items) ds)) none ∙ ap (λ fs. first_with None (second_functions (map (λ d. d.name) fs) ds)) table) in
     let functions : declared.functions.items ≡ functions_in ds = declares.functions ∙ ap (λ fs. fs ++ numbered 0 ds) table in
     is
     ∙ (ap (λ f. first_with f (inside_all declared.functions.items ds)) declared_first

@@ -4,13 +4,13 @@ use Rattle.kk_syntax.specs.declared.operator.BinaryOperator.{BinaryOperator}
 use Rattle.kk_syntax.specs.declared.program.Form.TheVariants.{Binary}
 use Rattle.kk_syntax.specs.Surface as written
 use Rattle.kk_syntax.specs.Surface.{Written, Writtens}
-use Rattle.kk_syntax.specs.Trees.{Tree, Trees, no_tree, tree, unit, apply, branch}
+use Rattle.kk_syntax.specs.Trees.{Tree, no_tree, tree, unit, apply, branch}
 use Rattle.kk_names.specs.declared.fault.Fault.{Fault}
 use Rattle.kk_names.specs.declared.resolver.Resolver.{Resolver}
 use Rattle.kk_names.specs.Expressions.{meant, truth}
-use Rattle.kk_names.specs.Faults.{faults_in, faults_in_all}
-use Rattle.kk_names.specs.Methods.{State, state_of, grown, earlier_of, first_with, behind, meant_at, behind_all, newest_first, Notes, Resolves, ResolvesAll}
-use Rattle.kk_names.specs.Scopes.{names_in, binders_in, binders_in_all}
+use Rattle.kk_names.specs.Faults.{faults_in}
+use Rattle.kk_names.specs.Methods.{State, state_of, grown, earlier_of, first_with, behind, meant_at, newest_first, Resolves}
+use Rattle.kk_names.specs.Scopes.{names_in, binders_in}
 
 pub first_more : (first : Option Fault) (xs ys : List Fault) → first_with first (xs ++ ys) ≡ first_with (first_with first xs) ys
 first_more first [] ys = refl
@@ -109,7 +109,7 @@ branch_resolved condition positive negative old on then new first second third x
           ap (λ t. branch t second third) x.tree_is
           ∙ (ap (λ t. branch (meant_at s condition) t third) (two.first_is ∙ ap (λ state. meant_at state positive) x.state)
           ∙ ap (λ t. branch (meant_at s condition) (meant s.functions s.scope (s.next + binders_in condition) positive) t)
-              (two.second_is ∙ ap (λ state. meant state.functions state.scope (state.next + binders_in positive) negative) x.state));
+          (two.second_is ∙ ap (λ state. meant state.functions state.scope (state.next + binders_in positive) negative) x.state));
     }
 
 -- an expression goes by what it is written as, and by the tree that it means

@@ -1,5 +1,5 @@
 -- What the calls around `main` answer, and what the answer to a tree follows from.
-use Rattle.std.proofs.Common.{◌≡◌, ◌+◌, ◌<◌, ℕ, List, [], ◌∷◌, map, length, get_or, nat_lt, not, cond, Bool, Option, Some, None, bytes_eq, codes, refl, ap, sym, subst, ◌∙◌, inl, inr}
+use Rattle.std.proofs.Common.{◌≡◌, ◌+◌, ◌<◌, ℕ, List, [], ◌∷◌, map, length, get_or, nat_lt, not, cond, Bool, Some, None, bytes_eq, codes, refl, ap, sym, subst, ◌∙◌, inl, inr}
 use Rattle.std.specs.Prelude.{Result, Ok, Err, IfOk, slice_get, option_map, ◌⊎◌}
 use Rattle.std.specs.List.{position, prefix_len}
 use Rattle.std.proofs.lemmas.List.{length-map}
@@ -11,11 +11,11 @@ use Rattle.kk_syntax.specs.declared.program.Fun.{Fun}
 use Rattle.kk_syntax.specs.declared.program.Program.{Program}
 use Rattle.kk_syntax.specs.declared.tree.Tree.{Tree}
 use Rattle.kk_syntax.specs.Programs.{FunctionTree, ProgramTree, function_tree, program_tree}
-use Rattle.kk_syntax.specs.Surface.{WrittenDeclaration, written_tree}
+use Rattle.kk_syntax.specs.Surface.{written_tree}
 use Rattle.kk_names.specs.declared.fault.Fault.{Fault}
 use Rattle.kk_names.specs.Faults.{error_of, faults_of}
 use Rattle.kk_names.specs.Methods.{first_with, main_among, AnswersMain, IsNoMain, IsOtherMain}
-use Rattle.kk_names.specs.Names.{functions_meant, functions_of, main_of, program_of, IsMainShaped, MakesProgram, LacksMain, HasOtherMain, MeansProgram, first_fault, no_main, main_shape, ResolvesAs, AnswersNames, KeepsNodes}
+use Rattle.kk_names.specs.Names.{functions_meant, main_of, program_of, IsMainShaped, MakesProgram, LacksMain, HasOtherMain, first_fault, no_main, main_shape, ResolvesAs, AnswersNames, KeepsNodes}
 use Rattle.kk_names.specs.Tables.{functions_in}
 use Rattle.kk_names.proofs.Firsts.{first_is_kept}
 use Rattle.kk_names.proofs.Nodes.{keeps_nodes}

@@ -1,11 +1,10 @@
 -- What an expression means has no more nodes than the expression as it is written.
-use Rattle.std.proofs.Common.{ℕ, suc, ◌+◌, ◌≤◌, List, [], ◌∷◌, length, Option, Some, None, arith}
-use Rattle.std.specs.Prelude.{All}
+use Rattle.std.proofs.Common.{ℕ, ◌+◌, ◌≤◌, List, [], ◌∷◌, length, Option, Some, None, arith}
 use Rattle.std.proofs.lemmas.List.Elements.{All-nil, All-cons, All-head, All-tail}
 use Rattle.kk_syntax.specs.declared.tree.SurfaceBinder.{SurfaceBinder}
 use Rattle.kk_syntax.specs.declared.tree.SurfaceBinder.TheVariants as OfSurface
 use Rattle.kk_syntax.specs.Shapes.{nodes_of, nodes_of_all, nodes_of_binder}
-use Rattle.kk_syntax.specs.Surface.{Written, number, variable, call, dot_call, construct, unary, binary, both, either, print_text, branch, branch_alone, sequence, Writtens, no_written, written, WrittenDeclaration, type_declaration, function_declaration}
+use Rattle.kk_syntax.specs.Surface.{Written, variable, call, dot_call, construct, unary, binary, both, either, branch, branch_alone, sequence, Writtens, no_written, written, WrittenDeclaration, type_declaration, function_declaration}
 use Rattle.kk_syntax.specs.Trees.{Trees}
 use Rattle.kk_syntax.specs.WrittenNodes.{written_nodes, writtens_nodes, binder_nodes, nodes_in}
 use Rattle.kk_names.specs.declared.table.Callee.{Callee}

@@ -1,21 +1,18 @@
 -- A tree comes to one thing, and the code finds it.
-use Rattle.std.proofs.Common.{◌≡◌, ◌+◌, ℕ, List, [], ◌∷◌, map, length, nat_lt, not, cond, Bool, true, false, Option, Some, None, bytes_eq, codes, refl, ap, sym, subst, ◌∙◌}
+use Rattle.std.proofs.Common.{◌≡◌, ℕ, List, [], ◌∷◌, length, Bool, true, false, Option, Some, None, bytes_eq, codes, refl, ap, sym, ◌∙◌}
 use Rattle.std.specs.Prelude.{Result, Ok, Err, if◌then◌else◌, slice_get}
-use Rattle.std.specs.List.{position, prefix_len}
-use Rattle.std.proofs.lemmas.List.{length-map}
 use Rattle.std.proofs.lemmas.List.Quantifiers.{position-Some}
 use Rattle.std.proofs.lemmas.Option.{slice_get-get_or}
 use Rattle.kk_base.specs.Exactly.{IsOnly, ExactlyOne}
 use Rattle.kk_base.specs.declared.error.NameError.{NameError}
 use Rattle.kk_base.specs.declared.error.NameError.TheVariants.{NoMain, MainShape, NoMemory}
-use Rattle.kk_syntax.specs.declared.program.Fun.{Fun}
-use Rattle.kk_syntax.specs.Programs.{FunctionTree, ProgramTree, no_function, function_tree}
+use Rattle.kk_syntax.specs.Programs.{FunctionTree, ProgramTree, no_function}
 use Rattle.kk_syntax.specs.Surface.{WrittenTree}
 use Rattle.kk_syntax.specs.Types.{TypeTree, int32, unit_type, type_variable, named}
 use Rattle.kk_names.specs.declared.fault.Fault.{Fault}
-use Rattle.kk_names.specs.Faults.{IsFirstFault, error_of, faults_of}
-use Rattle.kk_names.specs.Methods.{first_with, main_among}
-use Rattle.kk_names.specs.Names.{functions_meant, main_of, program_of, IsMainShaped, MakesProgram, LacksMain, HasOtherMain, MeansProgram, IsRefusedFor, first_fault, no_main, main_shape, ResolvesAs, EachTreeIsResolved}
+use Rattle.kk_names.specs.Faults.{error_of, faults_of}
+use Rattle.kk_names.specs.Methods.{first_with}
+use Rattle.kk_names.specs.Names.{functions_meant, main_of, program_of, IsMainShaped, HasOtherMain, MeansProgram, first_fault, no_main, main_shape, ResolvesAs, EachTreeIsResolved}
 use Rattle.kk_names.proofs.Firsts.{kept_is_first, first_is_kept, none_is_kept}
 
 -- ---- the one outcome
@@ -100,9 +97,9 @@ each_tree_is_resolved tree = by_fault (first_with None (faults_of tree.declarati
     by_shape main function true e none found there =
         let so = is_so_shaped function.parameters function.result e in
         let means : MeansProgram tree.declarations (program_of (functions_meant tree.declarations) main) = record {
-              faults = none;
-              makes = record { main = main; function = function; main_is = found; there = there; shape = record { parameters = so.0; result = so.1 }; is = refl };
-            } in
+          faults = none;
+          makes = record { main = main; function = function; main_is = found; there = there; shape = record { parameters = so.0; result = so.1 }; is = refl };
+        } in
         (Ok (program_of (functions_meant tree.declarations) main), only_outcome tree (Ok _) means)
     by_shape main function false e none found there =
         let never : IsMainShaped function → ⊥ = λ shape. (let yes = shaped_is function shape in cc) in

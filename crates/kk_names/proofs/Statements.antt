@@ -1,5 +1,5 @@
 -- Statements, and the blocks that they are in.
-use Rattle.std.proofs.Common.{◌≡◌, ℕ, ◌+◌, ◌≤◌, zero, suc, List, [], ◌∷◌, ◌++◌, length, take, map, Option, refl, sym, ap, subst, ◌∙◌, arith}
+use Rattle.std.proofs.Common.{◌≡◌, ℕ, ◌+◌, ◌≤◌, zero, suc, List, [], ◌∷◌, ◌++◌, length, take, Option, refl, sym, ap, subst, ◌∙◌, arith}
 use Rattle.std.proofs.Math.Seq.{take-append_seam}
 use Rattle.std.proofs.lemmas.List.{length-append}
 use Rattle.kk_syntax.specs.declared.program.Binder.TheVariants as OfBinder
@@ -15,7 +15,7 @@ use Rattle.kk_names.specs.declared.table.Declared.{Declared}
 use Rattle.kk_names.specs.declared.scope.Bound.{Bound}
 use Rattle.kk_names.specs.Expressions.{meant}
 use Rattle.kk_names.specs.Faults.{faults_in}
-use Rattle.kk_names.specs.Methods.{State, state_of, grown, behind, behind_statement, meant_at, newest_first, first_with, KeepsScope, Binds, Resolves, ResolvesStatement, ResolvesStatements}
+use Rattle.kk_names.specs.Methods.{State, state_of, behind, meant_at, newest_first, first_with, KeepsScope, Binds, Resolves, ResolvesStatement, ResolvesStatements}
 use Rattle.kk_names.specs.Scopes.{Scope, binding, names_in, with_binder, binder_names, binder_of, binder_count, binders_in}
 use Rattle.kk_names.proofs.Growing.{first_more}
 use Rattle.kk_names.proofs.Tables.{newest_more}

@@ -1,5 +1,5 @@
 -- What the expressions of a text are written as, and what those that the code makes are, by their forms.
-use Rattle.std.proofs.Common.{◌≡◌, ℕ, ◌+◌, ◌<◌, List, [], ◌∷◌, length, map, drop, get_or, Option, Some, None, sym, ap, ◌∙◌}
+use Rattle.std.proofs.Common.{◌≡◌, ℕ, ◌+◌, ◌<◌, List, ◌∷◌, length, map, drop, get_or, Some, None, sym, ap, ◌∙◌}
 use Rattle.kk_syntax.specs.declared.operator.BinaryOperator.{BinaryOperator}
 use Rattle.kk_syntax.specs.declared.program.Expr.{Expr}
 use Rattle.kk_syntax.specs.declared.program.Expr.TheVariants as program
@@ -19,7 +19,7 @@ use Rattle.kk_syntax.specs.declared.tree.Parameter.{Parameter}
 use Rattle.kk_syntax.specs.declared.tree.Declaration.{Declaration}
 use Rattle.kk_syntax.specs.Surface as written
 use Rattle.kk_syntax.specs.Surface.{Written, WrittenRow, WrittenStatement, written_expr, written_statement, writtens_of, WrittenType, type_step, written_type, written_parameter, written_declaration}
-use Rattle.kk_syntax.specs.Trees.{Tree, Trees, RowTree, StatementTree, expr_step, row_step, statement_step, expr_tree, statement_tree, trees_of, unit, variable, apply}
+use Rattle.kk_syntax.specs.Trees.{Tree, RowTree, StatementTree, expr_step, row_step, statement_step, expr_tree, statement_tree, trees_of, unit, variable, apply}
 use Rattle.kk_names.proofs.Tables.{drop_more}
 
 -- ---- what is given

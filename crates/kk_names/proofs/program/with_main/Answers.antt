@@ -1,4 +1,4 @@
-use Rattle.std.proofs.Common.{◌≡◌, ◌<◌, length, map, refl, sym, ap, ◌∙◌, arith}
+use Rattle.std.proofs.Common.{◌<◌, length, map, refl, sym, ap, ◌∙◌, arith}
 use Rattle.kk_syntax.specs.Programs.{function_tree, program_tree}
 use Rattle.kk_names.proofs.Mains.{main_seen, lacking_main, other_main, makes_program}
 use Rattle.kk_names.proofs.program.with_main.Goals as goal

@@ -1,4 +1,4 @@
-use Rattle.std.proofs.Common.{◌≡◌, bytes_eq, take, get_or, ap, sym, ◌∙◌, ◌++◌, ◌∷◌, []}
+use Rattle.std.proofs.Common.{◌≡◌, bytes_eq, take, ap, sym, ◌∙◌, ◌++◌, ◌∷◌, []}
 use Rattle.kk_names.specs.Methods.{newest_first}
 use Rattle.kk_names.specs.Scopes.{number_in}
 use Rattle.kk_names.proofs.Tables.{number_here, number_elsewhere, take_more}

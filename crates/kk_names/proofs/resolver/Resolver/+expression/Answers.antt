@@ -1,4 +1,4 @@
-use Rattle.std.proofs.Common.{◌≡◌, ◌+◌, List, [], ◌∷◌, ◌++◌, length, map, drop, vec_len, refl, sym, ap, ◌∙◌, subst, arith}
+use Rattle.std.proofs.Common.{◌≡◌, ◌+◌, List, [], ◌∷◌, ◌++◌, length, map, drop, vec_len, refl, sym, ap, ◌∙◌, subst}
 use Rattle.std.proofs.lemmas.List.{map-append, drop_all}
 use Rattle.std.proofs.lemmas.Result.{IfOk-weaker}
 use Rattle.kk_syntax.specs.declared.program.Binder.TheVariants as OfBinder
@@ -27,9 +27,9 @@ expression-returns-in_ok-arguments-in-Call t c =
     let means = c.meaning_in-callee.ensures ∙ ap (λ all. meaning_in all c.in-Call.name.name) c.as_slice.ensures.value in
     IfOk-weaker c.applied.result _ _
     (λ e made.
-      as_written _ _ c.args.self.now c.applied.new.self (expr_tree e) (expr_tree e) (call_written c.args.expr.now c.in-Call.name c.in-Call.arguments c.deref.result.now c.in-Call.is c.deref.ensures.value) refl
-      (call_resolved c.in-Call.name es c.meaning_in-callee.result c.args.self.now c.expressions.new.self c.applied.new.self arguments.items (vec_len arguments) (expr_tree e)
-      c.in_ok-arguments-in-Call.ensures means made.0 counted made.1))
+    as_written _ _ c.args.self.now c.applied.new.self (expr_tree e) (expr_tree e) (call_written c.args.expr.now c.in-Call.name c.in-Call.arguments c.deref.result.now c.in-Call.is c.deref.ensures.value) refl
+    (call_resolved c.in-Call.name es c.meaning_in-callee.result c.args.self.now c.expressions.new.self c.applied.new.self arguments.items (vec_len arguments) (expr_tree e)
+    c.in_ok-arguments-in-Call.ensures means made.0 counted made.1))
     c.applied.ensures
 
 pub expression-returns-in_ok-insert-in-DotCall : goal.expression-returns-in_ok-insert-in-DotCall
@@ -42,15 +42,15 @@ expression-returns-in_ok-insert-in-DotCall t c =
     let es = writtens_of (map written_expr c.deref-in-DotCall-2.result.now) in
     let items : arguments.items ≡ first ∷ others = c.in_ok-insert-in-DotCall.ensures.items in
     let all = subst (λ (xs : List Expr). ResolvesAll (written e es) c.args.self.now c.expressions-in-DotCall.new.self (trees_of (map expr_tree xs))) (sym items)
-        (first_resolved e es c.args.self.now c.expression.new.self c.expressions-in-DotCall.new.self (expr_tree first) (map expr_tree others) c.in_ok-first-in-DotCall.ensures c.in_ok-arguments-in-DotCall.ensures) in
+    (first_resolved e es c.args.self.now c.expression.new.self c.expressions-in-DotCall.new.self (expr_tree first) (map expr_tree others) c.in_ok-first-in-DotCall.ensures c.in_ok-arguments-in-DotCall.ensures) in
     let means = c.meaning_in-callee-in-DotCall.ensures ∙ ap (λ all. meaning_in all c.in-DotCall.name.name) c.as_slice-in-DotCall.ensures.value in
     IfOk-weaker c.applied-in-DotCall.result _ _
     (λ x made.
-      as_written _ _ c.args.self.now c.applied-in-DotCall.new.self (expr_tree x) (expr_tree x)
-      (dot_call_written c.args.expr.now c.in-DotCall.first c.in-DotCall.name c.in-DotCall.others c.deref-in-DotCall.result.now c.deref-in-DotCall-2.result.now c.in-DotCall.is c.deref-in-DotCall.ensures c.deref-in-DotCall-2.ensures.value) refl
-      (dot_call_resolved e c.in-DotCall.name es c.args.self.now c.applied-in-DotCall.new.self (expr_tree x)
-      (call_resolved c.in-DotCall.name (written e es) c.meaning_in-callee-in-DotCall.result c.args.self.now c.expressions-in-DotCall.new.self c.applied-in-DotCall.new.self arguments.items (vec_len arguments) (expr_tree x)
-      all means made.0 counted made.1)))
+    as_written _ _ c.args.self.now c.applied-in-DotCall.new.self (expr_tree x) (expr_tree x)
+    (dot_call_written c.args.expr.now c.in-DotCall.first c.in-DotCall.name c.in-DotCall.others c.deref-in-DotCall.result.now c.deref-in-DotCall-2.result.now c.in-DotCall.is c.deref-in-DotCall.ensures c.deref-in-DotCall-2.ensures.value) refl
+    (dot_call_resolved e c.in-DotCall.name es c.args.self.now c.applied-in-DotCall.new.self (expr_tree x)
+    (call_resolved c.in-DotCall.name (written e es) c.meaning_in-callee-in-DotCall.result c.args.self.now c.expressions-in-DotCall.new.self c.applied-in-DotCall.new.self arguments.items (vec_len arguments) (expr_tree x)
+    all means made.0 counted made.1)))
     c.applied-in-DotCall.ensures
 
 pub expression-returns-in_ok-arguments-in-Construct : goal.expression-returns-in_ok-arguments-in-Construct
@@ -60,9 +60,9 @@ expression-returns-in_ok-arguments-in-Construct t c =
     let es = writtens_of (map written_expr c.deref-in-Construct.result.now) in
     IfOk-weaker c.applied-in-Construct.result _ _
     (λ e made.
-      as_written _ _ c.args.self.now c.applied-in-Construct.new.self (expr_tree e) (expr_tree e) (construct_written c.args.expr.now c.in-Construct.name c.in-Construct.arguments c.deref-in-Construct.result.now c.in-Construct.is c.deref-in-Construct.ensures.value) refl
-      (construct_resolved c.in-Construct.name es c.constructor.result c.args.self.now c.expressions-in-Construct.new.self c.applied-in-Construct.new.self arguments.items (vec_len arguments) (expr_tree e)
-      c.in_ok-arguments-in-Construct.ensures c.constructor.ensures made.0 counted made.1))
+    as_written _ _ c.args.self.now c.applied-in-Construct.new.self (expr_tree e) (expr_tree e) (construct_written c.args.expr.now c.in-Construct.name c.in-Construct.arguments c.deref-in-Construct.result.now c.in-Construct.is c.deref-in-Construct.ensures.value) refl
+    (construct_resolved c.in-Construct.name es c.constructor.result c.args.self.now c.expressions-in-Construct.new.self c.applied-in-Construct.new.self arguments.items (vec_len arguments) (expr_tree e)
+    c.in_ok-arguments-in-Construct.ensures c.constructor.ensures made.0 counted made.1))
     c.applied-in-Construct.ensures
 
 pub expression-returns-in_ok-arguments-in-Binary : goal.expression-returns-in_ok-arguments-in-Binary
@@ -81,10 +81,10 @@ expression-returns-in_ok-positive-in-And t c =
     let right = written_expr c.deref-in-And-2.result.now in
     IfOk-weaker c.choice.result _ _
     (λ e made.
-      as_written (written_expr c.args.expr.now) (both left right) c.args.self.now c.expression-in-And-2.new.self (expr_tree e) (OfTree.branch first second (truth 0))
-      (both_written c.args.expr.now c.in-And.left c.in-And.right c.deref-in-And.result.now c.deref-in-And-2.result.now c.in-And.is c.deref-in-And.ensures c.deref-in-And-2.ensures)
-      (made ∙ ap (OfTree.branch first second) c.truth.ensures)
-      (both_resolved left right c.args.self.now c.expression-in-And.new.self c.expression-in-And-2.new.self first second c.in_ok-condition-in-And.ensures c.in_ok-positive-in-And.ensures))
+    as_written (written_expr c.args.expr.now) (both left right) c.args.self.now c.expression-in-And-2.new.self (expr_tree e) (OfTree.branch first second (truth 0))
+    (both_written c.args.expr.now c.in-And.left c.in-And.right c.deref-in-And.result.now c.deref-in-And-2.result.now c.in-And.is c.deref-in-And.ensures c.deref-in-And-2.ensures)
+    (made ∙ ap (OfTree.branch first second) c.truth.ensures)
+    (both_resolved left right c.args.self.now c.expression-in-And.new.self c.expression-in-And-2.new.self first second c.in_ok-condition-in-And.ensures c.in_ok-positive-in-And.ensures))
     c.choice.ensures
 
 pub expression-returns-in_ok-negative-in-Or : goal.expression-returns-in_ok-negative-in-Or
@@ -95,10 +95,10 @@ expression-returns-in_ok-negative-in-Or t c =
     let right = written_expr c.deref-in-Or-2.result.now in
     IfOk-weaker c.choice-in-Or.result _ _
     (λ e made.
-      as_written (written_expr c.args.expr.now) (either left right) c.args.self.now c.expression-in-Or-2.new.self (expr_tree e) (OfTree.branch first (truth 1) second)
-      (either_written c.args.expr.now c.in-Or.left c.in-Or.right c.deref-in-Or.result.now c.deref-in-Or-2.result.now c.in-Or.is c.deref-in-Or.ensures c.deref-in-Or-2.ensures)
-      (made ∙ ap (λ b. OfTree.branch first b second) c.truth-in-Or.ensures)
-      (either_resolved left right c.args.self.now c.expression-in-Or.new.self c.expression-in-Or-2.new.self first second c.in_ok-condition-in-Or.ensures c.in_ok-negative-in-Or.ensures))
+    as_written (written_expr c.args.expr.now) (either left right) c.args.self.now c.expression-in-Or-2.new.self (expr_tree e) (OfTree.branch first (truth 1) second)
+    (either_written c.args.expr.now c.in-Or.left c.in-Or.right c.deref-in-Or.result.now c.deref-in-Or-2.result.now c.in-Or.is c.deref-in-Or.ensures c.deref-in-Or-2.ensures)
+    (made ∙ ap (λ b. OfTree.branch first b second) c.truth-in-Or.ensures)
+    (either_resolved left right c.args.self.now c.expression-in-Or.new.self c.expression-in-Or-2.new.self first second c.in_ok-condition-in-Or.ensures c.in_ok-negative-in-Or.ensures))
     c.choice-in-Or.ensures
 
 pub expression-returns-after-negative : goal.expression-returns-after-negative
@@ -110,25 +110,25 @@ expression-returns-after-negative t c =
     let third = expr_tree c.match-negative.negative in
     elim c.match-negative.branch [
       | expression-in-Some+in_ok-negative-in-Some w ↦
-        let n = written_expr w.deref-in-Some.result.now in
-        IfOk-weaker c.choice-in-If.result _ _
-        (λ x made.
+          let n = written_expr w.deref-in-Some.result.now in
+          IfOk-weaker c.choice-in-If.result _ _
+          (λ x made.
           as_written (written_expr c.args.expr.now) (branch e p n) c.args.self.now c.match-negative.self (expr_tree x) (OfTree.branch first second third)
           (branch_written c.args.expr.now c.in-If.condition c.in-If.positive c.in-If.negative w.in-Some.negative c.deref-in-If.result.now c.deref-in-If-2.result.now w.deref-in-Some.result.now c.in-If.is w.in-Some.is c.deref-in-If.ensures c.deref-in-If-2.ensures w.deref-in-Some.ensures)
           made
           (subst (λ (r : Resolver). Resolves (branch e p n) c.args.self.now r (OfTree.branch first second third)) (sym w.self-is)
           (subst (λ (y : Expr). Resolves (branch e p n) c.args.self.now w.expression-in-Some.new.self (OfTree.branch first second (expr_tree y))) (sym w.negative-is)
           (branch_resolved e p n c.args.self.now c.expression-in-If.new.self c.expression-in-If-2.new.self w.expression-in-Some.new.self first second (expr_tree w.in_ok-negative-in-Some.negative) c.in_ok-condition-in-If.ensures c.in_ok-positive-in-If.ensures w.in_ok-negative-in-Some.ensures))))
-        c.choice-in-If.ensures
+          c.choice-in-If.ensures
       | expression-in-None w ↦
-        IfOk-weaker c.choice-in-If.result _ _
-        (λ x made.
+          IfOk-weaker c.choice-in-If.result _ _
+          (λ x made.
           as_written (written_expr c.args.expr.now) (branch_alone e p) c.args.self.now c.match-negative.self (expr_tree x) (OfTree.branch first second OfTree.unit)
           (alone_written c.args.expr.now c.in-If.condition c.in-If.positive c.in-If.negative c.deref-in-If.result.now c.deref-in-If-2.result.now c.in-If.is w.in-None.is c.deref-in-If.ensures c.deref-in-If-2.ensures)
           (made ∙ ap (OfTree.branch first second) (unit_tree c.match-negative.negative w.negative-is))
           (subst (λ (r : Resolver). Resolves (branch_alone e p) c.args.self.now r (OfTree.branch first second OfTree.unit)) (sym w.self-is)
           (alone_resolved e p c.args.self.now c.expression-in-If.new.self c.expression-in-If-2.new.self first second c.in_ok-condition-in-If.ensures c.in_ok-positive-in-If.ensures)))
-        c.choice-in-If.ensures
+          c.choice-in-If.ensures
     ]
 
 pub expressions-loop-expr-preserved : goal.expressions-loop-expr-preserved

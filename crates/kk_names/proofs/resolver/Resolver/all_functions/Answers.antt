@@ -1,4 +1,4 @@
-use Rattle.std.proofs.Common.{◌≡◌, ◌+◌, List, [], ◌∷◌, ◌++◌, map, drop, sym, ap, subst, ◌∙◌}
+use Rattle.std.proofs.Common.{◌+◌, List, [], ◌∷◌, map, drop, sym, ap, subst, ◌∙◌}
 use Rattle.std.proofs.lemmas.List.{map-append}
 use Rattle.kk_syntax.specs.declared.program.Fun.{Fun}
 use Rattle.kk_syntax.specs.declared.tree.Declaration.TheVariants as OfDeclaration
@@ -20,21 +20,21 @@ loop-declaration-preserved c =
     let next = next_declaration c.args.declarations.now c.loop-declaration.declaration-index c.declaration-item.result c.declaration-item.is c.loop-declaration-test.true in
     elim c.match-declaration.branch [
       | in-Function+in_ok-function+in_ok-push w ↦
-        let d = written_declaration (OfDeclaration.Function w.in-Function.declared) in
-        let f = w.in_ok-function.function in
-        let here = next ∙ ap (λ x. written_declaration x ∷ left) w.in-Function.is in
-        let items = ap (λ fs. fs.items) w.functions-is ∙ w.in_ok-push.ensures.items in
-        let functions = ap (map function_tree) items ∙ map-append function_tree made (f ∷ []) in
-        subst (λ (r : Resolver). ResolvedSoFar old r left all (map function_tree c.match-declaration.functions.items)) (sym w.self-is)
-        (subst (λ (fs : List FunctionTree). ResolvedSoFar old w.function.new.self left all fs) (sym functions)
-        (one_more_resolved old now w.function.new.self d left all (map function_tree made) (function_tree f)
-        (subst (λ (ds : List WrittenDeclaration). ResolvedSoFar old now ds all (map function_tree made)) here c.loop-declaration.invariant)
-        w.in_ok-function.ensures.resolves w.in_ok-function.ensures.tree))
+          let d = written_declaration (OfDeclaration.Function w.in-Function.declared) in
+          let f = w.in_ok-function.function in
+          let here = next ∙ ap (λ x. written_declaration x ∷ left) w.in-Function.is in
+          let items = ap (λ fs. fs.items) w.functions-is ∙ w.in_ok-push.ensures.items in
+          let functions = ap (map function_tree) items ∙ map-append function_tree made (f ∷ []) in
+          subst (λ (r : Resolver). ResolvedSoFar old r left all (map function_tree c.match-declaration.functions.items)) (sym w.self-is)
+          (subst (λ (fs : List FunctionTree). ResolvedSoFar old w.function.new.self left all fs) (sym functions)
+          (one_more_resolved old now w.function.new.self d left all (map function_tree made) (function_tree f)
+          (subst (λ (ds : List WrittenDeclaration). ResolvedSoFar old now ds all (map function_tree made)) here c.loop-declaration.invariant)
+          w.in_ok-function.ensures.resolves w.in_ok-function.ensures.tree))
       | in_default w ↦
-        let d = w.in_default.field-0 in
-        let here = next ∙ ap (λ x. written_declaration x ∷ left) w.in_default.is in
-        subst (λ (r : Resolver). ResolvedSoFar old r left all (map function_tree c.match-declaration.functions.items)) (sym w.self-is)
-        (subst (λ (fs : List Fun). ResolvedSoFar old now left all (map function_tree fs)) (sym (ap (λ fs. fs.items) w.functions-is))
-        (type_passed old now d.name d.parameters.items (map written_constructor d.constructors.items) left all (map function_tree made)
-        (subst (λ (ds : List WrittenDeclaration). ResolvedSoFar old now ds all (map function_tree made)) here c.loop-declaration.invariant)))
+          let d = w.in_default.field-0 in
+          let here = next ∙ ap (λ x. written_declaration x ∷ left) w.in_default.is in
+          subst (λ (r : Resolver). ResolvedSoFar old r left all (map function_tree c.match-declaration.functions.items)) (sym w.self-is)
+          (subst (λ (fs : List Fun). ResolvedSoFar old now left all (map function_tree fs)) (sym (ap (λ fs. fs.items) w.functions-is))
+          (type_passed old now d.name d.parameters.items (map written_constructor d.constructors.items) left all (map function_tree made)
+          (subst (λ (ds : List WrittenDeclaration). ResolvedSoFar old now ds all (map function_tree made)) here c.loop-declaration.invariant)))
     ]

@@ -1,4 +1,4 @@
-use Rattle.std.proofs.Common.{map, ap, ◌∙◌}
+use Rattle.std.proofs.Common.{ap, ◌∙◌}
 use Rattle.std.specs.Prelude.{is_some}
 use Rattle.kk_names.specs.declared.fault.FaultKind.TheVariants.{Twice}
 use Rattle.kk_names.specs.Methods.{first_with, faults_if}

@@ -1,4 +1,4 @@
-use Rattle.std.proofs.Common.{◌≡◌, List, map, ap, refl, ◌∙◌, subst, sym}
+use Rattle.std.proofs.Common.{List, map, refl, subst}
 use Rattle.kk_syntax.specs.Surface.{written_expr, written_parameter, written_result}
 use Rattle.kk_syntax.specs.Trees.{expr_tree}
 use Rattle.kk_syntax.specs.Types.{type_tree}

@@ -1,4 +1,4 @@
-use Rattle.std.proofs.Common.{◌≡◌, ◌==◌, List, length, map, not, vec_len, sym, ap, subst, ◌∙◌}
+use Rattle.std.proofs.Common.{◌≡◌, List, length, map, not, vec_len, sym, ap, subst, ◌∙◌}
 use Rattle.std.proofs.lemmas.List.{length-map}
 use Rattle.kk_syntax.specs.Surface.{written_type}
 use Rattle.kk_syntax.specs.Types.{type_tree}
@@ -18,5 +18,5 @@ returns-in_ok-note_if-in-Named-clause-notes c =
     let count : vec_len arguments ≡ length (map written_type arguments.items) = arguments.ok.0 ∙ sym (length-map arguments.items written_type) in
     let empty = ap (λ b. faults_if (not b) Arity name) c.is_empty.ensures in
     let faults = empty ∙ (named_noted (type_named name.name) (type_tree c.in-Some.meaning) name (map written_type arguments.items) (vec_len arguments) (sym c.in-Some.ensures) count
-        ∙ sym (ap type_faults (named_written c.args.written.now name arguments c.in-Named.is))) in
+    ∙ sym (ap type_faults (named_written c.args.written.now name arguments c.in-Named.is))) in
     subst (λ (fs : List Fault). Notes fs c.args.self.now c.note_if.new.self) faults c.in_ok-note_if-in-Named.ensures
