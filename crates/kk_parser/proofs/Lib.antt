@@ -1,1 +1,5 @@
-
+pub mod Apart
+pub mod Begins
+pub mod Complete
+pub mod Lookahead
+pub mod Tables
