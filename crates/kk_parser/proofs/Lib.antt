@@ -2,4 +2,6 @@ pub mod Apart
 pub mod Begins
 pub mod Complete
 pub mod Lookahead
+pub mod Steps
 pub mod Tables
+pub mod Trees

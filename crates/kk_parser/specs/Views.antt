@@ -14,7 +14,7 @@ use Rattle.kk_parser.specs.declared.name.NameClass.TheVariants as OfClass
 use Rattle.kk_parser.specs.declared.program.Head.{Head}
 use Rattle.kk_parser.specs.Forms.{WrittenHead}
 use Rattle.kk_parser.specs.Classes.{NameClass, word, type_variable, other, print, println, main, total, div, exn, console}
-use Rattle.kk_parser.specs.Kinds.{Kind, name_in, print_words, name, name_but_print, name_but_main, type_name, type_name_but_effect}
+use Rattle.kk_parser.specs.Kinds.{Kind, name_in, names_of, print_words, name, name_but_print, name_but_main, type_name, type_name_but_effect}
 
 abbrev pub class_view : CodeClass → NameClass
 class_view OfClass.Print = word print
@@ -27,15 +27,18 @@ class_view (OfClass.Effect Console) = word console
 class_view OfClass.TypeVariable = type_variable
 class_view OfClass.Other = other
 
--- the kind of the names of a set
+-- the classes of the names of a set, and their kind
+abbrev pub classes_in : Names → List NameClass
+classes_in OfNames.All = names_of name
+classes_in OfNames.Prints = print_words
+classes_in OfNames.ButPrints = names_of name_but_print
+classes_in OfNames.Main = word main ∷ []
+classes_in OfNames.ButMain = names_of name_but_main
+classes_in OfNames.OfTypes = names_of type_name
+classes_in OfNames.OfTypesButEffects = names_of type_name_but_effect
+
 abbrev pub kind_of : Names → Kind
-kind_of OfNames.All = name
-kind_of OfNames.Prints = name_in print_words
-kind_of OfNames.ButPrints = name_but_print
-kind_of OfNames.Main = name_in (word main ∷ [])
-kind_of OfNames.ButMain = name_but_main
-kind_of OfNames.OfTypes = type_name
-kind_of OfNames.OfTypesButEffects = type_name_but_effect
+kind_of names = name_in (classes_in names)
 
 -- what arguments in brackets stand for
 abbrev pub arguments_view : Option (Vec SurfaceExpr) → Option (List Written)

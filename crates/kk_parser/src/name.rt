@@ -1,7 +1,9 @@
 ghost use Rattle.std.specs.Prelude.{◌≡◌};
+ghost use Rattle.std.specs.List.{list_all};
+ghost use Rattle.std.specs.Char.{is_ascii_digit};
 ghost use Rattle.kk_parser.specs.Classes.{name_class, has_variable_shape};
-ghost use Rattle.kk_parser.specs.Kinds.{is_name_in, names_of};
-ghost use Rattle.kk_parser.specs.Views.{class_view, kind_of};
+ghost use Rattle.kk_parser.specs.Kinds.{is_name_in};
+ghost use Rattle.kk_parser.specs.Views.{class_view, classes_in};
 
 use kk_syntax::Effect;
 
@@ -38,7 +40,7 @@ pub enum Names {
 impl Names {
     /// Whether a name of this class is in the set.
     pub fn has(self, class: NameClass) -> bool
-        ensures { result ≡ is_name_in (names_of (kind_of self)) (class_view class) }
+        ensures { result ≡ is_name_in (classes_in self) (class_view class) }
     {
         match self {
             Names::All => true,
@@ -90,9 +92,13 @@ fn has_variable_shape(name: &str) -> bool
     ensures { result ≡ has_variable_shape name.now }
 {
     match name.as_bytes().split_first() {
-        Some((first, digits)) => {
-            first.is_ascii_lowercase() && digits.iter().all(|byte| byte.is_ascii_digit())
-        }
+        Some((first, digits)) => first.is_ascii_lowercase() && are_digits(digits),
         None => false,
     }
+}
+
+fn are_digits(text: &[u8]) -> bool
+    ensures { result ≡ list_all is_ascii_digit text.now }
+{
+    text.iter().all(|byte| byte.is_ascii_digit())
 }
