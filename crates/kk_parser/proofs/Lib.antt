@@ -1,7 +1,9 @@
 pub mod Apart
 pub mod Begins
 pub mod Complete
+pub mod Lists
 pub mod Lookahead
 pub mod Steps
 pub mod Tables
 pub mod Trees
+pub mod WrittenTypes

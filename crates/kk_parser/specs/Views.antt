@@ -13,7 +13,7 @@ use Rattle.kk_parser.specs.declared.name.NameClass.{NameClass as CodeClass}
 use Rattle.kk_parser.specs.declared.name.NameClass.TheVariants as OfClass
 use Rattle.kk_parser.specs.declared.program.Head.{Head}
 use Rattle.kk_parser.specs.Forms.{WrittenHead}
-use Rattle.kk_parser.specs.Classes.{NameClass, word, type_variable, other, print, println, main, total, div, exn, console}
+use Rattle.kk_parser.specs.Classes.{Class, name as name_of_class, NameClass, word, type_variable, other, print, println, main, total, div, exn, console}
 use Rattle.kk_parser.specs.Kinds.{Kind, name_in, names_of, print_words, name, name_but_print, name_but_main, type_name, type_name_but_effect}
 
 abbrev pub class_view : CodeClass → NameClass
@@ -26,6 +26,10 @@ class_view (OfClass.Effect Exn) = word exn
 class_view (OfClass.Effect Console) = word console
 class_view OfClass.TypeVariable = type_variable
 class_view OfClass.Other = other
+
+-- the class of an effect's word
+abbrev pub class_of_effect : Effect → Class
+class_of_effect e = name_of_class (class_view (OfClass.Effect e))
 
 -- the classes of the names of a set, and their kind
 abbrev pub classes_in : Names → List NameClass
