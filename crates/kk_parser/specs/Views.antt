@@ -6,7 +6,7 @@ use Rattle.kk_syntax.specs.declared.tree.Effect.TheVariants.{Total, Div, Exn, Co
 use Rattle.kk_syntax.specs.declared.tree.Identifier.{Identifier}
 use Rattle.kk_syntax.specs.declared.tree.SurfaceExpr.{SurfaceExpr}
 use Rattle.kk_syntax.specs.declared.tree.SurfaceType.{SurfaceType}
-use Rattle.kk_syntax.specs.Surface.{Written, WrittenType, WrittenParameter, written_expr, written_parameter, written_result, written_type}
+use Rattle.kk_syntax.specs.Surface.{Written, WrittenDeclaration, function_declaration, WrittenType, WrittenParameter, written_expr, written_parameter, written_result, written_type}
 use Rattle.kk_parser.specs.declared.name.Names.{Names}
 use Rattle.kk_parser.specs.declared.name.Names.TheVariants as OfNames
 use Rattle.kk_parser.specs.declared.name.NameClass.{NameClass as CodeClass}
@@ -57,6 +57,10 @@ head_view head = record {
   effects = head.effects.items;
   result = written_result head.result;
 }
+
+-- the declaration of a function, from what stands before the body and from the body
+abbrev pub declaration_of : WrittenHead → Written → WrittenDeclaration
+declaration_of head body = function_declaration head.name head.parameters head.effects head.result body
 
 -- effects and a type
 abbrev pub result_view : Vec Effect × SurfaceType → List Effect × WrittenType
