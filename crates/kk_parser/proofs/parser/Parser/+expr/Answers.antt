@@ -1,0 +1,118 @@
+use Rattle.std.proofs.Common.{[], ◌∷◌, ◌++◌, map, None, Some, sym, ◌∙◌, ap, subst, refl, inl, inr, append_assoc, arith, rules}
+use Rattle.std.proofs.lemmas.List.{map-append, append-nil}
+use Rattle.kk_syntax.specs.Surface.{written_expr, unit}
+use Rattle.kk_syntax.specs.declared.token.Symbol.TheVariants.{OpenParenthesis, CloseParenthesis, Comma}
+use Rattle.kk_parser.specs.Forms.{in_brackets, inside}
+use Rattle.kk_parser.specs.Grammar.{bracket, bracketed, listed, arguments_given, named_of}
+use Rattle.kk_parser.specs.Kinds.{symbol, name_but_print}
+use Rattle.kk_parser.specs.Methods.{Read}
+use Rattle.kk_parser.specs.Phrases.{token, optional, many, rule, expr, args, ◌▸◌}
+use Rattle.kk_parser.specs.Reading.{fails_rule, fails_front, fails_behind, fails_first, fails_second, fails_presence, fails_one, finds_rule, finds_both, finds_first, finds_second, finds_absence, finds_presence}
+use Rattle.kk_parser.specs.Views.{arguments_view}
+use Rattle.kk_parser.proofs.Trees.{written-Unit, written-Variable, written-Call, written-PrintText}
+use Rattle.kk_parser.proofs.Steps.{gives_up_in, gives_up_as_in, symbol_read, continues_many, continues_as, ends_many}
+use Rattle.kk_parser.proofs.parser.Parser.+expr.Goals as goal
+
+pub args-returns-then-not-is_at_expr-clause-reads : goal.args-returns-then-not-is_at_expr-clause-reads
+args-returns-then-not-is_at_expr-clause-reads t c =
+    let h = sym c.is_at_expr.ensures ∙ c.if-not-is_at_expr.true in
+    subst (λ es. Read (rule args) es c.args.self.now c.args.self.now) (sym (ap (map written_expr) c.new-arguments.ensures.items)) (finds_rule (finds_absence h))
+
+pub args-returns-in_err-first-clause-reads : goal.args-returns-in_err-first-clause-reads
+args-returns-in_err-first-clause-reads t c =
+    let h = sym c.is_at_expr.ensures ∙ c.if-not-is_at_expr.false in
+    gives_up_in (rule args) (rule expr) (λ es. map written_expr es.items) c.from_residual.result c.in_err-first.field-0.0 c.args.self.now c.args.self.now c.expr.new.self (λ f r. fails_rule (fails_presence h (fails_front r))) c.from_residual.ensures.1 c.in_err-first.ensures.reads
+
+pub args-loop-self-init : goal.args-loop-self-init
+args-loop-self-init t c =
+    let h = sym c.is_at_expr.ensures ∙ c.if-not-is_at_expr.false in
+    let first = c.in_ok-first.first in
+    let is = c.in-Ok.ensures.items ∙ ap (λ es. es ++ first ∷ []) c.new-arguments.ensures.items in
+    record {
+      left = omega (arith, c.in_ok-first.ensures.left);
+      depth = c.in_ok-first.ensures.depth;
+      read = continues_as (rule args) (many (token (symbol Comma) ▸ rule expr)) (λ vs. written_expr first ∷ map (λ m. m.1) vs) _ c.args.self.now c.expr.new.self
+          (λ vs. sym (ap (λ es. map written_expr es ++ map (λ m. m.1) vs) is))
+          (record { found = λ v m us s. finds_rule (finds_presence h (finds_both c.in_ok-first.ensures.reads s)); failed = λ f s. fails_rule (fails_presence h (fails_behind c.in_ok-first.ensures.reads s)) });
+    }
+
+pub args-returns-in_err-next-clause-reads : goal.args-returns-in_err-next-clause-reads
+args-returns-in_err-next-clause-reads t c =
+    let h = sym c.is_at.ensures.value ∙ c.loop-self-test.true in
+    let comma = symbol_read Comma c.loop-self.self c.advance.new.self h c.advance.ensures.rest c.advance.ensures.depth in
+    gives_up_in (rule args) (rule expr) (λ es. map written_expr es.items) c.from_residual-in_err-next.result c.in_err-next.field-0.0 c.args.self.now c.advance.new.self c.expr-in-loop-self.new.self
+    (λ f r. c.loop-self.invariant.read.failed f (fails_one h (fails_behind comma r)))
+    c.from_residual-in_err-next.ensures.1 c.in_err-next.ensures.reads
+
+pub args-loop-self-preserved : goal.args-loop-self-preserved
+args-loop-self-preserved t c =
+    let h = sym c.is_at.ensures.value ∙ c.loop-self-test.true in
+    let comma = symbol_read Comma c.loop-self.self c.advance.new.self h c.advance.ensures.rest c.advance.ensures.depth in
+    let next = c.in_ok-next.next in
+    let given = map written_expr c.loop-self.arguments.items in
+    let is = ap (map written_expr) c.in-Ok-push.ensures.items ∙ map-append written_expr c.loop-self.arguments.items (next ∷ []) in
+    let more = token (symbol Comma) ▸ rule expr in
+    record {
+      left = omega (arith, c.in_ok-next.ensures.left);
+      depth = c.in_ok-next.ensures.depth ∙ c.advance.ensures.depth ∙ c.loop-self.invariant.depth;
+      read = continues_as (rule args) (many more) (λ vs. given ++ written_expr next ∷ map (λ m. m.1) vs) _ c.args.self.now c.expr-in-loop-self.new.self
+          (λ vs. sym (append_assoc given (written_expr next ∷ []) (map (λ m. m.1) vs)) ∙ ap (λ es. es ++ map (λ m. m.1) vs) (sym is))
+          (continues_many (rule args) more (λ vs. given ++ map (λ m. m.1) vs) (tt, written_expr next) c.args.self.now c.loop-self.self c.expr-in-loop-self.new.self c.loop-self.invariant.read h (finds_both comma c.in_ok-next.ensures.reads));
+    }
+
+pub args-returns-clause-reads : goal.args-returns-clause-reads
+args-returns-clause-reads t c =
+    let given = map written_expr c.loop-self.arguments.items in
+    subst (λ es. Read (rule args) es c.args.self.now c.loop-self.self) (append-nil given)
+    (ends_many (rule args) (token (symbol Comma) ▸ rule expr) (λ vs. given ++ map (λ m. m.1) vs) c.args.self.now c.loop-self.self c.loop-self.invariant.read (sym c.is_at.ensures.value ∙ c.loop-self-test.false))
+
+pub arguments-returns-then-not-is_at-clause-reads : goal.arguments-returns-then-not-is_at-clause-reads
+arguments-returns-then-not-is_at-clause-reads t c = (None, refl, finds_absence (sym c.is_at.ensures.value ∙ c.if-not-is_at.true))
+
+pub arguments-returns-in_err-open-clause-reads : goal.arguments-returns-in_err-open-clause-reads
+arguments-returns-in_err-open-clause-reads t c =
+    let h = sym c.is_at.ensures.value ∙ c.if-not-is_at.false in
+    gives_up_as_in (optional (bracketed (rule args))) bracket arguments_given arguments_view c.from_residual.result c.in_err-open.field-0.0 c.args.self.now c.args.self.now c.open.new.self (λ f r. fails_presence h (fails_front r)) c.from_residual.ensures.1 c.in_err-open.ensures.reads
+
+pub arguments-returns-in_err-arguments-clause-reads : goal.arguments-returns-in_err-arguments-clause-reads
+arguments-returns-in_err-arguments-clause-reads t c =
+    let h = sym c.is_at.ensures.value ∙ c.if-not-is_at.false in
+    gives_up_as_in (optional (bracketed (rule args))) (rule args) arguments_given arguments_view c.from_residual-in_err-arguments.result c.in_err-arguments.field-0.0 c.args.self.now c.open.new.self c.args-2.new.self
+    (λ f r. fails_presence h (fails_behind c.in_ok-open.ensures.reads (fails_front r))) c.from_residual-in_err-arguments.ensures.1 c.in_err-arguments.ensures.reads
+
+pub arguments-returns-in_err-expect-clause-reads : goal.arguments-returns-in_err-expect-clause-reads
+arguments-returns-in_err-expect-clause-reads t c =
+    let h = sym c.is_at.ensures.value ∙ c.if-not-is_at.false in
+    gives_up_as_in (optional (bracketed (rule args))) (token (symbol CloseParenthesis)) arguments_given arguments_view c.from_residual-in_err-expect.result c.in_err-expect.field-0.0 c.args.self.now c.args-2.new.self c.expect.new.self
+    (λ f r. fails_presence h (fails_behind c.in_ok-open.ensures.reads (fails_behind c.in_ok-arguments.ensures.reads r))) c.from_residual-in_err-expect.ensures.1 c.in_err-expect.ensures.reads
+
+pub arguments-returns-clause-reads : goal.arguments-returns-clause-reads
+arguments-returns-clause-reads t c =
+    let h = sym c.is_at.ensures.value ∙ c.if-not-is_at.false in
+    (Some (tt, (map written_expr c.in_ok-arguments.arguments.items, tt)), refl, finds_presence h (finds_both c.in_ok-open.ensures.reads (finds_both c.in_ok-arguments.ensures.reads c.in_ok-expect.ensures.reads)))
+
+pub in_brackets-returns-in_err-open-clause-reads : goal.in_brackets-returns-in_err-open-clause-reads
+in_brackets-returns-in_err-open-clause-reads t c =
+    gives_up_as_in (in_brackets (rule expr)) bracket (inside unit (λ e. e)) written_expr c.from_residual.result c.in_err-open.field-0.0 c.args.self.now c.args.self.now c.open.new.self (λ f r. fails_front r) c.from_residual.ensures.1 c.in_err-open.ensures.reads
+
+pub in_brackets-returns-then-is_at-clause-reads : goal.in_brackets-returns-then-is_at-clause-reads
+in_brackets-returns-then-is_at-clause-reads t c =
+    let h = sym c.is_at.ensures.value ∙ c.if-is_at.true in
+    ((tt, inl tt), sym written-Unit, finds_both c.in_ok-open.ensures.reads (finds_first h (symbol_read CloseParenthesis c.open.new.self c.advance.new.self h c.advance.ensures.rest c.advance.ensures.depth)))
+
+pub in_brackets-returns-in_err-inner-clause-reads : goal.in_brackets-returns-in_err-inner-clause-reads
+in_brackets-returns-in_err-inner-clause-reads t c =
+    let h = sym c.is_at.ensures.value ∙ c.if-is_at.false in
+    gives_up_as_in (in_brackets (rule expr)) (rule expr) (inside unit (λ e. e)) written_expr c.from_residual-in_err-inner.result c.in_err-inner.field-0.0 c.args.self.now c.open.new.self c.expr.new.self
+    (λ f r. fails_behind c.in_ok-open.ensures.reads (fails_second h (fails_front r))) c.from_residual-in_err-inner.ensures.1 c.in_err-inner.ensures.reads
+
+pub in_brackets-returns-in_err-expect-clause-reads : goal.in_brackets-returns-in_err-expect-clause-reads
+in_brackets-returns-in_err-expect-clause-reads t c =
+    let h = sym c.is_at.ensures.value ∙ c.if-is_at.false in
+    gives_up_as_in (in_brackets (rule expr)) (token (symbol CloseParenthesis)) (inside unit (λ e. e)) written_expr c.from_residual-in_err-expect.result c.in_err-expect.field-0.0 c.args.self.now c.expr.new.self c.expect.new.self
+    (λ f r. fails_behind c.in_ok-open.ensures.reads (fails_second h (fails_behind c.in_ok-inner.ensures.reads r))) c.from_residual-in_err-expect.ensures.1 c.in_err-expect.ensures.reads
+
+pub in_brackets-returns-clause-reads : goal.in_brackets-returns-clause-reads
+in_brackets-returns-clause-reads t c =
+    let h = sym c.is_at.ensures.value ∙ c.if-is_at.false in
+    ((tt, inr (written_expr c.in_ok-inner.inner, tt)), refl, finds_both c.in_ok-open.ensures.reads (finds_second h (finds_both c.in_ok-inner.ensures.reads c.in_ok-expect.ensures.reads)))
