@@ -1,16 +1,20 @@
-use Rattle.std.proofs.Common.{[], ◌∷◌, ◌++◌, map, None, Some, sym, ◌∙◌, ap, subst, refl, inl, inr, append_assoc, arith, rules}
+use Rattle.std.proofs.Common.{◌≡◌, true, [], ◌∷◌, ◌++◌, map, None, Some, sym, ◌∙◌, ap, subst, refl, inl, inr, append_assoc, arith, rules}
+use Rattle.std.proofs.lemmas.Int.{to_z-of_z}
+use mir.Syntax.{w32}
+use mir.Val.{SFits, to_z, of_z}
 use Rattle.std.proofs.lemmas.List.{map-append, append-nil}
-use Rattle.kk_syntax.specs.Surface.{written_expr, unit}
+use Rattle.kk_syntax.specs.Surface.{written_expr, unit, variable, call, print_text, number as OfNumber, construct, writtens_of}
 use Rattle.kk_syntax.specs.declared.token.Symbol.TheVariants.{OpenParenthesis, CloseParenthesis, Comma}
-use Rattle.kk_parser.specs.Forms.{in_brackets, inside}
-use Rattle.kk_parser.specs.Grammar.{bracket, bracketed, listed, arguments_given, named_of}
-use Rattle.kk_parser.specs.Kinds.{symbol, name_but_print}
+use Rattle.kk_parser.specs.Forms.{form, form_meaning, in_brackets, inside, spoken, spoken_of, printed, printed_of}
+use Rattle.kk_parser.specs.Grammar.{bracket, bracketed, print_word, arguments_given, named_of}
+use Rattle.kk_parser.specs.Kinds.{symbol, name_but_print, constructor, number}
 use Rattle.kk_parser.specs.Methods.{Read}
-use Rattle.kk_parser.specs.Phrases.{token, optional, many, rule, expr, args, ◌▸◌}
-use Rattle.kk_parser.specs.Reading.{fails_rule, fails_front, fails_behind, fails_first, fails_second, fails_presence, fails_one, finds_rule, finds_both, finds_first, finds_second, finds_absence, finds_presence}
+use Rattle.kk_parser.specs.Phrases.{PhraseValue, token, optional, either, many, rule, expr, atom, args, ◌▸◌}
+use Rattle.kk_parser.specs.Reading.{fails_rule, fails_front, fails_behind, fails_first, fails_second, fails_presence, fails_one, fails_quoted, fails_unquoted, finds_rule, finds_both, finds_first, finds_second, finds_absence, finds_presence, finds_quoted, finds_unquoted}
 use Rattle.kk_parser.specs.Views.{arguments_view}
-use Rattle.kk_parser.proofs.Trees.{written-Unit, written-Variable, written-Call, written-PrintText}
-use Rattle.kk_parser.proofs.Steps.{gives_up_in, gives_up_as_in, symbol_read, continues_many, continues_as, ends_many}
+use Rattle.kk_parser.proofs.Arguments.{named-some, named-none}
+use Rattle.kk_parser.proofs.Steps.{Continues, gives_up_in, gives_up_as_in, symbol_read, continues_rule, continues_second, continues_first, continues_on, continues_to, continues_many, continues_as, ends_many, reads_as_on}
+use Rattle.kk_parser.proofs.Trees.{written-Number, written-Unit, written-Variable, written-Call, written-Construct, written-PrintText}
 use Rattle.kk_parser.proofs.parser.Parser.+expr.Goals as goal
 
 pub args-returns-then-not-is_at_expr-clause-reads : goal.args-returns-then-not-is_at_expr-clause-reads
@@ -116,3 +120,81 @@ pub in_brackets-returns-clause-reads : goal.in_brackets-returns-clause-reads
 in_brackets-returns-clause-reads t c =
     let h = sym c.is_at.ensures.value ∙ c.if-is_at.false in
     ((tt, inr (written_expr c.in_ok-inner.inner, tt)), refl, finds_both c.in_ok-open.ensures.reads (finds_second h (finds_both c.in_ok-inner.ensures.reads c.in_ok-expect.ensures.reads)))
+
+pub named-returns-in_err-name-clause-reads : goal.named-returns-in_err-name-clause-reads
+named-returns-in_err-name-clause-reads t c =
+    gives_up_as_in (token name_but_print ▸ optional (bracketed (rule args))) (token name_but_print) (λ v. named_of v.0 v.1) written_expr c.from_residual.result c.in_err-name.field-0.0 c.args.self.now c.args.self.now c.identifier.new.self (λ f r. fails_front r) c.from_residual.ensures.1 c.in_err-name.ensures.reads
+
+pub named-returns-in_err-arguments-clause-reads : goal.named-returns-in_err-arguments-clause-reads
+named-returns-in_err-arguments-clause-reads t c =
+    gives_up_as_in (token name_but_print ▸ optional (bracketed (rule args))) (optional (bracketed (rule args))) (λ v. named_of v.0 v.1) written_expr c.from_residual-in_err-arguments.result c.in_err-arguments.field-0.0 c.args.self.now c.identifier.new.self c.arguments.new.self
+    (λ f r. fails_behind c.in_ok-name.ensures.reads r) c.from_residual-in_err-arguments.ensures.1 c.in_err-arguments.ensures.reads
+
+pub named-returns-in-Some-clause-reads : goal.named-returns-in-Some-clause-reads
+named-returns-in-Some-clause-reads t c =
+    let given = rw c.in-Some.is at c.in_ok-arguments.ensures.reads in
+    let name = c.in_ok-name.name in
+    let arguments = c.in-Some.arguments in
+    ((name, given.0), named-some name given.0 (map written_expr arguments.items) given.1 ∙ sym (written-Call name arguments), finds_both c.in_ok-name.ensures.reads given.2)
+
+pub named-returns-in-None-clause-reads : goal.named-returns-in-None-clause-reads
+named-returns-in-None-clause-reads t c =
+    let given = rw c.in-None.is at c.in_ok-arguments.ensures.reads in
+    let name = c.in_ok-name.name in
+    ((name, given.0), named-none name given.0 given.1 ∙ sym (written-Variable name), finds_both c.in_ok-name.ensures.reads given.2)
+
+pub printed-returns-in_err-form-clause-reads : goal.printed-returns-in_err-form-clause-reads
+printed-returns-in_err-form-clause-reads t c =
+    gives_up_as_in printed print_word printed_of written_expr c.from_residual.result c.in_err-form.field-0.0 c.args.self.now c.args.self.now c.print_word.new.self (λ f r. fails_front r) c.from_residual.ensures.1 c.in_err-form.ensures.reads
+
+pub printed-returns-then-not-is_at-clause-reads : goal.printed-returns-then-not-is_at-clause-reads
+printed-returns-then-not-is_at-clause-reads t c =
+    let h = sym c.is_at.ensures.value ∙ c.if-not-is_at.true in
+    let word = c.in_ok-form.ensures.reads in
+    ((word.0, None), ap (λ w. variable w.1) word.1 ∙ sym (written-Variable c.in_ok-form.name), finds_both word.2 (finds_absence h))
+
+pub printed-returns-in_err-open-clause-reads : goal.printed-returns-in_err-open-clause-reads
+printed-returns-in_err-open-clause-reads t c =
+    let h = sym c.is_at.ensures.value ∙ c.if-not-is_at.false in
+    gives_up_as_in printed bracket printed_of written_expr c.from_residual-in_err-open.result c.in_err-open.field-0.0 c.args.self.now c.print_word.new.self c.open.new.self
+    (λ f r. fails_behind c.in_ok-form.ensures.reads.2 (fails_presence h (fails_front r))) c.from_residual-in_err-open.ensures.1 c.in_err-open.ensures.reads
+
+pub printed-returns-in_err-expect-clause-reads : goal.printed-returns-in_err-expect-clause-reads
+printed-returns-in_err-expect-clause-reads t c =
+    let h = sym c.is_at.ensures.value ∙ c.if-not-is_at.false in
+    let q = sym c.is_at_quoted.ensures ∙ c.if-is_at_quoted.true in
+    gives_up_as_in printed (token (symbol CloseParenthesis)) printed_of written_expr c.from_residual-in_err-expect.result c.in_err-expect.field-0.0 c.args.self.now c.string.new.self c.expect.new.self
+    (λ f r. fails_behind c.in_ok-form.ensures.reads.2 (fails_presence h (fails_behind c.in_ok-open.ensures.reads (fails_quoted q (fails_behind c.in_ok-text.ensures.reads r))))) c.from_residual-in_err-expect.ensures.1 c.in_err-expect.ensures.reads
+
+pub printed-returns-then-is_at_quoted-clause-reads : goal.printed-returns-then-is_at_quoted-clause-reads
+printed-returns-then-is_at_quoted-clause-reads t c =
+    let h = sym c.is_at.ensures.value ∙ c.if-not-is_at.false in
+    let q = sym c.is_at_quoted.ensures ∙ c.if-is_at_quoted.true in
+    let word = c.in_ok-form.ensures.reads in
+    let text = c.in_ok-text.text in
+    ((word.0, Some (tt, inl text)), ap (λ w. print_text w.0 text) word.1 ∙ sym (written-PrintText c.in_ok-form.form text),
+     finds_both word.2 (finds_presence h (finds_both c.in_ok-open.ensures.reads (finds_quoted q (finds_both c.in_ok-text.ensures.reads c.in_ok-expect.ensures.reads)))))
+
+pub printed-returns-in_err-arguments-clause-reads : goal.printed-returns-in_err-arguments-clause-reads
+printed-returns-in_err-arguments-clause-reads t c =
+    let h = sym c.is_at.ensures.value ∙ c.if-not-is_at.false in
+    let q = sym c.is_at_quoted.ensures ∙ c.if-is_at_quoted.false in
+    gives_up_as_in printed (rule args) printed_of written_expr c.from_residual-in_err-arguments.result c.in_err-arguments.field-0.0 c.args.self.now c.open.new.self c.args-2.new.self
+    (λ f r. fails_behind c.in_ok-form.ensures.reads.2 (fails_presence h (fails_behind c.in_ok-open.ensures.reads (fails_unquoted q (fails_front r))))) c.from_residual-in_err-arguments.ensures.1 c.in_err-arguments.ensures.reads
+
+pub printed-returns-in_err-expect-2-clause-reads : goal.printed-returns-in_err-expect-2-clause-reads
+printed-returns-in_err-expect-2-clause-reads t c =
+    let h = sym c.is_at.ensures.value ∙ c.if-not-is_at.false in
+    let q = sym c.is_at_quoted.ensures ∙ c.if-is_at_quoted.false in
+    gives_up_as_in printed (token (symbol CloseParenthesis)) printed_of written_expr c.from_residual-in_err-expect-2.result c.in_err-expect-2.field-0.0 c.args.self.now c.args-2.new.self c.expect-2.new.self
+    (λ f r. fails_behind c.in_ok-form.ensures.reads.2 (fails_presence h (fails_behind c.in_ok-open.ensures.reads (fails_unquoted q (fails_behind c.in_ok-arguments.ensures.reads r))))) c.from_residual-in_err-expect-2.ensures.1 c.in_err-expect-2.ensures.reads
+
+pub printed-returns-clause-reads : goal.printed-returns-clause-reads
+printed-returns-clause-reads t c =
+    let h = sym c.is_at.ensures.value ∙ c.if-not-is_at.false in
+    let q = sym c.is_at_quoted.ensures ∙ c.if-is_at_quoted.false in
+    let word = c.in_ok-form.ensures.reads in
+    let arguments = c.in_ok-arguments.arguments in
+    let given = map written_expr arguments.items in
+    ((word.0, Some (tt, inr (given, tt))), ap (λ w. call w.1 (writtens_of given)) word.1 ∙ sym (written-Call c.in_ok-form.name arguments),
+     finds_both word.2 (finds_presence h (finds_both c.in_ok-open.ensures.reads (finds_unquoted q (finds_both c.in_ok-arguments.ensures.reads c.in_ok-expect-2.ensures.reads)))))
