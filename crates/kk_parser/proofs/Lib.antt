@@ -1,4 +1,5 @@
 pub mod Apart
+pub mod Atoms
 pub mod Begins
 pub mod Complete
 pub mod Lookahead

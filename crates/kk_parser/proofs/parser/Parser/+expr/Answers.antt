@@ -1,19 +1,20 @@
-use Rattle.std.proofs.Common.{◌≡◌, true, [], ◌∷◌, ◌++◌, map, None, Some, sym, ◌∙◌, ap, subst, refl, inl, inr, append_assoc, arith, rules}
+use Rattle.std.proofs.Common.{[], ◌∷◌, ◌++◌, map, None, Some, sym, ◌∙◌, ap, subst, refl, inl, inr, append_assoc, arith, rules}
 use Rattle.std.proofs.lemmas.Int.{to_z-of_z}
 use mir.Syntax.{w32}
 use mir.Val.{SFits, to_z, of_z}
 use Rattle.std.proofs.lemmas.List.{map-append, append-nil}
 use Rattle.kk_syntax.specs.Surface.{written_expr, unit, variable, call, print_text, number as OfNumber, construct, writtens_of}
-use Rattle.kk_syntax.specs.declared.token.Symbol.TheVariants.{OpenParenthesis, CloseParenthesis, Comma}
-use Rattle.kk_parser.specs.Forms.{form, form_meaning, in_brackets, inside, spoken, spoken_of, printed, printed_of}
+use Rattle.kk_syntax.specs.declared.token.Symbol.TheVariants.{CloseParenthesis, Comma}
+use Rattle.kk_parser.specs.Forms.{form_meaning, in_brackets, inside, spoken, spoken_of, printed, printed_of}
 use Rattle.kk_parser.specs.Grammar.{bracket, bracketed, print_word, arguments_given, named_of}
-use Rattle.kk_parser.specs.Kinds.{symbol, name_but_print, constructor, number}
+use Rattle.kk_parser.specs.Kinds.{symbol, name_but_print, constructor}
 use Rattle.kk_parser.specs.Methods.{Read}
-use Rattle.kk_parser.specs.Phrases.{PhraseValue, token, optional, either, many, rule, expr, atom, args, ◌▸◌}
-use Rattle.kk_parser.specs.Reading.{fails_rule, fails_front, fails_behind, fails_first, fails_second, fails_presence, fails_one, fails_quoted, fails_unquoted, finds_rule, finds_both, finds_first, finds_second, finds_absence, finds_presence, finds_quoted, finds_unquoted}
+use Rattle.kk_parser.specs.Phrases.{token, optional, many, rule, expr, atom, args, ◌▸◌}
+use Rattle.kk_parser.specs.Reading.{fails_rule, fails_front, fails_behind, fails_second, fails_presence, fails_one, fails_quoted, fails_unquoted, finds_rule, finds_both, finds_first, finds_second, finds_absence, finds_presence, finds_quoted, finds_unquoted}
 use Rattle.kk_parser.specs.Views.{arguments_view}
 use Rattle.kk_parser.proofs.Arguments.{named-some, named-none}
-use Rattle.kk_parser.proofs.Steps.{Continues, gives_up_in, gives_up_as_in, symbol_read, continues_rule, continues_second, continues_first, continues_on, continues_to, continues_many, continues_as, ends_many, reads_as_on}
+use Rattle.kk_parser.proofs.Atoms.{continues_with_first, continues_with_second, named, but_spoken, but_brackets, but_constructor, atom_but_number, atom_but_constructor, atom_but_brackets, atom_but_spoken}
+use Rattle.kk_parser.proofs.Steps.{gives_up_in, gives_up_as_in, symbol_read, continues_many, continues_as, ends_many, reads_as_on}
 use Rattle.kk_parser.proofs.Trees.{written-Number, written-Unit, written-Variable, written-Call, written-Construct, written-PrintText}
 use Rattle.kk_parser.proofs.parser.Parser.+expr.Goals as goal
 
@@ -198,3 +199,66 @@ printed-returns-clause-reads t c =
     let given = map written_expr arguments.items in
     ((word.0, Some (tt, inr (given, tt))), ap (λ w. call w.1 (writtens_of given)) word.1 ∙ sym (written-Call c.in_ok-form.name arguments),
      finds_both word.2 (finds_presence h (finds_both c.in_ok-open.ensures.reads (finds_unquoted q (finds_both c.in_ok-arguments.ensures.reads c.in_ok-expect-2.ensures.reads)))))
+
+pub atom-returns-in-Some-clause-reads : goal.atom-returns-in-Some-clause-reads
+atom-returns-in-Some-clause-reads t c =
+    let n = rw c.in-Some.is at c.number.ensures.takes in
+    let fits : SFits w32 c.in-Some.value = search rules in
+    subst (λ tree. Read (rule atom) tree c.args.self.now c.number.new.self)
+    (ap OfNumber (sym (to_z-of_z w32 c.in-Some.value fits)) ∙ sym (written-Number (to_z w32 (of_z w32 c.in-Some.value))))
+    (finds_rule (finds_first n.0 n.1))
+
+pub atom-returns-then-is_at_constructor-clause-reads : goal.atom-returns-then-is_at_constructor-clause-reads
+atom-returns-then-is_at_constructor-clause-reads t c =
+    let n = rw c.in_default.is at c.number.ensures.takes in
+    let old = c.args.self.now in
+    let here = c.number.new.self in
+    let new = c.constructor.new.self in
+    let name = c.in_ok-name.name in
+    let next = continues_with_first (rule atom) (token constructor) but_constructor (λ v. form_meaning atom (inr v)) old here (atom_but_number old here n.0 n.1 n.2) (sym c.is_at_constructor.ensures ∙ c.if-is_at_constructor.true) in
+    subst (λ tree. Read (rule atom) tree old new)
+    (sym (written-Construct name _ ∙ ap (λ es. construct name (writtens_of (map written_expr es))) c.new.ensures.items))
+    (next.found name new.depth new.rest.now c.in_ok-name.ensures.reads)
+
+pub atom-returns-then-is_at-clause-reads : goal.atom-returns-then-is_at-clause-reads
+atom-returns-then-is_at-clause-reads t c =
+    let n = rw c.in_default.is at c.number.ensures.takes in
+    let old = c.args.self.now in
+    let here = c.number.new.self in
+    let but = atom_but_constructor old here (atom_but_number old here n.0 n.1 n.2) (sym c.is_at_constructor.ensures ∙ c.if-is_at_constructor.false) in
+    reads_as_on (rule atom) (in_brackets (rule expr)) written_expr (inside unit (λ e. e)) (λ v. form_meaning atom (inr (inr (inl v)))) c.in_brackets.result old here c.in_brackets.new.self
+    (continues_with_first (rule atom) (in_brackets (rule expr)) but_brackets (λ v. form_meaning atom (inr (inr v))) old here but (sym c.is_at.ensures.value ∙ c.if-is_at.true))
+    (λ v. refl) c.in_brackets.ensures.reads
+
+pub atom-returns-then-is_at_string-clause-reads : goal.atom-returns-then-is_at_string-clause-reads
+atom-returns-then-is_at_string-clause-reads t c =
+    let n = rw c.in_default.is at c.number.ensures.takes in
+    let old = c.args.self.now in
+    let here = c.number.new.self in
+    let but = atom_but_constructor old here (atom_but_number old here n.0 n.1 n.2) (sym c.is_at_constructor.ensures ∙ c.if-is_at_constructor.false) in
+    let but_next = atom_but_brackets old here but (sym c.is_at.ensures.value ∙ c.if-is_at.false) in
+    reads_as_on (rule atom) spoken written_expr spoken_of (λ v. form_meaning atom (inr (inr (inr (inl v))))) c.spoken.result old here c.spoken.new.self
+    (continues_with_first (rule atom) spoken but_spoken (λ v. form_meaning atom (inr (inr (inr v)))) old here but_next (sym c.is_at_string.ensures ∙ c.if-is_at_string.true))
+    (λ v. refl) c.spoken.ensures.reads
+
+pub atom-returns-then-is_at_name-clause-reads : goal.atom-returns-then-is_at_name-clause-reads
+atom-returns-then-is_at_name-clause-reads t c =
+    let n = rw c.in_default.is at c.number.ensures.takes in
+    let old = c.args.self.now in
+    let here = c.number.new.self in
+    let but = atom_but_constructor old here (atom_but_number old here n.0 n.1 n.2) (sym c.is_at_constructor.ensures ∙ c.if-is_at_constructor.false) in
+    let but_next = atom_but_spoken old here (atom_but_brackets old here but (sym c.is_at.ensures.value ∙ c.if-is_at.false)) (sym c.is_at_string.ensures ∙ c.if-is_at_string.false) in
+    reads_as_on (rule atom) printed written_expr printed_of (λ v. form_meaning atom (inr (inr (inr (inr (inl v)))))) c.printed.result old here c.printed.new.self
+    (continues_with_first (rule atom) printed named (λ v. form_meaning atom (inr (inr (inr (inr v))))) old here but_next (sym c.is_at_name.ensures.value ∙ c.if-is_at_name.true))
+    (λ v. refl) c.printed.ensures.reads
+
+pub atom-returns-clause-reads : goal.atom-returns-clause-reads
+atom-returns-clause-reads t c =
+    let n = rw c.in_default.is at c.number.ensures.takes in
+    let old = c.args.self.now in
+    let here = c.number.new.self in
+    let but = atom_but_constructor old here (atom_but_number old here n.0 n.1 n.2) (sym c.is_at_constructor.ensures ∙ c.if-is_at_constructor.false) in
+    let but_next = atom_but_spoken old here (atom_but_brackets old here but (sym c.is_at.ensures.value ∙ c.if-is_at.false)) (sym c.is_at_string.ensures ∙ c.if-is_at_string.false) in
+    reads_as_on (rule atom) named written_expr (λ v. named_of v.0 v.1) (λ v. form_meaning atom (inr (inr (inr (inr (inr v)))))) c.named.result old here c.named.new.self
+    (continues_with_second (rule atom) printed named (λ v. form_meaning atom (inr (inr (inr (inr v))))) old here but_next (sym c.is_at_name.ensures.value ∙ c.if-is_at_name.false))
+    (λ v. refl) c.named.ensures.reads
