@@ -1,5 +1,8 @@
 pub mod Apart
+pub mod Arguments
 pub mod Begins
+pub mod Blocks
+pub mod Branches
 pub mod Complete
 pub mod Lookahead
 pub mod Steps
