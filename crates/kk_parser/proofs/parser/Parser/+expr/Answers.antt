@@ -1,8 +1,8 @@
-use Rattle.std.proofs.Common.{[], ◌∷◌, ◌++◌, map, None, Some, sym, ◌∙◌, ap, subst, refl, inl, inr, append_assoc, arith, rules}
+use Rattle.std.proofs.Common.{[], ◌∷◌, ◌++◌, map, None, Some, sym, ◌∙◌, ap, subst, refl, inl, inr, arith, rules}
 use Rattle.std.proofs.lemmas.Int.{to_z-of_z}
 use mir.Syntax.{w32}
 use mir.Val.{SFits, to_z, of_z}
-use Rattle.std.proofs.lemmas.List.{map-append, append-nil}
+use Rattle.std.proofs.lemmas.List.{append-nil}
 use Rattle.kk_syntax.specs.Surface.{written_expr, unit, variable, call, print_text, number as OfNumber, construct, writtens_of}
 use Rattle.kk_syntax.specs.declared.token.Symbol.TheVariants.{CloseParenthesis, Comma}
 use Rattle.kk_parser.specs.Forms.{form_meaning, in_brackets, inside, spoken, spoken_of, printed, printed_of}
@@ -12,7 +12,7 @@ use Rattle.kk_parser.specs.Methods.{Read}
 use Rattle.kk_parser.specs.Phrases.{token, optional, many, rule, expr, atom, args, ◌▸◌}
 use Rattle.kk_parser.specs.Reading.{fails_rule, fails_front, fails_behind, fails_second, fails_presence, fails_one, fails_quoted, fails_unquoted, finds_rule, finds_both, finds_first, finds_second, finds_absence, finds_presence, finds_quoted, finds_unquoted}
 use Rattle.kk_parser.specs.Views.{arguments_view}
-use Rattle.kk_parser.proofs.Arguments.{named-some, named-none}
+use Rattle.kk_parser.proofs.Arguments.{named-some, named-none, one_more}
 use Rattle.kk_parser.proofs.Atoms.{continues_with_first, continues_with_second, named, but_spoken, but_brackets, but_constructor, atom_but_number, atom_but_constructor, atom_but_brackets, atom_but_spoken}
 use Rattle.kk_parser.proofs.Steps.{gives_up_in, gives_up_as_in, symbol_read, continues_many, continues_as, ends_many, reads_as_on}
 use Rattle.kk_parser.proofs.Trees.{written-Number, written-Unit, written-Variable, written-Call, written-Construct, written-PrintText}
@@ -54,15 +54,14 @@ args-loop-self-preserved t c =
     let h = sym c.is_at.ensures.value ∙ c.loop-self-test.true in
     let comma = symbol_read Comma c.loop-self.self c.advance.new.self h c.advance.ensures.rest c.advance.ensures.depth in
     let next = c.in_ok-next.next in
-    let given = map written_expr c.loop-self.arguments.items in
-    let is = ap (map written_expr) c.in-Ok-push.ensures.items ∙ map-append written_expr c.loop-self.arguments.items (next ∷ []) in
+    let given = c.loop-self.arguments.items in
     let more = token (symbol Comma) ▸ rule expr in
     record {
       left = omega (arith, c.in_ok-next.ensures.left);
       depth = c.in_ok-next.ensures.depth ∙ c.advance.ensures.depth ∙ c.loop-self.invariant.depth;
-      read = continues_as (rule args) (many more) (λ vs. given ++ written_expr next ∷ map (λ m. m.1) vs) _ c.args.self.now c.expr-in-loop-self.new.self
-          (λ vs. sym (append_assoc given (written_expr next ∷ []) (map (λ m. m.1) vs)) ∙ ap (λ es. es ++ map (λ m. m.1) vs) (sym is))
-          (continues_many (rule args) more (λ vs. given ++ map (λ m. m.1) vs) (tt, written_expr next) c.args.self.now c.loop-self.self c.expr-in-loop-self.new.self c.loop-self.invariant.read h (finds_both comma c.in_ok-next.ensures.reads));
+      read = continues_as (rule args) (many more) (λ vs. map written_expr given ++ written_expr next ∷ map (λ m. m.1) vs) _ c.args.self.now c.expr-in-loop-self.new.self
+          (λ vs. one_more given _ next (map (λ m. m.1) vs) c.in-Ok-push.ensures.items)
+          (continues_many (rule args) more (λ vs. map written_expr given ++ map (λ m. m.1) vs) (tt, written_expr next) c.args.self.now c.loop-self.self c.expr-in-loop-self.new.self c.loop-self.invariant.read h (finds_both comma c.in_ok-next.ensures.reads));
     }
 
 pub args-returns-clause-reads : goal.args-returns-clause-reads

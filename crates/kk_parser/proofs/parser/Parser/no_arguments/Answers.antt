@@ -1,8 +1,8 @@
 use Rattle.std.proofs.Common.{None, Some, sym, ◌∙◌, refl}
-use Rattle.kk_syntax.specs.declared.token.Symbol.TheVariants.{CloseParenthesis}
-use Rattle.kk_parser.specs.Grammar.{bracket, no_arguments}
+use Rattle.kk_syntax.specs.declared.token.Symbol.TheVariants.{OpenParenthesis, CloseParenthesis}
+use Rattle.kk_parser.specs.Grammar.{no_arguments}
 use Rattle.kk_parser.specs.Kinds.{symbol}
-use Rattle.kk_parser.specs.Phrases.{token, optional}
+use Rattle.kk_parser.specs.Phrases.{token, opener, optional}
 use Rattle.kk_parser.specs.Reading.{finds_absence, finds_presence, finds_both, fails_presence, fails_front, fails_behind}
 use Rattle.kk_parser.proofs.Steps.{gives_up_for_in}
 use Rattle.kk_parser.proofs.parser.Parser.no_arguments.Goals as goal
@@ -13,7 +13,7 @@ returns-then-not-is_at-clause-reads c = (None, refl, finds_absence (sym c.is_at.
 pub returns-in_err-open-clause-reads : goal.returns-in_err-open-clause-reads
 returns-in_err-open-clause-reads c =
     let h = sym c.is_at.ensures.value ∙ c.if-not-is_at.false in
-    gives_up_for_in (optional no_arguments) bracket (λ _. tt) c.from_residual.result c.in_err-open.field-0.0 c.args.self.now c.args.self.now c.open.new.self (λ f r. fails_presence h (fails_front r)) c.from_residual.ensures.1 c.in_err-open.ensures.reads
+    gives_up_for_in (optional no_arguments) (opener (symbol OpenParenthesis)) (λ _. tt) c.from_residual.result c.in_err-open.field-0.0 c.args.self.now c.args.self.now c.open.new.self (λ f r. fails_presence h (fails_front r)) c.from_residual.ensures.1 c.in_err-open.ensures.reads
 
 pub returns-in_err-expect-clause-reads : goal.returns-in_err-expect-clause-reads
 returns-in_err-expect-clause-reads c =
