@@ -1,5 +1,9 @@
 pub mod Apart
+pub mod Arguments
+pub mod Atoms
 pub mod Begins
+pub mod Blocks
+pub mod Branches
 pub mod Complete
 pub mod Lists
 pub mod Lookahead

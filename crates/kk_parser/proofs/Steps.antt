@@ -52,9 +52,12 @@ pub keyword_read : (w : Keyword) (old new : Parser) → is_at (classes_of (keywo
 keyword_read w old new h r d = token_read (keyword w) old new tt ((said_next (keyword w) old.rest.now h).1) r d
 
 -- a token that is next may open a level too many
+pub too_deep_failed : (p : Phrase) (old new : Parser) (e : Fault) → (200 ≤ old.depth → ReadingFails 200 p old.depth old.rest.now (too_deep old.rest.now)) → Deepens (Err e) old new → FailedBy e p old new
+too_deep_failed p old new e h d =
+    subst (λ x. FailedBy x p old new) (sym d.0) (subst (λ us. ReadingFails 200 p old.depth old.rest.now (too_deep us)) (sym d.2) (h d.1))
+
 pub deepen_failed : (k : Kind) (old new : Parser) (e : Fault) → is_at (classes_of k) old.rest.now ≡ true → Deepens (Err e) old new → FailedBy e (opener k) old new
-deepen_failed k old new e h d =
-    subst (λ x. FailedBy x (opener k) old new) (sym d.0) (subst (λ us. ReadingFails 200 (opener k) old.depth old.rest.now (too_deep us)) (sym d.2) (fails_deep h d.1))
+deepen_failed k old new e h d = too_deep_failed (opener k) old new e (fails_deep h) d
 
 -- a symbol or a keyword was next, and it opens a level or one too many
 pub deepen_reads : (s : Symbol) (old new : Parser) (r : Result (Unit {0}) Fault) → is_at (classes_of (symbol s)) old.rest.now ≡ true → Deepens r old new → ReadsPhrase (opener (symbol s)) (λ _. tt) r old new
@@ -267,3 +270,15 @@ continues_left p a b says left u v next_left start here mid next c h r s e = rec
   found = λ vs m us t. subst (λ w. Finds 200 p start.depth start.rest.now w m us) (e vs) (c.found ((u, v) ∷ vs) m us (finds_more h (finds_both r s) t));
   failed = λ f t. c.failed f (fails_more h (finds_both r s) t);
 }
+
+-- what continues from a state continues from one with the same tokens and levels
+pub continues_to : (p q : Phrase) (says : PhraseValue q → PhraseValue p) (start here next : Parser) → next.depth ≡ here.depth → next.rest.now ≡ here.rest.now → Continues p q says start here → Continues p q says start next
+continues_to p q says start here next d e c = record {
+  found = λ v m us r. c.found v m us (subst (λ n. Finds 200 q n here.rest.now v m us) d (subst (λ ts. Finds 200 q next.depth ts v m us) e r));
+  failed = λ f r. c.failed f (fails_from q f here next d e r);
+}
+
+-- the last part of a phrase was read for what it means, or failed
+pub reads_as_on : {A : Type 0} (p q : Phrase) (view : A → PhraseValue p) (means says : PhraseValue q → PhraseValue p) (r : Result A Fault) (start here next : Parser) → Continues p q says start here → ((v : PhraseValue q) → says v ≡ means v) → ReadsAs q means view r here next → ReadsPhrase p view r start next
+reads_as_on p q view means says (Ok x) start here next c e r = subst (λ v. Read p v start next) (e r.0 ∙ r.1) (c.found r.0 next.depth next.rest.now r.2)
+reads_as_on p q view means says (Err e) start here next c d r = passed_on p q start here next c.failed e r

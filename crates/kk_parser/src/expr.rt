@@ -61,12 +61,12 @@ impl<'a> Parser<'a> {
         self.expect_keyword(Keyword::Then)?;
         let positive = self.expr()?;
         if self.is_at_keyword(Keyword::Elif) {
-            self.open_keyword(Keyword::Elif)?;
+            self.deepen()?;
             let negative = self.branches()?;
             return Ok(branch(self.alloc, condition, positive, negative)?);
         }
         if self.is_at_keyword(Keyword::Else) {
-            self.expect_keyword(Keyword::Else)?;
+            self.advance();
             let negative = self.expr()?;
             return Ok(branch(self.alloc, condition, positive, negative)?);
         }

@@ -4,20 +4,9 @@ ghost use Rattle.kk_parser.specs.Methods.{ReadsIfNext};
 
 use crate::fault::Fault;
 use crate::parser::Parser;
-use kk_syntax::{BinaryOperator, Symbol, Token, UnaryOperator};
+use kk_syntax::{BinaryOperator, Symbol, UnaryOperator};
 
 impl<'a> Parser<'a> {
-    // The next token, where it is a symbol.
-    fn next_symbol(&self) -> Option<Symbol> {
-        match self.rest.first() {
-            Some(next) => match &next.token {
-                Token::Symbol(symbol) => Some(*symbol),
-                _ => None,
-            },
-            None => None,
-        }
-    }
-
     /// `"==" | "!=" | "<" | "<=" | ">" | ">="`, where one is next. It opens a level.
     pub fn comparison(&mut self) -> Result<Option<BinaryOperator>, Fault>
         ensures reads { ReadsIfNext comparison comparison_of result self.old self.new }
@@ -25,17 +14,31 @@ impl<'a> Parser<'a> {
         ensures left { length self.new.rest.now ≤ length self.old.rest.now }
         ensures passed { IfOk result (λ found. IsSome found → length self.new.rest.now + 1 ≡ length self.old.rest.now) }
     {
-        let operator = match self.next_symbol() {
-            Some(Symbol::EqualEqual) => BinaryOperator::Equal,
-            Some(Symbol::NotEqual) => BinaryOperator::NotEqual,
-            Some(Symbol::Less) => BinaryOperator::Less,
-            Some(Symbol::LessEqual) => BinaryOperator::LessEqual,
-            Some(Symbol::Greater) => BinaryOperator::Greater,
-            Some(Symbol::GreaterEqual) => BinaryOperator::GreaterEqual,
-            _ => return Ok(None),
-        };
-        self.deepen()?;
-        Ok(Some(operator))
+        if self.is_at(Symbol::EqualEqual) {
+            self.deepen()?;
+            return Ok(Some(BinaryOperator::Equal));
+        }
+        if self.is_at(Symbol::NotEqual) {
+            self.deepen()?;
+            return Ok(Some(BinaryOperator::NotEqual));
+        }
+        if self.is_at(Symbol::Less) {
+            self.deepen()?;
+            return Ok(Some(BinaryOperator::Less));
+        }
+        if self.is_at(Symbol::LessEqual) {
+            self.deepen()?;
+            return Ok(Some(BinaryOperator::LessEqual));
+        }
+        if self.is_at(Symbol::Greater) {
+            self.deepen()?;
+            return Ok(Some(BinaryOperator::Greater));
+        }
+        if self.is_at(Symbol::GreaterEqual) {
+            self.deepen()?;
+            return Ok(Some(BinaryOperator::GreaterEqual));
+        }
+        Ok(None)
     }
 
     /// `"+" | "-"`, where one is next. It opens a level.
@@ -45,13 +48,15 @@ impl<'a> Parser<'a> {
         ensures left { length self.new.rest.now ≤ length self.old.rest.now }
         ensures passed { IfOk result (λ found. IsSome found → length self.new.rest.now + 1 ≡ length self.old.rest.now) }
     {
-        let operator = match self.next_symbol() {
-            Some(Symbol::Plus) => BinaryOperator::Add,
-            Some(Symbol::Minus) => BinaryOperator::Subtract,
-            _ => return Ok(None),
-        };
-        self.deepen()?;
-        Ok(Some(operator))
+        if self.is_at(Symbol::Plus) {
+            self.deepen()?;
+            return Ok(Some(BinaryOperator::Add));
+        }
+        if self.is_at(Symbol::Minus) {
+            self.deepen()?;
+            return Ok(Some(BinaryOperator::Subtract));
+        }
+        Ok(None)
     }
 
     /// `"*" | "/" | "%"`, where one is next. It opens a level.
@@ -61,14 +66,19 @@ impl<'a> Parser<'a> {
         ensures left { length self.new.rest.now ≤ length self.old.rest.now }
         ensures passed { IfOk result (λ found. IsSome found → length self.new.rest.now + 1 ≡ length self.old.rest.now) }
     {
-        let operator = match self.next_symbol() {
-            Some(Symbol::Star) => BinaryOperator::Multiply,
-            Some(Symbol::Slash) => BinaryOperator::Divide,
-            Some(Symbol::Percent) => BinaryOperator::Remainder,
-            _ => return Ok(None),
-        };
-        self.deepen()?;
-        Ok(Some(operator))
+        if self.is_at(Symbol::Star) {
+            self.deepen()?;
+            return Ok(Some(BinaryOperator::Multiply));
+        }
+        if self.is_at(Symbol::Slash) {
+            self.deepen()?;
+            return Ok(Some(BinaryOperator::Divide));
+        }
+        if self.is_at(Symbol::Percent) {
+            self.deepen()?;
+            return Ok(Some(BinaryOperator::Remainder));
+        }
+        Ok(None)
     }
 
     /// `"!" | "~"`, where one is next. It opens a level.
@@ -79,12 +89,14 @@ impl<'a> Parser<'a> {
         ensures left { length self.new.rest.now ≤ length self.old.rest.now }
         ensures passed { IfOk result (λ found. IsSome found → length self.new.rest.now + 1 ≡ length self.old.rest.now) }
     {
-        let operator = match self.next_symbol() {
-            Some(Symbol::Exclamation) => UnaryOperator::Not,
-            Some(Symbol::Tilde) => UnaryOperator::Negate,
-            _ => return Ok(None),
-        };
-        self.deepen()?;
-        Ok(Some(operator))
+        if self.is_at(Symbol::Exclamation) {
+            self.deepen()?;
+            return Ok(Some(UnaryOperator::Not));
+        }
+        if self.is_at(Symbol::Tilde) {
+            self.deepen()?;
+            return Ok(Some(UnaryOperator::Negate));
+        }
+        Ok(None)
     }
 }
