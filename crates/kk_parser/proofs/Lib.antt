@@ -5,6 +5,7 @@ pub mod Begins
 pub mod Blocks
 pub mod Branches
 pub mod Complete
+pub mod Items
 pub mod Lists
 pub mod Lookahead
 pub mod Steps
