@@ -1,5 +1,6 @@
 pub mod Apart
 pub mod Arguments
+pub mod Atoms_read
 pub mod Begins
 pub mod Blocks
 pub mod Branches
