@@ -1,4 +1,4 @@
-ghost use Rattle.std.specs.Prelude.{◌≡◌, ◌≤◌, [], ◌∷◌, map, length, OnOk};
+ghost use Rattle.std.specs.Prelude.{◌≡◌, ◌+◌, ◌≤◌, [], ◌∷◌, map, length, OnOk};
 ghost use Rattle.kk_syntax.specs.Surface.{written_expr, written_statement};
 ghost use Rattle.kk_parser.specs.Classes.{is_at};
 ghost use Rattle.kk_parser.specs.Forms.{binding as OfBinding, binding_of, items as OfItems};
@@ -73,6 +73,7 @@ impl<'a> Parser<'a> {
         ensures reads { ReadsAs OfBinding binding_of written_statement result self.old self.new }
         ensures depth { OnOk result (self.new.depth ≡ self.old.depth) }
         ensures left { length self.new.rest.now ≤ length self.old.rest.now }
+        ensures passed { OnOk result (length self.new.rest.now + 1 ≤ length self.old.rest.now) }
     {
         self.expect_keyword(Keyword::Val)?;
         let binder = self.binder()?;

@@ -3,23 +3,24 @@ use Rattle.std.proofs.lemmas.Int.{to_z-of_z}
 use Rattle.std.proofs.lemmas.List.{append-nil}
 use mir.Syntax.{w32}
 use mir.Val.{SFits, to_z, of_z}
-use Rattle.kk_syntax.specs.Surface.{written_expr, written_statement, unary, binary, branch, variable, call, print_text, unit, writtens_of, number as OfNumber}
+use Rattle.kk_syntax.specs.Surface.{written_expr, written_statement, construct, unary, binary, branch, variable, call, print_text, unit, writtens_of, number as OfNumber}
 use Rattle.kk_syntax.specs.declared.token.Keyword.TheVariants.{If, Then, Elif, Else, Val}
 use Rattle.kk_syntax.specs.declared.token.Symbol.TheVariants.{OpenParenthesis, CloseParenthesis, OpenBrace, CloseBrace, Semicolon, Comma, Dot, Equals, OrOr, AndAnd}
-use Rattle.kk_parser.specs.Forms.{form, form_meaning, branches, branches_of, inside, spoken, spoken_of, printed, printed_of, binding, binding_of, items, and_more}
-use Rattle.kk_parser.specs.Grammar.{print_word, comparison, comparison_of, sum_operator, sum_operator_of, product_operator, product_operator_of, unary_operator, unary_operator_of, to_left, dotted, bracketed, arguments_given, named_of, binder, some_semicolons}
+use Rattle.kk_parser.specs.Forms.{form, form_meaning, branches, branches_of, inside, spoken, spoken_of, printed, printed_of, binding, binding_of, bindings_of, items}
+use Rattle.kk_parser.specs.Grammar.{print_word, comparison, comparison_of, sum_operator, sum_operator_of, product_operator, product_operator_of, unary_operator, unary_operator_of, to_left, dotted, bracketed, arguments_of, arguments_given, named_of, binder, some_semicolons}
 use Rattle.kk_parser.specs.Kinds.{keyword, symbol, string, constructor, name, name_but_print}
 use Rattle.kk_parser.specs.Methods.{Read}
 use Rattle.kk_parser.specs.Phrases.{token, opener, either, many, optional, rule, ◌▸◌, expr, block, if_, or, and, cmp, add, mul, un, post, atom, args}
 use Rattle.kk_parser.specs.Reading.{fails_rule, fails_level, fails_front, fails_behind, fails_first, fails_second, fails_one, fails_presence, fails_quoted, fails_unquoted, fails_each_deep, finds_rule, finds_level, finds_both, finds_first, finds_second, finds_none, finds_absence, finds_presence, finds_no_more, finds_nothing, finds_quoted, finds_unquoted}
 use Rattle.kk_parser.specs.Views.{arguments_view}
-use Rattle.kk_parser.proofs.Arguments.{given-some, given-none, named-some, named-none, one_more}
+use Rattle.kk_parser.proofs.Arguments.{given-view-some, given-view-none, named-some, named-none, continues_dot, more_args, one_more}
 use Rattle.kk_parser.proofs.Atoms_read.{brackets, atom_3, other_name, atom_but_number, spoken-means, named-means}
-use Rattle.kk_parser.proofs.Blocks.{block_behind, block_from-behind, block_behind-append}
+use Rattle.kk_parser.proofs.Blocks.{block_begins, block_goes_on, block_passes, stated, bound, items_go_on, items_end}
 use Rattle.kk_parser.proofs.Branches.{other_branches, behind_first, continues_elif, turn, turn-means, perhaps_found, perhaps_failed, if-means}
 use Rattle.kk_parser.proofs.Trees.{written-Number, written-Unit, written-Variable, written-PrintText, written-Call, written-Construct, written-statement}
 use Rattle.kk_parser.proofs.Steps.{gives_up_in, gives_up_as, gives_up_as_in, gives_up_items, passed_on, too_deep_failed, deepen_reads_keyword, symbol_read, keyword_read, continues_rule, continues_both, continues_on, continues_first, continues_second, continues_left, continues_to, continues_many, continues_many_before, continues_as, ends_many, read_to, reads_on, reads_as_on, Continues}
 use Rattle.kk_parser.proofs.parser.Parser.+expr.Goals as goal
+use Rattle.kk_parser.proofs.parser.Parser.+expr.Goals.{post-in-Some, post-in-None}
 
 pub expr-returns-in_err-value-clause-reads : goal.expr-returns-in_err-value-clause-reads
 expr-returns-in_err-value-clause-reads t c =
@@ -256,7 +257,7 @@ cmp-returns-in_default-clause-reads t c =
 pub cmp-returns-in_err-right-clause-reads : goal.cmp-returns-in_err-right-clause-reads
 cmp-returns-in_err-right-clause-reads t c =
     let o = rw c.in-Some.is at c.in_ok-operator.ensures.reads in
-    gives_up_in (rule cmp) (rule add) written_expr c.from_residual-in_err-right.result c.in_err-right.field-0.0 c.args.self.now c.comparison.new.self c.add-in-Some.new.self
+    gives_up_in (rule cmp) (rule add) written_expr c.from_residual-in_err-right.result c.in_err-right.field-0.0 c.args.self.now c.comparison.new.self c.add-2.new.self
     (λ f r. fails_rule (fails_behind c.in_ok-left.ensures.reads (fails_presence o.0 (fails_behind o.3 r))))
     c.from_residual-in_err-right.ensures.1 c.in_err-right.ensures.reads
 
@@ -265,7 +266,7 @@ cmp-returns-clause-reads t c =
     let o = rw c.in-Some.is at c.in_ok-operator.ensures.reads in
     let l = written_expr c.in_ok-left.left in
     let r = written_expr c.in_ok-right.right in
-    subst (λ tree. Read (rule cmp) tree c.args.self.now c.add-in-Some.new.self) (ap (λ operator. binary operator l r) o.2 ∙ sym c.in_ok-binary.ensures)
+    subst (λ tree. Read (rule cmp) tree c.args.self.now c.add-2.new.self) (ap (λ operator. binary operator l r) o.2 ∙ sym c.in_ok-binary.ensures)
     (finds_rule (finds_both c.in_ok-left.ensures.reads (finds_presence o.0 (finds_both o.3 c.in_ok-right.ensures.reads))))
 
 pub add-returns-in_err-left-clause-reads : goal.add-returns-in_err-left-clause-reads
@@ -428,17 +429,27 @@ post-returns-in_err-name-clause-reads t c =
     (λ f r. c.loop-self.invariant.read.failed f (fails_one h (fails_behind c.in_ok-open.ensures.reads (fails_front r))))
     c.from_residual-in_err-name.ensures.1 c.in_err-name.ensures.reads
 
-pub post-returns-in_err-others-clause-reads : goal.post-returns-in_err-others-clause-reads
-post-returns-in_err-others-clause-reads t c =
+pub post-returns-in_err-given-clause-reads : goal.post-returns-in_err-given-clause-reads
+post-returns-in_err-given-clause-reads t c =
     let h = sym c.is_at.ensures.value ∙ c.loop-self-test.true in
-    gives_up_in (rule post) (optional (bracketed (rule args))) written_expr c.from_residual-in_err-others.result c.in_err-others.field-0.0 c.args.self.now c.identifier.new.self c.arguments.new.self
+    gives_up_in (rule post) (optional (bracketed (rule args))) written_expr c.from_residual-in_err-given.result c.in_err-given.field-0.0 c.args.self.now c.identifier.new.self c.arguments.new.self
     (λ f r. c.loop-self.invariant.read.failed f (fails_one h (fails_behind c.in_ok-open.ensures.reads (fails_behind c.in_ok-name.ensures.reads r))))
-    c.from_residual-in_err-others.ensures.1 c.in_err-others.ensures.reads
+    c.from_residual-in_err-given.ensures.1 c.in_err-given.ensures.reads
 
 pub post-loop-self-preserved : goal.post-loop-self-preserved
 post-loop-self-preserved t c =
     let h = sym c.is_at.ensures.value ∙ c.loop-self-test.true in
-    ?
+    let a = c.in_ok-given.ensures.reads in
+    let others = c.match-given.others in
+    let is : arguments_of a.0 ≡ map written_expr others.items = elim c.match-given.branch [
+      post-in-Some w ↦ given-view-some a.0 c.in_ok-given.given w.in-Some.others a.1 w.in-Some.is ∙ ap (λ v. map written_expr v.items) (sym w.others-is)
+    | post-in-None w ↦ given-view-none a.0 c.in_ok-given.given a.1 w.in-None.is ∙ ap (map written_expr) (sym (ap (λ v. v.items) w.others-is ∙ w.new-others.ensures.items)) ] in
+    record {
+      left = omega (arith, c.in_ok-given.ensures.left, c.in_ok-name.ensures.left, c.in_ok-open.ensures.left);
+      depth = omega (arith, c.in_ok-given.ensures.depth, c.in_ok-name.ensures.depth, c.in_ok-open.ensures.depth);
+      read = continues_dot (written_expr c.loop-self.first) c.in_ok-name.name a.0 (map written_expr others.items) (written_expr c.in_ok-first-2.first) c.args.self.now c.loop-self.self c.open.new.self c.identifier.new.self c.arguments.new.self
+          c.loop-self.invariant.read h c.in_ok-open.ensures.reads c.in_ok-name.ensures.reads a.2 is c.in_ok-first-2.ensures;
+    }
 
 pub post-returns-clause-reads : goal.post-returns-clause-reads
 post-returns-clause-reads t c =
@@ -460,7 +471,7 @@ atom-returns-then-is_at_constructor-clause-reads t c =
     let a0 = atom_but_number self here n.0 n.1 n.2 in
     let h = sym c.is_at_constructor.ensures ∙ c.if-is_at_constructor.true in
     let new = c.constructor.new.self in
-    subst (λ tree. Read (rule atom) tree self new) ?
+    subst (λ tree. Read (rule atom) tree self new) (sym (written-Construct c.in_ok-name.name c.new.result ∙ ap (λ es. construct c.in_ok-name.name (writtens_of (map written_expr es))) c.new.ensures.items))
     (a0.found (inl c.in_ok-name.name) new.depth new.rest.now (finds_first h c.in_ok-name.ensures.reads))
 
 pub atom-returns-then-is_at-clause-reads : goal.atom-returns-then-is_at-clause-reads
@@ -588,7 +599,7 @@ printed-returns-in_err-arguments-clause-reads t c =
     let w = c.in_ok-form.ensures.reads in
     let h = sym c.is_at.ensures.value ∙ c.if-not-is_at.false in
     let q = sym c.is_at_quoted.ensures ∙ c.if-is_at_quoted.false in
-    gives_up_as_in printed (rule args) printed_of written_expr c.from_residual-in_err-arguments.result c.in_err-arguments.field-0.0 c.args.self.now c.open.new.self c.args.new.self
+    gives_up_as_in printed (rule args) printed_of written_expr c.from_residual-in_err-arguments.result c.in_err-arguments.field-0.0 c.args.self.now c.open.new.self c.args-2.new.self
     (λ f r. fails_behind w.2 (fails_presence h (fails_behind c.in_ok-open.ensures.reads (fails_unquoted q (fails_front r)))))
     c.from_residual-in_err-arguments.ensures.1 c.in_err-arguments.ensures.reads
 
@@ -597,7 +608,7 @@ printed-returns-in_err-expect-2-clause-reads t c =
     let w = c.in_ok-form.ensures.reads in
     let h = sym c.is_at.ensures.value ∙ c.if-not-is_at.false in
     let q = sym c.is_at_quoted.ensures ∙ c.if-is_at_quoted.false in
-    gives_up_as_in printed (token (symbol CloseParenthesis)) printed_of written_expr c.from_residual-in_err-expect-2.result c.in_err-expect-2.field-0.0 c.args.self.now c.args-arguments.new.self c.expect-2.new.self
+    gives_up_as_in printed (token (symbol CloseParenthesis)) printed_of written_expr c.from_residual-in_err-expect-2.result c.in_err-expect-2.field-0.0 c.args.self.now c.args-2.new.self c.expect-2.new.self
     (λ f r. fails_behind w.2 (fails_presence h (fails_behind c.in_ok-open.ensures.reads (fails_unquoted q (fails_behind c.in_ok-arguments.ensures.reads r)))))
     c.from_residual-in_err-expect-2.ensures.1 c.in_err-expect-2.ensures.reads
 
@@ -626,12 +637,14 @@ named-returns-in_err-arguments-clause-reads t c =
 pub named-returns-in-Some-clause-reads : goal.named-returns-in-Some-clause-reads
 named-returns-in-Some-clause-reads t c =
     let a = rw c.in-Some.is at c.in_ok-arguments.ensures.reads in
-    ?
+    let called = c.in_ok-name.name in
+    ((called, a.0), named-some called a.0 (map written_expr c.in-Some.arguments.items) a.1 ∙ sym (written-Call called c.in-Some.arguments), finds_both c.in_ok-name.ensures.reads a.2)
 
 pub named-returns-in-None-clause-reads : goal.named-returns-in-None-clause-reads
 named-returns-in-None-clause-reads t c =
     let a = rw c.in-None.is at c.in_ok-arguments.ensures.reads in
-    ?
+    let called = c.in_ok-name.name in
+    ((called, a.0), named-none called a.0 a.1 ∙ sym (written-Variable called), finds_both c.in_ok-name.ensures.reads a.2)
 
 pub arguments-returns-then-not-is_at-clause-reads : goal.arguments-returns-then-not-is_at-clause-reads
 arguments-returns-then-not-is_at-clause-reads t c =
@@ -647,14 +660,14 @@ arguments-returns-in_err-open-clause-reads t c =
 pub arguments-returns-in_err-arguments-clause-reads : goal.arguments-returns-in_err-arguments-clause-reads
 arguments-returns-in_err-arguments-clause-reads t c =
     let h = sym c.is_at.ensures.value ∙ c.if-not-is_at.false in
-    gives_up_as_in (optional (bracketed (rule args))) (rule args) arguments_given arguments_view c.from_residual-in_err-arguments.result c.in_err-arguments.field-0.0 c.args.self.now c.open.new.self c.args.new.self
+    gives_up_as_in (optional (bracketed (rule args))) (rule args) arguments_given arguments_view c.from_residual-in_err-arguments.result c.in_err-arguments.field-0.0 c.args.self.now c.open.new.self c.args-2.new.self
     (λ f r. fails_presence h (fails_behind c.in_ok-open.ensures.reads (fails_front r)))
     c.from_residual-in_err-arguments.ensures.1 c.in_err-arguments.ensures.reads
 
 pub arguments-returns-in_err-expect-clause-reads : goal.arguments-returns-in_err-expect-clause-reads
 arguments-returns-in_err-expect-clause-reads t c =
     let h = sym c.is_at.ensures.value ∙ c.if-not-is_at.false in
-    gives_up_as_in (optional (bracketed (rule args))) (token (symbol CloseParenthesis)) arguments_given arguments_view c.from_residual-in_err-expect.result c.in_err-expect.field-0.0 c.args.self.now c.args-arguments.new.self c.expect.new.self
+    gives_up_as_in (optional (bracketed (rule args))) (token (symbol CloseParenthesis)) arguments_given arguments_view c.from_residual-in_err-expect.result c.in_err-expect.field-0.0 c.args.self.now c.args-2.new.self c.expect.new.self
     (λ f r. fails_presence h (fails_behind c.in_ok-open.ensures.reads (fails_behind c.in_ok-arguments.ensures.reads r)))
     c.from_residual-in_err-expect.ensures.1 c.in_err-expect.ensures.reads
 
@@ -677,7 +690,17 @@ args-returns-in_err-first-clause-reads t c =
 pub args-loop-self-init : goal.args-loop-self-init
 args-loop-self-init t c =
     let h = sym c.is_at_expr.ensures ∙ c.if-not-is_at_expr.false in
-    ?
+    let old = c.args.self.now in
+    let first = c.in_ok-first.first in
+    let r = c.in_ok-first.ensures.reads in
+    let is : c.push.new.self.items ≡ first ∷ [] = c.in-Ok.ensures.items ∙ ap (λ es. es ++ first ∷ []) c.new-arguments.ensures.items in
+    record {
+      left = omega (arith, c.in_ok-first.ensures.left);
+      depth = omega (arith, c.in_ok-first.ensures.depth);
+      read = continues_as (rule args) more_args (λ vs. written_expr first ∷ map (λ m. m.1) vs) (λ vs. map written_expr c.push.new.self.items ++ map (λ m. m.1) vs) old c.expr.new.self
+          (λ vs. one_more [] c.push.new.self.items first (map (λ m. m.1) vs) is)
+          (record { found = λ v m us s. finds_rule (finds_presence h (finds_both r s)); failed = λ f s. fails_rule (fails_presence h (fails_behind r s)) });
+    }
 
 pub args-returns-in_err-next-clause-reads : goal.args-returns-in_err-next-clause-reads
 args-returns-in_err-next-clause-reads t c =
@@ -691,7 +714,17 @@ pub args-loop-self-preserved : goal.args-loop-self-preserved
 args-loop-self-preserved t c =
     let h = sym c.is_at.ensures.value ∙ c.loop-self-test.true in
     let comma = symbol_read Comma c.loop-self.self c.advance.new.self h c.advance.ensures.rest c.advance.ensures.depth in
-    ?
+    let before = c.loop-self.arguments.items in
+    let after = c.push-in-loop-self.new.self.items in
+    let next = c.in_ok-next.next in
+    let new = c.expr-in-loop-self.new.self in
+    record {
+      left = omega (arith, c.in_ok-next.ensures.left);
+      depth = omega (arith, c.in_ok-next.ensures.depth);
+      read = continues_as (rule args) more_args (λ vs. map written_expr before ++ (written_expr next ∷ map (λ m. m.1) vs)) (λ vs. map written_expr after ++ map (λ m. m.1) vs) c.args.self.now new
+          (λ vs. one_more before after next (map (λ m. m.1) vs) c.in-Ok-push.ensures.items)
+          (continues_many (rule args) (token (symbol Comma) ▸ rule expr) (λ vs. map written_expr before ++ map (λ m. m.1) vs) (tt, written_expr next) c.args.self.now c.loop-self.self new c.loop-self.invariant.read h (finds_both comma c.in_ok-next.ensures.reads));
+    }
 
 pub args-returns-clause-reads : goal.args-returns-clause-reads
 args-returns-clause-reads t c =
@@ -746,20 +779,27 @@ items-returns-in_err-some_semicolons-clause-reads t c =
 
 pub items-loop-self-smaller : goal.items-loop-self-smaller
 items-loop-self-smaller t c =
-    let h = sym c.is_at_keyword.ensures.value ∙ c.loop-self-test.true in
-    ?
+    omega (arith, c.in_ok-statement.ensures.passed, c.in_ok-some_semicolons.ensures.left)
 
 pub items-loop-self-preserved : goal.items-loop-self-preserved
 items-loop-self-preserved t c =
     let h = sym c.is_at_keyword.ensures.value ∙ c.loop-self-test.true in
     let read = c.loop-self.invariant.read in
-    ?
+    let s = c.in_ok-statement.ensures.reads in
+    let e = c.in_ok-some_semicolons.ensures.reads in
+    record {
+      left = omega (arith, c.in_ok-statement.ensures.left, c.in_ok-some_semicolons.ensures.left);
+      depth = omega (arith, c.in_ok-statement.ensures.depth, c.in_ok-some_semicolons.ensures.depth);
+      read = (read.0 ++ (s.0, e.0) ∷ [],
+        bound (map written_statement c.args.statements.now.items) c.loop-self.statements.items c.push.new.self.items c.in_ok-statement.statement read.0 s.0 e.0 read.1 c.in-Ok.ensures.items s.1,
+        items_go_on read.0 (s.0, e.0) c.args.self.now c.loop-self.self c.some_semicolons.new.self read.2 h (finds_both s.2 e.2));
+    }
 
 pub items-returns-clause-reads : goal.items-returns-clause-reads
 items-returns-clause-reads t c =
     let read = c.loop-self.invariant.read in
     let h = sym c.is_at_keyword.ensures.value ∙ c.loop-self-test.false in
-    ?
+    items_end _ _ read.0 c.expr.result c.args.self.now c.loop-self.self c.expr.new.self read.1 read.2 h c.expr.ensures.reads
 
 pub block-returns-in_err-open-clause-reads : goal.block-returns-in_err-open-clause-reads
 block-returns-in_err-open-clause-reads t c =
@@ -769,23 +809,56 @@ block-returns-in_err-open-clause-reads t c =
 
 pub block-returns-in_err-value-clause-reads : goal.block-returns-in_err-value-clause-reads
 block-returns-in_err-value-clause-reads t c =
-    ?
+    gives_up_in (rule block) (items) written_expr c.from_residual-in_err-value.result c.in_err-value.field-0.0 c.args.self.now c.skip_semicolons.new.self c.items.new.self
+    (λ f r. fails_rule (fails_behind c.in_ok-open.ensures.reads (fails_behind c.skip_semicolons.ensures.reads.1 (fails_front r))))
+    c.from_residual-in_err-value.ensures.1 c.in_err-value.ensures.reads
 
 pub block-loop-self-init : goal.block-loop-self-init
 block-loop-self-init t c =
-    ?
+    let v = c.in_ok-value.ensures.reads in
+    let semis = c.skip_semicolons.ensures.reads in
+    record {
+      left = omega (arith, c.in_ok-value.ensures.left);
+      depth = omega (arith, c.in_ok-value.ensures.depth);
+      within = omega (arith, c.in_ok-value.ensures.depth, c.in_ok-open.ensures.within);
+      read = block_begins semis.0 v.0 _ (written_expr c.in_ok-value.value) c.args.self.now c.open.new.self c.skip_semicolons.new.self c.items.new.self c.in_ok-open.ensures.reads semis.1 v.3
+          (v.1 ∙ ap (λ ss. map written_statement ss ++ bindings_of v.0.0) c.new-statements.ensures.items) v.2;
+    }
 
 pub block-returns-in_err-value-2-clause-reads : goal.block-returns-in_err-value-2-clause-reads
 block-returns-in_err-value-2-clause-reads t c =
-    ?
+    let h = sym c.is_at.ensures.value ∙ c.loop-self-test.true in
+    let hs = sym c.is_at_item.ensures ∙ c.if-is_at_item.true in
+    let semi = symbol_read Semicolon c.loop-self.self c.advance.new.self h c.advance.ensures.rest c.advance.ensures.depth in
+    gives_up_in (rule block) (items) written_expr c.from_residual-in_err-value-2.result c.in_err-value-2.field-0.0 c.args.self.now c.advance.new.self c.items-then-is_at_item.new.self
+    (λ f r. c.loop-self.invariant.read.failed f (fails_front (fails_one h (fails_behind semi (fails_presence hs r)))))
+    c.from_residual-in_err-value-2.ensures.1 c.in_err-value-2.ensures.reads
 
 pub block-loop-self-preserved-then-is_at_item : goal.block-loop-self-preserved-then-is_at_item
 block-loop-self-preserved-then-is_at_item t c =
-    ?
+    let h = sym c.is_at.ensures.value ∙ c.loop-self-test.true in
+    let hs = sym c.is_at_item.ensures ∙ c.if-is_at_item.true in
+    let semi = symbol_read Semicolon c.loop-self.self c.advance.new.self h c.advance.ensures.rest c.advance.ensures.depth in
+    let v = c.in_ok-value-2.ensures.reads in
+    record {
+      left = omega (arith, c.in_ok-value-2.ensures.left);
+      depth = omega (arith, c.in_ok-value-2.ensures.depth);
+      within = omega (arith, c.in_ok-value-2.ensures.depth);
+      read = block_goes_on (map written_statement c.loop-self.statements.items) _ (written_expr c.loop-self.value) (written_expr c.in_ok-value-2.value) v.0 c.args.self.now c.loop-self.self c.advance.new.self c.items-then-is_at_item.new.self c.loop-self.invariant.read h semi hs v.3
+          (v.1 ∙ ap (λ ss. ss ++ bindings_of v.0.0) (stated c.loop-self.statements.items c.push.new.self.items c.loop-self.value c.in-Ok.ensures.items)) v.2;
+    }
 
 pub block-loop-self-preserved : goal.block-loop-self-preserved
 block-loop-self-preserved t c =
-    ?
+    let h = sym c.is_at.ensures.value ∙ c.loop-self-test.true in
+    let hs = sym c.is_at_item.ensures ∙ c.if-is_at_item.false in
+    let semi = symbol_read Semicolon c.loop-self.self c.advance.new.self h c.advance.ensures.rest c.advance.ensures.depth in
+    record {
+      left = omega arith;
+      depth = omega arith;
+      within = omega arith;
+      read = block_passes (map written_statement c.loop-self.statements.items) (written_expr c.loop-self.value) c.args.self.now c.loop-self.self c.advance.new.self c.loop-self.invariant.read h semi hs;
+    }
 
 pub block-returns-in_err-expect-clause-reads : goal.block-returns-in_err-expect-clause-reads
 block-returns-in_err-expect-clause-reads t c =
