@@ -38,6 +38,13 @@ continues_elif here next o = record { found = λ v m us r. elif_found o r; faile
 pub turn-means : (condition positive : Written) (v : PhraseValue branches) → branches_of (condition, (tt, (positive, turn v))) ≡ branch condition positive (branches_of v)
 turn-means condition positive (next, (then, (second, (more, last)))) = refl
 
+-- the first branch was read
+pub behind_first : (condition positive : Written) (start a b here : Parser) → Read (rule or) condition start a → Read (token (keyword Then)) tt a b → Read (rule expr) positive b here → Continues branches other_branches (λ v. (condition, (tt, (positive, v)))) start here
+behind_first condition positive start a b here r s t = record {
+  found = λ v m us u. finds_both r (finds_both s (finds_both t u));
+  failed = λ f u. fails_behind r (fails_behind s (fails_behind t u));
+}
+
 -- behind a token that is next a phrase was read
 pub perhaps_found : {k : Kind} {a : Phrase} {n i m : ℕ} {w : Said k} {v : PhraseValue a} {ts us ws : List LocatedToken} → Finds 200 (token k) n ts w i us → Finds 200 a i us v m ws → Finds 200 (perhaps k a) n ts (Some v) m ws
 perhaps_found (finds_token s) r = finds_something s r

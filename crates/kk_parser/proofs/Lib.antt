@@ -1,11 +1,11 @@
 pub mod Apart
 pub mod Arguments
 pub mod Atoms
+pub mod Atoms_read
 pub mod Begins
 pub mod Blocks
 pub mod Branches
 pub mod Complete
-pub mod Items
 pub mod Lists
 pub mod Lookahead
 pub mod Steps

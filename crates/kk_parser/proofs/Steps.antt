@@ -7,18 +7,19 @@ use Rattle.kk_syntax.specs.declared.token.Symbol.{Symbol}
 use Rattle.kk_syntax.specs.declared.token.Token.{Token}
 use Rattle.kk_syntax.specs.declared.token.Token.TheVariants as OfToken
 use Rattle.kk_syntax.specs.declared.tree.Identifier.{Identifier}
-use Rattle.kk_syntax.specs.Surface.{Written}
+use Rattle.kk_syntax.specs.declared.tree.SurfaceExpr.{SurfaceExpr}
+use Rattle.kk_syntax.specs.Surface.{Written, WrittenStatement}
 use Rattle.kk_parser.specs.declared.fault.Fault.{Fault}
 use Rattle.kk_parser.specs.declared.fault.Fault.TheVariants.{Unexpected, TooDeep, NoMemory}
 use Rattle.kk_parser.specs.declared.parser.Parser.{Parser}
 use Rattle.kk_parser.specs.Classes.{NameClass, name_class, Class, class_of, is_one_of, is_at}
 use Rattle.kk_parser.specs.Kinds.{Kind, keyword, symbol, name_in, is_name_in, Said, said_at, says, next_says, classes_of}
 use Rattle.kk_parser.specs.Phrases.{Nonterminal, Phrase, token, opener, ◌▸◌, either, many, optional, rule, PhraseValue}
-use Rattle.kk_parser.specs.Forms.{form, form_meaning}
+use Rattle.kk_parser.specs.Forms.{form, form_meaning, items}
 use Rattle.kk_parser.specs.Reading.{first, Finds, finds_token, finds_opener, Failure, unexpected, too_deep, ReadingFails, fails_deep, finds_first, finds_second, finds_none, finds_more, finds_both, finds_rule, fails_rule, fails_front, fails_behind, fails_first, fails_second, fails_more}
 use Rattle.kk_parser.proofs.Apart.{next_says_class}
 use Rattle.kk_parser.proofs.Begins.{is_at-front, is_at-back}
-use Rattle.kk_parser.specs.Methods.{behind, Read, FailedBy, ReadsPhrase, ReadsFor, ReadsAs, ReadsIfNext, Deepens}
+use Rattle.kk_parser.specs.Methods.{behind, Read, FailedBy, ReadsPhrase, ReadsFor, ReadsAs, ReadsItems, ReadsIfNext, Deepens}
 
 finds_next : (k : Kind) (n : ℕ) (ts : List LocatedToken) (v : Said k) → next_says k ts ≡ Some v → Finds 200 (token k) n ts v n (behind ts)
 finds_next k n [] v e = absurd (cc e)
@@ -86,6 +87,10 @@ gives_up_for p means (Err y) e old new i h = subst (λ x. FailedBy x p old new) 
 pub gives_up_as : {A B : Type 0} (p : Phrase) (means : PhraseValue p → B) (view : A → B) (r : Result A Fault) (e : Fault) (old new : Parser) → IsErrAnd r (λ y. y ≡ e) → FailedBy e p old new → ReadsAs p means view r old new
 gives_up_as p means view (Ok x) e old new i h = absurd i
 gives_up_as p means view (Err y) e old new i h = subst (λ x. FailedBy x p old new) (sym i) h
+
+pub gives_up_items : (before after : List WrittenStatement) (r : Result SurfaceExpr Fault) (e : Fault) (old new : Parser) → IsErrAnd r (λ y. y ≡ e) → FailedBy e items old new → ReadsItems before after r old new
+gives_up_items before after (Ok x) e old new i h = absurd i
+gives_up_items before after (Err y) e old new i h = subst (λ x. FailedBy x items old new) (sym i) h
 
 pub gives_up_if_next : {A : Type 0} (p : Phrase) (means : PhraseValue p → A) (r : Result (Option A) Fault) (e : Fault) (old new : Parser) → IsErrAnd r (λ y. y ≡ e) → is_at (first p) old.rest.now ≡ true → FailedBy e p old new → ReadsIfNext p means r old new
 gives_up_if_next p means (Ok x) e old new i t h = absurd i

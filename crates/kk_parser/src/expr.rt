@@ -175,7 +175,8 @@ impl<'a> Parser<'a> {
         while self.is_at(Symbol::Dot) {
             self.open(Symbol::Dot)?;
             let name = self.identifier(Names::All)?;
-            let others = match self.arguments()? {
+            let given = self.arguments()?;
+            let others = match given {
                 Some(others) => others,
                 None => Vec::new(self.alloc),
             };

@@ -5,7 +5,7 @@ use Rattle.kk_parser.specs.Forms.{items, binding, and_more, those_given, binding
 use Rattle.kk_parser.specs.Grammar.{sum_operator, sum_operator_of, product_operator, product_operator_of, to_left, dotted, bracketed, some_semicolons}
 use Rattle.kk_parser.specs.Kinds.{symbol, name}
 use Rattle.kk_parser.specs.Phrases.{PhraseValue, token, opener, optional, rule, expr, block, add, mul, un, post, args, many, ◌▸◌}
-use Rattle.kk_parser.proofs.Blocks.{block_behind}
+use Rattle.kk_parser.proofs.Blocks.{block_end, block_says}
 use Rattle.kk_parser.proofs.Steps.{Continues}
 use Rattle.kk_parser.proofs.parser.Parser.+expr.Given as goal
 
@@ -111,7 +111,7 @@ invariant-block-loop-self l = record {
   left : length l.self.rest.now ≤ length l.fn.self.rest.now;
   depth : l.self.depth ≡ l.fn.self.depth + 1;
   within : l.self.depth ≤ 200;
-  read : Continues (rule block) (and_more items ▸ token (symbol CloseBrace)) (λ v. block_behind (map written_statement l.statements.items) (written_expr l.value) (those_given v.0)) l.fn.self l.self;
+  read : Continues (rule block) block_end (block_says (map written_statement l.statements.items) (written_expr l.value)) l.fn.self l.self;
 }
 
 abbrev pub decreases-block-loop-self : goal.decreases-block-loop-self
