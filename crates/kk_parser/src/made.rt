@@ -37,11 +37,7 @@ pub fn binary(
 }
 
 /// `left && right`
-pub fn both(
-    alloc: Global,
-    left: SurfaceExpr,
-    right: SurfaceExpr,
-) -> Result<SurfaceExpr, NoMemory>
+pub fn both(alloc: Global, left: SurfaceExpr, right: SurfaceExpr) -> Result<SurfaceExpr, NoMemory>
     ensures { IfOk result (λ e. written_expr e ≡ both (written_expr left) (written_expr right)) }
 {
     match (Box::new(alloc, left), Box::new(alloc, right)) {
@@ -51,11 +47,7 @@ pub fn both(
 }
 
 /// `left || right`
-pub fn either(
-    alloc: Global,
-    left: SurfaceExpr,
-    right: SurfaceExpr,
-) -> Result<SurfaceExpr, NoMemory>
+pub fn either(alloc: Global, left: SurfaceExpr, right: SurfaceExpr) -> Result<SurfaceExpr, NoMemory>
     ensures { IfOk result (λ e. written_expr e ≡ either (written_expr left) (written_expr right)) }
 {
     match (Box::new(alloc, left), Box::new(alloc, right)) {

@@ -2,11 +2,11 @@ ghost use Rattle.std.specs.Prelude.{◌≡◌, ◌-◌, ◌*◌, ◌≤◌, [], 
 ghost use Rattle.kk_syntax.specs.Surface.{written_declaration, written_expr, written_parameter};
 ghost use Rattle.kk_syntax.specs.WrittenNodes.{nodes_in};
 ghost use Rattle.kk_parser.specs.Forms.{head as OfHead, head_of};
-ghost use Rattle.kk_parser.specs.Grammar.{parameters as OfParameters, listed_of};
+ghost use Rattle.kk_parser.specs.Grammar.{parameters as OfParameters, listed, listed_of};
 ghost use Rattle.kk_parser.specs.Methods.{ReadsPhrase, ReadsFor, ReadsAs, error_for};
 ghost use Rattle.kk_parser.specs.Parses.{AnswersParse, EachListIsParsed, OneProgram, in_u32, next_place};
 ghost use Rattle.kk_parser.specs.Phrases.{rule, program as OfProgram, decl as OfDecl, param as OfParam};
-ghost use Rattle.kk_parser.specs.Views.{head_view};
+ghost use Rattle.kk_parser.specs.Views.{declaration_of, head_view};
 
 use crate::fault::Fault;
 use crate::name::Names;
@@ -176,23 +176,33 @@ impl<'a> Parser<'a> {
         ensures left { length self.new.rest.now ≤ length self.old.rest.now }
     {
         self.open(Symbol::OpenParenthesis)?;
+        let parameters = self.parameter_list()?;
+        self.expect(Symbol::CloseParenthesis)?;
+        Ok(parameters)
+    }
+
+    // `[ param { "," param } ]`
+    fn parameter_list(&mut self) -> Result<Vec<Parameter>, Fault>
+        ensures reads { ReadsAs (listed (rule OfParam)) listed_of (λ ps. map written_parameter ps.items) result self.old self.new }
+        ensures left { length self.new.rest.now ≤ length self.old.rest.now }
+    {
         let mut parameters = Vec::new(self.alloc);
-        if self.is_at_name(Names::All) {
-            let first = self.parameter()?;
-            match parameters.push(first) {
+        if !self.is_at_name(Names::All) {
+            return Ok(parameters);
+        }
+        let first = self.parameter()?;
+        match parameters.push(first) {
+            Ok(()) => {}
+            Err(_) => return Err(Fault::NoMemory),
+        }
+        while self.is_at(Symbol::Comma) {
+            self.advance();
+            let next = self.parameter()?;
+            match parameters.push(next) {
                 Ok(()) => {}
                 Err(_) => return Err(Fault::NoMemory),
             }
-            while self.is_at(Symbol::Comma) {
-                self.advance();
-                let next = self.parameter()?;
-                match parameters.push(next) {
-                    Ok(()) => {}
-                    Err(_) => return Err(Fault::NoMemory),
-                }
-            }
         }
-        self.expect(Symbol::CloseParenthesis)?;
         Ok(parameters)
     }
 
@@ -210,7 +220,9 @@ impl<'a> Parser<'a> {
 }
 
 // The declaration of a function.
-fn function_of(head: Head, body: SurfaceExpr) -> Declaration {
+fn function_of(head: Head, body: SurfaceExpr) -> Declaration
+    ensures { written_declaration result ≡ declaration_of (head_view head) (written_expr body) }
+{
     let Head {
         name,
         parameters,

@@ -1,10 +1,12 @@
-ghost use Rattle.std.specs.Prelude.{◌≡◌, ◌≤◌, length, OnOk};
+ghost use Rattle.std.specs.Prelude.{◌≡◌, ◌+◌, ◌<◌, ◌≤◌, [], ◌∷◌, length, true, IfSome, OnOk, OnSome, is_some};
 ghost use Rattle.kk_syntax.specs.Surface.{written_type, unit_type};
 ghost use Rattle.kk_parser.specs.Forms.{in_brackets, inside};
-ghost use Rattle.kk_parser.specs.Grammar.{effects_of, type_of, result as OfResult};
+ghost use Rattle.kk_parser.specs.Classes.{is_at};
+ghost use Rattle.kk_parser.specs.Grammar.{effects_of, type_of, result as OfResult, listed, listed_of};
 ghost use Rattle.kk_parser.specs.Methods.{ReadsPhrase, ReadsFor, ReadsAs};
 ghost use Rattle.kk_parser.specs.Phrases.{rule, type as OfType, result_type as OfResultType, effect as OfEffect, eff as OfEff};
-ghost use Rattle.kk_parser.specs.Views.{result_view};
+ghost use Rattle.kk_parser.specs.Reading.{first};
+ghost use Rattle.kk_parser.specs.Views.{class_of_effect, result_view};
 
 use crate::fault::Fault;
 use crate::name::{NameClass, Names, name_class};
@@ -18,7 +20,7 @@ impl<'a> Parser<'a> {
         ensures left { length self.new.rest.now ≤ length self.old.rest.now }
     {
         self.expect(Symbol::Colon)?;
-        if self.is_at(Symbol::Less) || self.next_effect().is_some() {
+        if self.is_at_effect() {
             let effects = self.effect()?;
             let of_type = self.type_()?;
             return Ok((effects, of_type));
@@ -83,32 +85,43 @@ impl<'a> Parser<'a> {
         ensures reads { ReadsPhrase (rule OfEffect) (λ es. es.items) result self.old self.new }
         ensures left { length self.new.rest.now ≤ length self.old.rest.now }
     {
-        let mut effects = Vec::new(self.alloc);
-        if !self.is_at(Symbol::Less) {
+        if self.next_effect().is_some() {
             let effect = self.eff()?;
+            let mut effects = Vec::new(self.alloc);
             match effects.push(effect) {
                 Ok(()) => {}
                 Err(_) => return Err(Fault::NoMemory),
             }
             return Ok(effects);
         }
-        self.advance();
-        if self.next_effect().is_some() {
-            let first = self.eff()?;
-            match effects.push(first) {
+        self.expect(Symbol::Less)?;
+        let effects = self.effects()?;
+        self.expect(Symbol::Greater)?;
+        Ok(effects)
+    }
+
+    // `[ eff { "," eff } ]`
+    fn effects(&mut self) -> Result<Vec<Effect>, Fault>
+        ensures reads { ReadsAs (listed (rule OfEff)) listed_of (λ es. es.items) result self.old self.new }
+        ensures left { length self.new.rest.now ≤ length self.old.rest.now }
+    {
+        let mut effects = Vec::new(self.alloc);
+        if !self.next_effect().is_some() {
+            return Ok(effects);
+        }
+        let first = self.eff()?;
+        match effects.push(first) {
+            Ok(()) => {}
+            Err(_) => return Err(Fault::NoMemory),
+        }
+        while self.is_at(Symbol::Comma) {
+            self.advance();
+            let next = self.eff()?;
+            match effects.push(next) {
                 Ok(()) => {}
                 Err(_) => return Err(Fault::NoMemory),
             }
-            while self.is_at(Symbol::Comma) {
-                self.advance();
-                let next = self.eff()?;
-                match effects.push(next) {
-                    Ok(()) => {}
-                    Err(_) => return Err(Fault::NoMemory),
-                }
-            }
         }
-        self.expect(Symbol::Greater)?;
         Ok(effects)
     }
 
@@ -126,8 +139,19 @@ impl<'a> Parser<'a> {
         }
     }
 
+    // Whether an effect begins with the next token.
+    fn is_at_effect(&self) -> bool
+        ensures { result ≡ is_at (first (rule OfEffect)) self.now.rest.now }
+    {
+        self.next_effect().is_some() || self.is_at(Symbol::Less)
+    }
+
     // The effect that the next token is.
-    fn next_effect(&self) -> Option<Effect> {
+    fn next_effect(&self) -> Option<Effect>
+        ensures next { is_some result ≡ is_at (first (rule OfEff)) self.now.rest.now }
+        ensures class { IfSome result (λ e. is_at (class_of_effect e ∷ []) self.now.rest.now ≡ true) }
+        ensures there { OnSome result (0 < length self.now.rest.now) }
+    {
         match self.rest.first() {
             Some(next) => match &next.token {
                 Token::Name(name) => match name_class(name.as_str()) {
