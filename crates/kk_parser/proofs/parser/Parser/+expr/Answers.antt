@@ -819,8 +819,8 @@ block-loop-self-init t c =
     let semis = c.skip_semicolons.ensures.reads in
     record {
       left = omega (arith, c.in_ok-value.ensures.left);
-      depth = omega (arith, c.in_ok-value.ensures.depth);
-      within = omega (arith, c.in_ok-value.ensures.depth, c.in_ok-open.ensures.within);
+      depth = omega (arith, c.in_ok-value.ensures.depth, c.in_ok-open.ensures.depth);
+      within = omega (arith, c.in_ok-value.ensures.depth, c.in_ok-open.ensures.within, c.in_ok-open.ensures.depth);
       read = block_begins semis.0 v.0 _ (written_expr c.in_ok-value.value) c.args.self.now c.open.new.self c.skip_semicolons.new.self c.items.new.self c.in_ok-open.ensures.reads semis.1 v.3
           (v.1 ∙ ap (λ ss. map written_statement ss ++ bindings_of v.0.0) c.new-statements.ensures.items) v.2;
     }
