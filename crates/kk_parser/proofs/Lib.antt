@@ -1,7 +1,6 @@
 pub mod Apart
 pub mod Arguments
-pub mod Atoms
-pub mod Atoms_read
+pub mod ReadAtoms
 pub mod Begins
 pub mod Blocks
 pub mod Branches

@@ -14,7 +14,7 @@ use Rattle.kk_parser.specs.Phrases.{token, opener, either, many, optional, rule,
 use Rattle.kk_parser.specs.Reading.{fails_rule, fails_level, fails_front, fails_behind, fails_first, fails_second, fails_one, fails_presence, fails_quoted, fails_unquoted, fails_each_deep, finds_rule, finds_level, finds_both, finds_first, finds_second, finds_none, finds_absence, finds_presence, finds_no_more, finds_nothing, finds_quoted, finds_unquoted}
 use Rattle.kk_parser.specs.Views.{arguments_view}
 use Rattle.kk_parser.proofs.Arguments.{given-view-some, given-view-none, named-some, named-none, continues_dot, more_args, one_more}
-use Rattle.kk_parser.proofs.Atoms_read.{brackets, atom_3, other_name, atom_but_number, spoken-means, named-means}
+use Rattle.kk_parser.proofs.ReadAtoms.{brackets, atom_3, other_name, atom_but_number, spoken-means, named-means}
 use Rattle.kk_parser.proofs.Blocks.{block_begins, block_goes_on, block_passes, stated, bound, items_go_on, items_end}
 use Rattle.kk_parser.proofs.Branches.{other_branches, behind_first, continues_elif, turn, turn-means, perhaps_found, perhaps_failed, if-means}
 use Rattle.kk_parser.proofs.Trees.{written-Number, written-Unit, written-Variable, written-PrintText, written-Call, written-Construct, written-statement}
