@@ -1,1 +1,3 @@
+pub mod Atoms
 pub mod Semicolons
+pub mod Spelling

@@ -100,8 +100,6 @@ pub record Items (n : ℕ) (t : Written) (m : ℕ) (ts us : List Marked) : Type 
   pub spells : Spells form_grammar items n first levels ts rest
   pub ends : Spells form_grammar (many (some_semicolons ▸ items)) levels more m rest us
 
-
-
 -- one more statement that binds before some items
 bound_first : (b : PhraseValue binding) (g : PhraseValue some_semicolons) (first : PhraseValue items) (more : List (PhraseValue items)) → block_from ((b, g) ∷ first.0, first.1) more ≡ sequence (binder_of b.1.0) b.1.1.1 (block_from first more)
 bound_first b g first [] = refl
@@ -165,4 +163,4 @@ pub scattered : {n k m : ℕ} {first : PhraseValue items} {more : PhraseValue (m
 scattered (by_both {v = value} bs e) by_none = bound_statements bs (record { statements = []; value = value; same = refl; levels = _; rest = _; spells = by_none; ends = e })
 scattered {n} {k} {m} {ts = ts} {ws = ws} (by_both {u = bindings} {v = value} bs e) (by_more {u = next} {vs = more} (by_both g i) rs) =
     subst (λ t. Statements n t m ts ws) (block_of-push (bindings_of bindings) value (block_from next.1 (map (λ x. x.1) more)))
-        (bound_statements bs (first_statement (by_rule (by_second e)) g (scattered i rs)))
+    (bound_statements bs (first_statement (by_rule (by_second e)) g (scattered i rs)))
