@@ -1,3 +1,4 @@
 pub mod Atoms
+pub mod FewNodes
 pub mod Semicolons
 pub mod Spelling
