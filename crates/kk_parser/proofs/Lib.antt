@@ -1,4 +1,9 @@
+pub mod Apart
 pub mod Atoms
+pub mod Begins
+pub mod Complete
 pub mod FewNodes
+pub mod Lookahead
 pub mod Semicolons
 pub mod Spelling
+pub mod Tables
