@@ -1,1 +1,2 @@
 pub mod Functional
+pub mod Samples
