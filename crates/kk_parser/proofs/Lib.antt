@@ -1,2 +1,3 @@
 pub mod Functional
 pub mod Samples
+pub mod Sound
