@@ -1,3 +1,7 @@
+pub mod Apart
+pub mod Begins
 pub mod Functional
+pub mod Lookahead
 pub mod Samples
 pub mod Sound
+pub mod Tables
