@@ -1,6 +1,7 @@
 pub mod Apart
 pub mod Begins
 pub mod Functional
+pub mod Local
 pub mod Lookahead
 pub mod Passing
 pub mod Samples
