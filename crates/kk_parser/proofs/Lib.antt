@@ -2,8 +2,14 @@ pub mod Apart
 pub mod Atoms
 pub mod Begins
 pub mod Complete
+pub mod EachList
 pub mod FewNodes
+pub mod Functional
+pub mod Local
 pub mod Lookahead
+pub mod Passing
+pub mod Samples
 pub mod Semicolons
+pub mod Sound
 pub mod Spelling
 pub mod Tables
