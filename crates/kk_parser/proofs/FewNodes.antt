@@ -212,7 +212,7 @@ each_few : (ds : List WrittenDeclaration) (n : ℕ) → summed nodes_in ds ≤ n
 each_few [] n h = All-nil (λ d. nodes_in d ≤ n)
 each_few (d ∷ ds) n h = All-cons (λ e. nodes_in e ≤ n) d ds (omega arith) (each_few ds n (omega arith))
 
-tokens_of-length : (ts : List Marked) → length (tokens_of ts) ≡ length ts
+pub tokens_of-length : (ts : List Marked) → length (tokens_of ts) ≡ length ts
 tokens_of-length [] = refl
 tokens_of-length (t ∷ ts) = omega (arith, tokens_of-length ts)
 

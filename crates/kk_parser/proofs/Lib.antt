@@ -5,11 +5,15 @@ pub mod Complete
 pub mod EachList
 pub mod FewNodes
 pub mod Functional
+pub mod Laws
 pub mod Local
 pub mod Lookahead
+pub mod OneOutcome
 pub mod Passing
 pub mod Samples
 pub mod Semicolons
 pub mod Sound
 pub mod Spelling
 pub mod Tables
+pub mod Told
+pub mod Whole

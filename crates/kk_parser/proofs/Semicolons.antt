@@ -153,7 +153,7 @@ bound_statements : {n k m : ℕ} {bs : PhraseValue (many (binding ▸ some_semic
 bound_statements by_none c = c
 bound_statements (by_more (by_both r g) rs) c = first_statement (by_rule (by_first r)) g (bound_statements rs c)
 
-block_of-push : (before : List WrittenStatement) (value last : Written) → block_of before (sequence Nothing value last) ≡ block_of (before ++ as_statement value ∷ []) last
+pub block_of-push : (before : List WrittenStatement) (value last : Written) → block_of before (sequence Nothing value last) ≡ block_of (before ++ as_statement value ∷ []) last
 block_of-push [] value last = refl
 block_of-push (s ∷ ss) value last = ap (λ t. sequence s.binder s.value t) (block_of-push ss value last)
 
