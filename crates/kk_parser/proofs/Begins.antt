@@ -1,10 +1,8 @@
 -- The first token of what a phrase spells.
 use Rattle.std.proofs.Common.{◌≡◌, ℕ, Bool, true, false, cond, ◌||◌, ◌⊎◌, List, [], ◌∷◌, ◌++◌, refl, sym, ◌∙◌, subst, inl, inr}
 use Rattle.kk_syntax.specs.declared.token.LocatedToken.{LocatedToken}
-use Rattle.kk_syntax.specs.declared.token.Symbol.TheVariants.{CloseParenthesis}
 use Rattle.kk_parser.specs.Classes.{Class, string as string_class, class_of, same_class, is_one_of, is_at}
-use Rattle.kk_parser.specs.Kinds.{symbol, string}
-use Rattle.kk_parser.specs.Phrases.{Phrase, token, ◌▸◌, Nonterminal, PhraseValue, rule}
+use Rattle.kk_parser.specs.Phrases.{Phrase, Nonterminal, PhraseValue, rule}
 use Rattle.kk_parser.specs.Forms.{form, form_grammar}
 use Rattle.kk_parser.specs.Spells.{Marked, tokens_of, Spells, by_token, by_opener, by_both, by_first, by_second, by_none, by_more, by_absence, by_presence, by_level, by_rule, by_no_more, by_each, by_nothing, by_something, by_quoted, by_unquoted}
 use Rattle.kk_parser.specs.Reading.{first, nullable}

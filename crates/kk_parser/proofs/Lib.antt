@@ -1,5 +1,6 @@
 pub mod Apart
 pub mod Begins
+pub mod Complete
 pub mod EachList
 pub mod Functional
 pub mod Local

@@ -1,7 +1,7 @@
 -- What the tables of the grammar's form say is so, nonterminal by nonterminal.
-use Rattle.std.proofs.Common.{◌≡◌, Bool, true, false, List, [], ◌∷◌, ◌++◌, refl}
+use Rattle.std.proofs.Common.{◌≡◌, Bool, true, false, List, [], ◌∷◌, refl}
 use Rattle.kk_syntax.specs.declared.token.Keyword.TheVariants.{Then, Elif, Else}
-use Rattle.kk_syntax.specs.declared.token.Symbol.TheVariants.{OpenParenthesis, CloseParenthesis, CloseBrace, Comma, Semicolon, Dot, Plus, Minus, Star, Slash, Percent, EqualEqual, NotEqual, Less, LessEqual, Greater, GreaterEqual, AndAnd, OrOr}
+use Rattle.kk_syntax.specs.declared.token.Symbol.TheVariants.{CloseParenthesis, CloseBrace, Comma, Semicolon, Dot, Plus, Minus, Star, Slash, Percent, EqualEqual, NotEqual, Less, LessEqual, Greater, GreaterEqual, AndAnd, OrOr}
 use Rattle.kk_parser.specs.Classes.{Class, keyword, symbol}
 use Rattle.kk_parser.specs.Phrases.{Nonterminal, program, decl, param, effect, eff, type, result_type, expr, block, stmt, if_, or, and, cmp, add, mul, un, post, atom, say, args}
 use Rattle.kk_parser.specs.Forms.{form}
