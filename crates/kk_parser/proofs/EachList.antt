@@ -198,8 +198,8 @@ read_each k a n ts h f =
       | inl one ↦ elim (cases_lt n 200) [
         | inr deep ↦ has_failed (too_deep ts) (fails_each_deep one deep)
         | inl shallow ↦
-          let t = next_of k ts one in
-          subst (λ us. FewerRead us → ReadOrFailed (each k a) n us) (sym t.3) (read_each_behind k a n t.0 t.2 t.1 h t.4 shallow) f
+            let t = next_of k ts one in
+            subst (λ us. FewerRead us → ReadOrFailed (each k a) n us) (sym t.3) (read_each_behind k a n t.0 t.2 t.1 h t.4 shallow) f
       ]
     ]
 
@@ -215,8 +215,8 @@ read_perhaps k a n ts h f =
     elim (told (is_at (classes_of k) ts)) [
       | inr none ↦ was_read None n ts (finds_nothing none)
       | inl one ↦
-        let t = next_of k ts one in
-        subst (λ us. FewerRead us → ReadOrFailed (perhaps k a) n us) (sym t.3) (read_perhaps_behind k a n t.0 t.2 t.1 h t.4) f
+          let t = next_of k ts one in
+          subst (λ us. FewerRead us → ReadOrFailed (perhaps k a) n us) (sym t.3) (read_perhaps_behind k a n t.0 t.2 t.1 h t.4) f
     ]
 
 read_starting : {p : Phrase} → Starts p → (n : ℕ) (ts : List LocatedToken) → FewerRead ts → ReadOrFailed p n ts

@@ -1,6 +1,6 @@
 -- Each phrase of the grammar has a text, so whatever has been read of a phrase can be completed. The text is one that
 -- takes no `elif` and no `else` from what follows.
-use Rattle.std.proofs.Common.{◌≡◌, ℕ, ◌+◌, pos, Bool, true, false, ◌&&◌, List, [], ◌∷◌, Some, None, refl, sym, ◌∙◌, inl, inr, codes}
+use Rattle.std.proofs.Common.{◌≡◌, ℕ, ◌+◌, pos, Bool, true, false, ◌&&◌, List, [], ◌∷◌, Some, None, refl, inl, inr, codes}
 use Rattle.std.proofs.lemmas.Bool.{and_parts, both_ways}
 use denote.Enum.Bare.{true_same}
 use Rattle.kk_syntax.specs.declared.token.Keyword.TheVariants.{Elif, Else}
@@ -9,14 +9,14 @@ use Rattle.kk_syntax.specs.declared.token.Token.{Token}
 use Rattle.kk_syntax.specs.declared.token.Token.TheVariants as OfToken
 use Rattle.kk_syntax.specs.contracts.token.Keyword.{the_type as the_keywords}
 use Rattle.kk_syntax.specs.contracts.token.Symbol.{the_type as the_symbols}
-use Rattle.kk_parser.specs.Classes.{Class, keyword as keyword_class, Word, print, println, main, total, div, exn, console, NameClass, word, type_variable, other, spelling_of, name_class, is_at}
+use Rattle.kk_parser.specs.Classes.{Class, keyword as keyword_class, print, println, main, total, div, exn, console, NameClass, word, type_variable, other, spelling_of, name_class, is_at}
 use Rattle.kk_parser.specs.Kinds.{Kind, keyword, symbol, name_in, constructor, wildcard, number, string, Said, says, classes_of}
 use Rattle.kk_parser.specs.Phrases.{Nonterminal, program, decl, param, effect, eff, type, result_type, expr, block, stmt, if_, or, and, cmp, add, mul, un, post, atom, say, args, Phrase, token, opener, ◌▸◌, either, many, optional, level, rule, each, perhaps, quoted_or, PhraseValue}
 use Rattle.kk_parser.specs.Forms.{form, form_meaning, form_grammar}
 use Rattle.kk_parser.specs.Spells.{Marked, tokens_of, Spells, by_token, by_opener, by_both, by_first, by_second, by_none, by_absence, by_level, by_rule, by_no_more, by_nothing, by_unquoted}
 use Rattle.kk_parser.proofs.Apart.{is_at-one, same_name_class-self, apart, apart-is_at, within, within-is_at, not_at}
 
--- the classes of tokens with which a phrase goes on where it can
+-- the claimed classes: a phrase that can go on with such a token does
 abbrev pub claimed : List Class
 claimed = keyword_class Elif ∷ keyword_class Else ∷ []
 
@@ -29,11 +29,11 @@ abbrev has_tokens : Kind → Bool
 has_tokens (name_in []) = false
 has_tokens _ = true
 
--- a token of this kind is none of those with which a phrase goes on
+-- there are tokens of a kind, and none of them is claimed
 abbrev pub plain_kind : Kind → Bool
 plain_kind k = has_tokens k && apart (classes_of k) claimed
 
--- a phrase has such tokens only where it goes on
+-- the tokens of a phrase are of such kinds, and those with which its parts go on are claimed
 abbrev pub plain : Phrase → Bool
 plain (token k) = plain_kind k
 plain (opener k) = plain_kind k
@@ -70,7 +70,7 @@ plain-form atom = refl
 plain-form say = refl
 plain-form args = refl
 
--- where none of some classes is next, no token of a kind is whose classes are among them
+-- where none of some classes is next, none of fewer classes is
 pub none_within : (cs ds : List Class) (ts : List LocatedToken) → within cs ds ≡ true → is_at ds ts ≡ false → is_at cs ts ≡ false
 none_within cs ds ts h e = not_at (is_at cs ts) (λ found. both_ways _ e (within-is_at cs ds ts h found))
 

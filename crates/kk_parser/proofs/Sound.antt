@@ -1,11 +1,11 @@
 -- What is read is spelled so; and where a reading fails, what was read before begins a text. Each text stands before
 -- tokens that it does not go on with.
-use Rattle.std.proofs.Common.{◌≡◌, ℕ, ◌+◌, ◌<◌, ◌≤◌, Bool, true, false, List, [], ◌∷◌, Option, Some, is_some, refl, sym, ◌∙◌, subst, inl, inr, arith}
+use Rattle.std.proofs.Common.{◌≡◌, ℕ, ◌+◌, ◌≤◌, true, false, List, [], ◌∷◌, Some, refl, sym, subst, inl, inr, arith}
 use Rattle.std.proofs.lemmas.Bool.{and_parts}
 use Rattle.kk_syntax.specs.declared.token.LocatedToken.{LocatedToken}
 use Rattle.kk_parser.specs.Classes.{Class, is_at}
-use Rattle.kk_parser.specs.Kinds.{Kind, Said, says, classes_of}
-use Rattle.kk_parser.specs.Phrases.{Phrase, token, opener, each, PhraseValue}
+use Rattle.kk_parser.specs.Kinds.{Kind, classes_of}
+use Rattle.kk_parser.specs.Phrases.{Phrase, opener, each, PhraseValue}
 use Rattle.kk_parser.specs.Forms.{form_meaning, form_grammar}
 use Rattle.kk_parser.specs.Spells.{Marked, tokens_of, Spells, by_token, by_opener, by_both, by_first, by_second, by_none, by_more, by_absence, by_presence, by_level, by_rule, by_no_more, by_each, by_nothing, by_something, by_quoted, by_unquoted}
 use Rattle.kk_parser.specs.Reading.{Finds, finds_token, finds_opener, finds_both, finds_first, finds_second, finds_none, finds_more, finds_absence, finds_presence, finds_level, finds_rule, finds_no_more, finds_each, finds_nothing, finds_something, finds_quoted, finds_unquoted, Failure, unexpected, too_deep, ReadingFails, fails_token, fails_opener, fails_deep, fails_front, fails_behind, fails_first, fails_second, fails_one, fails_more, fails_presence, fails_level, fails_rule, fails_each_deep, fails_each, fails_each_more, fails_something, fails_quoted, fails_unquoted}
@@ -43,8 +43,8 @@ reaches_behind : {limit : ℕ} {xs ys : List Marked} {ts us : List LocatedToken}
 reaches_behind no_front s = s
 reaches_behind (one_front h r) s = behind h (reaches_behind r s)
 
--- Onward us zs: before zs no phrase goes on that does not before us: none of the claimed tokens is next, or the token
--- that us begins with
+-- Onward us zs: zs begin with no claimed token, or with the same token as us. So no phrase goes on with zs that does not
+-- go on with us.
 pub data Onward : List LocatedToken → List Marked → Type 0 where
   onward_calm : {us : List LocatedToken} {zs : List Marked} → Calm zs → Onward us zs
   onward_same : {z : Marked} {us : List LocatedToken} {zs : List Marked} → Onward (z.token ∷ us) (z ∷ zs)
@@ -114,10 +114,11 @@ module _ (limit : ℕ) where
   spelled (finds_quoted h r) l e zs o = let a = spelled r l refl zs o in (a.0, by_quoted a.1, a.2)
   spelled (finds_unquoted h r) l e zs o = let a = spelled r l e zs o in (a.0, by_unquoted a.1, a.2)
 
-  -- a text that begins with the tokens read up to where the reading fails
+  -- a text, before some tokens, that begins with the tokens read up to where the reading fails
   abbrev pub BegunText : (p : Phrase) → ℕ → PhraseValue p → ℕ → List LocatedToken → Failure → List Marked → Type 0
   BegunText p n v m ts f zs = (xs : List Marked) × Spells form_grammar p n v m xs zs × Reaches limit xs ts f × Onward ts xs
 
+  -- such texts before all tokens that no phrase goes on with
   pub record Begun (p : Phrase) (n : ℕ) (ts : List LocatedToken) (f : Failure) : Type 0 where
     pub value : PhraseValue p
     pub levels : ℕ
