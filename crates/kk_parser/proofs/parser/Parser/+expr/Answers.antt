@@ -190,8 +190,7 @@ or-returns-in_err-right-clause-reads t c =
 pub or-returns-clause-reads : goal.or-returns-clause-reads
 or-returns-clause-reads t c =
     let h = sym c.is_at.ensures.value ∙ c.if-not-is_at.false in
-    subst (λ tree. Read (rule or) tree c.args.self.now c.or.new.self) (sym c.in_ok-either.ensures)
-    (finds_rule (finds_both c.in_ok-left.ensures.reads (finds_presence h (finds_both c.in_ok-open.ensures.reads c.in_ok-right.ensures.reads))))
+    subst (λ tree. Read (rule or) tree c.args.self.now c.or.new.self) (sym c.in_ok-either.ensures) (finds_rule (finds_both c.in_ok-left.ensures.reads (finds_presence h (finds_both c.in_ok-open.ensures.reads c.in_ok-right.ensures.reads))))
 
 pub and-returns-in_err-left-clause-reads : goal.and-returns-in_err-left-clause-reads
 and-returns-in_err-left-clause-reads t c =
@@ -214,8 +213,7 @@ and-returns-in_err-right-clause-reads t c =
 pub and-returns-clause-reads : goal.and-returns-clause-reads
 and-returns-clause-reads t c =
     let h = sym c.is_at.ensures.value ∙ c.if-not-is_at.false in
-    subst (λ tree. Read (rule and) tree c.args.self.now c.and.new.self) (sym c.in_ok-both.ensures)
-    (finds_rule (finds_both c.in_ok-left.ensures.reads (finds_presence h (finds_both c.in_ok-open.ensures.reads c.in_ok-right.ensures.reads))))
+    subst (λ tree. Read (rule and) tree c.args.self.now c.and.new.self) (sym c.in_ok-both.ensures) (finds_rule (finds_both c.in_ok-left.ensures.reads (finds_presence h (finds_both c.in_ok-open.ensures.reads c.in_ok-right.ensures.reads))))
 
 pub cmp-returns-in_err-left-clause-reads : goal.cmp-returns-in_err-left-clause-reads
 cmp-returns-in_err-left-clause-reads t c =
@@ -241,8 +239,7 @@ cmp-returns-clause-reads t c =
     let o = rw c.in-Some.is at c.in_ok-operator.ensures.reads in
     let l = written_expr c.in_ok-left.left in
     let r = written_expr c.in_ok-right.right in
-    subst (λ tree. Read (rule cmp) tree c.args.self.now c.add-2.new.self) (ap (λ operator. binary operator l r) o.2 ∙ sym c.in_ok-binary.ensures)
-    (finds_rule (finds_both c.in_ok-left.ensures.reads (finds_presence o.0 (finds_both o.3 c.in_ok-right.ensures.reads))))
+    subst (λ tree. Read (rule cmp) tree c.args.self.now c.add-2.new.self) (ap (λ operator. binary operator l r) o.2 ∙ sym c.in_ok-binary.ensures) (finds_rule (finds_both c.in_ok-left.ensures.reads (finds_presence o.0 (finds_both o.3 c.in_ok-right.ensures.reads))))
 
 pub add-returns-in_err-left-clause-reads : goal.add-returns-in_err-left-clause-reads
 add-returns-in_err-left-clause-reads t c =
@@ -355,8 +352,7 @@ pub un-returns-clause-reads : goal.un-returns-clause-reads
 un-returns-clause-reads t c =
     let o = rw c.in-Some.is at c.in_ok-operator.ensures.reads in
     let operand = written_expr c.in_ok-operand.operand in
-    subst (λ tree. Read (rule un) tree c.args.self.now c.un.new.self) (ap (λ operator. unary operator operand) o.2 ∙ sym c.in_ok-unary.ensures)
-    (finds_rule (finds_first o.0 (finds_both o.3 c.in_ok-operand.ensures.reads)))
+    subst (λ tree. Read (rule un) tree c.args.self.now c.un.new.self) (ap (λ operator. unary operator operand) o.2 ∙ sym c.in_ok-unary.ensures) (finds_rule (finds_first o.0 (finds_both o.3 c.in_ok-operand.ensures.reads)))
 
 pub post-returns-in_err-first-clause-reads : goal.post-returns-in_err-first-clause-reads
 post-returns-in_err-first-clause-reads t c =
