@@ -193,7 +193,12 @@ fn truth(alloc: Global, constructor: u32) -> Expr
 }
 
 /// An `if` with both branches.
-fn conditional(alloc: Global, condition: Expr, positive: Expr, negative: Expr) -> Result<Expr, NoMemory>
+fn conditional(
+    alloc: Global,
+    condition: Expr,
+    positive: Expr,
+    negative: Expr,
+) -> Result<Expr, NoMemory>
     ensures { IfOk result (λ e. expr_tree e ≡ branch (expr_tree condition) (expr_tree positive) (expr_tree negative)) }
 {
     let condition = Box::new(alloc, condition)?;

@@ -64,12 +64,12 @@ dot_call-returns t c =
     let es = writtens_of (map written_expr c.args.others.now) in
     let items : arguments.items ≡ first ∷ others = c.in_ok-insert.ensures.items in
     let all = subst (λ (xs : List Expr). ResolvesAll (written e es) c.args.self.now c.expressions.new.self (trees_of (map expr_tree xs))) (sym items)
-        (first_resolved e es c.args.self.now c.expression.new.self c.expressions.new.self (expr_tree first) (map expr_tree others) c.in_ok-first.ensures c.in_ok-arguments.ensures) in
+    (first_resolved e es c.args.self.now c.expression.new.self c.expressions.new.self (expr_tree first) (map expr_tree others) c.in_ok-first.ensures c.in_ok-arguments.ensures) in
     let means = c.meaning_in-callee.ensures ∙ ap (λ all. meaning_in all name.name) c.as_slice.ensures.value in
     IfOk-weaker c.applied.result _ _
     (λ x made.
-      dot_call_resolved e name es c.args.self.now c.applied.new.self (expr_tree x)
-      (call_resolved name (written e es) c.meaning_in-callee.result c.args.self.now c.expressions.new.self c.applied.new.self arguments.items (vec_len arguments) (expr_tree x) all means made.0 counted made.1))
+    dot_call_resolved e name es c.args.self.now c.applied.new.self (expr_tree x)
+    (call_resolved name (written e es) c.meaning_in-callee.result c.args.self.now c.expressions.new.self c.applied.new.self arguments.items (vec_len arguments) (expr_tree x) all means made.0 counted made.1))
     c.applied.ensures
 
 pub both-returns : goal.both-returns
@@ -80,9 +80,9 @@ both-returns t c =
     let right = written_expr c.args.right.now in
     IfOk-weaker c.conditional.result _ _
     (λ e made.
-      as_written (both left right) (both left right) c.args.self.now c.expression-2.new.self (expr_tree e) (OfTree.branch first second (truth 0)) refl
-      (made ∙ ap (OfTree.branch first second) c.truth-negative.ensures)
-      (both_resolved left right c.args.self.now c.expression.new.self c.expression-2.new.self first second c.in_ok-condition.ensures c.in_ok-positive.ensures))
+    as_written (both left right) (both left right) c.args.self.now c.expression-2.new.self (expr_tree e) (OfTree.branch first second (truth 0)) refl
+    (made ∙ ap (OfTree.branch first second) c.truth-negative.ensures)
+    (both_resolved left right c.args.self.now c.expression.new.self c.expression-2.new.self first second c.in_ok-condition.ensures c.in_ok-positive.ensures))
     c.conditional.ensures
 
 pub either-returns : goal.either-returns
@@ -93,9 +93,9 @@ either-returns t c =
     let right = written_expr c.args.right.now in
     IfOk-weaker c.conditional.result _ _
     (λ e made.
-      as_written (either left right) (either left right) c.args.self.now c.expression-2.new.self (expr_tree e) (OfTree.branch first (truth 1) second) refl
-      (made ∙ ap (λ b. OfTree.branch first b second) c.truth-positive.ensures)
-      (either_resolved left right c.args.self.now c.expression.new.self c.expression-2.new.self first second c.in_ok-condition.ensures c.in_ok-negative.ensures))
+    as_written (either left right) (either left right) c.args.self.now c.expression-2.new.self (expr_tree e) (OfTree.branch first (truth 1) second) refl
+    (made ∙ ap (λ b. OfTree.branch first b second) c.truth-positive.ensures)
+    (either_resolved left right c.args.self.now c.expression.new.self c.expression-2.new.self first second c.in_ok-condition.ensures c.in_ok-negative.ensures))
     c.conditional.ensures
 
 pub choice-returns : goal.choice-returns
@@ -108,24 +108,24 @@ choice-returns t c =
     let chosen : Option (Box SurfaceExpr Global) → Written = λ o. choice_of e p (option_map (λ b. written_expr b.value) o) in
     elim c.match-negative.branch [
       | choice-in-Some+in_ok-negative-in-Some w ↦
-        let n = written_expr w.deref.result.now in
-        let is = ap chosen w.in-Some.is ∙ ap (λ x. branch e p (written_expr x)) (sym w.deref.ensures) in
-        IfOk-weaker c.conditional.result _ _
-        (λ x made.
+          let n = written_expr w.deref.result.now in
+          let is = ap chosen w.in-Some.is ∙ ap (λ x. branch e p (written_expr x)) (sym w.deref.ensures) in
+          IfOk-weaker c.conditional.result _ _
+          (λ x made.
           as_written (chosen c.args.negative.now) (branch e p n) c.args.self.now c.match-negative.self (expr_tree x) (OfTree.branch first second third) is made
           (subst (λ (r : Resolver). Resolves (branch e p n) c.args.self.now r (OfTree.branch first second third)) (sym w.self-is)
           (subst (λ (y : Expr). Resolves (branch e p n) c.args.self.now w.expression-in-Some.new.self (OfTree.branch first second (expr_tree y))) (sym w.negative-is)
           (branch_resolved e p n c.args.self.now c.expression.new.self c.expression-2.new.self w.expression-in-Some.new.self first second (expr_tree w.in_ok-negative-in-Some.negative) c.in_ok-condition.ensures c.in_ok-positive.ensures w.in_ok-negative-in-Some.ensures))))
-        c.conditional.ensures
+          c.conditional.ensures
       | choice-in-None w ↦
-        IfOk-weaker c.conditional.result _ _
-        (λ x made.
+          IfOk-weaker c.conditional.result _ _
+          (λ x made.
           as_written (chosen c.args.negative.now) (branch_alone e p) c.args.self.now c.match-negative.self (expr_tree x) (OfTree.branch first second OfTree.unit)
           (ap chosen w.in-None.is)
           (made ∙ ap (OfTree.branch first second) (unit_tree c.match-negative.negative w.negative-is))
           (subst (λ (r : Resolver). Resolves (branch_alone e p) c.args.self.now r (OfTree.branch first second OfTree.unit)) (sym w.self-is)
           (alone_resolved e p c.args.self.now c.expression.new.self c.expression-2.new.self first second c.in_ok-condition.ensures c.in_ok-positive.ensures)))
-        c.conditional.ensures
+          c.conditional.ensures
     ]
 
 pub expressions-loop-expr-preserved : goal.expressions-loop-expr-preserved
