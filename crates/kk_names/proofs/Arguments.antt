@@ -40,9 +40,6 @@ pub record AllSoFar (old now : Resolver) (left all : Writtens) (trees : List Tre
   pub scope : now.scope.items ≡ old.scope.items
   pub trees_are : before trees (meant_all_at (state_of now) left) ≡ meant_all_at (state_of old) all
 
-pub all_start : (resolver : Resolver) (all : Writtens) → AllSoFar resolver resolver all all []
-all_start resolver all = record { state = refl; scope = refl; trees_are = refl }
-
 pub all_more : (old now new : Resolver) (e : Written) (left all : Writtens) (trees : List Tree) (t : Tree) → AllSoFar old now (written.written e left) all trees → Resolves e now new t → AllSoFar old new left all (trees ++ t ∷ [])
 all_more old now new e left all trees t so_far one =
     let s : State = state_of now in

@@ -1,8 +1,6 @@
 -- How far the loops over parameters and declarations have come.
 use Rattle.std.proofs.Common.{◌≡◌, ℕ, ◌+◌, List, [], ◌∷◌, ◌++◌, length, map, Option, None, refl, sym, ap, ◌∙◌, arith, append_assoc}
 use Rattle.std.specs.Prelude.{is_some}
-use Rattle.std.proofs.lemmas.List.{map-append, append-nil}
-use Rattle.kk_syntax.specs.declared.program.Form.TheVariants.{Call}
 use Rattle.kk_syntax.specs.declared.tree.Identifier.{Identifier}
 use Rattle.kk_syntax.specs.Programs.{FunctionTree}
 use Rattle.kk_syntax.specs.Surface.{Written, WrittenType, WrittenParameter, WrittenDeclaration, type_declaration, function_declaration}
@@ -12,7 +10,6 @@ use Rattle.kk_names.specs.declared.fault.Fault.{Fault}
 use Rattle.kk_names.specs.declared.fault.FaultKind.TheVariants.{Twice}
 use Rattle.kk_names.specs.declared.resolver.Resolver.{Resolver}
 use Rattle.kk_names.specs.declared.table.Declared.{Declared}
-use Rattle.kk_names.specs.Expressions.{meant}
 use Rattle.kk_names.specs.Faults.{twice_faults, type_faults, parameter_faults, result_faults, faults_in, second_functions, inside_faults, inside_all, faults_of}
 use Rattle.kk_names.specs.Methods.{first_with, newest_first, faults_if, Notes, Binds, Declares, Resolves, ResolvesParameters, ResolvesFunction}
 use Rattle.kk_names.specs.Names.{functions_of}
@@ -66,16 +63,6 @@ parameters_more old now checked typed numbered new parameter left all types numb
           ∙ (ap (λ x. types ++ x ∷ map (λ p. type_meant p.of_type) left) means ∙ so_far.types_are);
     }
 
-pub parameters_done : (old now : Resolver) (all : List WrittenParameter) (types : List TypeTree) → ParametersSoFar old now [] all types → ResolvesParameters all old now types
-parameters_done old now all types so_far =
-    record {
-      functions = so_far.functions;
-      scope = so_far.scope;
-      next = omega (arith, so_far.next);
-      first = so_far.first;
-      types_are = sym (append-nil types) ∙ so_far.types_are;
-    }
-
 -- the names of parameters
 pub names_with_parameters : (next : ℕ) (parameters : List WrittenParameter) (scope : Scope) → names_in (with_parameters next parameters scope) ≡ parameter_names parameters (names_in scope)
 names_with_parameters next [] scope = refl
@@ -87,27 +74,6 @@ names_with_parameters next (parameter ∷ more) scope = names_with_parameters (n
 pub record DeclaredSoFar (old now : Resolver) (number : ℕ) (left all : List WrittenDeclaration) : Type 0 where
   pub functions : now.functions.items ++ numbered number left ≡ old.functions.items ++ numbered 0 all
   pub first : first_with now.first (second_functions (map (λ d. d.name) now.functions.items) left) ≡ first_with old.first (second_functions (map (λ d. d.name) old.functions.items) all)
-
-pub declared_more : (old now new : Resolver) (number : ℕ) (name : Identifier) (parameters : List WrittenParameter) (effects : _) (result : Option WrittenType) (body : Written) (left all : List WrittenDeclaration)
-    → DeclaredSoFar old now number (function_declaration name parameters effects result body ∷ left) all
-    → new.functions.items ≡ now.functions.items ++ means name.name (Call number) (length parameters) ∷ []
-    → new.first ≡ first_with now.first (twice_faults (map (λ d. d.name) now.functions.items) name)
-    → DeclaredSoFar old new (number + 1) left all
-declared_more old now new number name parameters effects result body left all so_far functions first =
-    let one = means name.name (Call number) (length parameters) in
-    let names = map (λ d. d.name) now.functions.items in
-    record {
-      functions =
-          ap (λ fs. fs ++ numbered (number + 1) left) functions
-          ∙ (append_assoc now.functions.items (one ∷ []) (numbered (number + 1) left) ∙ so_far.functions);
-      first =
-          ap (λ f. first_with f (second_functions (map (λ d. d.name) new.functions.items) left)) first
-          ∙ (ap (λ fs. first_with (first_with now.first (twice_faults names name)) (second_functions fs left)) (ap (map (λ d. d.name)) functions ∙ map-append (λ d. d.name) now.functions.items (one ∷ []))
-          ∙ (sym (first_more now.first (twice_faults names name) (second_functions (names ++ name.name ∷ []) left)) ∙ so_far.first));
-    }
-
-pub declared_done : (old now : Resolver) (number : ℕ) (all : List WrittenDeclaration) → DeclaredSoFar old now number [] all → Declares all old now
-declared_done old now number all so_far = record { functions = sym (append-nil now.functions.items) ∙ so_far.functions; first = so_far.first }
 
 -- ---- functions
 
@@ -173,20 +139,6 @@ function_resolved name parameters effects result body old start first second new
           ∙ (sym (first_more (first_with old.first (parameter_faults [] parameters)) (result_faults result) (faults_in table names body))
           ∙ sym (first_more old.first (parameter_faults [] parameters) (result_faults result ++ faults_in table names body))))));
     }
-
--- what a function's body means
-pub body_meant : (parameters : List WrittenParameter) (result : Option WrittenType) (body : Written) (old start first second new : Resolver) (types : List TypeTree) (t : Tree)
-    → start.functions.items ≡ old.functions.items → start.scope.items ≡ [] → start.next ≡ 0
-    → ResolvesParameters parameters start first types → Notes (result_faults result) first second → Resolves body second new t
-    → t ≡ meant old.functions.items (with_parameters 0 parameters []) (length parameters) body
-body_meant parameters result body old start first second new types t functions scope next x y z =
-    let seen : newest_first second.scope.items ≡ with_parameters 0 parameters [] =
-    ap newest_first y.scope ∙ (x.scope ∙ (ap (λ n. with_parameters n parameters (newest_first start.scope.items)) next ∙ ap (λ xs. with_parameters 0 parameters (newest_first xs)) scope)) in
-    let table : second.functions.items ≡ old.functions.items = ap (λ state. state.functions) y.state ∙ (x.functions ∙ functions) in
-    let number : second.next ≡ length parameters = omega (arith, ap (λ state. state.next) y.state, x.next, next) in
-    z.tree_is
-    ∙ (ap (λ fs. meant fs (newest_first second.scope.items) second.next body) table
-    ∙ (ap (λ s. meant old.functions.items s second.next body) seen ∙ ap (λ n. meant old.functions.items (with_parameters 0 parameters []) n body) number))
 
 -- all faults of declarations were noted
 pub all_noted : (start declared : Resolver) (last : Option Fault) (ds : List WrittenDeclaration) → start.functions.items ≡ built_in_functions → start.first ≡ None → Declares ds start declared

@@ -36,9 +36,6 @@ before_of_place f g less = by (cases_lt f.at g.at)
 tested : (a b r s : ℕ) → r ≤ 2 → s ≤ 2 → (nat_lt a b || ((a == b) && nat_lt r s)) ≡ nat_lt (3 * a + r) (3 * b + s)
 tested a b r s h k = grind (arith, nat_tests)
 
-kept_of : (b : Bool) (f g : Fault) → Option Fault
-kept_of b f g = if b then Some f else Some g
-
 -- what is kept of two
 new_kept : (f g : Fault) → place f < place g → earlier_of (Some g) f ≡ Some f
 unfolding place

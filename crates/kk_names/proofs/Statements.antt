@@ -15,7 +15,7 @@ use Rattle.kk_names.specs.declared.table.Declared.{Declared}
 use Rattle.kk_names.specs.declared.scope.Bound.{Bound}
 use Rattle.kk_names.specs.Expressions.{meant}
 use Rattle.kk_names.specs.Faults.{faults_in}
-use Rattle.kk_names.specs.Methods.{State, state_of, behind, meant_at, newest_first, first_with, KeepsScope, Binds, Resolves, ResolvesStatement, ResolvesStatements}
+use Rattle.kk_names.specs.Methods.{State, state_of, behind, meant_at, newest_first, first_with, KeepsScope, Binds, Resolves, ResolvesStatement}
 use Rattle.kk_names.specs.Scopes.{Scope, binding, names_in, with_binder, binder_names, binder_of, binder_count, binders_in}
 use Rattle.kk_names.proofs.Growing.{first_more}
 use Rattle.kk_names.proofs.Tables.{newest_more}
@@ -47,10 +47,6 @@ pub record StatementsSoFar (old now : Resolver) (left all : List WrittenStatemen
   pub longer : length old.scope.items ≤ length now.scope.items
   pub kept : KeepsScope old now
 
-pub statements_start : (resolver : Resolver) (all : List WrittenStatement) → KeepsScope resolver resolver → StatementsSoFar resolver resolver all all []
-statements_start resolver all kept =
-    record { functions = refl; next = λ last. refl; first = λ last. refl; tree_is = λ last. refl; longer = omega arith; kept = kept }
-
 pub statements_more : (old now new : Resolver) (s : WrittenStatement) (left all : List WrittenStatement) (trees : List StatementTree) (t : StatementTree)
     → StatementsSoFar old now (s ∷ left) all trees → ResolvesStatement s now new t → StatementsSoFar old new left all (trees ++ t ∷ [])
 statements_more old now new s left all trees t so_far one =
@@ -75,10 +71,6 @@ statements_more old now new s left all trees t so_far one =
       longer = omega (arith, so_far.longer, one.longer);
       kept = kept_longer old.scope.items now.scope.items new.scope.items so_far.longer so_far.kept one.kept;
     }
-
-pub statements_done : (old now : Resolver) (all : List WrittenStatement) (trees : List StatementTree) → StatementsSoFar old now [] all trees → (last : Written) → ResolvesStatements all last old now trees
-statements_done old now all trees so_far last =
-    record { functions = so_far.functions; next = so_far.next last; first = so_far.first last; tree_is = so_far.tree_is last }
 
 state_is : (f g : List Declared) (s r : Scope) (n m : ℕ) (x y : Option Fault) → f ≡ g → s ≡ r → n ≡ m → x ≡ y
     → (let here : State = record { functions = f; scope = s; next = n; first = x } in here) ≡ record { functions = g; scope = r; next = m; first = y }

@@ -21,13 +21,6 @@ take_more xs i d less = ap (λ j. take j xs) {x = i + 1} {y = suc i} (omega arit
 pub drop_more : {A : Type 0} (xs : List A) (i : ℕ) (d : A) → i < length xs → drop i xs ≡ get_or xs i d ∷ drop (i + 1) xs
 drop_more xs i d less = drop-cons xs i d less ∙ ap (λ j. get_or xs i d ∷ drop j xs) {x = suc i} {y = i + 1} (omega arith)
 
--- the first of a table
-pub meaning_here : (d : Declared) (more : List Declared) (name : List ℕ) → bytes_eq d.name name ≡ true → meaning_in (d ∷ more) name ≡ Some d.callee
-meaning_here d more name is = ap (λ b. if b then Some d.callee else meaning_in more name) is
-
-pub meaning_behind : (d : Declared) (more : List Declared) (name : List ℕ) → bytes_eq d.name name ≡ false → meaning_in (d ∷ more) name ≡ meaning_in more name
-meaning_behind d more name other = ap (λ b. if b then Some d.callee else meaning_in more name) other
-
 -- one variable more is the newest
 pub newest_more : (older : Scope) (scope : List Bound) (one : Bound) → newest_before older (scope ++ one ∷ []) ≡ one ∷ newest_before older scope
 newest_more older [] one = refl

@@ -1,5 +1,5 @@
 -- What the expressions of a text are written as, and what those that the code makes are, by their forms.
-use Rattle.std.proofs.Common.{◌≡◌, ℕ, ◌+◌, ◌<◌, List, ◌∷◌, length, map, drop, get_or, Some, None, sym, ap, ◌∙◌}
+use Rattle.std.proofs.Common.{◌≡◌, ℕ, ◌+◌, ◌<◌, List, ◌∷◌, length, map, drop, get_or, Box, Global, Option, Some, None, sym, ap, ◌∙◌}
 use Rattle.kk_syntax.specs.declared.operator.BinaryOperator.{BinaryOperator}
 use Rattle.kk_syntax.specs.declared.program.Expr.{Expr}
 use Rattle.kk_syntax.specs.declared.program.Expr.TheVariants as program
@@ -8,7 +8,7 @@ use Rattle.kk_syntax.specs.declared.program.Form.{Form}
 use Rattle.kk_syntax.specs.declared.program.Statement.{Statement}
 use Rattle.kk_syntax.specs.declared.tree.Identifier.{Identifier}
 use Rattle.kk_syntax.specs.declared.tree.SurfaceBinder.TheVariants as OfSurface
-use Rattle.kk_syntax.specs.declared.tree.SurfaceExpr.{SurfaceExpr}
+use Rattle.kk_syntax.specs.declared.tree.SurfaceExpr.{SurfaceExpr, size-SurfaceExpr}
 use Rattle.kk_syntax.specs.declared.tree.SurfaceExpr.TheVariants as surface
 use Rattle.kk_syntax.specs.declared.tree.SurfaceExpr.TheFolds.{fold-roll-SurfaceExpr, fold_out-SurfaceStatement}
 use Rattle.kk_syntax.specs.declared.tree.SurfaceStatement.{SurfaceStatement}
@@ -36,48 +36,12 @@ construct_written e name arguments es is items =
     ap written_expr (is ∙ sym (surface.rolls-Construct name arguments))
     ∙ (fold-roll-SurfaceExpr Written WrittenRow WrittenStatement written.expr_step written.row_step written.statement_step _ ∙ ap (λ all. written.construct name (writtens_of (map written_expr all))) (sym items))
 
-pub dot_call_written : (e : SurfaceExpr) (first : _) (name : Identifier) (others : _) (f : SurfaceExpr) (es : List SurfaceExpr) → e ≡ surface.DotCall first name others → f ≡ first.value → es ≡ others.items
-    → written_expr e ≡ written.dot_call (written_expr f) name (writtens_of (map written_expr es))
-dot_call_written e first name others f es is first_is items =
-    ap written_expr (is ∙ sym (surface.rolls-DotCall first name others))
-    ∙ (fold-roll-SurfaceExpr Written WrittenRow WrittenStatement written.expr_step written.row_step written.statement_step _
-    ∙ (ap (λ all. written.dot_call (written_expr first.value) name (writtens_of (map written_expr all))) (sym items) ∙ ap (λ x. written.dot_call (written_expr x) name (writtens_of (map written_expr es))) (sym first_is)))
-
 pub binary_written : (e : SurfaceExpr) (operator : BinaryOperator) (left right : _) (l r : SurfaceExpr) → e ≡ surface.Binary operator left right → l ≡ left.value → r ≡ right.value
     → written_expr e ≡ written.binary operator (written_expr l) (written_expr r)
 binary_written e operator left right l r is left_is right_is =
     ap written_expr (is ∙ sym (surface.rolls-Binary operator left right))
     ∙ (fold-roll-SurfaceExpr Written WrittenRow WrittenStatement written.expr_step written.row_step written.statement_step _
     ∙ (ap (λ x. written.binary operator (written_expr x) (written_expr right.value)) (sym left_is) ∙ ap (λ x. written.binary operator (written_expr l) (written_expr x)) (sym right_is)))
-
-pub both_written : (e : SurfaceExpr) (left right : _) (l r : SurfaceExpr) → e ≡ surface.And left right → l ≡ left.value → r ≡ right.value
-    → written_expr e ≡ written.both (written_expr l) (written_expr r)
-both_written e left right l r is left_is right_is =
-    ap written_expr (is ∙ sym (surface.rolls-And left right))
-    ∙ (fold-roll-SurfaceExpr Written WrittenRow WrittenStatement written.expr_step written.row_step written.statement_step _
-    ∙ (ap (λ x. written.both (written_expr x) (written_expr right.value)) (sym left_is) ∙ ap (λ x. written.both (written_expr l) (written_expr x)) (sym right_is)))
-
-pub either_written : (e : SurfaceExpr) (left right : _) (l r : SurfaceExpr) → e ≡ surface.Or left right → l ≡ left.value → r ≡ right.value
-    → written_expr e ≡ written.either (written_expr l) (written_expr r)
-either_written e left right l r is left_is right_is =
-    ap written_expr (is ∙ sym (surface.rolls-Or left right))
-    ∙ (fold-roll-SurfaceExpr Written WrittenRow WrittenStatement written.expr_step written.row_step written.statement_step _
-    ∙ (ap (λ x. written.either (written_expr x) (written_expr right.value)) (sym left_is) ∙ ap (λ x. written.either (written_expr l) (written_expr x)) (sym right_is)))
-
-pub alone_written : (e : SurfaceExpr) (condition positive other : _) (i p : SurfaceExpr) → e ≡ surface.If condition positive other → other ≡ None → i ≡ condition.value → p ≡ positive.value
-    → written_expr e ≡ written.branch_alone (written_expr i) (written_expr p)
-alone_written e condition positive other i p is none condition_is positive_is =
-    ap written_expr ((is ∙ ap (surface.If condition positive) none) ∙ sym (surface.rolls-If condition positive None))
-    ∙ (fold-roll-SurfaceExpr Written WrittenRow WrittenStatement written.expr_step written.row_step written.statement_step _
-    ∙ (ap (λ x. written.branch_alone (written_expr x) (written_expr positive.value)) (sym condition_is) ∙ ap (λ x. written.branch_alone (written_expr i) (written_expr x)) (sym positive_is)))
-
-pub branch_written : (e : SurfaceExpr) (condition positive other negative : _) (i p n : SurfaceExpr) → e ≡ surface.If condition positive other → other ≡ Some negative → i ≡ condition.value → p ≡ positive.value → n ≡ negative.value
-    → written_expr e ≡ written.branch (written_expr i) (written_expr p) (written_expr n)
-branch_written e condition positive other negative i p n is some condition_is positive_is negative_is =
-    ap written_expr ((is ∙ ap (surface.If condition positive) some) ∙ sym (surface.rolls-If condition positive (Some negative)))
-    ∙ (fold-roll-SurfaceExpr Written WrittenRow WrittenStatement written.expr_step written.row_step written.statement_step _
-    ∙ (ap (λ x. written.branch (written_expr x) (written_expr positive.value) (written_expr negative.value)) (sym condition_is)
-    ∙ (ap (λ x. written.branch (written_expr i) (written_expr x) (written_expr negative.value)) (sym positive_is) ∙ ap (λ x. written.branch (written_expr i) (written_expr p) (written_expr x)) (sym negative_is))))
 
 pub statement_written : (s : SurfaceStatement) → written_statement s ≡ record { binder = s.binder; value = written_expr s.value }
 statement_written s = fold_out-SurfaceStatement Written WrittenRow WrittenStatement written.expr_step written.row_step written.statement_step s
@@ -127,3 +91,8 @@ next_parameter ps i p is less = ap (map written_parameter) (left_is ps i p is le
 
 pub next_declaration : (ds : List Declaration) (i : ℕ) (d : Declaration) → d ≡ get_or ds i d → i < length ds → map written_declaration (drop i ds) ≡ written_declaration d ∷ map written_declaration (drop (i + 1) ds)
 next_declaration ds i d is less = ap (map written_declaration) (left_is ds i d is less)
+
+-- the size of a branch that may be left out
+abbrev pub option_size : Option (Box SurfaceExpr Global) → ℕ
+option_size None = 0
+option_size (Some b) = size-SurfaceExpr b.value

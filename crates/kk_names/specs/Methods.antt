@@ -7,7 +7,7 @@ use Rattle.kk_syntax.specs.declared.program.Program.{Program}
 use Rattle.kk_syntax.specs.declared.program.Ty.{Ty}
 use Rattle.kk_syntax.specs.declared.tree.Identifier.{Identifier}
 use Rattle.kk_syntax.specs.Programs.{FunctionTree, program_tree}
-use Rattle.kk_syntax.specs.Surface.{Written, Writtens, WrittenStatement, WrittenParameter, WrittenDeclaration, block_of}
+use Rattle.kk_syntax.specs.Surface.{Written, branch, branch_alone, Writtens, WrittenStatement, WrittenParameter, WrittenDeclaration, block_of}
 use Rattle.kk_syntax.specs.Trees as program
 use Rattle.kk_syntax.specs.Trees.{StatementTree}
 use Rattle.kk_syntax.specs.Types.{TypeTree, type_tree}
@@ -96,6 +96,11 @@ pub record Resolves (e : Written) (old new : Resolver) (tree : program.Tree) : T
   pub scope : new.scope.items ≡ old.scope.items
   pub tree_is : tree ≡ meant_at (state_of old) e
 
+-- an `if`, with or without a second branch
+abbrev pub choice_of : Written → Written → Option Written → Written
+choice_of condition positive None = branch_alone condition positive
+choice_of condition positive (Some negative) = branch condition positive negative
+
 -- the same of several expressions
 pub record ResolvesAll (es : Writtens) (old new : Resolver) (trees : program.Trees) : Type 0 where
   pub state : state_of new ≡ behind_all es (state_of old)
@@ -136,20 +141,6 @@ pub record ResolvesStatements (statements : List WrittenStatement) (last : Writt
   pub next : new.next + binders_in last ≡ old.next + binders_in (block_of statements last)
   pub first : (behind last (state_of new)).first ≡ (behind (block_of statements last) (state_of old)).first
   pub tree_is : program.block_of trees (meant_at (state_of new) last) ≡ meant_at (state_of old) (block_of statements last)
-
--- a branch of an `if` that may be left out
-abbrev pub branch_behind : Option Written → State → State
-branch_behind None state = state
-branch_behind (Some e) state = behind e state
-
-abbrev pub branch_meant : State → Option Written → program.Tree
-branch_meant state None = program.unit
-branch_meant state (Some e) = meant_at state e
-
-pub record ResolvesBranch (e : Option Written) (old new : Resolver) (tree : program.Tree) : Type 0 where
-  pub state : state_of new ≡ branch_behind e (state_of old)
-  pub scope : new.scope.items ≡ old.scope.items
-  pub tree_is : tree ≡ branch_meant (state_of old) e
 
 abbrev pub option_type : Option Ty → Option TypeTree
 option_type None = None
