@@ -1,39 +1,30 @@
--- A program comes to one thing.
-use Rattle.std.proofs.Common.{◌≡◌, ℕ, map, Option, Some, None, option_map, refl, ap, sym, ◌∙◌}
+-- A program comes to one thing, and the code finds it.
+use Rattle.std.proofs.Common.{◌≡◌, ℕ, ◌+◌, ◌-◌, ◌^◌, ◌<◌, ◌≤◌, min, List, length, map, Option, Some, None, option_map, refl, ap, sym, ◌∙◌, subst, inl, inr, arith}
 use Rattle.std.specs.Prelude.{Result, Ok, Err}
 use Rattle.std.specs.Result.{result_err}
+use Rattle.std.proofs.lemmas.Bool.{cases_lt}
 use Rattle.kk_base.specs.Exactly.{IsOnly, ExactlyOne}
 use Rattle.kk_base.specs.declared.limit.Limit.{Limit}
-use Rattle.kk_base.specs.declared.limit.LimitKind.TheVariants.{FunctionNodes}
-use Rattle.kk_syntax.specs.declared.program.Program.{Program}
-use Rattle.kk_syntax.specs.Programs.{ProgramTree, function_tree, program_tree}
-use Rattle.kk_mono.specs.Counts.{too_many_nodes, CountsAs, EachProgramIsCounted, AnswersCounts, told_limit}
+use Rattle.kk_base.specs.declared.limit.LimitKind.TheVariants.{Parameters, FunctionNodes, Instances, ProgramNodes}
+use Rattle.kk_syntax.specs.Programs.{ProgramTree}
+use Rattle.kk_mono.specs.Counts.{too_many_parameters, ParametersAs, too_many_nodes, summed_nodes, KeepsCounts, PassesFirst, of_function, of_instances, of_program, CountsAs, EachProgramIsCounted}
+use Rattle.kk_mono.specs.Instances.{AreInstances}
+use Rattle.kk_mono.specs.Reaching.{told_limit}
+use Rattle.kk_mono.proofs.Reached.{have_instances, one_list}
 
-one_outcome : (program : ProgramTree) (a b : Result (Unit {0}) Limit) → CountsAs program a → CountsAs program b → b ≡ a
-one_outcome program (Ok _) (Ok _) x y = refl
-one_outcome program (Ok _) (Err l) x y = let found = sym x ∙ y.1 in cc
-one_outcome program (Err l) (Ok _) x y = let found = sym y ∙ x.1 in cc
-one_outcome program (Err l) (Err k) x y =
+-- the parameters
+one_of_parameters : (program : ProgramTree) (a b : Result (Unit {0}) Limit) → ParametersAs program a → ParametersAs program b → b ≡ a
+one_of_parameters program (Ok _) (Ok _) x y = refl
+one_of_parameters program (Ok _) (Err l) x y = let found = sym x ∙ y.1 in cc
+one_of_parameters program (Err l) (Ok _) x y = let found = sym y ∙ x.1 in cc
+one_of_parameters program (Err l) (Err k) x y =
     let found = sym y.1 ∙ x.1 in
     let same : y.0 ≡ x.0 = cc in
-    ap Err (y.2 ∙ (ap (λ n. record { kind = FunctionNodes; count = n }) same ∙ sym x.2))
+    ap Err (y.2 ∙ (ap (λ n. record { kind = Parameters; count = n }) same ∙ sym x.2))
 
-only_outcome : (program : ProgramTree) (outcome : Result (Unit {0}) Limit) → CountsAs program outcome → IsOnly (CountsAs program) outcome
-only_outcome program outcome h = record { holds = h; only = λ other k. one_outcome program outcome other h k }
+pub only_parameters : (program : ProgramTree) (outcome : Result (Unit {0}) Limit) → ParametersAs program outcome → IsOnly (ParametersAs program) outcome
+only_parameters program outcome h = record { holds = h; only = λ other k. one_of_parameters program outcome other h k }
 
-pub each_program_is_counted : EachProgramIsCounted
-each_program_is_counted program = by (too_many_nodes program.functions) refl
-  where
-    by : (many : Option ℕ) → too_many_nodes program.functions ≡ many → ExactlyOne (CountsAs program)
-    by None e = (Ok tt, only_outcome program (Ok tt) e)
-    by (Some count) e = (Err (record { kind = FunctionNodes; count = count }), only_outcome program _ (count, e, refl))
-
--- what the loop over the functions found
-pub answered : (program : Program) (result : Result (Unit {0}) Limit) → result_err result ≡ option_map told_limit (too_many_nodes (map function_tree program.functions.items)) → AnswersCounts program result
-answered program result e = by (too_many_nodes (map function_tree program.functions.items)) refl result e
-  where
-    by : (many : Option ℕ) → too_many_nodes (map function_tree program.functions.items) ≡ many → (result : Result (Unit {0}) Limit) → result_err result ≡ option_map told_limit many → AnswersCounts program result
-    by None is (Ok _) e = only_outcome (program_tree program) (Ok tt) is
-    by None is (Err limit) e = cc
-    by (Some count) is (Ok _) e = cc
-    by (Some count) is (Err limit) e = (record { kind = FunctionNodes; count = count }, only_outcome (program_tree program) _ (count, is, refl), cc)
+-- The limit that a program passes first, where its instances are given: it is told alone by what the program comes to.
+some_limit : Result (Unit {0}) Limit → Option Limit
+some_limit outcome = result_err outcome

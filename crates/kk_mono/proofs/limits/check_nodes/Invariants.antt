@@ -1,7 +1,7 @@
 use Rattle.std.proofs.Common.{◌≡◌, drop, map}
 use Rattle.kk_syntax.specs.Programs.{function_tree}
 use Rattle.kk_mono.specs.Counts.{too_many_nodes}
-use Rattle.kk_mono.proofs.limits.first_large.Given as goal
+use Rattle.kk_mono.proofs.limits.check_nodes.Given as goal
 
 -- no function so far has too many
 abbrev pub invariant-loop-function : goal.invariant-loop-function
