@@ -1,18 +1,1 @@
-pub mod Apart
-pub mod Begins
-pub mod Blocks
-pub mod Complete
-pub mod EachList
-pub mod FewNodes
-pub mod Functional
-pub mod Laws
-pub mod Local
-pub mod Lookahead
-pub mod Made
-pub mod OneOutcome
-pub mod Samples
-pub mod Sound
-pub mod Steps
-pub mod Tables
-pub mod Told
-pub mod Whole
+

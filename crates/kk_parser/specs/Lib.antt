@@ -1,3 +1,5 @@
+pub mod Classes
+pub mod Forms
 pub mod Grammar
 pub mod Kinds
 pub mod Methods

@@ -7,14 +7,10 @@ use Rattle.kk_syntax.specs.declared.token.LocatedToken.{LocatedToken}
 use Rattle.kk_parser.specs.declared.fault.Fault.{Fault}
 use Rattle.kk_parser.specs.declared.fault.Fault.TheVariants.{Unexpected, TooDeep, NoMemory}
 use Rattle.kk_parser.specs.declared.parser.Parser.{Parser}
-use Rattle.kk_parser.specs.Kinds.{is_at}
+use Rattle.kk_parser.specs.Classes.{is_at}
 use Rattle.kk_parser.specs.Phrases.{Phrase, PhraseValue}
+pub use Rattle.kk_parser.specs.Reading.{behind}
 use Rattle.kk_parser.specs.Reading.{first, Finds, ReadingFails, unexpected, too_deep}
-
--- the tokens behind the next one
-abbrev pub behind : List LocatedToken → List LocatedToken
-behind [] = []
-behind (t ∷ ts) = ts
 
 -- from one state of the parser to another it read a phrase that says v
 abbrev pub Read : (p : Phrase) → PhraseValue p → Parser → Parser → Type 0

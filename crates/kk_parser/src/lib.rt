@@ -1,12 +1,8 @@
-//! From the tokens of a text to the tree that they spell, or the first token with which no program goes on.
+//! Specs alone.
 #![tactic(auto)]
 
-mod block;
-mod expr;
-mod fault;
-mod parser;
-mod program;
-#[cfg(test)]
-mod tests;
+ghost use Rattle.kk_parser.specs.Parses.{EachListIsParsed};
+ghost use Rattle.kk_parser.specs.Reading.{Finds};
 
-pub use program::{each_list_is_parsed, parse};
+pub mod fault;
+pub mod parser;
