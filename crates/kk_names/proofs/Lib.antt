@@ -1,3 +1,0 @@
-pub mod Meanings
-pub mod Nodes
-pub mod Resolving
