@@ -189,11 +189,11 @@ step program marks waiting exploring = elim (by_end waiting) [
       | inl below ↦ elim (cases_Bool (is_marked marks f)) [
         | inl marked ↦ skipped rest f is (λ _. marked)
         | inr unmarked ↦ record {
-            marked = set marks f true;
-            waits = rest ++ calls (body_of program f);
-            exploring = visit program marks waiting rest f is below exploring;
-            less = less_by_visit program marks waiting rest f is exploring.long below unmarked;
-          }
+          marked = set marks f true;
+          waits = rest ++ calls (body_of program f);
+          exploring = visit program marks waiting rest f is below exploring;
+          less = less_by_visit program marks waiting rest f is exploring.long below unmarked;
+        }
       ]
     ]
 

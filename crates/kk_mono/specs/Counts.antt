@@ -78,3 +78,7 @@ abbrev pub AnswersInstances : Program → Result Program MonoError → Type 0
 AnswersInstances program (Ok given) = AreGiven program given
 AnswersInstances program (Err (Over limit)) = AnswersCounts program (Err limit)
 AnswersInstances program (Err NoMemory) = Unit {0}
+
+-- the limit that is answered at a count of a function's nodes
+abbrev pub told_limit : ℕ → Limit
+told_limit count = in_u64 (record { kind = FunctionNodes; count = count })

@@ -1,7 +1,5 @@
 -- How the instances of a program are found: as marks, and then in the order of their new numbers.
-use Rattle.std.specs.Prelude.{◌≡◌, ℕ, ◌-◌, ◌^◌, min, Bool, false, List, [], ◌∷◌, ◌++◌, length, slice_index_or, IsTrue}
-use Rattle.kk_base.specs.declared.limit.Limit.{Limit}
-use Rattle.kk_base.specs.declared.limit.LimitKind.TheVariants.{FunctionNodes}
+use Rattle.std.specs.Prelude.{◌≡◌, ℕ, Bool, false, List, [], ◌∷◌, ◌++◌, length, slice_index_or, IsTrue}
 use Rattle.kk_syntax.specs.Programs.{ProgramTree}
 use Rattle.kk_syntax.specs.Trees.{StatementTree}
 use Rattle.kk_mono.specs.Instances.{calls, IsInstance, AreInstances, numbered}
@@ -26,7 +24,3 @@ pub record AreNumbered (program : ProgramTree) (order : List ℕ) : Type 0 where
   pub numbers : List ℕ
   pub are : AreInstances program numbers
   pub is : order ≡ numbered program numbers
-
--- the limit that is answered at a count of a function's nodes
-abbrev pub told_limit : ℕ → Limit
-told_limit count = record { kind = FunctionNodes; count = min count (2 ^ 64 - 1) }

@@ -7,6 +7,8 @@ mod limits;
 mod program;
 mod reach;
 mod renaming;
+#[cfg(test)]
+mod tests;
 
 pub use error::MonoError;
 pub use limits::{check_parameters, each_program_is_counted};

@@ -2,8 +2,8 @@ ghost use Rattle.std.specs.Prelude.{◌≡◌, ◌-◌, ◌^◌, ◌<◌, min, m
 ghost use Rattle.std.specs.Result.{result_err};
 ghost use Rattle.kk_base.specs.Exactly.{IsOnly};
 ghost use Rattle.kk_syntax.specs.Programs.{function_tree, program_tree};
-ghost use Rattle.kk_mono.specs.Counts.{ParametersAs, too_many_nodes, summed_nodes, AnswersCounts, EachProgramIsCounted};
-ghost use Rattle.kk_mono.specs.Reaching.{AreNumbered, told_limit};
+ghost use Rattle.kk_mono.specs.Counts.{ParametersAs, too_many_nodes, summed_nodes, told_limit, AnswersCounts, EachProgramIsCounted};
+ghost use Rattle.kk_mono.specs.Reaching.{AreNumbered};
 
 use kk_base::{Limit, LimitKind};
 use kk_syntax::{Fun, Program, nodes};
