@@ -1,7 +1,8 @@
 -- An accepted program came through each judgement: so it is typed, and keeps its limits.
 use Rattle.std.proofs.Common.{◌≡◌, ℕ, List, Some, [], map, option_map, refl, sym, ap, ◌∙◌, subst}
 use Rattle.std.specs.Prelude.{Result, Ok, Err, slice_get}
-use Rattle.std.proofs.lemmas.List.{slice_get-map}
+use Rattle.std.proofs.lemmas.Option.{slice_get-map}
+use Rattle.kk_base.specs.declared.refusal.Refusal.TheVariants as OfText
 use Rattle.kk_syntax.specs.Programs.{FunctionTree, ProgramTree}
 use Rattle.kk_syntax.specs.Surface.{WrittenTree}
 use Rattle.kk_syntax.specs.Types.{unit_type}
@@ -9,9 +10,9 @@ use Rattle.kk_syntax.specs.Typing.{Signature, signature_of, IsTyped}
 use Rattle.kk_names.specs.Names.{ResolvesAs, HasMain, ResolvedProgramsHaveMain}
 use Rattle.kk_types.specs.Checks.{TypesAs}
 use Rattle.kk_mono.specs.Counts.{ParametersAs, CountsAs, KeepsCounts}
-use Rattle.kk_front.specs.Judgement.{ChecksProgram, IsProgramOf}
-use Rattle.kk_front.proofs.Chains.{came_through}
-use Rattle.kk_front.proofs.Judging.{OfLength, OfLexemes, OfGrammar, OfNames, OfParameters, OfTypes, OfCounts, FromLexemes, FromGrammar, FromNames, FromTypes}
+use Rattle.kk_front.specs.Judgement.{ChecksTypes, ChecksProgram, IsProgramOf}
+use Rattle.kk_front.proofs.Chains.{came_through, through_check, through_told_check}
+use Rattle.kk_front.proofs.Judging.{OfLength, OfLexemes, OfGrammar, OfNames, OfCounts, FromLexemes, FromGrammar, FromNames, FromTypes}
 
 -- what each judgement found of an accepted program
 pub record IsFound (program : ProgramTree) : Type 0 where
@@ -27,18 +28,11 @@ found text program h =
     let grammar = came_through OfLexemes FromGrammar lexemes.0 program lexemes.2 in
     let names = came_through OfGrammar FromNames grammar.0 program grammar.2 in
     let checks = came_through OfNames ChecksProgram names.0 program names.2 in
-    let types = came_through OfParameters FromTypes checks.0 program checks.2 in
-    let counts = came_through OfTypes OfCounts types.0 program types.2 in
-    let third : counts.0 ≡ program = sym counts.2.0 in
-    let second : types.0 ≡ program = sym counts.1.0 ∙ third in
-    let first : checks.0 ≡ program = sym types.1.0 ∙ second in
-    record {
-      tree = names.0;
-      resolved = subst (λ (p : ProgramTree). ResolvesAs names.0 (Ok p)) first checks.1;
-      parameters = subst (λ (p : ProgramTree). ParametersAs p (Ok tt)) first types.1.1;
-      types = subst (λ (p : ProgramTree). TypesAs p (Ok tt)) second counts.1.1;
-      counts = subst (λ (p : ProgramTree). CountsAs p (Ok tt)) third counts.2.1;
-    }
+    let parameters = through_told_check FromTypes checks.0 program OfText.Over ParametersAs checks.2 in
+    let types = through_check OfCounts checks.0 program ChecksTypes parameters.1 in
+    let counts = types.1 in
+    let passed : IsFound checks.0 = record { tree = names.0; resolved = checks.1; parameters = parameters.0; types = types.0; counts = counts.1 } in
+    subst IsFound (sym counts.0) passed
 
 main_typed : (program : ProgramTree) → HasMain program → slice_get (map signature_of program.functions) program.main ≡ Some (record { parameters = []; result = unit_type })
 main_typed program main =

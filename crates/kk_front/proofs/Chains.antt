@@ -8,13 +8,13 @@ use Rattle.kk_front.specs.Chain.{Then, stops, goes_on, ToldAs, Checking}
 abbrev Same : (A E : Type 0) → Result A E → Result A E → Type 0
 Same A E x y = x ≡ y
 
-ok_same : {A E : Type 0} {a b : A} → Same A E (Ok a) (Ok b) → a ≡ b
+pub ok_same : {A E : Type 0} {a b : A} → Same A E (Ok a) (Ok b) → a ≡ b
 ok_same e = cc e
 
-err_same : {A E : Type 0} {a b : E} → Same A E (Err a) (Err b) → a ≡ b
+pub err_same : {A E : Type 0} {a b : E} → Same A E (Err a) (Err b) → a ≡ b
 err_same e = cc e
 
-apart : {A E : Type 0} {a : A} {e : E} → Same A E (Ok a) (Err e) → ⊥
+pub apart : {A E : Type 0} {a : A} {e : E} → Same A E (Ok a) (Err e) → ⊥
 apart h = cc h
 
 module _ {A B C E : Type 0} (J : A → Result B E → Type 0) (K : B → Result C E → Type 0) (a : A) where
@@ -83,6 +83,14 @@ module _ {A E : Type 0} (J : A → Result (Unit {0}) E → Type 0) (a : A) where
   pub exactly_checking : ExactlyOne (J a) → ExactlyOne (Checking J a)
   exactly_checking (Ok _, h) = (Ok a, only_checking_ok h)
   exactly_checking (Err e, h) = (Err e, only_checking_err e h)
+
+-- what came through a check is what was checked
+module _ {A C : Type 0} (K : A → Result C Refusal → Type 0) (a : A) (c : C) where
+  pub through_check : (J : A → Result (Unit {0}) Refusal → Type 0) → Then (Checking J) K a (Ok c) → J a (Ok tt) × K a (Ok c)
+  through_check J h = let passed = came_through (Checking J) K a c h in (passed.1.1, subst (λ (b : A). K b (Ok c)) passed.1.0 passed.2)
+
+  pub through_told_check : {E : Type 0} (refusal_of : E → Refusal) (J : A → Result (Unit {0}) E → Type 0) → Then (ToldAs refusal_of (Checking J)) K a (Ok c) → J a (Ok tt) × K a (Ok c)
+  through_told_check refusal_of J h = let passed = came_through (ToldAs refusal_of (Checking J)) K a c h in (passed.1.1, subst (λ (b : A). K b (Ok c)) passed.1.0 passed.2)
 
 -- ---- judgements that come to one thing, and are no want of memory
 

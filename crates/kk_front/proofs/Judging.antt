@@ -1,6 +1,6 @@
 -- What a text comes to, judgement by judgement.
 use Rattle.std.proofs.Common.{◌≡◌, ℕ, ◌*◌, ◌+◌, ◌<◌, ◌≤◌, ◌^◌, List, length, map, Some, false, refl, sym, ap, ◌∙◌, subst, inl, inr, arith}
-use Rattle.std.specs.Prelude.{All, Result, Ok, Err, slice_get}
+use Rattle.std.specs.Prelude.{All, IfOk, IfErr, OnOk, Result, Ok, Err, slice_get}
 use Rattle.std.proofs.lemmas.Bool.{cases_lt}
 use Rattle.kk_base.specs.Exactly.{IsOnly, ExactlyOne}
 use Rattle.kk_base.specs.declared.error.LexError.{LexError}
@@ -31,6 +31,7 @@ use Rattle.kk_types.specs.Checks.{TypesAs, EachProgramIsChecked}
 use Rattle.kk_mono.specs.Counts.{ParametersAs, CountsAs, AnswersCounts, EachProgramIsCounted}
 use Rattle.kk_front.specs.Chain.{Then, ToldAs, Checking}
 use Rattle.kk_front.specs.Judgement.{ChecksLength, TellsUntyped, ChecksTypes, ChecksProgram, JudgedAs, IsProgramOf, Refuses, IsRefusalOf, RefusesProgram, wants_memory, EachTextIsJudged}
+use Rattle.kk_front.specs.declared.accept.AcceptedProgram.{AcceptedProgram}
 use Rattle.kk_front.proofs.Bounds.{fewer, parse_told, limit_told}
 use Rattle.kk_front.proofs.Chains.{ok_same, err_same, apart, only_told_ok, only_told_err, only_checking_ok, only_checking_err, exactly_checking, IsSound, sound_then, sound_told, sound_checking, LeadsTo, fails_at, passes_to}
 
@@ -279,12 +280,15 @@ module _ (text : List ℕ) where
           at_checks : LeadsTo (JudgedAs text) ChecksProgram (program_tree program)
           at_checks = passes_to at_names (program_tree program) (only_told_ok OfText.Name ResolvesAs (written_tree tree) (program_tree program) resolved)
 
-          pub accepted_judged : (accepted : Program) → accepted ≡ program → IsOnly (ChecksProgram (program_tree program)) (Ok (program_tree program)) → IsProgramOf text (program_tree accepted)
-          accepted_judged accepted same h =
+          pub accepted_judged : (answer : Result AcceptedProgram Refusal) → IfOk answer (λ accepted. accepted.program ≡ program) → OnOk answer (IsOnly (ChecksProgram (program_tree program)) (Ok (program_tree program)))
+              → IfOk answer (λ accepted. IsProgramOf text (program_tree accepted.program))
+          accepted_judged (Ok accepted) same h =
               subst (λ (p : Program). IsProgramOf text (program_tree p)) (sym same) (at_checks.comes (Ok (program_tree program)) h)
+          accepted_judged (Err refusal) same h = tt
 
-          pub unchecked_judged : (refusal : Refusal) → RefusesProgram (program_tree program) refusal → Refuses text refusal
-          unchecked_judged refusal h e = at_checks.comes (Err refusal) (h e)
+          pub unchecked_judged : (answer : Result AcceptedProgram Refusal) → IfErr answer (RefusesProgram (program_tree program)) → IfErr answer (Refuses text)
+          unchecked_judged (Ok accepted) h = tt
+          unchecked_judged (Err refusal) h = λ e. at_checks.comes (Err refusal) (h e)
 
           -- no function has too many nodes to be counted
           pub nodes_counted : All (λ d. nodes_in d ≤ 2 * length laid.items) (map written_declaration tree.declarations.items) → KeepsNodes (written_tree tree).declarations (program_tree program).functions

@@ -1,4 +1,4 @@
-ghost use Rattle.std.specs.Prelude.{◌≡◌, ◌<◌, ◌^◌, All, IfOk, IfErr, OnOk};
+ghost use Rattle.std.specs.Prelude.{◌≡◌, ◌<◌, ◌^◌, false, All, IfOk, IfErr, OnOk};
 ghost use Rattle.kk_base.specs.Exactly.{IsOnly};
 ghost use Rattle.kk_syntax.specs.Programs.{program_tree};
 ghost use Rattle.kk_syntax.specs.Shapes.{nodes_of};
