@@ -61,7 +61,7 @@ block_goes_on before after value next_value v start here mid next c h s i r e d 
     let front = before ++ as_statement value ∷ [] in
     continues_as (rule block) block_end (λ w. block_behind before value (v ∷ those_given w.0)) (block_says after next_value) start next
     (λ w. ap (block_of front) (block_from-behind v (those_given w.0)) ∙ block_behind-append front (bindings_of v.0) v.1 (those_given w.0)
-      ∙ ap (λ ss. block_behind ss v.1 (those_given w.0)) (sym e) ∙ ap (λ x. block_behind after x (those_given w.0)) d)
+    ∙ ap (λ ss. block_behind ss v.1 (those_given w.0)) (sym e) ∙ ap (λ x. block_behind after x (those_given w.0)) d)
     (continues_many_before (rule block) (token (symbol Semicolon) ▸ optional items) (token (symbol CloseBrace)) (block_says before value) (tt, Some v) start here next c h (finds_both s (finds_presence i r)))
 
 -- a semicolon was read, and no items
@@ -90,7 +90,10 @@ items_go_on front u start here next c h r =
 
 -- the last of some items was read, or failed
 pub items_end : (before after : List WrittenStatement) (front : List (PhraseValue (binding ▸ some_semicolons))) (r : Result SurfaceExpr Fault) (start here next : Parser) → after ≡ before ++ bindings_of front → Continues items items (λ v. (front ++ v.0, v.1)) start here → is_at (first (binding ▸ some_semicolons)) here.rest.now ≡ false → ReadsPhrase (rule expr) written_expr r here next → ReadsItems before after r start next
-items_end before after front (Ok x) start here next e c h r =
-    ((front, written_expr x), e, refl,
-     subst (λ w. Read items (w, written_expr x) start next) (append-nil front) (c.found ([], written_expr x) next.depth next.rest.now (finds_both (finds_none h) r)))
+items_end before after front (Ok x) start here next e c h r = (
+  (front, written_expr x),
+  e,
+  refl,
+  subst (λ w. Read items (w, written_expr x) start next) (append-nil front) (c.found ([], written_expr x) next.depth next.rest.now (finds_both (finds_none h) r)),
+)
 items_end before after front (Err y) start here next e c h r = passed_on items (rule expr) start here next (λ f s. c.failed f (fails_behind (finds_none h) s)) y r

@@ -1,13 +1,12 @@
 pub mod Apart
 pub mod Arguments
-pub mod Atoms
-pub mod Atoms_read
 pub mod Begins
 pub mod Blocks
 pub mod Branches
 pub mod Complete
 pub mod Lists
 pub mod Lookahead
+pub mod ReadAtoms
 pub mod Steps
 pub mod Tables
 pub mod Trees

@@ -97,6 +97,7 @@ fn has_variable_shape(name: &str) -> bool
     }
 }
 
+// Whether each byte is a digit.
 fn are_digits(text: &[u8]) -> bool
     ensures { result ≡ list_all is_ascii_digit text.now }
 {

@@ -1,7 +1,7 @@
 use Rattle.std.proofs.Common.{◌≡◌, ◌≤◌, length, ◌+◌, ◌-◌, ◌*◌, ◌++◌, map}
 use Rattle.kk_syntax.specs.Surface.{written_expr, written_statement}
-use Rattle.kk_syntax.specs.declared.token.Symbol.TheVariants.{Comma, CloseBrace, Dot}
-use Rattle.kk_parser.specs.Forms.{items, binding, and_more, those_given, bindings_of}
+use Rattle.kk_syntax.specs.declared.token.Symbol.TheVariants.{Comma, Dot}
+use Rattle.kk_parser.specs.Forms.{items, binding, bindings_of}
 use Rattle.kk_parser.specs.Grammar.{sum_operator, sum_operator_of, product_operator, product_operator_of, to_left, dotted, bracketed, some_semicolons}
 use Rattle.kk_parser.specs.Kinds.{symbol, name}
 use Rattle.kk_parser.specs.Phrases.{PhraseValue, token, opener, optional, rule, expr, block, add, mul, un, post, args, many, ◌▸◌}

@@ -1,4 +1,4 @@
-use Rattle.std.proofs.Common.{ap, sym, ◌∙◌, rules}
+use Rattle.std.proofs.Common.{ap, ◌∙◌, rules}
 use Rattle.kk_parser.specs.Kinds.{wildcard, classes_of, said_at}
 use Rattle.kk_parser.specs.Reading.{fails_token}
 use Rattle.kk_parser.proofs.Steps.{next_says-first, is_at-none, token_read}

@@ -1,8 +1,7 @@
-use Rattle.std.proofs.Common.{◌≡◌, List, ◌∷◌, [], Option, Some, None, map, sym, ◌∙◌, ap, refl, inl, inr}
-use Rattle.kk_syntax.specs.declared.token.Symbol.TheVariants.{Colon}
+use Rattle.std.proofs.Common.{◌≡◌, List, Option, Some, None, sym, ◌∙◌, ap, refl, inl, inr}
 use Rattle.kk_syntax.specs.declared.tree.Effect.{Effect}
 use Rattle.kk_syntax.specs.declared.tree.Identifier.{Identifier}
-use Rattle.kk_syntax.specs.Surface.{WrittenParameter, WrittenType, written_parameter, written_type}
+use Rattle.kk_syntax.specs.Surface.{WrittenParameter, WrittenType}
 use Rattle.kk_parser.specs.Forms.{WrittenHead, head, head_of}
 use Rattle.kk_parser.specs.Grammar.{parameters, result}
 use Rattle.kk_parser.specs.Kinds.{name_but_main}

@@ -12,7 +12,7 @@ returns-then-not-has-clause-reads c =
     let classes = classes_in c.args.names in
     let h : is_name_in classes (name_class c.in-Name.name) ≡ false = sym (c.has.ensures ∙ ap (is_name_in classes) (c.name_class.ensures ∙ ap name_class c.as_str.ensures)) ∙ c.if-not-has.true in
     fails_token (is_at-unsaid (name_in classes) c.args.self.now.rest.now
-      (next_says-first (name_in classes) c.args.self.now.rest.now c.first.result c.in-Some.next c.first.ensures.value c.in-Some.is ∙ ap (λ t. said_at (name_in classes) t next.span.at) c.in-Name.is ∙ unsaid_name classes c.in-Name.name next.span.at h))
+    (next_says-first (name_in classes) c.args.self.now.rest.now c.first.result c.in-Some.next c.first.ensures.value c.in-Some.is ∙ ap (λ t. said_at (name_in classes) t next.span.at) c.in-Name.is ∙ unsaid_name classes c.in-Name.name next.span.at h))
 
 pub returns-else-not-has-clause-reads : goal.returns-else-not-has-clause-reads
 returns-else-not-has-clause-reads c =
@@ -28,7 +28,7 @@ returns-in_default-clause-reads c =
     let next = c.in-Some.next.now in
     let classes = classes_in c.args.names in
     fails_token (is_at-unsaid (name_in classes) c.args.self.now.rest.now
-      (next_says-first (name_in classes) c.args.self.now.rest.now c.first.result c.in-Some.next c.first.ensures.value c.in-Some.is ∙ unsaid_other classes next.token next.span.at c.in_default.not-Name))
+    (next_says-first (name_in classes) c.args.self.now.rest.now c.first.result c.in-Some.next c.first.ensures.value c.in-Some.is ∙ unsaid_other classes next.token next.span.at c.in_default.not-Name))
 
 pub returns-in-None-clause-reads : goal.returns-in-None-clause-reads
 returns-in-None-clause-reads c = fails_token (is_at-none (classes_of (name_in (classes_in c.args.names))) c.args.self.now.rest.now c.first.result c.first.ensures.value c.in-None.is)

@@ -1,7 +1,7 @@
-use Rattle.std.proofs.Common.{◌≡◌, List, ◌∷◌, [], ◌++◌, Some, None, map, sym, ◌∙◌, ap, subst, append_assoc, arith}
+use Rattle.std.proofs.Common.{◌≡◌, ◌∷◌, [], ◌++◌, Some, None, map, sym, ◌∙◌, ap, subst, append_assoc, arith}
 use Rattle.std.proofs.lemmas.List.{append-nil, map-append}
 use Rattle.kk_syntax.specs.declared.token.Symbol.TheVariants.{Semicolon}
-use Rattle.kk_syntax.specs.Surface.{WrittenDeclaration, written_declaration}
+use Rattle.kk_syntax.specs.Surface.{written_declaration}
 use Rattle.kk_parser.specs.Forms.{and_more, those_given}
 use Rattle.kk_parser.specs.Kinds.{symbol}
 use Rattle.kk_parser.specs.Methods.{Read}

@@ -1,14 +1,12 @@
-use Rattle.std.proofs.Common.{refl, sym, ◌∙◌, subst, inl, inr, ap}
-use Rattle.kk_syntax.specs.declared.token.Symbol.TheVariants.{OpenParenthesis, CloseParenthesis}
-use Rattle.kk_syntax.specs.Surface.{unit_type, written_type}
+use Rattle.std.proofs.Common.{sym, ◌∙◌, subst}
+use Rattle.kk_syntax.specs.Surface.{written_type}
 use Rattle.kk_parser.specs.declared.parser.Parser.{Parser}
-use Rattle.kk_parser.specs.Forms.{in_brackets, inside}
-use Rattle.kk_parser.specs.Kinds.{symbol}
+use Rattle.kk_parser.specs.Forms.{in_brackets}
 use Rattle.kk_parser.specs.Methods.{Read}
-use Rattle.kk_parser.specs.Phrases.{token, opener, rule, type, result_type}
-use Rattle.kk_parser.specs.Reading.{fails_rule, fails_level, fails_front, fails_behind, fails_second, finds_rule, finds_level, finds_both, finds_first, finds_second}
-use Rattle.kk_parser.proofs.Steps.{gives_up_in, gives_up_as_in, symbol_read}
-use Rattle.kk_parser.proofs.WrittenTypes.{written_name, written_unit}
+use Rattle.kk_parser.specs.Phrases.{rule, type, result_type}
+use Rattle.kk_parser.specs.Reading.{fails_rule, fails_level, fails_second, finds_rule, finds_level, finds_first, finds_second}
+use Rattle.kk_parser.proofs.Steps.{gives_up_in}
+use Rattle.kk_parser.proofs.WrittenTypes.{written_name}
 use Rattle.kk_parser.proofs.parser.Parser.result_type.Goals as goal
 
 pub returns-then-is_at_name-clause-reads : goal.returns-then-is_at_name-clause-reads

@@ -32,7 +32,8 @@ returns-in_err-no_arguments-clause-reads c =
 pub returns-clause-reads : goal.returns-clause-reads
 returns-clause-reads c =
     let word = c.in_ok-form.ensures.reads in
-    let end = c.in_ok-no_arguments.ensures.reads in
-    ((c.in_ok-text.text, (tt, (word.0, end.0))),
-     ap (λ w. print_text w.0 c.in_ok-text.text) word.1 ∙ sym (written-PrintText c.in_ok-form.form c.in_ok-text.text),
-     finds_both c.in_ok-text.ensures.reads (finds_both c.in_ok-open.ensures.reads (finds_both word.2 end.2)))
+    let end = c.in_ok-no_arguments.ensures.reads in (
+      (c.in_ok-text.text, (tt, (word.0, end.0))),
+      ap (λ w. print_text w.0 c.in_ok-text.text) word.1 ∙ sym (written-PrintText c.in_ok-form.form c.in_ok-text.text),
+      finds_both c.in_ok-text.ensures.reads (finds_both c.in_ok-open.ensures.reads (finds_both word.2 end.2)),
+    )

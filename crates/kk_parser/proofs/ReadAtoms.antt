@@ -16,13 +16,13 @@ abbrev pub other_name : Phrase
 other_name = token name_but_print ▸ optional (bracketed (rule args))
 
 -- an atom that is no number, no constructor and in no brackets
-abbrev pub atom_3 : Phrase
-atom_3 = either spoken (either printed other_name)
+abbrev pub other_atom : Phrase
+other_atom = either spoken (either printed other_name)
 
-pub atom_but_number : (start here : Parser) → is_at (first (token number)) start.rest.now ≡ false → here.depth ≡ start.depth → here.rest.now ≡ start.rest.now → Continues (rule atom) (either (token constructor) (either brackets atom_3)) (λ v. form_meaning atom (inr v)) start here
+pub atom_but_number : (start here : Parser) → is_at (first (token number)) start.rest.now ≡ false → here.depth ≡ start.depth → here.rest.now ≡ start.rest.now → Continues (rule atom) (either (token constructor) (either brackets other_atom)) (λ v. form_meaning atom (inr v)) start here
 atom_but_number start here h d e =
-    continues_to (rule atom) (either (token constructor) (either brackets atom_3)) (λ v. form_meaning atom (inr v)) start start here d e
-    (continues_on (rule atom) (form atom) (either (token constructor) (either brackets atom_3)) (form_meaning atom) (λ v. inr v) start start start (continues_rule atom start) (continues_second (token number) (either (token constructor) (either brackets atom_3)) start h))
+    continues_to (rule atom) (either (token constructor) (either brackets other_atom)) (λ v. form_meaning atom (inr v)) start start here d e
+    (continues_on (rule atom) (form atom) (either (token constructor) (either brackets other_atom)) (form_meaning atom) (λ v. inr v) start start start (continues_rule atom start) (continues_second (token number) (either (token constructor) (either brackets other_atom)) start h))
 
 pub spoken-means : (v : PhraseValue spoken) → form_meaning atom (inr (inr (inr (inl v)))) ≡ spoken_of v
 spoken-means (text, (dot, (word, end))) = refl
