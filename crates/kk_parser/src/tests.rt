@@ -335,7 +335,7 @@ static TEXTS: [(&str, &str); 57] = [
         "line 8 column 15: unexpected token 7",
     ),
     (
-        "fun main ( ) { 1 2 }",
+        "fun main ( ) { 1 \"a . println }",
         "line 7 column 13: unexpected token 6",
     ),
     ("fun main ( ) { 1 ;", "line 8 column 15: unexpected token 7"),
