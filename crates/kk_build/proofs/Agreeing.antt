@@ -1,7 +1,6 @@
 -- The file of an image agrees with the program: the core form keeps the program's meaning, and the image does what the core form does.
-use Rattle.std.proofs.Common.{◌≡◌, true, false, nat_eq, ℕ, ◌+◌, ◌*◌, ◌<◌, ◌≤◌, List, All, Option, Some, None, refl, sym, ap, subst, ◌∙◌, arith, flat_map}
+use Rattle.std.proofs.Common.{◌≡◌, true, false, nat_eq, ℕ, ◌+◌, ◌*◌, ◌<◌, ◌≤◌, List, All, Option, Some, None, refl, ap, subst, arith}
 use Rattle.std.proofs.lemmas.Bool.Decides.{nat_tests}
-use Rattle.kk_base.specs.Trace.{IsPrefix}
 use Rattle.kk_base.specs.Machines.{Machine, trace, weight_of, weight_unless, ending_after, mapped}
 use Rattle.kk_base.specs.Agreements.{Agree}
 use Rattle.kk_base.proofs.Machines.{trace-weighing, state-weighing, weight_of-at_most}
@@ -17,7 +16,7 @@ use Rattle.kk_core.specs.Codes.{ProgramCode}
 use Rattle.kk_core.specs.CoreStates.{CoreSetting, core_first_state}
 use Rattle.kk_core.specs.CoreMachine.{core_machine}
 use Rattle.kk_norm.specs.Meaning.{heavy_store_machine, KeepsMeaning}
-use Rattle.rv_isa.specs.Processor.{Processor, Progress, exited, start, goes}
+use Rattle.rv_isa.specs.Processor.{Processor, exited, start, goes}
 use Rattle.rv_isa.specs.InstructionSet.{run_over}
 use Rattle.rv_isa.specs.Execution.{rv32im}
 use Rattle.rv_isa.specs.ProcessorMachine.{processor_machine, ImageAgrees, ImageKeepsUp}
@@ -31,6 +30,7 @@ use Rattle.rv_place.specs.Images.{outside_lines}
 use Rattle.kk_back.specs.Images.{IsImageOf, step_instructions}
 use Rattle.kk_build.specs.Agreement.{Agrees, instructions_within, IsBounded}
 use Rattle.kk_build.specs.Built.{as_run}
+use Rattle.kk_build.proofs.Alike.{agrees_alike, keeps_up_alike}
 
 -- ---- what its steps weigh makes no difference to what the store machine does
 
@@ -39,34 +39,6 @@ same_traces weight setting n s = trace-weighing (λ (t : State). weight) ending_
 
 same_endings : (weight : ℕ) (setting : Setting) (n : ℕ) (s : State) → ending_after (heavy_store_machine weight setting) n s ≡ ending_after (store_machine setting) n s
 same_endings weight setting n s = ap ending_of (state-weighing (λ (t : State). weight) ending_of (step setting) n s)
-
-agrees_unweighed : (weight : ℕ) (setting : Setting) (s : State) (image : ℕ → Progress)
-    → ImageAgrees (heavy_store_machine weight setting) events_of exit_of s image → ImageAgrees (store_machine setting) events_of exit_of s image
-agrees_unweighed weight setting s image agrees =
-    record {
-      ends_well = agrees.ends_well;
-      image_is_behind = λ m.
-          let found = agrees.image_is_behind m in
-          (found.0, subst (λ (told : List Note). IsPrefix (image m).processor.trace (flat_map events_of told)) (same_traces weight setting found.0 s) found.1);
-      machine_is_behind = λ n.
-          let found = agrees.machine_is_behind n in
-          (found.0, subst (λ (told : List Note). IsPrefix (flat_map events_of told) (image found.0).processor.trace) (same_traces weight setting n s) found.1);
-      end_alike = λ end.
-          let both = agrees.end_alike end in (
-            λ ended. both.0 (ended.0, same_endings weight setting ended.0 s ∙ ended.1),
-            λ exits. let found = both.1 exits in (found.0, sym (same_endings weight setting found.0 s) ∙ found.1),
-          );
-      same_trace = λ end n m ended exits.
-          ap (flat_map events_of) (sym (same_traces weight setting n s)) ∙ agrees.same_trace end n m (same_endings weight setting n s ∙ ended) exits;
-    }
-
-keeps_up_unweighed : (weight : ℕ) (setting : Setting) (within : ℕ → ℕ) (s : State) (image : ℕ → Progress)
-    → ImageKeepsUp (heavy_store_machine weight setting) events_of exit_of within s image → ImageKeepsUp (store_machine setting) events_of exit_of within s image
-keeps_up_unweighed weight setting within s image keeps =
-    record {
-      goes_on = λ n. subst (λ (told : List Note). IsPrefix (flat_map events_of told) (image (within n)).processor.trace) (same_traces weight setting n s) (keeps.goes_on n);
-      ends = λ n end ended. keeps.ends n end (same_endings weight setting n s ∙ ended);
-    }
 
 -- what so many steps weigh
 unless_at_most : (how : Option End) (weight : ℕ) → weight_unless how weight ≤ weight
@@ -122,12 +94,14 @@ module _ (program : ProgramTree) (code : ProgramCode) (cells depth entry : ℕ) 
 
   image_does : ImageAgrees (store_machine setting) events_of exit_of (first_state setting input) (λ m. run_over rv32im m loaded)
   image_does =
-      agrees_unweighed (2 * step_instructions) setting (first_state setting input) (λ m. run_over rv32im m loaded)
+      agrees_alike weighed (store_machine setting) events_of exit_of (first_state setting input) (first_state setting input) (λ m. run_over rv32im m loaded)
+      (λ n. same_traces (2 * step_instructions) setting n (first_state setting input)) (λ n. same_endings (2 * step_instructions) setting n (first_state setting input))
       (image_agrees rv32im weighed events_of exit_of outside_lines (λ m. up ((image.does positions input bytes).0 m)) (first_state setting input) loaded whole refl differ)
 
   image_is_bounded : ImageKeepsUp (store_machine setting) events_of exit_of instructions_within (first_state setting input) (λ m. run_over rv32im m loaded)
   image_is_bounded =
-      keeps_up_unweighed (2 * step_instructions) setting instructions_within (first_state setting input) (λ m. run_over rv32im m loaded)
+      keeps_up_alike weighed (store_machine setting) events_of exit_of (first_state setting input) (first_state setting input) (λ m. run_over rv32im m loaded)
+      (λ n. same_traces (2 * step_instructions) setting n (first_state setting input)) (λ n. same_endings (2 * step_instructions) setting n (first_state setting input)) instructions_within
       (image_keeps_up rv32im weighed events_of exit_of outside_lines (λ m. up ((image.does positions input bytes).0 m)) (first_state setting input) loaded whole refl
       instructions_within (λ n. let most = steps_weigh (2 * step_instructions) setting n (first_state setting input) in omega (arith, most)))
 

@@ -1,3 +1,5 @@
-pub mod FileSteps
 pub mod Agreeing
+pub mod Alike
+pub mod FileSteps
+pub mod Instances
 pub mod Within

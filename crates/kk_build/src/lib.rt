@@ -16,6 +16,7 @@ use elf_image::write;
 use kk_back::image;
 use kk_base::{Bytes, NoMemory, Refusal};
 use kk_front::{accepted_programs_are_typed, read};
+use kk_instances::instances_mean_the_program;
 use kk_norm::normal;
 use kk_syntax::Program;
 use std::alloc::Global;
@@ -30,15 +31,16 @@ pub fn build(alloc: Global, text: &[u8], cells: u32, depth: u32) -> Result<Bytes
     ensures ok { IfOk result (IsBuilt text.now cells depth) }
     ensures err { IfErr result (Refuses text.now) }
 {
-    let program = read(alloc, text)?;
+    let accepted = read(alloc, text)?;
     accepted_programs_are_typed();
-    match file_of(alloc, &program, cells, depth) {
+    instances_mean_the_program();
+    match file_of(alloc, &accepted.instances, cells, depth) {
         Ok(bytes) => Ok(bytes),
         Err(NoMemory) => Err(Refusal::NoMemory),
     }
 }
 
-/// The file of the image of a program.
+/// The file of the image of a program of instances.
 fn file_of(alloc: Global, program: &Program, cells: u32, depth: u32) -> Result<Bytes, NoMemory>
     requires typed { IsTyped (program_tree program.now) }
     requires small { IsWithin (program_tree program.now) }

@@ -1,0 +1,54 @@
+-- The image of a program's instances is one of the program.
+use Rattle.std.proofs.Common.{ℕ, List}
+use Rattle.kk_syntax.specs.PositionsOf.{PositionTable}
+use Rattle.kk_syntax.specs.Programs.{ProgramTree}
+use Rattle.kk_syntax.specs.Typing.{IsTyped}
+use Rattle.kk_source.specs.Ends.{exit_of}
+use Rattle.kk_source.specs.Notes.{events_of}
+use Rattle.kk_source.specs.SourceAfter.{store_machine, first_state}
+use Rattle.kk_front.specs.Judgement.{IsProgramOf}
+use Rattle.kk_instances.specs.Meaning.{MeansTheSame}
+use Rattle.kk_build.specs.Agreement.{Agrees, instructions_within, IsBounded}
+use Rattle.kk_build.specs.Built.{as_run, IsBuilt}
+use Rattle.kk_build.specs.ImageAfter.{file_after}
+use Rattle.kk_build.specs.Images.{IsImageFile}
+use Rattle.kk_build.proofs.Alike.{agrees_alike, keeps_up_alike}
+
+module _ (program instances : ProgramTree) (means : MeansTheSame program instances) (cells depth : ℕ) (file : List ℕ) (positions : PositionTable) where
+  pub agrees_by_instances : ((table : PositionTable) → Agrees file (as_run instances table cells depth)) → Agrees file (as_run program positions cells depth)
+  agrees_by_instances agrees =
+      let table = means.positions positions in
+      record {
+        loads = (agrees table).loads;
+        agrees = λ input bytes.
+            agrees_alike (store_machine (as_run instances table cells depth)) (store_machine (as_run program positions cells depth)) events_of exit_of
+            (first_state (as_run instances table cells depth) input) (first_state (as_run program positions cells depth) input) (file_after file input)
+            (means.traces positions cells depth input) (means.endings positions cells depth input) ((agrees table).agrees input bytes);
+      }
+
+  pub bounded_by_instances : ((table : PositionTable) → IsBounded file (as_run instances table cells depth)) → IsBounded file (as_run program positions cells depth)
+  bounded_by_instances bounded input bytes =
+      let table = means.positions positions in
+      keeps_up_alike (store_machine (as_run instances table cells depth)) (store_machine (as_run program positions cells depth)) events_of exit_of
+      (first_state (as_run instances table cells depth) input) (first_state (as_run program positions cells depth) input) (file_after file input)
+      (means.traces positions cells depth input) (means.endings positions cells depth input) instructions_within (bounded table input bytes)
+
+-- ---- what is built
+
+-- what reading a text and the laws on it give
+pub record IsReadWith (text : List ℕ) (program instances : ProgramTree) : Type 0 where
+  pub is_program : IsProgramOf text program
+  pub typed : IsTyped program
+  pub means : MeansTheSame program instances
+
+pub built_by_instances : (text : List ℕ) (cells depth : ℕ) (program instances : ProgramTree) (file : List ℕ) → IsReadWith text program instances → IsImageFile file
+    → ((table : PositionTable) → Agrees file (as_run instances table cells depth)) → ((table : PositionTable) → IsBounded file (as_run instances table cells depth)) → IsBuilt text cells depth file
+built_by_instances text cells depth program instances file read image agrees bounded =
+    record {
+      program = program;
+      is_program = read.is_program;
+      typed = read.typed;
+      is_image = image;
+      agrees = λ positions. agrees_by_instances program instances read.means cells depth file positions agrees;
+      bounded = λ positions. bounded_by_instances program instances read.means cells depth file positions bounded;
+    }
