@@ -2,11 +2,11 @@
 -- the arguments that it is given. No text of today's grammar has a match; one stands for `()`.
 use Rattle.std.specs.Prelude.{ℕ, ◌+◌, List, Option, Some, None}
 use Rattle.kk_syntax.specs.declared.program.Form.TheVariants.{Unary, Binary, Construct}
-use Rattle.kk_syntax.specs.Surface.{Written, number, unit, variable, call, dot_call, construct, unary, binary, both, either, print_text, branch, branch_alone, match, sequence, Writtens, no_written, written}
+use Rattle.kk_syntax.specs.Surface.{Written, number, variable, call, dot_call, construct, unary, binary, both, either, print_text, branch, branch_alone, sequence, Writtens, no_written, written}
 use Rattle.kk_syntax.specs.Trees as program
 use Rattle.kk_names.specs.declared.table.Callee.{Callee}
 use Rattle.kk_names.specs.declared.table.Declared.{Declared}
-use Rattle.kk_names.specs.Scopes.{Scope, number_in, with_binder, binder_of, binder_count, binders_in, binders_in_all}
+use Rattle.kk_names.specs.Scopes.{Scope, number_in, with_binder, binder_of, binder_count, binders_in}
 use Rattle.kk_names.specs.Tables.{constructors, meaning_in}
 
 -- a constructor of `bool`
@@ -47,7 +47,7 @@ abbrev mutual
   meant functions scope next (branch_alone condition positive) =
       program.branch (meant functions scope next condition) (meant functions scope (next + binders_in condition) positive) program.unit
   meant functions scope next (sequence binder first rest) =
-      program.sequence (binder_of binder next) (meant functions scope (next + binder_count binder) first) (meant functions (with_binder binder next scope) (next + binder_count binder + binders_in first) rest)
+      program.sequence (binder_of binder next) (meant functions scope (next + binder_count binder) first) (meant functions (with_binder binder next scope) (next + (binder_count binder + binders_in first)) rest)
   meant functions scope next _ = program.unit
 
   pub meant_all : List Declared → Scope → ℕ → Writtens → program.Trees

@@ -1,10 +1,10 @@
 -- The faults of a text: names that are declared twice, that have no meaning, or that have another number of arguments than
 -- declared. A text is refused for the first of them.
-use Rattle.std.specs.Prelude.{◌≡◌, ◌<◌, ◌==◌, ℕ, ◌+◌, List, [], ◌∷◌, ◌++◌, map, All, ◌⊎◌, Bool, true, false, not, is_some, ◌||◌, ◌&&◌, nat_lt, codes, Option, Some, None, if◌then◌else◌}
+use Rattle.std.specs.Prelude.{◌≡◌, ◌<◌, ◌==◌, ℕ, ◌+◌, List, [], ◌∷◌, ◌++◌, All, ◌⊎◌, codes, Option, Some, None, if◌then◌else◌}
 use Rattle.kk_base.specs.declared.error.NameError.{NameError}
 use Rattle.kk_base.specs.declared.error.NameError.TheVariants as OfError
 use Rattle.kk_syntax.specs.declared.tree.Identifier.{Identifier}
-use Rattle.kk_syntax.specs.Surface.{WrittenType, WrittenTypes, unit_type, type_variable, named, no_type, type, Written, number, unit, variable, call, dot_call, construct, unary, binary, both, either, print_text, branch, branch_alone, match, sequence, Writtens, no_written, written, WrittenParameter, WrittenDeclaration, type_declaration, function_declaration}
+use Rattle.kk_syntax.specs.Surface.{WrittenType, WrittenTypes, unit_type, type_variable, named, no_type, type, Written, variable, call, dot_call, construct, unary, binary, both, either, branch, branch_alone, sequence, Writtens, no_written, written, WrittenParameter, WrittenDeclaration, type_declaration, function_declaration}
 use Rattle.kk_syntax.specs.Types.{TypeTree}
 use Rattle.kk_names.specs.declared.fault.Fault.{Fault}
 use Rattle.kk_names.specs.declared.fault.FaultKind.{FaultKind}

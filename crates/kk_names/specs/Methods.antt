@@ -1,12 +1,13 @@
 -- What the calls of the resolver promise: how far they have come, and which fault is the first so far.
 use Rattle.std.specs.Prelude.{◌≡◌, ◌≤◌, ℕ, ◌+◌, List, [], ◌∷◌, ◌++◌, map, length, take, position, bytes_eq, codes, ◌==◌, nat_lt, ◌||◌, ◌&&◌, ◌⊎◌, Bool, Option, Some, None, Result, Ok, Err, if◌then◌else◌}
 use Rattle.kk_base.specs.declared.error.NameError.{NameError}
-use Rattle.kk_base.specs.declared.error.NameError.TheVariants.{NoMain, NoMemory}
+use Rattle.kk_base.specs.declared.error.NameError.TheVariants.{NoMain, MainShape, NoMemory}
 use Rattle.kk_syntax.specs.declared.program.Fun.{Fun}
 use Rattle.kk_syntax.specs.declared.program.Program.{Program}
 use Rattle.kk_syntax.specs.declared.program.Ty.{Ty}
+use Rattle.kk_syntax.specs.declared.tree.Identifier.{Identifier}
 use Rattle.kk_syntax.specs.Programs.{FunctionTree, program_tree}
-use Rattle.kk_syntax.specs.Surface.{Written, Writtens, WrittenStatement, WrittenParameter, WrittenDeclaration, block_of}
+use Rattle.kk_syntax.specs.Surface.{Written, branch, branch_alone, Writtens, WrittenStatement, WrittenParameter, WrittenDeclaration, block_of}
 use Rattle.kk_syntax.specs.Trees as program
 use Rattle.kk_syntax.specs.Trees.{StatementTree}
 use Rattle.kk_syntax.specs.Types.{TypeTree, type_tree}
@@ -16,7 +17,7 @@ use Rattle.kk_names.specs.declared.resolver.Resolver.{Resolver}
 use Rattle.kk_names.specs.declared.scope.Bound.{Bound}
 use Rattle.kk_names.specs.declared.table.Declared.{Declared}
 use Rattle.kk_names.specs.Expressions.{meant, meant_all}
-use Rattle.kk_names.specs.Faults.{rank, faults_in, faults_in_all, parameter_faults, second_functions, inside_faults}
+use Rattle.kk_names.specs.Faults.{fault_at, rank, faults_in, faults_in_all, parameter_faults, second_functions, inside_faults}
 use Rattle.kk_names.specs.Names.{MakesProgram, LacksMain, HasOtherMain}
 use Rattle.kk_names.specs.Scopes.{Scope, names_in, with_parameters, with_binder, binder_of, binder_count, binders_in, binders_in_all}
 use Rattle.kk_names.specs.Tables.{numbered}
@@ -80,6 +81,10 @@ meant_at state e = meant state.functions state.scope state.next e
 abbrev pub meant_all_at : State → Writtens → program.Trees
 meant_all_at state es = meant_all state.functions state.scope state.next es
 
+-- a fault, if it is one
+abbrev pub faults_if : Bool → FaultKind → Identifier → List Fault
+faults_if is_fault kind name = if is_fault then fault_at kind name ∷ [] else []
+
 -- some faults were noted, and nothing else was changed
 pub record Notes (faults : List Fault) (old new : Resolver) : Type 0 where
   pub state : state_of new ≡ grown (state_of old) 0 faults
@@ -90,6 +95,11 @@ pub record Resolves (e : Written) (old new : Resolver) (tree : program.Tree) : T
   pub state : state_of new ≡ behind e (state_of old)
   pub scope : new.scope.items ≡ old.scope.items
   pub tree_is : tree ≡ meant_at (state_of old) e
+
+-- an `if`, with or without a second branch
+abbrev pub choice_of : Written → Written → Option Written → Written
+choice_of condition positive None = branch_alone condition positive
+choice_of condition positive (Some negative) = branch condition positive negative
 
 -- the same of several expressions
 pub record ResolvesAll (es : Writtens) (old new : Resolver) (trees : program.Trees) : Type 0 where
@@ -132,20 +142,6 @@ pub record ResolvesStatements (statements : List WrittenStatement) (last : Writt
   pub first : (behind last (state_of new)).first ≡ (behind (block_of statements last) (state_of old)).first
   pub tree_is : program.block_of trees (meant_at (state_of new) last) ≡ meant_at (state_of old) (block_of statements last)
 
--- a branch of an `if` that may be left out
-abbrev pub branch_behind : Option Written → State → State
-branch_behind None state = state
-branch_behind (Some e) state = behind e state
-
-abbrev pub branch_meant : State → Option Written → program.Tree
-branch_meant state None = program.unit
-branch_meant state (Some e) = meant_at state e
-
-pub record ResolvesBranch (e : Option Written) (old new : Resolver) (tree : program.Tree) : Type 0 where
-  pub state : state_of new ≡ branch_behind e (state_of old)
-  pub scope : new.scope.items ≡ old.scope.items
-  pub tree_is : tree ≡ branch_meant (state_of old) e
-
 abbrev pub option_type : Option Ty → Option TypeTree
 option_type None = None
 option_type (Some type) = Some (type_tree type)
@@ -182,3 +178,8 @@ main_among functions = position (λ function. bytes_eq function.name (codes "mai
 abbrev pub IsNoMain : ℕ → NameError → Type 0
 IsNoMain length NoMemory = Unit {0}
 IsNoMain length error = error ≡ NoMain (codes "main") length
+
+-- the error that `main` has a parameter or a result, unless memory ran out
+abbrev pub IsOtherMain : Fun → NameError → Type 0
+IsOtherMain function NoMemory = Unit {0}
+IsOtherMain function error = error ≡ MainShape function.name function.at

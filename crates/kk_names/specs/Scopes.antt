@@ -6,7 +6,7 @@ use Rattle.kk_syntax.specs.declared.program.Binder.TheVariants as OfBinder
 use Rattle.kk_syntax.specs.declared.tree.Identifier.{Identifier}
 use Rattle.kk_syntax.specs.declared.tree.SurfaceBinder.{SurfaceBinder}
 use Rattle.kk_syntax.specs.declared.tree.SurfaceBinder.TheVariants as OfSurface
-use Rattle.kk_syntax.specs.Surface.{Written, number, unit, variable, call, dot_call, construct, unary, binary, both, either, print_text, branch, branch_alone, match, sequence, Writtens, no_written, written, WrittenParameter}
+use Rattle.kk_syntax.specs.Surface.{Written, call, dot_call, construct, unary, binary, both, either, branch, branch_alone, sequence, Writtens, no_written, written, WrittenParameter}
 use Rattle.kk_names.specs.declared.scope.Bound.{Bound}
 
 -- the variables that are seen, the newest one first

@@ -1,14 +1,15 @@
-ghost use Rattle.std.specs.Prelude.{◌≡◌, map, IfOk};
-ghost use Rattle.kk_syntax.specs.Surface.{Written, written_expr, written_statement, writtens_of};
+ghost use Rattle.std.specs.Prelude.{◌≡◌, map, option_map, IfOk};
+ghost use Rattle.kk_syntax.specs.Surface.{Written, dot_call, both, either, block_of, written_expr, written_statement, writtens_of};
 ghost use Rattle.kk_syntax.specs.Trees.{expr_tree, statement_tree, trees_of, branch};
 ghost use Rattle.kk_names.specs.Expressions.{truth};
-ghost use Rattle.kk_names.specs.Methods.{Resolves, ResolvesAll, ResolvesStatement, ResolvesStatements, KeepsScope};
+ghost use Rattle.kk_names.specs.Methods.{Resolves, ResolvesAll, choice_of, ResolvesStatement, ResolvesStatements, KeepsScope};
 
 use crate::resolver::Resolver;
 use crate::table::{constructor, meaning_in};
 use kk_base::NoMemory;
 use kk_syntax::{
-    Binder, Expr, Form, Program, Statement, SurfaceBinder, SurfaceExpr, SurfaceStatement,
+    Binder, Expr, Form, Identifier, Program, Statement, SurfaceBinder, SurfaceExpr,
+    SurfaceStatement,
 };
 use std::alloc::Global;
 
@@ -27,13 +28,7 @@ impl Resolver {
                 let callee = meaning_in(self.functions.as_slice(), &name.name);
                 self.applied(callee, name, arguments)
             }
-            SurfaceExpr::DotCall(first, name, others) => {
-                let first = self.expression(first)?;
-                let mut arguments = self.expressions(others)?;
-                arguments.insert(0, first)?;
-                let callee = meaning_in(self.functions.as_slice(), &name.name);
-                self.applied(callee, name, arguments)
-            }
+            SurfaceExpr::DotCall(first, name, others) => self.dot_call(name, others, first),
             SurfaceExpr::Construct(name, arguments) => {
                 let arguments = self.expressions(arguments)?;
                 self.applied(constructor(&name.name), name, arguments)
@@ -49,46 +44,90 @@ impl Resolver {
                 let arguments = Vec::from_array(self.alloc, [left, right])?;
                 Ok(Expr::Apply(Form::Binary(*operator), arguments))
             }
-            SurfaceExpr::And(left, right) => {
-                let condition = self.expression(left)?;
-                let positive = self.expression(right)?;
-                choice(
-                    self.alloc,
-                    condition,
-                    positive,
-                    truth(self.alloc, Program::FALSE),
-                )
-            }
-            SurfaceExpr::Or(left, right) => {
-                let condition = self.expression(left)?;
-                let negative = self.expression(right)?;
-                choice(
-                    self.alloc,
-                    condition,
-                    truth(self.alloc, Program::TRUE),
-                    negative,
-                )
-            }
+            SurfaceExpr::And(left, right) => self.both(left, right),
+            SurfaceExpr::Or(left, right) => self.either(left, right),
             SurfaceExpr::PrintText(form, text) => {
                 Ok(Expr::PrintText(*form, text.copied(self.alloc)?))
             }
             SurfaceExpr::If(condition, positive, negative) => {
-                let condition = self.expression(condition)?;
-                let positive = self.expression(positive)?;
-                let negative = match negative {
-                    Some(negative) => self.expression(negative)?,
-                    None => Expr::Unit,
-                };
-                choice(self.alloc, condition, positive, negative)
+                self.choice(condition, positive, negative)
             }
-            SurfaceExpr::Block(statements, value) => {
-                let outer = self.scope.len();
-                let statements = self.statements(statements)?;
-                let value = self.expression(value)?;
-                self.scope.truncate(outer);
-                Ok(Expr::Block(statements, Box::new(self.alloc, value)?))
-            }
+            SurfaceExpr::Block(statements, value) => self.block(statements, value),
         }
+    }
+
+    /// A call whose first argument stands before the others, in front of a dot.
+    #[cycle(expression)]
+    fn dot_call(
+        &mut self,
+        name: &Identifier,
+        others: &[SurfaceExpr],
+        first: &SurfaceExpr,
+    ) -> Result<Expr, NoMemory>
+        ensures { IfOk result (λ e. Resolves (dot_call (written_expr first.now) name.now (writtens_of (map written_expr others.now))) self.old self.new (expr_tree e)) }
+    {
+        let first = self.expression(first)?;
+        let mut arguments = self.expressions(others)?;
+        arguments.insert(0, first)?;
+        let callee = meaning_in(self.functions.as_slice(), &name.name);
+        self.applied(callee, name, arguments)
+    }
+
+    /// `a && b`: `if a then b else False`.
+    #[cycle(expression)]
+    fn both(&mut self, left: &SurfaceExpr, right: &SurfaceExpr) -> Result<Expr, NoMemory>
+        ensures { IfOk result (λ e. Resolves (both (written_expr left.now) (written_expr right.now)) self.old self.new (expr_tree e)) }
+    {
+        let condition = self.expression(left)?;
+        let positive = self.expression(right)?;
+        let negative = truth(self.alloc, Program::FALSE);
+        conditional(self.alloc, condition, positive, negative)
+    }
+
+    /// `a || b`: `if a then True else b`.
+    #[cycle(expression)]
+    fn either(&mut self, left: &SurfaceExpr, right: &SurfaceExpr) -> Result<Expr, NoMemory>
+        ensures { IfOk result (λ e. Resolves (either (written_expr left.now) (written_expr right.now)) self.old self.new (expr_tree e)) }
+    {
+        let condition = self.expression(left)?;
+        let negative = self.expression(right)?;
+        let positive = truth(self.alloc, Program::TRUE);
+        conditional(self.alloc, condition, positive, negative)
+    }
+
+    /// An `if`, whose second branch is `()` where it is left out.
+    #[cycle(expression)]
+    fn choice(
+        &mut self,
+        condition: &SurfaceExpr,
+        positive: &SurfaceExpr,
+        negative: &Option<Box<SurfaceExpr>>,
+    ) -> Result<Expr, NoMemory>
+        ensures { IfOk result (λ e. Resolves (choice_of (written_expr condition.now) (written_expr positive.now) (option_map (λ b. written_expr b.value) negative.now)) self.old self.new (expr_tree e)) }
+    {
+        let condition = self.expression(condition)?;
+        let positive = self.expression(positive)?;
+        let negative = match negative {
+            Some(negative) => self.expression(negative)?,
+            None => Expr::Unit,
+        };
+        conditional(self.alloc, condition, positive, negative)
+    }
+
+    /// A block. Behind it its variables are seen no more.
+    #[cycle(expression)]
+    fn block(
+        &mut self,
+        statements: &[SurfaceStatement],
+        value: &SurfaceExpr,
+    ) -> Result<Expr, NoMemory>
+        ensures { IfOk result (λ e. Resolves (block_of (map written_statement statements.now) (written_expr value.now)) self.old self.new (expr_tree e)) }
+    {
+        let outer = self.scope.len();
+        let statements = self.statements(statements)?;
+        let value = self.expression(value)?;
+        self.scope.truncate(outer);
+        Ok(Expr::Block(statements, Box::new(self.alloc, value)?))
     }
 
     /// What expressions mean, from left to right.
@@ -153,8 +192,13 @@ fn truth(alloc: Global, constructor: u32) -> Expr
     Expr::Apply(Form::Construct(constructor), Vec::new(alloc))
 }
 
-/// An `if`.
-fn choice(alloc: Global, condition: Expr, positive: Expr, negative: Expr) -> Result<Expr, NoMemory>
+/// An `if` with both branches.
+fn conditional(
+    alloc: Global,
+    condition: Expr,
+    positive: Expr,
+    negative: Expr,
+) -> Result<Expr, NoMemory>
     ensures { IfOk result (λ e. expr_tree e ≡ branch (expr_tree condition) (expr_tree positive) (expr_tree negative)) }
 {
     let condition = Box::new(alloc, condition)?;

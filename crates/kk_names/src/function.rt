@@ -41,9 +41,8 @@ impl Resolver {
         ensures first { IfOk result (λ _. self.new.first ≡ first_with self.old.first (twice_faults (map (λ d. d.name) self.old.functions.items) declared.now.name)) }
     {
         let name = &declared.name;
-        if meaning_in(self.functions.as_slice(), &name.name).is_some() {
-            self.note(FaultKind::Twice, name)?;
-        }
+        let is_second = meaning_in(self.functions.as_slice(), &name.name).is_some();
+        self.note_if(is_second, FaultKind::Twice, name)?;
         let callee = Callee {
             form: Form::Call(number),
             parameters: declared.parameters.len(),

@@ -2,7 +2,7 @@ ghost use Rattle.std.specs.Prelude.{◌≡◌, ◌<◌, length, map, None, IfOk,
 ghost use Rattle.kk_syntax.specs.Programs.{function_tree, program_tree};
 ghost use Rattle.kk_syntax.specs.Surface.{written_declaration, written_tree};
 ghost use Rattle.kk_names.specs.Faults.{faults_of};
-ghost use Rattle.kk_names.specs.Methods.{main_among, first_with, AnswersMain, IsNoMain};
+ghost use Rattle.kk_names.specs.Methods.{main_among, first_with, AnswersMain, IsNoMain, IsOtherMain};
 ghost use Rattle.kk_names.specs.Names.{functions_meant, program_of, IsMainShaped, AnswersNames, KeepsNodes, EachTreeIsResolved, ResolvedProgramsHaveMain};
 
 use crate::builtin;
@@ -64,13 +64,7 @@ fn with_main(alloc: Global, functions: Vec<Fun>, length: u32) -> Result<Program,
     };
     let function = &functions[main];
     if !is_main_shaped(function) {
-        return match function.name.copied(alloc) {
-            Ok(name) => Err(NameError::MainShape {
-                name,
-                at: function.at,
-            }),
-            Err(NoMemory) => Err(NameError::NoMemory),
-        };
+        return Err(other_main(alloc, function));
     }
     match program(alloc, functions, main) {
         Ok(program) => Ok(program),
@@ -88,6 +82,19 @@ fn no_main(alloc: Global, length: u32) -> NameError
             at: length,
         },
         Err(_) => NameError::NoMemory,
+    }
+}
+
+// The error that a function `main` has a parameter or a result.
+fn other_main(alloc: Global, function: &Fun) -> NameError
+    ensures { IsOtherMain function.now result }
+{
+    match function.name.copied(alloc) {
+        Ok(name) => NameError::MainShape {
+            name,
+            at: function.at,
+        },
+        Err(NoMemory) => NameError::NoMemory,
     }
 }
 

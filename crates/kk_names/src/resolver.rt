@@ -3,7 +3,7 @@ ghost use Rattle.kk_syntax.specs.Trees.{expr_tree, trees_of};
 ghost use Rattle.kk_names.specs.Expressions.{applied};
 ghost use Rattle.kk_syntax.specs.Surface.{variable};
 ghost use Rattle.kk_names.specs.Faults.{fault_at, use_faults};
-ghost use Rattle.kk_names.specs.Methods.{Notes, Resolves, Binds};
+ghost use Rattle.kk_names.specs.Methods.{Notes, Resolves, Binds, faults_if};
 ghost use Rattle.kk_names.specs.Scopes.{binding};
 ghost use Rattle.kk_names.specs.Tables.{built_in_functions};
 
@@ -60,6 +60,21 @@ impl Resolver {
         Ok(())
     }
 
+    /// Notes a fault, if it is one.
+    pub fn note_if(
+        &mut self,
+        is_fault: bool,
+        kind: FaultKind,
+        name: &Identifier,
+    ) -> Result<(), NoMemory>
+        ensures { IfOk result (λ _. Notes (faults_if is_fault kind name.now) self.old self.new) }
+    {
+        if is_fault {
+            self.note(kind, name)?;
+        }
+        Ok(())
+    }
+
     /// What a variable is where it is used.
     pub fn variable(&mut self, name: &Identifier) -> Result<Expr, NoMemory>
         ensures { IfOk result (λ e. Resolves (variable name.now) self.old self.new (expr_tree e)) }
@@ -80,8 +95,8 @@ impl Resolver {
         name: &Identifier,
         arguments: Vec<Expr>,
     ) -> Result<Expr, NoMemory>
-        ensures notes { IfOk result (λ _. Notes (use_faults callee name.now (vec_len arguments)) self.old self.new) }
-        ensures tree { IfOk result (λ e. expr_tree e ≡ applied callee (trees_of (map expr_tree arguments.items))) }
+        ensures { IfOk result (λ e. Notes (use_faults callee name.now (vec_len arguments)) self.old self.new
+            × (expr_tree e ≡ applied callee (trees_of (map expr_tree arguments.items)))) }
     {
         match callee {
             Some(callee) => {

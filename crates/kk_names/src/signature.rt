@@ -20,9 +20,8 @@ impl Resolver {
         let mut types = Vec::new(self.alloc);
         for parameter in parameters {
             let name = &parameter.name;
-            if number_in(self.scope.as_slice(), &name.name).is_some() {
-                self.note(FaultKind::Twice, name)?;
-            }
+            let is_second = number_in(self.scope.as_slice(), &name.name).is_some();
+            self.note_if(is_second, FaultKind::Twice, name)?;
             let of_type = self.of_type(&parameter.of_type)?;
             let number = self.number()?;
             self.bind(name, number)?;
@@ -58,9 +57,7 @@ impl Resolver {
                     self.note(FaultKind::Unknown, name)?;
                     return Ok(Ty::Unit);
                 };
-                if !arguments.is_empty() {
-                    self.note(FaultKind::Arity, name)?;
-                }
+                self.note_if(!arguments.is_empty(), FaultKind::Arity, name)?;
                 Ok(meaning)
             }
         }
