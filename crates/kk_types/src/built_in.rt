@@ -9,8 +9,11 @@ use std::alloc::Global;
 /// The types that the rules name, as often as a form takes one.
 #[derive(Debug, Drop)]
 pub struct BuiltIn {
+    /// `int32`, twice.
     pub numbers: [Ty; 2],
+    /// `bool`
     pub truths: [Ty; 1],
+    /// `()`
     pub nothing: Ty,
     pub ghost numbers_are: { AreTypes numbers (int32 ∷ int32 ∷ []) },
     pub ghost truths_are: { AreTypes truths (bool ∷ []) },
@@ -18,6 +21,7 @@ pub struct BuiltIn {
 }
 
 impl BuiltIn {
+    /// Takes no memory.
     pub fn new(alloc: Global) -> BuiltIn {
         BuiltIn {
             numbers: [Ty::Int32, Ty::Int32],

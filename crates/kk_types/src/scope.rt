@@ -9,7 +9,7 @@ pub struct Bound<'a> {
     pub ty: &'a Ty,
 }
 
-/// A variable of a scope, if it is bound. The newest is the last.
+/// The newest variable of this number in a scope, if there is one. The newest of all stands last.
 pub fn newest<'a>(scope: &[Bound<'a>], variable: usize) -> Option<Bound<'a>>
     ensures { result ≡ find (λ bound. bound.variable == variable) (reverse scope.now) }
 {
