@@ -1,9 +1,8 @@
 -- What a program in memory comes to is what the code answers.
-use Rattle.std.proofs.Common.{◌≡◌, ℕ, ◌+◌, ◌-◌, ◌^◌, ◌<◌, ◌≤◌, min, List, length, map, get_or, drop, All, Option, Some, None, option_map, refl, ap, sym, ◌∙◌, subst, arith}
-use Rattle.std.specs.Prelude.{Result, Ok, Err}
-use Rattle.std.proofs.lemmas.List.{length-map, get_or-map, get_or_read}
+use Rattle.std.proofs.Common.{◌≡◌, ℕ, ◌+◌, ◌-◌, ◌^◌, ◌<◌, ◌≤◌, min, List, length, map, get_or, drop, All, Option, Some, None, option_map, refl, ap, sym, ◌∙◌, arith}
+use Rattle.std.specs.Prelude.{Ok, Err}
+use Rattle.std.proofs.lemmas.List.{length-map, get_or-map}
 use Rattle.std.proofs.lemmas.List.Sums.{sum-map, sum_by-drop_more}
-use Rattle.kk_base.specs.Exactly.{IsOnly}
 use Rattle.kk_base.specs.declared.limit.Limit.{Limit}
 use Rattle.kk_base.specs.declared.limit.LimitKind.TheVariants.{FunctionNodes, Instances, ProgramNodes}
 use Rattle.kk_syntax.specs.declared.program.Fun.{Fun}
@@ -11,7 +10,7 @@ use Rattle.kk_syntax.specs.declared.program.Program.{Program}
 use Rattle.kk_syntax.specs.Programs.{FunctionTree, function_tree, program_tree, no_function, body_of}
 use Rattle.kk_syntax.specs.Shapes.{nodes_of}
 use Rattle.kk_syntax.specs.Trees.{expr_tree}
-use Rattle.kk_mono.specs.Counts.{too_many_nodes, summed_nodes, of_function, of_instances, of_program, CountsAs, AnswersCounts, told_limit}
+use Rattle.kk_mono.specs.Counts.{too_many_nodes, summed_nodes, of_function, of_instances, of_program, AnswersCounts, told_limit}
 use Rattle.kk_mono.specs.Reaching.{AreNumbered}
 use Rattle.kk_mono.proofs.Counting.{only_counts}
 use Rattle.kk_mono.proofs.Ordering.{order_within, same_length, same_nodes}

@@ -1,5 +1,5 @@
 -- A program comes to one thing.
-use Rattle.std.proofs.Common.{◌≡◌, ℕ, ◌+◌, ◌<◌, ◌≤◌, List, length, Option, Some, None, option_map, cond, nat_lt, refl, ap, sym, ◌∙◌, subst, inl, inr}
+use Rattle.std.proofs.Common.{◌≡◌, ℕ, ◌<◌, ◌≤◌, List, length, Option, Some, None, option_map, cond, nat_lt, refl, ap, sym, ◌∙◌, inl, inr}
 use Rattle.std.specs.Prelude.{Result, Ok, Err}
 use Rattle.std.specs.Result.{result_err}
 use Rattle.std.proofs.lemmas.Bool.{cases_lt, lt-ltb, le-ltb}
@@ -7,7 +7,7 @@ use Rattle.kk_base.specs.Exactly.{IsOnly, ExactlyOne}
 use Rattle.kk_base.specs.declared.limit.Limit.{Limit}
 use Rattle.kk_base.specs.declared.limit.LimitKind.TheVariants.{Parameters, FunctionNodes, Instances, ProgramNodes}
 use Rattle.kk_syntax.specs.Programs.{ProgramTree}
-use Rattle.kk_mono.specs.Counts.{too_many_parameters, ParametersAs, too_many_nodes, summed_nodes, KeepsCounts, PassesFirst, of_function, of_instances, of_program, CountsAs, EachProgramIsCounted}
+use Rattle.kk_mono.specs.Counts.{too_many_parameters, ParametersAs, too_many_nodes, summed_nodes, PassesFirst, of_function, of_instances, of_program, CountsAs, EachProgramIsCounted}
 use Rattle.kk_mono.specs.Instances.{AreInstances}
 use Rattle.kk_mono.proofs.Reached.{have_instances, one_list}
 

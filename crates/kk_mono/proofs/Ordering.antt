@@ -1,6 +1,6 @@
 -- The instances in the order of their new numbers are the same as in the order of the text.
-use Rattle.std.proofs.Common.{◌≡◌, ◌⊎◌, ℕ, suc, ◌+◌, ◌<◌, ◌≤◌, Bool, true, false, not, ◌==◌, List, [], ◌∷◌, ◌++◌, length, cond, drop, filter, sum, sum_by, All, IsTrue, map, refl, sym, ap, ◌∙◌, subst, inl, inr, arith, append-nil}
-use Rattle.std.proofs.lemmas.Bool.{eqb-true, eq-eqb, ne_eqb, or_cases, or_left, or_right, both_ways, cases_eq, cases_Bool, false_from_ne_true}
+use Rattle.std.proofs.Common.{◌≡◌, ℕ, ◌+◌, ◌<◌, ◌≤◌, Bool, false, not, ◌==◌, List, [], ◌∷◌, ◌++◌, length, cond, drop, filter, sum_by, All, IsTrue, refl, sym, ap, ◌∙◌, subst, inl, inr, arith, append-nil}
+use Rattle.std.proofs.lemmas.Bool.{eqb-true, eq-eqb, ne_eqb, or_cases, or_left, or_right, both_ways, cases_eq}
 use Rattle.std.proofs.lemmas.List.{at_drop_all}
 use Rattle.std.proofs.lemmas.List.Elements.{All-nil, All-cons, All-filter}
 use Rattle.std.proofs.lemmas.List.Sums.{sum_by-cons, sum-map}
@@ -8,9 +8,9 @@ use Rattle.std.proofs.lemmas.Option.{slice_get-get_or, slice_get_within}
 use Rattle.kk_syntax.specs.Programs.{ProgramTree, no_function, body_of}
 use Rattle.kk_syntax.specs.Shapes.{is_among, nodes_of}
 use Rattle.kk_mono.specs.Counts.{summed_nodes}
-use Rattle.kk_mono.specs.Instances.{IsInstance, main_is, called_is, Ascending, AreInstances, numbered}
+use Rattle.kk_mono.specs.Instances.{IsInstance, main_is, called_is, Ascending, numbered}
 use Rattle.kk_mono.specs.Reaching.{Marks, AreNumbered}
-use Rattle.kk_mono.proofs.Listing.{not_before, marked_from}
+use Rattle.kk_mono.proofs.Listing.{marked_from}
 use Rattle.kk_mono.proofs.Reached.{instances_of_marks}
 
 pub numbered_at : (program : ProgramTree) (marks slice : List Bool) (order : List ℕ) (i : ℕ) → Marks program marks → slice ≡ marks → length slice ≤ i

@@ -1,4 +1,4 @@
-use Rattle.std.proofs.Common.{◌≡◌, ℕ, ◌+◌, ◌<◌, length, get_or, drop}
+use Rattle.std.proofs.Common.{◌≡◌, ℕ, ◌+◌, length, get_or, drop}
 use Rattle.kk_mono.specs.Instances.{place_in}
 use Rattle.kk_mono.proofs.renaming.Renaming.new.Given as goal
 
