@@ -1,7 +1,6 @@
 -- The file of an image agrees with the program: the core form keeps the program's meaning, and the image does what the core form does.
-use Rattle.std.proofs.Common.{◌≡◌, true, false, nat_eq, ℕ, ◌+◌, ◌*◌, ◌<◌, ◌≤◌, List, All, Option, Some, None, refl, sym, ap, subst, ◌∙◌, arith, flat_map}
+use Rattle.std.proofs.Common.{◌≡◌, true, false, nat_eq, ℕ, ◌+◌, ◌*◌, ◌<◌, ◌≤◌, List, All, Option, Some, None, refl, ap, subst, arith}
 use Rattle.std.proofs.lemmas.Bool.Decides.{nat_tests}
-use Rattle.kk_base.specs.Trace.{IsPrefix}
 use Rattle.kk_base.specs.Machines.{Machine, trace, weight_of, weight_unless, ending_after, mapped}
 use Rattle.kk_base.specs.Agreements.{Agree}
 use Rattle.kk_base.proofs.Machines.{trace-weighing, state-weighing, weight_of-at_most}
@@ -17,7 +16,7 @@ use Rattle.kk_core.specs.Codes.{ProgramCode}
 use Rattle.kk_core.specs.CoreStates.{CoreSetting, core_first_state}
 use Rattle.kk_core.specs.CoreMachine.{core_machine}
 use Rattle.kk_norm.specs.Meaning.{heavy_store_machine, KeepsMeaning}
-use Rattle.rv_isa.specs.Processor.{Processor, Progress, exited, start, goes}
+use Rattle.rv_isa.specs.Processor.{Processor, exited, start, goes}
 use Rattle.rv_isa.specs.InstructionSet.{run_over}
 use Rattle.rv_isa.specs.Execution.{rv32im}
 use Rattle.rv_isa.specs.ProcessorMachine.{processor_machine, ImageAgrees, ImageKeepsUp}

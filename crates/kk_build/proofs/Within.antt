@@ -1,5 +1,5 @@
 -- The instances of an accepted program are within the limits.
-use Rattle.std.proofs.Common.{◌≡◌, ◌+◌, ◌≤◌, ℕ, zero, suc, nat_lt, Bool, true, false, cond, List, [], ◌∷◌, length, map, sum, Some, None, refl, sym, subst, arith}
+use Rattle.std.proofs.Common.{◌≡◌, ◌≤◌, ℕ, zero, suc, nat_lt, Bool, true, false, cond, List, [], ◌∷◌, length, map, sum, Some, None, refl, sym, subst, arith}
 use Rattle.std.specs.Prelude.{All, Ok, slice_index_or}
 use Rattle.std.proofs.lemmas.Bool.Decides.{nat_tests}
 use Rattle.std.proofs.lemmas.List.Elements.{All-head}
@@ -8,7 +8,7 @@ use Rattle.kk_syntax.specs.Programs.{FunctionTree, ProgramTree, no_function}
 use Rattle.kk_syntax.specs.Shapes.{nodes_of}
 use Rattle.kk_mono.specs.Counts.{too_many_parameters, ParametersAs, IsSmall}
 use Rattle.kk_mono.specs.Instances.{instance_of, numbered, place_in, IsInstanceProgram}
-use Rattle.kk_norm.specs.Normal.{IsFunctionWithin, AreWithin, all_nodes, IsWithin}
+use Rattle.kk_norm.specs.Normal.{AreWithin, all_nodes, IsWithin}
 
 -- ---- parameters
 

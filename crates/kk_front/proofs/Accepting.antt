@@ -1,15 +1,15 @@
 -- An accepted program came through each judgement: so it is typed, and keeps its limits.
-use Rattle.std.proofs.Common.{◌≡◌, ℕ, List, Some, [], map, option_map, refl, sym, ap, ◌∙◌, subst}
-use Rattle.std.specs.Prelude.{Result, Ok, Err, slice_get}
+use Rattle.std.proofs.Common.{◌≡◌, ℕ, List, Some, [], map, option_map, sym, ap, ◌∙◌, subst}
+use Rattle.std.specs.Prelude.{Ok, slice_get}
 use Rattle.std.proofs.lemmas.Option.{slice_get-map}
 use Rattle.kk_base.specs.declared.refusal.Refusal.TheVariants as OfText
-use Rattle.kk_syntax.specs.Programs.{FunctionTree, ProgramTree}
+use Rattle.kk_syntax.specs.Programs.{ProgramTree}
 use Rattle.kk_syntax.specs.Surface.{WrittenTree}
 use Rattle.kk_syntax.specs.Types.{unit_type}
-use Rattle.kk_syntax.specs.Typing.{Signature, signature_of, IsTyped}
+use Rattle.kk_syntax.specs.Typing.{signature_of, IsTyped}
 use Rattle.kk_names.specs.Names.{ResolvesAs, HasMain, ResolvedProgramsHaveMain}
 use Rattle.kk_types.specs.Checks.{TypesAs}
-use Rattle.kk_mono.specs.Counts.{ParametersAs, CountsAs, KeepsCounts}
+use Rattle.kk_mono.specs.Counts.{ParametersAs, CountsAs}
 use Rattle.kk_front.specs.Judgement.{ChecksTypes, ChecksProgram, IsProgramOf}
 use Rattle.kk_front.proofs.Chains.{came_through, through_check, through_told_check}
 use Rattle.kk_front.proofs.Judging.{OfLength, OfLexemes, OfGrammar, OfNames, OfCounts, FromLexemes, FromGrammar, FromNames, FromTypes}

@@ -7,7 +7,6 @@ use Rattle.std.proofs.lemmas.List.Sums.{sum_by-cons}
 use Rattle.kk_base.specs.declared.error.ParseError.{ParseError}
 use Rattle.kk_base.specs.declared.error.ParseError.TheVariants.{Unexpected, TooDeep, NoMemory}
 use Rattle.kk_base.specs.declared.limit.Limit.{Limit}
-use Rattle.kk_base.specs.declared.limit.LimitKind.TheVariants.{FunctionNodes}
 use Rattle.kk_syntax.specs.Programs.{FunctionTree, ProgramTree, body_of, no_function}
 use Rattle.kk_syntax.specs.Shapes.{nodes_of}
 use Rattle.kk_syntax.specs.TokenList.{TokenList}

@@ -1,5 +1,5 @@
 -- What a text comes to, judgement by judgement.
-use Rattle.std.proofs.Common.{◌≡◌, ℕ, ◌*◌, ◌+◌, ◌<◌, ◌≤◌, ◌^◌, List, length, map, Some, false, refl, sym, ap, ◌∙◌, subst, inl, inr, arith}
+use Rattle.std.proofs.Common.{◌≡◌, ℕ, ◌*◌, ◌<◌, ◌≤◌, ◌^◌, List, length, map, Some, false, refl, sym, ap, ◌∙◌, subst, inl, inr, arith}
 use Rattle.std.specs.Prelude.{All, IfOk, IfErr, OnOk, Result, Ok, Err, slice_get}
 use Rattle.std.proofs.lemmas.Bool.{cases_lt}
 use Rattle.kk_base.specs.Exactly.{IsOnly, ExactlyOne}
@@ -30,10 +30,10 @@ use Rattle.kk_names.specs.Names.{ResolvesAs, IsRefusedFor, first_fault, no_main,
 use Rattle.kk_types.specs.Checks.{TypesAs, EachProgramIsChecked}
 use Rattle.kk_mono.specs.Counts.{ParametersAs, CountsAs, AnswersCounts, EachProgramIsCounted}
 use Rattle.kk_front.specs.Chain.{Then, ToldAs, Checking}
-use Rattle.kk_front.specs.Judgement.{ChecksLength, TellsUntyped, ChecksTypes, ChecksProgram, JudgedAs, IsProgramOf, Refuses, IsRefusalOf, RefusesProgram, wants_memory, EachTextIsJudged}
+use Rattle.kk_front.specs.Judgement.{ChecksLength, ChecksTypes, ChecksProgram, JudgedAs, IsProgramOf, Refuses, IsRefusalOf, RefusesProgram, wants_memory, EachTextIsJudged}
 use Rattle.kk_front.specs.declared.accept.AcceptedProgram.{AcceptedProgram}
 use Rattle.kk_front.proofs.Bounds.{fewer, parse_told, limit_told}
-use Rattle.kk_front.proofs.Chains.{ok_same, err_same, apart, only_told_ok, only_told_err, only_checking_ok, only_checking_err, exactly_checking, IsSound, sound_then, sound_told, sound_checking, LeadsTo, fails_at, passes_to}
+use Rattle.kk_front.proofs.Chains.{err_same, apart, only_told_ok, only_told_err, only_checking_ok, only_checking_err, exactly_checking, IsSound, sound_then, sound_told, sound_checking, LeadsTo, fails_at, passes_to}
 
 -- the links of the chain, and what stands behind each
 abbrev pub OfLength : List ℕ → Result (List ℕ) Refusal → Type 0
