@@ -1,25 +1,24 @@
 -- No count of a text within its limit reaches a number's end.
-use Rattle.std.proofs.Common.{◌≡◌, ℕ, ◌-◌, ◌^◌, ◌≤◌, suc, min, nat_lt, Bool, true, false, cond, List, [], ◌∷◌, ◌++◌, length, map, Some, None, refl, sym, ap, ◌∙◌, length-append, arith}
-use Rattle.std.specs.Prelude.{All, Err}
+use Rattle.std.proofs.Common.{◌≡◌, ℕ, ◌+◌, ◌*◌, ◌-◌, ◌^◌, ◌<◌, ◌≤◌, zero, suc, min, nat_lt, Bool, true, false, cond, List, [], ◌∷◌, ◌++◌, length, map, Some, None, refl, sym, ap, ◌∙◌, length-append, arith}
+use Rattle.std.specs.Prelude.{All, Err, slice_index_or}
 use Rattle.std.proofs.lemmas.Bool.Decides.{nat_tests}
-use Rattle.std.proofs.lemmas.List.Elements.{All-nil, All-cons, All-head}
+use Rattle.std.proofs.lemmas.List.Elements.{All-head}
+use Rattle.std.proofs.lemmas.List.Sums.{sum_by-cons}
 use Rattle.kk_base.specs.declared.error.ParseError.{ParseError}
 use Rattle.kk_base.specs.declared.error.ParseError.TheVariants.{Unexpected, TooDeep, NoMemory}
 use Rattle.kk_base.specs.declared.limit.Limit.{Limit}
 use Rattle.kk_base.specs.declared.limit.LimitKind.TheVariants.{FunctionNodes}
-use Rattle.kk_syntax.specs.declared.program.Fun.{Fun}
-use Rattle.kk_syntax.specs.Programs.{FunctionTree, function_tree, ProgramTree}
+use Rattle.kk_syntax.specs.Programs.{FunctionTree, ProgramTree, body_of, no_function}
 use Rattle.kk_syntax.specs.Shapes.{nodes_of}
-use Rattle.kk_syntax.specs.Trees.{expr_tree}
 use Rattle.kk_syntax.specs.TokenList.{TokenList}
-use Rattle.kk_mono.specs.Counts.{too_many_nodes, CountsAs, in_u64}
+use Rattle.kk_mono.specs.Counts.{too_many_nodes, summed_nodes, PassesFirst, of_function, of_instances, of_program, CountsAs, in_u64}
 use Rattle.kk_parser.specs.Parses.{RefusesTokens, in_u32}
 
 front_few : {A : Type 0} (before rest all : List A) → before ++ rest ≡ all → length before ≤ length all
 front_few before rest all e = omega (arith, length-append before rest, ap length e)
 
 -- a refusal of so few tokens is told as it is
-pub parse_told : (tokens : TokenList) (error : ParseError) → length tokens.items ≤ 65536 → RefusesTokens tokens.items tokens.end error → in_u32 error ≡ error
+pub parse_told : (tokens : TokenList) (error : ParseError) → length tokens.items < 2 ^ 32 → RefusesTokens tokens.items tokens.end error → in_u32 error ≡ error
 parse_told tokens (Unexpected index line column) few h =
     let small = front_few h.0 h.1 tokens.items h.2 in
     let same : min index (2 ^ 32 - 1) ≡ index = omega (arith, h.4.0) in
@@ -30,44 +29,56 @@ parse_told tokens (TooDeep index line column) few h =
     ap (λ n. TooDeep n line column) same
 parse_told tokens NoMemory few h = refl
 
-behind_first : (most : ℕ) (f : FunctionTree) (fs : List FunctionTree) → All (λ g. nodes_of g.body ≤ most) (f ∷ fs) → All (λ g. nodes_of g.body ≤ most) fs
-behind_first most f fs few = λ k d lt. few (suc k) d (omega arith)
+-- ---- nodes
+
+pub fewer : (most : ℕ) (functions : List FunctionTree) → most < 2 ^ 64 → All (λ f. nodes_of f.body ≤ most) functions → All (λ f. nodes_of f.body < 2 ^ 64) functions
+fewer most functions small few = λ k d lt. let within = few k d lt in omega arith
+
+behind_first : (f : FunctionTree) (fs : List FunctionTree) → All (λ g. nodes_of g.body < 2 ^ 64) (f ∷ fs) → All (λ g. nodes_of g.body < 2 ^ 64) fs
+behind_first f fs few = λ k d lt. few (suc k) d (omega arith)
 
 -- what is found is among what is looked at
-found_few : (functions : List FunctionTree) (most count : ℕ) → All (λ f. nodes_of f.body ≤ most) functions → too_many_nodes functions ≡ Some count → count ≤ most
-found_few [] most count few e = cc
-found_few (f ∷ fs) most count few e = by (nat_lt 480 (nodes_of f.body)) (All-head (λ g. nodes_of g.body ≤ most) f fs few) (λ d. found_few fs most count (behind_first most f fs few) d) e
+found_few : (functions : List FunctionTree) (count : ℕ) → All (λ f. nodes_of f.body < 2 ^ 64) functions → too_many_nodes functions ≡ Some count → count < 2 ^ 64
+found_few [] count few e = cc
+found_few (f ∷ fs) count few e = by (nat_lt 480 (nodes_of f.body)) (All-head (λ g. nodes_of g.body < 2 ^ 64) f fs few) (λ d. found_few fs count (behind_first f fs few) d) e
   where
-    by : (b : Bool) → nodes_of f.body ≤ most → (too_many_nodes fs ≡ Some count → count ≤ most) → cond b (Some (nodes_of f.body)) (too_many_nodes fs) ≡ Some count → count ≤ most
+    by : (b : Bool) → nodes_of f.body < 2 ^ 64 → (too_many_nodes fs ≡ Some count → count < 2 ^ 64) → cond b (Some (nodes_of f.body)) (too_many_nodes fs) ≡ Some count → count < 2 ^ 64
     by true here rest e = let same : nodes_of f.body ≡ count = cc in omega arith
     by false here rest e = rest e
-
--- a limit that so few nodes pass is told as it is
-pub limit_told : (program : ProgramTree) (limit : Limit) → All (λ f. nodes_of f.body ≤ 65536) program.functions → CountsAs program (Err limit) → in_u64 limit ≡ limit
-limit_told program limit few h =
-    let small = found_few program.functions 65536 h.0 few h.1 in
-    let same : min h.0 (2 ^ 64 - 1) ≡ h.0 = omega arith in
-    ap in_u64 h.2 ∙ (ap (λ n. record { kind = FunctionNodes; count = n }) same ∙ sym h.2)
 
 not_above : (n : ℕ) → nat_lt 480 n ≡ false → n ≤ 480
 not_above n h = grind (arith, nat_tests)
 
--- a function that is not too large
-pub one_few : (f : FunctionTree) → too_many_nodes (f ∷ []) ≡ None → nodes_of f.body ≤ 480
-one_few f e = by (nat_lt 480 (nodes_of f.body)) refl e
+-- where no function has too many nodes, none has
+none_large : (functions : List FunctionTree) → too_many_nodes functions ≡ None → (f : ℕ) → nodes_of (slice_index_or functions f no_function).body ≤ 480
+none_large [] e f = omega arith
+none_large (g ∷ gs) e f = by (nat_lt 480 (nodes_of g.body)) refl (none_large gs) e f
   where
-    by : (b : Bool) → nat_lt 480 (nodes_of f.body) ≡ b → cond b (Some (nodes_of f.body)) None ≡ None → nodes_of f.body ≤ 480
-    by true is e = absurd (cc e)
-    by false is e = not_above (nodes_of f.body) is
+    by : (b : Bool) → nat_lt 480 (nodes_of g.body) ≡ b → (too_many_nodes gs ≡ None → (k : ℕ) → nodes_of (slice_index_or gs k no_function).body ≤ 480) → cond b (Some (nodes_of g.body)) (too_many_nodes gs) ≡ None
+        → (k : ℕ) → nodes_of (slice_index_or (g ∷ gs) k no_function).body ≤ 480
+    by true is rest e k = cc
+    by false is rest e zero = not_above (nodes_of g.body) is
+    by false is rest e (suc k) = rest e k
 
--- a program without a function that is too large
-pub all_few : (functions : List Fun) → too_many_nodes (map function_tree functions) ≡ None → All (λ f. nodes_of (expr_tree f.body) ≤ 480) functions
-all_few [] e = All-nil (λ f. nodes_of (expr_tree f.body) ≤ 480)
-all_few (f ∷ fs) e = by (nat_lt 480 (nodes_of (expr_tree f.body))) refl (λ d. all_few fs d) e
+-- the nodes of some of them
+summed_few : (program : ProgramTree) (numbers : List ℕ) → too_many_nodes program.functions ≡ None → summed_nodes program numbers ≤ 480 * length numbers
+summed_few program [] none = omega arith
+summed_few program (f ∷ fs) none =
+    let first : nodes_of (body_of program f) ≤ 480 = none_large program.functions none f in
+    let rest : summed_nodes program fs ≤ 480 * length fs = summed_few program fs none in
+    let sum_is : summed_nodes program (f ∷ fs) ≡ nodes_of (body_of program f) + summed_nodes program fs = sum_by-cons (λ (n : ℕ). n) (nodes_of (body_of program f)) (map (λ (g : ℕ). nodes_of (body_of program g)) fs) in
+    omega (arith, first, rest, sum_is)
+
+same_limit : (limit passed : Limit) → limit ≡ passed → passed.count < 2 ^ 64 → in_u64 limit ≡ limit
+same_limit limit passed is small =
+    let same : min passed.count (2 ^ 64 - 1) ≡ passed.count = omega arith in
+    ap in_u64 is ∙ (ap (λ (n : ℕ). record { kind = passed.kind; count = n }) same ∙ sym is)
+
+-- a limit that is passed is told as it is
+pub limit_told : (program : ProgramTree) (limit : Limit) → All (λ f. nodes_of f.body < 2 ^ 64) program.functions → CountsAs program (Err limit) → in_u64 limit ≡ limit
+limit_told program limit few h = by h
   where
-    by : (b : Bool) → nat_lt 480 (nodes_of (expr_tree f.body)) ≡ b → (too_many_nodes (map function_tree fs) ≡ None → All (λ (g : Fun). nodes_of (expr_tree g.body) ≤ 480) fs) → cond b (Some (nodes_of (expr_tree f.body))) (too_many_nodes (map function_tree fs)) ≡ None → All (λ (g : Fun). nodes_of (expr_tree g.body) ≤ 480) (f ∷ fs)
-    by true is rest e = cc
-    by false is rest e = All-cons (λ g. nodes_of (expr_tree g.body) ≤ 480) f fs (not_above (nodes_of (expr_tree f.body)) is) (rest e)
-
-pub fewer : (most : ℕ) (functions : List FunctionTree) → most ≤ 65536 → All (λ f. nodes_of f.body ≤ most) functions → All (λ f. nodes_of f.body ≤ 65536) functions
-fewer most functions small few = λ k d lt. let within = few k d lt in omega arith
+    by : PassesFirst program limit → in_u64 limit ≡ limit
+    by (of_function {count = count} some is) = same_limit limit _ is (found_few program.functions count few some)
+    by (of_instances {numbers = numbers} none are many is) = same_limit limit _ is (omega arith)
+    by (of_program {numbers = numbers} none are short large is) = same_limit limit _ is (omega (arith, summed_few program numbers none))

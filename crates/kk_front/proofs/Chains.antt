@@ -1,5 +1,5 @@
 -- Of judgements that come to one thing each, a chain does too.
-use Rattle.std.proofs.Common.{◌≡◌, refl, sym, ap, subst, ◌∙◌}
+use Rattle.std.proofs.Common.{◌≡◌, Bool, false, refl, sym, ap, subst, ◌∙◌}
 use Rattle.std.specs.Prelude.{Result, Ok, Err}
 use Rattle.kk_base.specs.Exactly.{IsOnly, ExactlyOne}
 use Rattle.kk_base.specs.declared.refusal.Refusal.{Refusal}
@@ -8,13 +8,13 @@ use Rattle.kk_front.specs.Chain.{Then, stops, goes_on, ToldAs, Checking}
 abbrev Same : (A E : Type 0) → Result A E → Result A E → Type 0
 Same A E x y = x ≡ y
 
-ok_same : {A E : Type 0} {a b : A} → Same A E (Ok a) (Ok b) → a ≡ b
+pub ok_same : {A E : Type 0} {a b : A} → Same A E (Ok a) (Ok b) → a ≡ b
 ok_same e = cc e
 
-err_same : {A E : Type 0} {a b : E} → Same A E (Err a) (Err b) → a ≡ b
+pub err_same : {A E : Type 0} {a b : E} → Same A E (Err a) (Err b) → a ≡ b
 err_same e = cc e
 
-apart : {A E : Type 0} {a : A} {e : E} → Same A E (Ok a) (Err e) → ⊥
+pub apart : {A E : Type 0} {a : A} {e : E} → Same A E (Ok a) (Err e) → ⊥
 apart h = cc h
 
 module _ {A B C E : Type 0} (J : A → Result B E → Type 0) (K : B → Result C E → Type 0) (a : A) where
@@ -83,3 +83,47 @@ module _ {A E : Type 0} (J : A → Result (Unit {0}) E → Type 0) (a : A) where
   pub exactly_checking : ExactlyOne (J a) → ExactlyOne (Checking J a)
   exactly_checking (Ok _, h) = (Ok a, only_checking_ok h)
   exactly_checking (Err e, h) = (Err e, only_checking_err e h)
+
+-- what came through a check is what was checked
+module _ {A C : Type 0} (K : A → Result C Refusal → Type 0) (a : A) (c : C) where
+  pub through_check : (J : A → Result (Unit {0}) Refusal → Type 0) → Then (Checking J) K a (Ok c) → J a (Ok tt) × K a (Ok c)
+  through_check J h = let passed = came_through (Checking J) K a c h in (passed.1.1, subst (λ (b : A). K b (Ok c)) passed.1.0 passed.2)
+
+  pub through_told_check : {E : Type 0} (refusal_of : E → Refusal) (J : A → Result (Unit {0}) E → Type 0) → Then (ToldAs refusal_of (Checking J)) K a (Ok c) → J a (Ok tt) × K a (Ok c)
+  through_told_check refusal_of J h = let passed = came_through (ToldAs refusal_of (Checking J)) K a c h in (passed.1.1, subst (λ (b : A). K b (Ok c)) passed.1.0 passed.2)
+
+-- ---- judgements that come to one thing, and are no want of memory
+
+module _ (wants : Refusal → Bool) where
+  pub record IsSound {A B : Type 0} (J : A → Result B Refusal → Type 0) : Type 0 where
+    pub exactly : (a : A) → ExactlyOne (J a)
+    pub caused : (a : A) (refusal : Refusal) → J a (Err refusal) → wants refusal ≡ false
+
+  pub sound_then : {A B C : Type 0} (J : A → Result B Refusal → Type 0) (K : B → Result C Refusal → Type 0) → IsSound J → IsSound K → IsSound (Then J K)
+  sound_then {A} {B} {C} J K first second =
+      record { exactly = λ a. exactly_then J K a (first.exactly a) second.exactly; caused = λ a refusal h. by a h refl }
+    where
+      by : (a : A) {outcome : Result C Refusal} {refusal : Refusal} → Then J K a outcome → outcome ≡ Err refusal → wants refusal ≡ false
+      by a {refusal = refusal} (stops e h) same = ap wants (err_same (sym same)) ∙ first.caused a e h
+      by a {refusal = refusal} (goes_on b outcome x y) same = second.caused b refusal (subst (K b) same y)
+
+  pub sound_told : {A B E : Type 0} (refusal_of : E → Refusal) (J : A → Result B E → Type 0) → ((a : A) → ExactlyOne (J a)) → ((a : A) (error : E) → J a (Err error) → wants (refusal_of error) ≡ false) → IsSound (ToldAs refusal_of J)
+  sound_told refusal_of J exactly caused = record { exactly = λ a. exactly_told refusal_of J a (exactly a); caused = λ a refusal h. ap wants h.1 ∙ caused a h.0 h.2 }
+
+  pub sound_checking : {A : Type 0} (J : A → Result (Unit {0}) Refusal → Type 0) → ((a : A) → ExactlyOne (J a)) → ((a : A) (refusal : Refusal) → J a (Err refusal) → wants refusal ≡ false) → IsSound (Checking J)
+  sound_checking J exactly caused = record { exactly = λ a. exactly_checking J a (exactly a); caused = caused }
+
+-- ---- how far the judgements of a whole have come
+
+-- what `b` comes to by the judgement that is left, the whole comes to
+pub record LeadsTo {B C : Type 0} (whole : Result C Refusal → Type 0) (K : B → Result C Refusal → Type 0) (b : B) : Type 0 where
+  pub comes : (outcome : Result C Refusal) → IsOnly (K b) outcome → IsOnly whole outcome
+
+module _ {C : Type 0} {whole : Result C Refusal → Type 0} {A B : Type 0} {J : A → Result B Refusal → Type 0} {K : B → Result C Refusal → Type 0} {a : A} (come : LeadsTo whole (Then J K) a) where
+  -- the next judgement fails
+  pub fails_at : (refusal : Refusal) → IsOnly (J a) (Err refusal) → IsOnly whole (Err refusal)
+  fails_at refusal h = come.comes (Err refusal) (only_stops J K a refusal h)
+
+  -- it passes something on
+  pub passes_to : (b : B) → IsOnly (J a) (Ok b) → LeadsTo whole K b
+  passes_to b h = record { comes = λ outcome k. come.comes outcome (only_goes_on J K a b outcome h k) }

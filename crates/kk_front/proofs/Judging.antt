@@ -1,6 +1,6 @@
 -- What a text comes to, judgement by judgement.
-use Rattle.std.proofs.Common.{◌≡◌, ℕ, ◌≤◌, List, length, map, false, refl, sym, ap, ◌∙◌, subst, inl, inr, arith}
-use Rattle.std.specs.Prelude.{All, Result, Ok, Err}
+use Rattle.std.proofs.Common.{◌≡◌, ℕ, ◌*◌, ◌+◌, ◌<◌, ◌≤◌, ◌^◌, List, length, map, Some, false, refl, sym, ap, ◌∙◌, subst, inl, inr, arith}
+use Rattle.std.specs.Prelude.{All, IfOk, IfErr, OnOk, Result, Ok, Err, slice_get}
 use Rattle.std.proofs.lemmas.Bool.{cases_lt}
 use Rattle.kk_base.specs.Exactly.{IsOnly, ExactlyOne}
 use Rattle.kk_base.specs.declared.error.LexError.{LexError}
@@ -15,18 +15,25 @@ use Rattle.kk_base.specs.declared.refusal.Refusal.{Refusal}
 use Rattle.kk_base.specs.declared.refusal.Refusal.TheVariants as OfText
 use Rattle.kk_syntax.specs.declared.program.Program.{Program}
 use Rattle.kk_syntax.specs.declared.tree.Tree.{Tree}
-use Rattle.kk_syntax.specs.Programs.{ProgramTree, program_tree}
+use Rattle.kk_syntax.specs.Programs.{FunctionTree, ProgramTree, program_tree}
+use Rattle.kk_syntax.specs.Shapes.{nodes_of}
 use Rattle.kk_syntax.specs.Surface.{WrittenTree, written_declaration, written_tree}
 use Rattle.kk_syntax.specs.WrittenNodes.{nodes_in}
 use Rattle.kk_syntax.specs.TokenList.{TokenList}
 use Rattle.kk_lexer.specs.Readings.{IsReadAs, IsReading, UnlessNoMemory, EachTextIsRead}
+use Rattle.kk_layout.specs.Layouts.{laid_out_list}
 use Rattle.kk_parser.specs.Parses.{in_u32, ParsesAs, AnswersParse, EachListIsParsed}
-use Rattle.kk_names.specs.Names.{ResolvesAs, AnswersNames, KeepsNodes, EachTreeIsResolved}
-use Rattle.kk_mono.specs.Counts.{CountsAs, AnswersCounts, EachProgramIsCounted}
-use Rattle.kk_front.specs.Chain.{Then, stops, goes_on, ToldAs, Checking}
-use Rattle.kk_front.specs.Judgement.{ChecksLength, JudgedAs, IsProgramOf, Refuses, IsRefusalOf, wants_memory, EachTextIsJudged}
+use Rattle.kk_names.specs.declared.fault.FaultKind.{FaultKind}
+use Rattle.kk_names.specs.declared.fault.FaultKind.TheVariants.{Twice, Unknown, Arity}
+use Rattle.kk_names.specs.Faults.{error_for}
+use Rattle.kk_names.specs.Names.{ResolvesAs, IsRefusedFor, first_fault, no_main, main_shape, AnswersNames, KeepsNodes, EachTreeIsResolved}
+use Rattle.kk_types.specs.Checks.{TypesAs, EachProgramIsChecked}
+use Rattle.kk_mono.specs.Counts.{ParametersAs, CountsAs, AnswersCounts, EachProgramIsCounted}
+use Rattle.kk_front.specs.Chain.{Then, ToldAs, Checking}
+use Rattle.kk_front.specs.Judgement.{ChecksLength, TellsUntyped, ChecksTypes, ChecksProgram, JudgedAs, IsProgramOf, Refuses, IsRefusalOf, RefusesProgram, wants_memory, EachTextIsJudged}
+use Rattle.kk_front.specs.declared.accept.AcceptedProgram.{AcceptedProgram}
 use Rattle.kk_front.proofs.Bounds.{fewer, parse_told, limit_told}
-use Rattle.kk_front.proofs.Chains.{only_stops, only_goes_on, exactly_then, only_told_ok, only_told_err, exactly_told, only_checking_ok, only_checking_err, exactly_checking}
+use Rattle.kk_front.proofs.Chains.{ok_same, err_same, apart, only_told_ok, only_told_err, only_checking_ok, only_checking_err, exactly_checking, IsSound, sound_then, sound_told, sound_checking, LeadsTo, fails_at, passes_to}
 
 -- the links of the chain, and what stands behind each
 abbrev pub OfLength : List ℕ → Result (List ℕ) Refusal → Type 0
@@ -35,23 +42,37 @@ OfLength = ToldAs OfText.Over (Checking ChecksLength)
 abbrev pub OfLexemes : List ℕ → Result TokenList Refusal → Type 0
 OfLexemes = ToldAs OfText.Lex IsReadAs
 
+abbrev pub LaidOutParses : TokenList → Result WrittenTree ParseError → Type 0
+LaidOutParses tokens = ParsesAs (laid_out_list tokens)
+
 abbrev pub OfGrammar : TokenList → Result WrittenTree Refusal → Type 0
-OfGrammar = ToldAs OfText.Parse ParsesAs
+OfGrammar = ToldAs OfText.Parse LaidOutParses
 
 abbrev pub OfNames : WrittenTree → Result ProgramTree Refusal → Type 0
 OfNames = ToldAs OfText.Name ResolvesAs
 
-abbrev pub OfNodes : ProgramTree → Result ProgramTree Refusal → Type 0
-OfNodes = ToldAs OfText.Over (Checking CountsAs)
+abbrev pub OfParameters : ProgramTree → Result ProgramTree Refusal → Type 0
+OfParameters = ToldAs OfText.Over (Checking ParametersAs)
+
+abbrev pub OfTypes : ProgramTree → Result ProgramTree Refusal → Type 0
+OfTypes = Checking ChecksTypes
+
+abbrev pub OfCounts : ProgramTree → Result ProgramTree Refusal → Type 0
+OfCounts = ToldAs OfText.Over (Checking CountsAs)
+
+abbrev pub FromTypes : ProgramTree → Result ProgramTree Refusal → Type 0
+FromTypes = Then OfTypes OfCounts
 
 abbrev pub FromNames : WrittenTree → Result ProgramTree Refusal → Type 0
-FromNames = Then OfNames OfNodes
+FromNames = Then OfNames ChecksProgram
 
 abbrev pub FromGrammar : TokenList → Result ProgramTree Refusal → Type 0
 FromGrammar = Then OfGrammar FromNames
 
 abbrev pub FromLexemes : List ℕ → Result ProgramTree Refusal → Type 0
 FromLexemes = Then OfLexemes FromGrammar
+
+-- ---- each link comes to one thing
 
 -- the length of a text
 only_length : (text : List ℕ) (outcome : Result (Unit {0}) Limit) → ChecksLength text outcome → IsOnly (ChecksLength text) outcome
@@ -70,122 +91,206 @@ exactly_length text =
       | inr short ↦ (Ok tt, only_length text (Ok tt) short)
     ]
 
--- each text comes to one thing
-pub each_text_is_judged : EachTextIsRead → EachListIsParsed → EachTreeIsResolved → EachProgramIsCounted → EachTextIsJudged
-each_text_is_judged lexemes grammar names nodes text = (
-  exactly_then OfLength FromLexemes text (exactly_told OfText.Over (Checking ChecksLength) text (exactly_checking ChecksLength text (exactly_length text)))
-      (λ t. exactly_then OfLexemes FromGrammar t (exactly_told OfText.Lex IsReadAs t (lexemes t).0)
-      (λ tokens. exactly_then OfGrammar FromNames tokens (exactly_told OfText.Parse ParsesAs tokens (grammar tokens))
-      (λ tree. exactly_then OfNames OfNodes tree (exactly_told OfText.Name ResolvesAs tree (names tree))
-      (λ program. exactly_told OfText.Over (Checking CountsAs) program (exactly_checking CountsAs program (nodes program)))))),
-  λ refusal h. caused h,
-)
+-- the types of a program
+module _ (program : ProgramTree) where
+  some_same : {f g : FunctionTree} → Some f ≡ Some g → f ≡ g
+  some_same e = cc e
+
+  pub only_typed : IsOnly (TypesAs program) (Ok tt) → IsOnly (ChecksTypes program) (Ok tt)
+  only_typed h = record { holds = h.holds; only = one }
+    where
+      one : (other : Result (Unit {0}) Refusal) → ChecksTypes program other → other ≡ Ok tt
+      one (Ok _) x = refl
+      one (Err r) x = absurd (apart (sym (h.only (Err x.number) x.first)))
+
+  pub only_untyped : (number : ℕ) (function : FunctionTree) → slice_get program.functions number ≡ Some function → IsOnly (TypesAs program) (Err number) → IsOnly (ChecksTypes program) (Err (OfText.NotTyped function.name))
+  only_untyped number function is h =
+      record { holds = record { number = number; function = function; first = h.holds; is = is; refusal_is = refl }; only = one }
+    where
+      one : (other : Result (Unit {0}) Refusal) → ChecksTypes program other → other ≡ Err (OfText.NotTyped function.name)
+      one (Ok _) x = absurd (apart (h.only (Ok tt) x))
+      one (Err r) x =
+          let number_is : x.number ≡ number = err_same (h.only (Err x.number) x.first) in
+          let same : x.function ≡ function = some_same (sym x.is ∙ (ap (slice_get program.functions) number_is ∙ is)) in
+          ap Err (x.refusal_is ∙ ap (λ (f : FunctionTree). OfText.NotTyped f.name) same)
+
+  pub exactly_typed : ExactlyOne (TypesAs program) → ExactlyOne (ChecksTypes program)
+  exactly_typed (Ok _, h) = (Ok tt, only_typed h)
+  exactly_typed (Err number, h) = (Err (OfText.NotTyped h.holds.function.name), only_untyped number h.holds.function h.holds.is h)
+
+-- no name's error is want of memory
+no_fault_wants : (kind : FaultKind) (name : List ℕ) (at : ℕ) → wants_memory (OfText.Name (error_for kind name at)) ≡ false
+no_fault_wants Twice name at = refl
+no_fault_wants Unknown name at = refl
+no_fault_wants Arity name at = refl
+
+no_name_wants : (tree : WrittenTree) (error : NameError) → ResolvesAs tree (Err error) → wants_memory (OfText.Name error) ≡ false
+no_name_wants tree error h = by h
   where
-    of_nodes : (program : ProgramTree) (refusal : Refusal) → OfNodes program (Err refusal) → wants_memory refusal ≡ false
-    of_nodes program refusal h = ap wants_memory h.1
+    by : IsRefusedFor tree error → wants_memory (OfText.Name error) ≡ false
+    by (first_fault fault x e) = ap (λ (n : NameError). wants_memory (OfText.Name n)) e ∙ no_fault_wants fault.kind fault.name fault.at
+    by (no_main x y) = ap (λ (n : NameError). wants_memory (OfText.Name n)) y.error_is
+    by (main_shape x y) = ap (λ (n : NameError). wants_memory (OfText.Name n)) y.error_is
 
-    of_names : (tree : WrittenTree) (refusal : Refusal) → OfNames tree (Err refusal) → wants_memory refusal ≡ false
-    of_names tree refusal h = ap wants_memory (h.1 ∙ ap OfText.Name h.2.1)
+no_parse_wants : (tokens : TokenList) (error : ParseError) → ParsesAs tokens (Err error) → wants_memory (OfText.Parse error) ≡ false
+no_parse_wants tokens (OfParse.Unexpected index line column) h = refl
+no_parse_wants tokens (OfParse.TooDeep index line column) h = refl
+no_parse_wants tokens OfParse.NoMemory h = absurd h
 
-    no_want : (tokens : TokenList) (error : ParseError) → ParsesAs tokens (Err error) → wants_memory (OfText.Parse error) ≡ false
-    no_want tokens (OfParse.Unexpected index line column) h = refl
-    no_want tokens (OfParse.TooDeep index line column) h = refl
-    no_want tokens OfParse.NoMemory h = absurd h
+no_lexer_wants : EachTextIsRead → (t : List ℕ) (error : LexError) → IsReadAs t (Err error) → wants_memory (OfText.Lex error) ≡ false
+no_lexer_wants lexemes t OfLex.NoMemory h = absurd ((lexemes t).1 h)
+no_lexer_wants lexemes t (OfLex.BadByte at) h = refl
+no_lexer_wants lexemes t (OfLex.OpenComment at) h = refl
+no_lexer_wants lexemes t (OfLex.OpenString at) h = refl
+no_lexer_wants lexemes t (OfLex.NumberTooLarge at) h = refl
+no_lexer_wants lexemes t (OfLex.StringTooLong at) h = refl
 
-    of_grammar : (tokens : TokenList) (refusal : Refusal) → OfGrammar tokens (Err refusal) → wants_memory refusal ≡ false
-    of_grammar tokens refusal h = ap wants_memory h.1 ∙ no_want tokens h.0 h.2
+-- each text comes to one thing
+pub each_text_is_judged : EachTextIsRead → EachListIsParsed → EachTreeIsResolved → EachProgramIsChecked → EachProgramIsCounted → EachTextIsJudged
+each_text_is_judged lexemes grammar names types counts text = (whole.exactly text, λ refusal h. whole.caused text refusal h)
+  where
+    parameters : IsSound wants_memory OfParameters
+    parameters = sound_told wants_memory OfText.Over (Checking ParametersAs) (λ program. exactly_checking ParametersAs program (counts program).0) (λ program limit h. refl)
 
-    no_lexer_want : (t : List ℕ) (error : LexError) → IsReadAs t (Err error) → wants_memory (OfText.Lex error) ≡ false
-    no_lexer_want t OfLex.NoMemory h = absurd ((lexemes t).1 h)
-    no_lexer_want t (OfLex.BadByte at) h = refl
-    no_lexer_want t (OfLex.OpenComment at) h = refl
-    no_lexer_want t (OfLex.OpenString at) h = refl
-    no_lexer_want t (OfLex.NumberTooLarge at) h = refl
-    no_lexer_want t (OfLex.StringTooLong at) h = refl
+    typed : IsSound wants_memory OfTypes
+    typed = sound_checking wants_memory ChecksTypes (λ program. exactly_typed program (types program)) (λ program refusal h. ap wants_memory h.refusal_is)
 
-    of_lexemes : (t : List ℕ) (refusal : Refusal) → OfLexemes t (Err refusal) → wants_memory refusal ≡ false
-    of_lexemes t refusal h = ap wants_memory h.1 ∙ no_lexer_want t h.0 h.2
+    counted : IsSound wants_memory OfCounts
+    counted = sound_told wants_memory OfText.Over (Checking CountsAs) (λ program. exactly_checking CountsAs program (counts program).1) (λ program limit h. refl)
 
-    of_length : (t : List ℕ) (refusal : Refusal) → OfLength t (Err refusal) → wants_memory refusal ≡ false
-    of_length t refusal h = ap wants_memory h.1
+    checked : IsSound wants_memory ChecksProgram
+    checked = sound_then wants_memory OfParameters FromTypes parameters (sound_then wants_memory OfTypes OfCounts typed counted)
 
-    from_names : (tree : WrittenTree) (refusal : Refusal) → FromNames tree (Err refusal) → wants_memory refusal ≡ false
-    from_names tree refusal (stops e h) = of_names tree e h
-    from_names tree refusal (goes_on program outcome x y) = of_nodes program refusal y
+    named : IsSound wants_memory FromNames
+    named = sound_then wants_memory OfNames ChecksProgram (sound_told wants_memory OfText.Name ResolvesAs names no_name_wants) checked
 
-    from_grammar : (tokens : TokenList) (refusal : Refusal) → FromGrammar tokens (Err refusal) → wants_memory refusal ≡ false
-    from_grammar tokens refusal (stops e h) = of_grammar tokens e h
-    from_grammar tokens refusal (goes_on tree outcome x y) = from_names tree refusal y
+    parsed : IsSound wants_memory FromGrammar
+    parsed = sound_then wants_memory OfGrammar FromNames (sound_told wants_memory OfText.Parse LaidOutParses (λ tokens. grammar (laid_out_list tokens)) (λ tokens. no_parse_wants (laid_out_list tokens))) named
 
-    from_lexemes : (t : List ℕ) (refusal : Refusal) → FromLexemes t (Err refusal) → wants_memory refusal ≡ false
-    from_lexemes t refusal (stops e h) = of_lexemes t e h
-    from_lexemes t refusal (goes_on tokens outcome x y) = from_grammar tokens refusal y
+    lexed : IsSound wants_memory FromLexemes
+    lexed = sound_then wants_memory OfLexemes FromGrammar (sound_told wants_memory OfText.Lex IsReadAs (λ t. (lexemes t).0) (no_lexer_wants lexemes)) parsed
 
-    caused : {refusal : Refusal} → JudgedAs text (Err refusal) → wants_memory refusal ≡ false
-    caused {refusal} (stops e h) = of_length text e h
-    caused {refusal} (goes_on t outcome x y) = from_lexemes t refusal y
+    whole : IsSound wants_memory JudgedAs
+    whole = sound_then wants_memory OfLength FromLexemes (sound_told wants_memory OfText.Over (Checking ChecksLength) (λ t. exactly_checking ChecksLength t (exactly_length t)) (λ t limit h. refl)) lexed
 
--- The judgement at each end of reading: of the text, or of what was made of it.
-module _ (text : List ℕ) (short : ChecksLength text (Ok tt)) where
-  -- behind the length
-  behind_length : (outcome : Result ProgramTree Refusal) → IsOnly (FromLexemes text) outcome → IsOnly (JudgedAs text) outcome
-  behind_length outcome h =
-      only_goes_on OfLength FromLexemes text text outcome (only_told_ok OfText.Over (Checking ChecksLength) text text (only_checking_ok ChecksLength text (only_length text (Ok tt) short))) h
+-- ---- a program whose names are resolved
 
-  unreadable : (error : LexError) → IsReading text (Err error) → IsRefusalOf text (OfText.Lex error)
-  unreadable error h = behind_length _ (only_stops OfLexemes FromGrammar text (OfText.Lex error) (only_told_err OfText.Lex IsReadAs text error h))
+-- a link that tells a limit
+module _ (J : ProgramTree → Result (Unit {0}) Limit → Type 0) (program : ProgramTree) where
+  keeps : IsOnly (J program) (Ok tt) → IsOnly (ToldAs OfText.Over (Checking J) program) (Ok program)
+  keeps h = only_told_ok OfText.Over (Checking J) program program (only_checking_ok J program h)
 
-  pub unreadable_judged : (error : LexError) → UnlessNoMemory (Err error) (IsReading text) → Refuses text (OfText.Lex error)
-  unreadable_judged OfLex.NoMemory h e = cc
-  unreadable_judged (OfLex.BadByte at) h e = unreadable (OfLex.BadByte at) h
-  unreadable_judged (OfLex.OpenComment at) h e = unreadable (OfLex.OpenComment at) h
-  unreadable_judged (OfLex.OpenString at) h e = unreadable (OfLex.OpenString at) h
-  unreadable_judged (OfLex.NumberTooLarge at) h e = unreadable (OfLex.NumberTooLarge at) h
-  unreadable_judged (OfLex.StringTooLong at) h e = unreadable (OfLex.StringTooLong at) h
+  passes : (limit : Limit) → IsOnly (J program) (Err limit) → IsOnly (ToldAs OfText.Over (Checking J) program) (Err (OfText.Over limit))
+  passes limit h = only_told_err OfText.Over (Checking J) program limit (only_checking_err J program limit h)
 
-  module _ (tokens : TokenList) (reading : IsReading text (Ok tokens)) (few : length tokens.items ≤ length text) where
-    behind_lexemes : (outcome : Result ProgramTree Refusal) → IsOnly (FromGrammar tokens) outcome → IsOnly (JudgedAs text) outcome
-    behind_lexemes outcome h = behind_length outcome (only_goes_on OfLexemes FromGrammar text tokens outcome (only_told_ok OfText.Lex IsReadAs text tokens reading) h)
+module _ (program : ProgramTree) where
+  at_program : LeadsTo (ChecksProgram program) ChecksProgram program
+  at_program = record { comes = λ outcome h. h }
 
-    misspelled : (error refusal : ParseError) → IsOnly (ParsesAs tokens) (Err refusal) → error ≡ in_u32 refusal → IsRefusalOf text (OfText.Parse error)
-    misspelled error refusal h e =
-        let P : ParseError → Type 0 = λ x. IsRefusalOf text (OfText.Parse x) in
-        let told : refusal ≡ error = sym (e ∙ parse_told tokens refusal (omega arith) h.holds) in
-        subst P told (behind_lexemes _ (only_stops OfGrammar FromNames tokens (OfText.Parse refusal) (only_told_err OfText.Parse ParsesAs tokens refusal h)))
+  pub parameters_judged : (limit : Limit) → IsOnly (ParametersAs program) (Err limit) → IsOnly (ChecksProgram program) (Err (OfText.Over limit))
+  parameters_judged limit h = fails_at at_program (OfText.Over limit) (passes ParametersAs program limit h)
 
-    pub misspelled_judged : (error : ParseError) → AnswersParse tokens (Err error) → Refuses text (OfText.Parse error)
-    misspelled_judged OfParse.NoMemory h e = cc
-    misspelled_judged (OfParse.Unexpected index line column) h e = misspelled _ h.0 h.1 h.2
-    misspelled_judged (OfParse.TooDeep index line column) h e = misspelled _ h.0 h.1 h.2
+  module _ (parameters : IsOnly (ParametersAs program) (Ok tt)) where
+    at_types : LeadsTo (ChecksProgram program) FromTypes program
+    at_types = passes_to at_program program (keeps ParametersAs program parameters)
 
-    module _ (tree : Tree) (parsed : AnswersParse tokens (Ok tree)) where
-      behind_grammar : (outcome : Result ProgramTree Refusal) → IsOnly (FromNames (written_tree tree)) outcome → IsOnly (JudgedAs text) outcome
-      behind_grammar outcome h = behind_lexemes outcome (only_goes_on OfGrammar FromNames tokens (written_tree tree) outcome (only_told_ok OfText.Parse ParsesAs tokens (written_tree tree) parsed) h)
+    pub types_judged : (refusal : Refusal) → IsOnly (ChecksTypes program) (Err refusal) → IsOnly (ChecksProgram program) (Err refusal)
+    types_judged refusal h = fails_at at_types refusal (only_checking_err ChecksTypes program refusal h)
 
-      unnamed : (error : NameError) → IsOnly (ResolvesAs (written_tree tree)) (Err error) → IsRefusalOf text (OfText.Name error)
-      unnamed error h = behind_grammar _ (only_stops OfNames OfNodes (written_tree tree) (OfText.Name error) (only_told_err OfText.Name ResolvesAs (written_tree tree) error h))
+    module _ (typed : IsOnly (ChecksTypes program) (Ok tt)) where
+      at_counts : LeadsTo (ChecksProgram program) OfCounts program
+      at_counts = passes_to at_types program (only_checking_ok ChecksTypes program typed)
 
-      pub unnamed_judged : (error : NameError) → AnswersNames tree (Err error) → Refuses text (OfText.Name error)
-      unnamed_judged OfName.NoMemory h e = cc
-      unnamed_judged (OfName.Twice name at) h e = unnamed (OfName.Twice name at) h
-      unnamed_judged (OfName.Unknown name at) h e = unnamed (OfName.Unknown name at) h
-      unnamed_judged (OfName.Arity name at) h e = unnamed (OfName.Arity name at) h
-      unnamed_judged (OfName.NoMain name at) h e = unnamed (OfName.NoMain name at) h
-      unnamed_judged (OfName.MainShape name at) h e = unnamed (OfName.MainShape name at) h
+      pub counts_judged : IsOnly (CountsAs program) (Ok tt) → IsOnly (ChecksProgram program) (Ok program)
+      counts_judged h = at_counts.comes (Ok program) (keeps CountsAs program h)
 
-      module _ (program : Program) (resolved : AnswersNames tree (Ok program)) where
-        behind_names : (outcome : Result ProgramTree Refusal) → IsOnly (OfNodes (program_tree program)) outcome → IsOnly (JudgedAs text) outcome
-        behind_names outcome h = behind_grammar outcome (only_goes_on OfNames OfNodes (written_tree tree) (program_tree program) outcome (only_told_ok OfText.Name ResolvesAs (written_tree tree) (program_tree program) resolved) h)
+      pub limit_judged : (limit : Limit) → IsOnly (CountsAs program) (Err limit) → IsOnly (ChecksProgram program) (Err (OfText.Over limit))
+      limit_judged limit h = at_counts.comes (Err (OfText.Over limit)) (passes CountsAs program limit h)
 
-        pub accepted_judged : AnswersCounts program (Ok tt) → IsProgramOf text (program_tree program)
-        accepted_judged h = behind_names _ (only_told_ok OfText.Over (Checking CountsAs) (program_tree program) (program_tree program) (only_checking_ok CountsAs (program_tree program) h))
+-- a limit as it is answered is the one that the program passes
+pub count_judged : (program : Program) → All (λ function. nodes_of function.body < 2 ^ 64) (program_tree program).functions
+    → IsOnly (ParametersAs (program_tree program)) (Ok tt) → IsOnly (ChecksTypes (program_tree program)) (Ok tt) → (limit : Limit) → AnswersCounts program (Err limit)
+    → IsOnly (ChecksProgram (program_tree program)) (Err (OfText.Over limit))
+count_judged program few parameters typed limit h =
+    let P : Limit → Type 0 = λ x. IsOnly (ChecksProgram (program_tree program)) (Err (OfText.Over x)) in
+    let told : h.0 ≡ limit = sym (h.2 ∙ limit_told (program_tree program) h.0 few h.1.holds) in
+    subst P told (limit_judged (program_tree program) parameters typed h.0 h.1)
 
-        pub large_judged : (limit : Limit) → All (λ d. nodes_in d ≤ length tokens.items) (map written_declaration tree.declarations.items) → KeepsNodes (written_tree tree).declarations (program_tree program).functions → AnswersCounts program (Err limit) → Refuses text (OfText.Over limit)
-        large_judged limit small keeps h e =
-            let P : Limit → Type 0 = λ x. IsRefusalOf text (OfText.Over x) in
-            let within = fewer (length tokens.items) (program_tree program).functions (omega arith) (keeps (length tokens.items) small) in
-            let told : h.0 ≡ limit = sym (h.2 ∙ limit_told (program_tree program) h.0 within h.1.holds) in
-            subst P told (behind_names _ (only_told_err OfText.Over (Checking CountsAs) (program_tree program) h.0 (only_checking_err CountsAs (program_tree program) h.0 h.1)))
+-- ---- a text
 
-pub long_judged : (text : List ℕ) (limit : Limit) → ChecksLength text (Err limit) → Refuses text (OfText.Over limit)
-long_judged text limit h e = only_stops OfLength FromLexemes text (OfText.Over limit) (only_told_err OfText.Over (Checking ChecksLength) text limit (only_checking_err ChecksLength text limit (only_length text (Err limit) h)))
+module _ (text : List ℕ) where
+  at_text : LeadsTo (JudgedAs text) JudgedAs text
+  at_text = record { comes = λ outcome h. h }
+
+  pub long_judged : (limit : Limit) → ChecksLength text (Err limit) → Refuses text (OfText.Over limit)
+  long_judged limit h e =
+      fails_at at_text (OfText.Over limit) (only_told_err OfText.Over (Checking ChecksLength) text limit (only_checking_err ChecksLength text limit (only_length text (Err limit) h)))
+
+  module _ (short : ChecksLength text (Ok tt)) where
+    at_lexemes : LeadsTo (JudgedAs text) FromLexemes text
+    at_lexemes = passes_to at_text text (only_told_ok OfText.Over (Checking ChecksLength) text text (only_checking_ok ChecksLength text (only_length text (Ok tt) short)))
+
+    unreadable : (error : LexError) → IsReading text (Err error) → IsRefusalOf text (OfText.Lex error)
+    unreadable error h = fails_at at_lexemes (OfText.Lex error) (only_told_err OfText.Lex IsReadAs text error h)
+
+    pub unreadable_judged : (error : LexError) → UnlessNoMemory (Err error) (IsReading text) → Refuses text (OfText.Lex error)
+    unreadable_judged OfLex.NoMemory h e = cc
+    unreadable_judged (OfLex.BadByte at) h e = unreadable (OfLex.BadByte at) h
+    unreadable_judged (OfLex.OpenComment at) h e = unreadable (OfLex.OpenComment at) h
+    unreadable_judged (OfLex.OpenString at) h e = unreadable (OfLex.OpenString at) h
+    unreadable_judged (OfLex.NumberTooLarge at) h e = unreadable (OfLex.NumberTooLarge at) h
+    unreadable_judged (OfLex.StringTooLong at) h e = unreadable (OfLex.StringTooLong at) h
+
+    -- `laid` are the tokens of the text, laid out
+    module _ (tokens laid : TokenList) (reading : IsReading text (Ok tokens)) (out : laid ≡ laid_out_list tokens) (few : length laid.items ≤ 3 * length text) where
+      at_grammar : LeadsTo (JudgedAs text) FromGrammar tokens
+      at_grammar = passes_to at_lexemes tokens (only_told_ok OfText.Lex IsReadAs text tokens reading)
+
+      -- what is parsed as the tokens, laid out
+      of_laid : (outcome : Result WrittenTree ParseError) → IsOnly (ParsesAs laid) outcome → IsOnly (LaidOutParses tokens) outcome
+      of_laid outcome h = subst (λ (list : TokenList). IsOnly (ParsesAs list) outcome) out h
+
+      misspelled : (error refusal : ParseError) → IsOnly (ParsesAs laid) (Err refusal) → error ≡ in_u32 refusal → IsRefusalOf text (OfText.Parse error)
+      misspelled error refusal h e =
+          let P : ParseError → Type 0 = λ x. IsRefusalOf text (OfText.Parse x) in
+          let told : refusal ≡ error = sym (e ∙ parse_told laid refusal (omega (arith, short, few)) h.holds) in
+          subst P told (fails_at at_grammar (OfText.Parse refusal) (only_told_err OfText.Parse LaidOutParses tokens refusal (of_laid (Err refusal) h)))
+
+      pub misspelled_judged : (error : ParseError) → AnswersParse laid (Err error) → Refuses text (OfText.Parse error)
+      misspelled_judged OfParse.NoMemory h e = cc
+      misspelled_judged (OfParse.Unexpected index line column) h e = misspelled _ h.0 h.1 h.2
+      misspelled_judged (OfParse.TooDeep index line column) h e = misspelled _ h.0 h.1 h.2
+
+      module _ (tree : Tree) (parsed : AnswersParse laid (Ok tree)) where
+        at_names : LeadsTo (JudgedAs text) FromNames (written_tree tree)
+        at_names = passes_to at_grammar (written_tree tree) (only_told_ok OfText.Parse LaidOutParses tokens (written_tree tree) (of_laid (Ok (written_tree tree)) parsed))
+
+        unnamed : (error : NameError) → IsOnly (ResolvesAs (written_tree tree)) (Err error) → IsRefusalOf text (OfText.Name error)
+        unnamed error h = fails_at at_names (OfText.Name error) (only_told_err OfText.Name ResolvesAs (written_tree tree) error h)
+
+        pub unnamed_judged : (error : NameError) → AnswersNames tree (Err error) → Refuses text (OfText.Name error)
+        unnamed_judged OfName.NoMemory h e = cc
+        unnamed_judged (OfName.Twice name at) h e = unnamed (OfName.Twice name at) h
+        unnamed_judged (OfName.Unknown name at) h e = unnamed (OfName.Unknown name at) h
+        unnamed_judged (OfName.Arity name at) h e = unnamed (OfName.Arity name at) h
+        unnamed_judged (OfName.NoMain name at) h e = unnamed (OfName.NoMain name at) h
+        unnamed_judged (OfName.MainShape name at) h e = unnamed (OfName.MainShape name at) h
+
+        module _ (program : Program) (resolved : AnswersNames tree (Ok program)) where
+          at_checks : LeadsTo (JudgedAs text) ChecksProgram (program_tree program)
+          at_checks = passes_to at_names (program_tree program) (only_told_ok OfText.Name ResolvesAs (written_tree tree) (program_tree program) resolved)
+
+          pub accepted_judged : (answer : Result AcceptedProgram Refusal) → IfOk answer (λ accepted. accepted.program ≡ program) → OnOk answer (IsOnly (ChecksProgram (program_tree program)) (Ok (program_tree program)))
+              → IfOk answer (λ accepted. IsProgramOf text (program_tree accepted.program))
+          accepted_judged (Ok accepted) same h =
+              subst (λ (p : Program). IsProgramOf text (program_tree p)) (sym same) (at_checks.comes (Ok (program_tree program)) h)
+          accepted_judged (Err refusal) same h = tt
+
+          pub unchecked_judged : (answer : Result AcceptedProgram Refusal) → IfErr answer (RefusesProgram (program_tree program)) → IfErr answer (Refuses text)
+          unchecked_judged (Ok accepted) h = tt
+          unchecked_judged (Err refusal) h = λ e. at_checks.comes (Err refusal) (h e)
+
+          -- no function has too many nodes to be counted
+          pub nodes_counted : All (λ d. nodes_in d ≤ 2 * length laid.items) (map written_declaration tree.declarations.items) → KeepsNodes (written_tree tree).declarations (program_tree program).functions
+              → All (λ function. nodes_of function.body < 2 ^ 64) (program_tree program).functions
+          nodes_counted small keeps_nodes = fewer (2 * length laid.items) (program_tree program).functions (omega (arith, short, few)) (keeps_nodes (2 * length laid.items) small)

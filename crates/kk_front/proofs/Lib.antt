@@ -2,5 +2,3 @@ pub mod Accepting
 pub mod Bounds
 pub mod Chains
 pub mod Judging
-pub mod Spelled
-pub mod SpelledTypes

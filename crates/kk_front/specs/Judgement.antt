@@ -1,5 +1,5 @@
 -- The judgement of a text: the program that it is accepted as, or the refusal of its first failure.
-use Rattle.std.specs.Prelude.{◌≡◌, ℕ, ◌+◌, ◌<◌, ◌≤◌, List, length, Bool, true, false, Result, Ok, Err}
+use Rattle.std.specs.Prelude.{◌≡◌, ℕ, ◌+◌, ◌<◌, ◌≤◌, List, length, slice_get, Bool, true, false, Some, Result, Ok, Err}
 use Rattle.kk_base.specs.Exactly.{IsOnly, ExactlyOne}
 use Rattle.kk_base.specs.Limits.{greatest_of}
 use Rattle.kk_base.specs.declared.error.LexError.TheVariants as OfLex
@@ -9,11 +9,13 @@ use Rattle.kk_base.specs.declared.limit.Limit.{Limit}
 use Rattle.kk_base.specs.declared.limit.LimitKind.TheVariants.{Source}
 use Rattle.kk_base.specs.declared.refusal.Refusal.{Refusal}
 use Rattle.kk_base.specs.declared.refusal.Refusal.TheVariants as OfText
-use Rattle.kk_syntax.specs.Programs.{ProgramTree}
+use Rattle.kk_syntax.specs.Programs.{FunctionTree, ProgramTree}
 use Rattle.kk_lexer.specs.Readings.{IsReadAs}
+use Rattle.kk_layout.specs.Layouts.{laid_out_list}
 use Rattle.kk_parser.specs.Parses.{ParsesAs}
 use Rattle.kk_names.specs.Names.{ResolvesAs}
-use Rattle.kk_mono.specs.Counts.{CountsAs}
+use Rattle.kk_types.specs.Checks.{TypesAs}
+use Rattle.kk_mono.specs.Counts.{ParametersAs, CountsAs}
 use Rattle.kk_front.specs.Chain.{Then, ToldAs, Checking}
 
 -- a text has at most 65,536 bytes; the count that is told is always one more
@@ -21,15 +23,36 @@ abbrev pub ChecksLength : List ℕ → Result (Unit {0}) Limit → Type 0
 ChecksLength text (Ok _) = length text ≤ greatest_of Source
 ChecksLength text (Err limit) = (greatest_of Source < length text) × (limit ≡ record { kind = Source; count = greatest_of Source + 1 })
 
--- What a text comes to. The first failure decides, in this order: its length; a lexeme that cannot be read; tokens that
--- are no program; names; a function with too many nodes.
+-- the first function that is not typed, told by its name
+pub record TellsUntyped (program : ProgramTree) (refusal : Refusal) : Type 0 where
+  pub number : ℕ
+  pub function : FunctionTree
+  pub first : TypesAs program (Err number)
+  pub is : slice_get program.functions number ≡ Some function
+  pub refusal_is : refusal ≡ OfText.NotTyped function.name
+
+-- each function is typed, or the first that is not is told
+abbrev pub ChecksTypes : ProgramTree → Result (Unit {0}) Refusal → Type 0
+ChecksTypes program (Ok _) = TypesAs program (Ok tt)
+ChecksTypes program (Err refusal) = TellsUntyped program refusal
+
+-- What a program whose names are resolved comes to. The first failure decides, in this order: a function with too many
+-- parameters; a function that is not typed; a function with too many nodes; too many instances; too many nodes in all.
+abbrev pub ChecksProgram : ProgramTree → Result ProgramTree Refusal → Type 0
+ChecksProgram =
+    Then (ToldAs OfText.Over (Checking ParametersAs))
+    (Then (Checking ChecksTypes)
+    (ToldAs OfText.Over (Checking CountsAs)))
+
+-- What a text comes to. The first failure decides, in this order: its length; a lexeme that cannot be read; tokens that,
+-- laid out, are no program; names; and then those of its program.
 abbrev pub JudgedAs : List ℕ → Result ProgramTree Refusal → Type 0
 JudgedAs =
     Then (ToldAs OfText.Over (Checking ChecksLength))
     (Then (ToldAs OfText.Lex IsReadAs)
-    (Then (ToldAs OfText.Parse ParsesAs)
+    (Then (ToldAs OfText.Parse (λ tokens. ParsesAs (laid_out_list tokens)))
     (Then (ToldAs OfText.Name ResolvesAs)
-    (ToldAs OfText.Over (Checking CountsAs)))))
+    ChecksProgram)))
 
 -- the text is accepted as this program, and comes to nothing else
 abbrev pub IsProgramOf : List ℕ → ProgramTree → Type 0
@@ -54,3 +77,7 @@ EachTextIsJudged = (text : List ℕ) → ExactlyOne (JudgedAs text) × ((refusal
 -- a refusal is the text's, unless it is want of memory
 abbrev pub Refuses : List ℕ → Refusal → Type 0
 Refuses text refusal = wants_memory refusal ≡ false → IsRefusalOf text refusal
+
+-- a refusal is the program's, unless it is want of memory
+abbrev pub RefusesProgram : ProgramTree → Refusal → Type 0
+RefusesProgram program refusal = wants_memory refusal ≡ false → IsOnly (ChecksProgram program) (Err refusal)

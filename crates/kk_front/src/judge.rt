@@ -1,45 +1,45 @@
-ghost use Rattle.std.specs.Prelude.{◌≤◌, All, IfOk, IfErr};
-ghost use Rattle.kk_base.specs.Limits.{greatest_of};
-ghost use Rattle.kk_base.specs.declared.limit.LimitKind.TheVariants.{FunctionNodes};
+ghost use Rattle.std.specs.Prelude.{IfOk, IfErr};
 ghost use Rattle.kk_syntax.specs.Programs.{program_tree};
-ghost use Rattle.kk_syntax.specs.Shapes.{nodes_of};
-ghost use Rattle.kk_syntax.specs.Trees.{expr_tree};
+ghost use Rattle.kk_mono.specs.Counts.{IsSmall};
+ghost use Rattle.kk_mono.specs.Instances.{IsInstanceProgram};
 ghost use Rattle.kk_front.specs.Judgement.{ChecksLength, IsProgramOf, Refuses, EachTextIsJudged};
 
-use kk_base::{Limit, LimitKind, Refusal};
+use crate::accept::{AcceptedProgram, accept};
+use kk_base::{Limit, LimitKind, NoMemory, Refusal};
+use kk_layout::laid_out;
 use kk_lexer::{each_text_is_read, tokens};
-use kk_mono::{check_nodes, each_program_is_counted};
+use kk_mono::each_program_is_counted;
 use kk_names::{each_tree_is_resolved, resolve};
 use kk_parser::{each_list_is_parsed, parse};
-use kk_syntax::Program;
+use kk_types::each_program_is_checked;
 use std::alloc::Global;
 
-/// The program of a text, or why it is not accepted: its first failure.
-pub fn read(alloc: Global, text: &[u8]) -> Result<Program, Refusal>
-    ensures ok { IfOk result (λ program. IsProgramOf text.now (program_tree program)) }
+/// The program of a text with its instances, or why the text is not accepted: its first failure.
+pub fn read(alloc: Global, text: &[u8]) -> Result<AcceptedProgram, Refusal>
+    ensures program { IfOk result (λ accepted. IsProgramOf text.now (program_tree accepted.program)) }
+    ensures instances { IfOk result (λ accepted.
+        IsInstanceProgram (program_tree accepted.program) (program_tree accepted.instances)) }
+    ensures small { IfOk result (λ accepted. IsSmall (program_tree accepted.instances)) }
     ensures err { IfErr result (Refuses text.now) }
-    ensures few_nodes { IfOk result (λ program.
-        All (λ function. nodes_of (expr_tree function.body) ≤ greatest_of FunctionNodes) program.functions.items) }
 {
-    match check_length(text) {
-        Ok(()) => {}
-        Err(limit) => return Err(Refusal::Over(limit)),
+    if let Err(limit) = check_length(text) {
+        return Err(Refusal::Over(limit));
     }
     let tokens = match tokens(alloc, text) {
         Ok(tokens) => tokens,
         Err(error) => return Err(Refusal::Lex(error)),
     };
+    let tokens = match laid_out(alloc, &tokens) {
+        Ok(tokens) => tokens,
+        Err(NoMemory) => return Err(Refusal::NoMemory),
+    };
     let tree = match parse(alloc, &tokens) {
         Ok(tree) => tree,
         Err(error) => return Err(Refusal::Parse(error)),
     };
-    let program = match resolve(alloc, tree) {
-        Ok(program) => program,
-        Err(error) => return Err(Refusal::Name(error)),
-    };
-    match check_nodes(&program) {
-        Ok(()) => Ok(program),
-        Err(limit) => Err(Refusal::Over(limit)),
+    match resolve(alloc, tree) {
+        Ok(program) => accept(alloc, program),
+        Err(error) => Err(Refusal::Name(error)),
     }
 }
 
@@ -51,6 +51,7 @@ pub fn each_text_is_judged()
     each_text_is_read();
     each_list_is_parsed();
     each_tree_is_resolved();
+    each_program_is_checked();
     each_program_is_counted();
 }
 

@@ -1,12 +1,17 @@
 ghost use Rattle.std.specs.Prelude.{ℕ, List};
 ghost use Rattle.kk_syntax.specs.Programs.{ProgramTree};
 ghost use Rattle.kk_syntax.specs.Typing.{IsTyped};
-ghost use Rattle.kk_front.specs.Accepted.{IsOneFunction};
+ghost use Rattle.kk_mono.specs.Counts.{ParametersAs, KeepsCounts};
 ghost use Rattle.kk_front.specs.Judgement.{IsProgramOf};
 
-/// An accepted program is typed, and its only function is its main, which has no parameters and keeps the limit on its
-/// nodes. It is a law, and does nothing.
+use kk_names::resolved_programs_have_main;
+
+/// An accepted program is typed, and keeps each limit: on the parameters and on the nodes of a function, on the number of
+/// its instances, and on their nodes in all. It is a law, and does nothing.
 pub fn accepted_programs_are_typed()
     ensures typed { (text : List ℕ) (program : ProgramTree) → IsProgramOf text program → IsTyped program }
-    ensures small { (text : List ℕ) (program : ProgramTree) → IsProgramOf text program → IsOneFunction program }
-{}
+    ensures parameters { (text : List ℕ) (program : ProgramTree) → IsProgramOf text program → ParametersAs program (Ok tt) }
+    ensures small { (text : List ℕ) (program : ProgramTree) → IsProgramOf text program → KeepsCounts program }
+{
+    resolved_programs_have_main();
+}

@@ -1,4 +1,4 @@
-ghost use Rattle.std.specs.Prelude.{◌≡◌, IfOk};
+ghost use Rattle.std.specs.Prelude.{◌≡◌, ◌*◌, ◌≤◌, length, IfOk};
 ghost use Rattle.kk_layout.specs.Layouts.{first_place, laid_out_list};
 
 use crate::state::Layout;
@@ -19,7 +19,8 @@ fn first_place(tokens: &[LocatedToken], end: Span) -> Span
 /// The tokens of a text with the braces and semicolons that its layout stands for. What is inserted has the place of the
 /// token behind it, or of the text's end.
 pub fn laid_out(alloc: Global, tokens: &Tokens) -> Result<Tokens, NoMemory>
-    ensures { IfOk result (λ out. out ≡ laid_out_list tokens.now) }
+    ensures value { IfOk result (λ out. out ≡ laid_out_list tokens.now) }
+    ensures few { IfOk result (λ out. length out.items ≤ 3 * length tokens.now.items) }
 {
     let end = tokens.end();
     let Some((first, mut rest)) = tokens.as_slice().split_first() else {

@@ -1,6 +1,15 @@
-//! The limits on the nodes of a program.
+//! The instances of a program, and its limits: on parameters, on nodes, and on instances.
 #![tactic(auto)]
 
+mod copy;
+mod error;
 mod limits;
+mod program;
+mod reach;
+mod renaming;
+#[cfg(test)]
+mod tests;
 
-pub use limits::{check_nodes, each_program_is_counted};
+pub use error::MonoError;
+pub use limits::{check_parameters, each_program_is_counted};
+pub use program::instances;

@@ -1,3 +1,10 @@
-pub mod Meanings
+pub mod Arguments
+pub mod Declarations
+pub mod Firsts
+pub mod Growing
+pub mod Mains
 pub mod Nodes
 pub mod Resolving
+pub mod Statements
+pub mod Tables
+pub mod Written

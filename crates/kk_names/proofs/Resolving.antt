@@ -1,56 +1,117 @@
 -- A tree comes to one thing, and the code finds it.
-use Rattle.std.proofs.Common.{◌≡◌, ◌+◌, ℕ, List, [], ◌∷◌, map, length, nat_lt, not, cond, Bool, Option, Some, None, bytes_eq, codes, refl, ap, sym, ◌∙◌}
-use Rattle.std.specs.Prelude.{Result, Ok, Err}
-use Rattle.std.specs.List.{position, prefix_len}
-use Rattle.std.proofs.lemmas.List.{length-map}
+use Rattle.std.proofs.Common.{◌≡◌, ℕ, List, [], ◌∷◌, length, Bool, true, false, Option, Some, None, bytes_eq, codes, refl, ap, sym, ◌∙◌}
+use Rattle.std.specs.Prelude.{Result, Ok, Err, if◌then◌else◌, slice_get}
+use Rattle.std.proofs.lemmas.List.Quantifiers.{position-Some}
+use Rattle.std.proofs.lemmas.Option.{slice_get-get_or}
 use Rattle.kk_base.specs.Exactly.{IsOnly, ExactlyOne}
 use Rattle.kk_base.specs.declared.error.NameError.{NameError}
-use Rattle.kk_base.specs.declared.error.NameError.TheVariants.{NoMain}
-use Rattle.kk_syntax.specs.declared.program.Fun.{Fun}
-use Rattle.kk_syntax.specs.Programs.{ProgramTree, function_tree}
+use Rattle.kk_base.specs.declared.error.NameError.TheVariants.{NoMain, MainShape, NoMemory}
+use Rattle.kk_syntax.specs.Programs.{FunctionTree, ProgramTree, no_function}
 use Rattle.kk_syntax.specs.Surface.{WrittenTree}
-use Rattle.kk_names.specs.Names.{functions_of, main_of, main_among, program_of, ResolvesAs, EachTreeIsResolved}
+use Rattle.kk_syntax.specs.Types.{TypeTree, int32, unit_type, type_variable, named}
+use Rattle.kk_names.specs.declared.fault.Fault.{Fault}
+use Rattle.kk_names.specs.Faults.{error_of, faults_of}
+use Rattle.kk_names.specs.Methods.{first_with}
+use Rattle.kk_names.specs.Names.{functions_meant, main_of, program_of, IsMainShaped, HasOtherMain, MeansProgram, first_fault, no_main, main_shape, ResolvesAs, EachTreeIsResolved}
+use Rattle.kk_names.proofs.Firsts.{kept_is_first, first_is_kept, none_is_kept}
 
-one_outcome : (tree : WrittenTree) (a b : Result ProgramTree NameError) → ResolvesAs tree a → ResolvesAs tree b → b ≡ a
-one_outcome tree (Ok p) (Ok q) x y =
-    let found = sym y.1 ∙ x.1 in
-    let same : y.0 ≡ x.0 = cc in
-    ap Ok (y.2 ∙ (ap (program_of (functions_of tree.declarations)) same ∙ sym x.2))
-one_outcome tree (Ok p) (Err e) x y = let found = sym x.1 ∙ y.0 in cc
-one_outcome tree (Err e) (Ok p) x y = let found = sym y.1 ∙ x.0 in cc
-one_outcome tree (Err e) (Err d) x y = ap Err (y.1 ∙ sym x.1)
+-- ---- the one outcome
 
-only_outcome : (tree : WrittenTree) (outcome : Result ProgramTree NameError) → ResolvesAs tree outcome → IsOnly (ResolvesAs tree) outcome
-only_outcome tree outcome h = record { holds = h; only = λ other k. one_outcome tree outcome other h k }
+is_shaped : List TypeTree → TypeTree → Bool
+is_shaped [] unit_type = true
+is_shaped _ _ = false
+
+shaped_is : (function : FunctionTree) → IsMainShaped function → is_shaped function.parameters function.result ≡ true
+unfolding is_shaped
+shaped_is function shape = ap (λ ps. is_shaped ps function.result) shape.parameters ∙ ap (is_shaped []) shape.result
+
+is_so_shaped : (ps : List TypeTree) (r : TypeTree) → is_shaped ps r ≡ true → (ps ≡ []) × (r ≡ unit_type)
+unfolding is_shaped
+is_so_shaped [] unit_type e = (refl, refl)
+is_so_shaped [] int32 e = absurd (cc e)
+is_so_shaped [] (type_variable x) e = absurd (cc e)
+is_so_shaped [] (named by arguments) e = absurd (cc e)
+is_so_shaped (p ∷ ps) r e = absurd (cc e)
+
+other_is : (function : FunctionTree) → (IsMainShaped function → ⊥) → is_shaped function.parameters function.result ≡ false
+other_is function other = by (is_shaped function.parameters function.result) refl
+  where
+    by : (b : Bool) → is_shaped function.parameters function.result ≡ b → is_shaped function.parameters function.result ≡ false
+    by true e = let so = is_so_shaped function.parameters function.result e in absurd (other (record { parameters = so.0; result = so.1 }))
+    by false e = e
+
+abbrev at_function : List FunctionTree → ℕ → Option FunctionTree → Result ProgramTree NameError
+at_function functions main None = Err NoMemory
+at_function functions main (Some function) = if is_shaped function.parameters function.result then Ok (program_of functions main) else Err (MainShape function.name function.at)
+
+abbrev at_main : List FunctionTree → ℕ → Option ℕ → Result ProgramTree NameError
+at_main functions length None = Err (NoMain (codes "main") length)
+at_main functions length (Some main) = at_function functions main (slice_get functions main)
+
+abbrev at_fault : List FunctionTree → ℕ → Option Fault → Result ProgramTree NameError
+at_fault functions length None = at_main functions length (main_of functions)
+at_fault functions length (Some fault) = Err (error_of fault)
+
+abbrev outcome_of : WrittenTree → Result ProgramTree NameError
+outcome_of tree = at_fault (functions_meant tree.declarations) tree.length (first_with None (faults_of tree.declarations))
+
+without_faults : (tree : WrittenTree) → faults_of tree.declarations ≡ [] → outcome_of tree ≡ at_main (functions_meant tree.declarations) tree.length (main_of (functions_meant tree.declarations))
+without_faults tree none = ap (λ fs. at_fault (functions_meant tree.declarations) tree.length (first_with None fs)) none
+
+with_function : (functions : List FunctionTree) (length main : ℕ) (function : FunctionTree) → main_of functions ≡ Some main → slice_get functions main ≡ Some function
+    → at_main functions length (main_of functions) ≡ (if is_shaped function.parameters function.result then Ok (program_of functions main) else Err (MainShape function.name function.at))
+with_function functions length main function found there = ap (at_main functions length) found ∙ ap (at_function functions main) there
+
+its_outcome : (tree : WrittenTree) (outcome : Result ProgramTree NameError) → ResolvesAs tree outcome → outcome_of tree ≡ outcome
+its_outcome tree (Ok program) h =
+    let functions = functions_meant tree.declarations in
+    let m = h.makes in
+    without_faults tree h.faults
+    ∙ (with_function functions tree.length m.main m.function m.main_is m.there
+    ∙ (ap (λ b. if b then Ok (program_of functions m.main) else Err (MainShape m.function.name m.function.at)) (shaped_is m.function m.shape) ∙ ap Ok (sym m.is)))
+its_outcome tree (Err error) (first_fault fault first is) =
+    ap (at_fault (functions_meant tree.declarations) tree.length) (kept_is_first (faults_of tree.declarations) fault first) ∙ ap Err (sym is)
+its_outcome tree (Err error) (no_main none lacks) =
+    without_faults tree none ∙ (ap (at_main (functions_meant tree.declarations) tree.length) lacks.lacking ∙ ap Err (sym lacks.error_is))
+its_outcome tree (Err error) (main_shape none has) =
+    let functions = functions_meant tree.declarations in
+    without_faults tree none
+    ∙ (with_function functions tree.length has.main has.function has.main_is has.there
+    ∙ (ap (λ b. if b then Ok (program_of functions has.main) else Err (MainShape has.function.name has.function.at)) (other_is has.function has.other) ∙ ap Err (sym has.error_is)))
+
+pub only_outcome : (tree : WrittenTree) (outcome : Result ProgramTree NameError) → ResolvesAs tree outcome → IsOnly (ResolvesAs tree) outcome
+only_outcome tree outcome h = record { holds = h; only = λ other k. sym (its_outcome tree other k) ∙ its_outcome tree outcome h }
+
+-- ---- there is one
+
+main_there : (functions : List FunctionTree) (main : ℕ) → main_of functions ≡ Some main → (function : FunctionTree) × (slice_get functions main ≡ Some function)
+main_there functions main e = (_, slice_get-get_or functions main no_function (position-Some (λ function. bytes_eq function.name (codes "main")) functions main no_function e).0)
 
 pub each_tree_is_resolved : EachTreeIsResolved
-each_tree_is_resolved tree = by (main_of (functions_of tree.declarations)) refl
+each_tree_is_resolved tree = by_fault (first_with None (faults_of tree.declarations)) refl
   where
-    by : (main : Option ℕ) → main_of (functions_of tree.declarations) ≡ main → ExactlyOne (ResolvesAs tree)
-    by None e = (Err (NoMain (codes "main") tree.length), only_outcome tree _ (e, refl))
-    by (Some main) e = (Ok (program_of (functions_of tree.declarations) main), only_outcome tree _ (main, e, refl))
+    functions : List FunctionTree
+    functions = functions_meant tree.declarations
 
-prefix-map : {X Y : Type 0} (f : X → Y) (p : Y → Bool) (xs : List X) → prefix_len p (map f xs) ≡ prefix_len (λ x. p (f x)) xs
-prefix-map f p [] = refl
-prefix-map f p (x ∷ xs) = ap (λ n. cond (p (f x)) (1 + n) 0) (prefix-map f p xs)
+    by_shape : (main : ℕ) (function : FunctionTree) (b : Bool) → is_shaped function.parameters function.result ≡ b → faults_of tree.declarations ≡ [] → main_of (functions_meant tree.declarations) ≡ Some main → slice_get (functions_meant tree.declarations) main ≡ Some function → ExactlyOne (ResolvesAs tree)
+    by_shape main function true e none found there =
+        let so = is_so_shaped function.parameters function.result e in
+        let means : MeansProgram tree.declarations (program_of (functions_meant tree.declarations) main) = record {
+          faults = none;
+          makes = record { main = main; function = function; main_is = found; there = there; shape = record { parameters = so.0; result = so.1 }; is = refl };
+        } in
+        (Ok (program_of (functions_meant tree.declarations) main), only_outcome tree (Ok _) means)
+    by_shape main function false e none found there =
+        let never : IsMainShaped function → ⊥ = λ shape. (let yes = shaped_is function shape in cc) in
+        let has : HasOtherMain (functions_meant tree.declarations) (MainShape function.name function.at) = record { main = main; function = function; main_is = found; there = there; other = never; error_is = refl } in
+        (Err (MainShape function.name function.at), only_outcome tree (Err _) (main_shape none has))
 
--- the first place at which a test passes, of values and of what they are mapped to
-position-map : {X Y : Type 0} (f : X → Y) (p : Y → Bool) (xs : List X) → position p (map f xs) ≡ position (λ x. p (f x)) xs
-position-map f p xs =
-    ap (λ n. cond (nat_lt (prefix_len (λ y. not (p y)) (map f xs)) n) (Some (prefix_len (λ y. not (p y)) (map f xs))) None) (length-map xs f)
-    ∙ ap (λ n. cond (nat_lt n (length xs)) (Some n) None) (prefix-map f (λ y. not (p y)) xs)
+    by_main : (main : Option ℕ) → main_of (functions_meant tree.declarations) ≡ main → faults_of tree.declarations ≡ [] → ExactlyOne (ResolvesAs tree)
+    by_main None e none = (Err (NoMain (codes "main") tree.length), only_outcome tree (Err _) (no_main none (record { lacking = e; error_is = refl })))
+    by_main (Some main) e none =
+        let there = main_there (functions_meant tree.declarations) main e in
+        by_shape main there.0 (is_shaped there.0.parameters there.0.result) refl none e there.1
 
--- `main` among functions of the program, and among those that they are seen as
-main_of-tree : (functions : List Fun) → main_of (map function_tree functions) ≡ main_among functions
-main_of-tree functions = position-map function_tree (λ f. bytes_eq f.name (codes "main")) functions
-
-module _ (tree : WrittenTree) (functions slice : List Fun) (is : map function_tree functions ≡ functions_of tree.declarations) (same : slice ≡ functions) where
-  main_in : main_of (functions_of tree.declarations) ≡ main_among slice
-  main_in = ap main_of (sym is) ∙ main_of-tree functions ∙ ap main_among (sym same)
-
-  -- `main` was found, or not
-  pub found : (program : ProgramTree) (main : ℕ) → Some main ≡ main_among slice → program ≡ program_of (map function_tree functions) main → IsOnly (ResolvesAs tree) (Ok program)
-  found program main h e = only_outcome tree (Ok program) (main, main_in ∙ sym h, e ∙ ap (λ fs. program_of fs main) is)
-
-  pub lacking : (name : List ℕ) → None ≡ main_among slice → name ≡ codes "main" → IsOnly (ResolvesAs tree) (Err (NoMain name tree.length))
-  lacking name h e = only_outcome tree _ (main_in ∙ sym h, ap (λ n. NoMain n tree.length) e)
+    by_fault : (fault : Option Fault) → first_with None (faults_of tree.declarations) ≡ fault → ExactlyOne (ResolvesAs tree)
+    by_fault None e = by_main (main_of (functions_meant tree.declarations)) refl (none_is_kept (faults_of tree.declarations) e)
+    by_fault (Some fault) e = (Err (error_of fault), only_outcome tree (Err _) (first_fault fault (first_is_kept (faults_of tree.declarations) fault e) refl))

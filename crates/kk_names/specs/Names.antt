@@ -1,19 +1,24 @@
 -- Which program a tree means, or why its names have no meaning.
-use Rattle.std.specs.Prelude.{◌≡◌, ℕ, ◌≤◌, List, [], ◌∷◌, All, position, bytes_eq, codes, Option, Some, None, Result, Ok, Err}
+use Rattle.std.specs.Prelude.{◌≡◌, ℕ, ◌≤◌, List, [], ◌∷◌, length, map, All, position, bytes_eq, codes, Option, Some, None, Result, Ok, Err, slice_get}
 use Rattle.kk_base.specs.Exactly.{IsOnly, ExactlyOne}
 use Rattle.kk_base.specs.declared.error.NameError.{NameError}
-use Rattle.kk_base.specs.declared.error.NameError.TheVariants.{NoMain, NoMemory}
-use Rattle.kk_syntax.specs.declared.program.Fun.{Fun}
+use Rattle.kk_base.specs.declared.error.NameError.TheVariants.{NoMain, MainShape, NoMemory}
 use Rattle.kk_syntax.specs.declared.program.Program.{Program}
 use Rattle.kk_syntax.specs.declared.program.TypeDecl.{TypeDecl}
 use Rattle.kk_syntax.specs.declared.tree.Identifier.{Identifier}
 use Rattle.kk_syntax.specs.declared.tree.Tree.{Tree}
 use Rattle.kk_syntax.specs.Programs.{ConstructorTree, FunctionTree, ProgramTree, program_tree}
 use Rattle.kk_syntax.specs.Shapes.{nodes_of}
-use Rattle.kk_syntax.specs.Surface.{Written, WrittenDeclaration, type_declaration, function_declaration, WrittenTree, written_tree}
+use Rattle.kk_syntax.specs.Surface.{Written, WrittenType, WrittenParameter, WrittenDeclaration, type_declaration, function_declaration, WrittenTree, written_tree}
 use Rattle.kk_syntax.specs.Types.{unit_type}
 use Rattle.kk_syntax.specs.WrittenNodes.{nodes_in}
+use Rattle.kk_names.specs.declared.fault.Fault.{Fault}
+use Rattle.kk_names.specs.declared.table.Declared.{Declared}
 use Rattle.kk_names.specs.Expressions.{meant}
+use Rattle.kk_names.specs.Faults.{IsFirstFault, error_of, faults_of}
+use Rattle.kk_names.specs.Scopes.{with_parameters}
+use Rattle.kk_names.specs.Tables.{functions_in}
+use Rattle.kk_names.specs.TypeNames.{type_meant, result_meant}
 
 -- the type `bool`, with its constructors `False` and `True`
 abbrev pub bool_type : TypeDecl
@@ -22,15 +27,26 @@ bool_type = record { name = codes "bool"; at = 0; variables = 0; first_construct
 abbrev pub bool_constructor : List ℕ → ℕ → ConstructorTree
 bool_constructor name tag = record { name = name; at = 0; of_type = 0; tag = tag; fields = [] }
 
--- the function of a name with a body: a text spells no parameters and no types yet
-abbrev pub function_of : Identifier → Written → FunctionTree
-function_of name body = record { name = name.name; at = name.at; variables = 0; parameters = []; result = unit_type; body = meant body }
+-- a function among those of its text; its parameters are its first variables
+abbrev pub function_of : List Declared → Identifier → List WrittenParameter → Option WrittenType → Written → FunctionTree
+function_of functions name parameters result body = record {
+  name = name.name;
+  at = name.at;
+  variables = 0;
+  parameters = map (λ parameter. type_meant parameter.of_type) parameters;
+  result = result_meant result;
+  body = meant functions (with_parameters 0 parameters []) (length parameters) body;
+}
 
-abbrev pub functions_of : List WrittenDeclaration → List FunctionTree
-functions_of [] = []
-functions_of (type_declaration name parameters constructors ∷ more) = functions_of more
-functions_of (function_declaration name parameters effects result body ∷ more) =
-    function_of name body ∷ functions_of more
+-- the functions of declarations; a declared type is passed over: no text of today's grammar has one
+abbrev pub functions_of : List Declared → List WrittenDeclaration → List FunctionTree
+functions_of functions [] = []
+functions_of functions (type_declaration name parameters constructors ∷ more) = functions_of functions more
+functions_of functions (function_declaration name parameters effects result body ∷ more) =
+    function_of functions name parameters result body ∷ functions_of functions more
+
+abbrev pub functions_meant : List WrittenDeclaration → List FunctionTree
+functions_meant declarations = functions_of (functions_in declarations) declarations
 
 -- the number of the function `main`
 abbrev pub main_of : List FunctionTree → Option ℕ
@@ -45,10 +61,49 @@ program_of functions main = record {
   main = main;
 }
 
--- What a tree comes to: its program, or, where no function is called `main`, that error at the text's end.
+-- `main` takes nothing and gives nothing
+pub record IsMainShaped (function : FunctionTree) : Type 0 where
+  pub parameters : function.parameters ≡ []
+  pub result : function.result ≡ unit_type
+
+-- these functions, of which one is a `main` as it must be, make a program
+pub record MakesProgram (functions : List FunctionTree) (program : ProgramTree) : Type 0 where
+  pub main : ℕ
+  pub function : FunctionTree
+  pub main_is : main_of functions ≡ Some main
+  pub there : slice_get functions main ≡ Some function
+  pub shape : IsMainShaped function
+  pub is : program ≡ program_of functions main
+
+-- no function is called `main`, which is told of at the text's end
+pub record LacksMain (functions : List FunctionTree) (length : ℕ) (error : NameError) : Type 0 where
+  pub lacking : main_of functions ≡ None
+  pub error_is : error ≡ NoMain (codes "main") length
+
+-- `main` has a parameter or a result
+pub record HasOtherMain (functions : List FunctionTree) (error : NameError) : Type 0 where
+  pub main : ℕ
+  pub function : FunctionTree
+  pub main_is : main_of functions ≡ Some main
+  pub there : slice_get functions main ≡ Some function
+  pub other : IsMainShaped function → ⊥
+  pub error_is : error ≡ MainShape function.name function.at
+
+-- a tree without faults means a program
+pub record MeansProgram (declarations : List WrittenDeclaration) (program : ProgramTree) : Type 0 where
+  pub faults : faults_of declarations ≡ []
+  pub makes : MakesProgram (functions_meant declarations) program
+
+-- a tree is refused for its first fault, or, if it has none, for its `main`
+pub data IsRefusedFor (tree : WrittenTree) (error : NameError) : Type 0 where
+  first_fault : (fault : Fault) → IsFirstFault (faults_of tree.declarations) fault → error ≡ error_of fault → IsRefusedFor tree error
+  no_main : faults_of tree.declarations ≡ [] → LacksMain (functions_meant tree.declarations) tree.length error → IsRefusedFor tree error
+  main_shape : faults_of tree.declarations ≡ [] → HasOtherMain (functions_meant tree.declarations) error → IsRefusedFor tree error
+
+-- what a tree comes to
 abbrev pub ResolvesAs : WrittenTree → Result ProgramTree NameError → Type 0
-ResolvesAs tree (Ok program) = (main : ℕ) × (main_of (functions_of tree.declarations) ≡ Some main) × (program ≡ program_of (functions_of tree.declarations) main)
-ResolvesAs tree (Err error) = (main_of (functions_of tree.declarations) ≡ None) × (error ≡ NoMain (codes "main") tree.length)
+ResolvesAs tree (Ok program) = MeansProgram tree.declarations program
+ResolvesAs tree (Err error) = IsRefusedFor tree error
 
 -- an answer is what the tree comes to, as nothing else is, unless memory ran out
 abbrev pub AnswersNames : Tree → Result Program NameError → Type 0
@@ -64,6 +119,12 @@ EachTreeIsResolved = (tree : WrittenTree) → ExactlyOne (ResolvesAs tree)
 abbrev pub KeepsNodes : List WrittenDeclaration → List FunctionTree → Type 0
 KeepsNodes declarations functions = (most : ℕ) → All (λ d. nodes_in d ≤ most) declarations → All (λ f. nodes_of f.body ≤ most) functions
 
--- the number of `main` among the functions as the code holds them
-abbrev pub main_among : List Fun → Option ℕ
-main_among functions = position (λ function. bytes_eq function.name (codes "main")) functions
+-- a program has a function `main` without parameters and without a result
+pub record HasMain (program : ProgramTree) : Type 0 where
+  pub function : FunctionTree
+  pub there : slice_get program.functions program.main ≡ Some function
+  pub parameters : function.parameters ≡ []
+  pub result : function.result ≡ unit_type
+
+abbrev pub ResolvedProgramsHaveMain : Type 0
+ResolvedProgramsHaveMain = (tree : WrittenTree) (program : ProgramTree) → ResolvesAs tree (Ok program) → HasMain program

@@ -1,110 +1,208 @@
-ghost use Rattle.std.specs.Prelude.{◌≡◌, [], ◌∷◌, map, IfOk};
-ghost use Rattle.kk_syntax.specs.Surface.{written_expr, written_statement};
-ghost use Rattle.kk_syntax.specs.Trees.{expr_tree, statement_tree, trees_of};
-ghost use Rattle.kk_names.specs.Expressions.{meant, call_of, print_named, binder_of};
+ghost use Rattle.std.specs.Prelude.{◌≡◌, map, option_map, IfOk};
+ghost use Rattle.kk_syntax.specs.Surface.{Written, dot_call, both, either, block_of, written_expr, written_statement, writtens_of};
+ghost use Rattle.kk_syntax.specs.Trees.{expr_tree, statement_tree, trees_of, branch};
+ghost use Rattle.kk_names.specs.Expressions.{truth};
+ghost use Rattle.kk_names.specs.Methods.{Resolves, ResolvesAll, choice_of, ResolvesStatement, ResolvesStatements, KeepsScope};
 
-use kk_base::{Name, NoMemory};
+use crate::resolver::Resolver;
+use crate::table::{constructor, meaning_in};
+use kk_base::NoMemory;
 use kk_syntax::{
-    Binder, Expr, Form, PrintForm, Statement, SurfaceBinder, SurfaceExpr, SurfaceStatement,
+    Binder, Expr, Form, Identifier, Program, Statement, SurfaceBinder, SurfaceExpr,
+    SurfaceStatement,
 };
 use std::alloc::Global;
 
-/// What an expression means. The recursion is as deep as the expression.
-#[cycle(expression)]
-pub fn expression(alloc: Global, expr: &SurfaceExpr) -> Result<Expr, NoMemory>
-    ensures { IfOk result (λ e. expr_tree e ≡ meant (written_expr expr.now)) }
-{
-    match expr {
-        SurfaceExpr::Number(value) => Ok(Expr::Number(*value)),
-        SurfaceExpr::Unary(operator, operand) => {
-            let operand = expression(alloc, operand)?;
-            let arguments = Vec::from_array(alloc, [operand])?;
-            Ok(Expr::Apply(Form::Unary(*operator), arguments))
+impl Resolver {
+    /// What an expression means. The recursion is as deep as the expression.
+    #[cycle(expression)]
+    pub fn expression(&mut self, expr: &SurfaceExpr) -> Result<Expr, NoMemory>
+        ensures { IfOk result (λ e. Resolves (written_expr expr.now) self.old self.new (expr_tree e)) }
+    {
+        match expr {
+            SurfaceExpr::Number(value) => Ok(Expr::Number(*value)),
+            SurfaceExpr::Unit | SurfaceExpr::Match(_, _) => Ok(Expr::Unit),
+            SurfaceExpr::Variable(name) => self.variable(name),
+            SurfaceExpr::Call(name, arguments) => {
+                let arguments = self.expressions(arguments)?;
+                let callee = meaning_in(self.functions.as_slice(), &name.name);
+                self.applied(callee, name, arguments)
+            }
+            SurfaceExpr::DotCall(first, name, others) => self.dot_call(name, others, first),
+            SurfaceExpr::Construct(name, arguments) => {
+                let arguments = self.expressions(arguments)?;
+                self.applied(constructor(&name.name), name, arguments)
+            }
+            SurfaceExpr::Unary(operator, operand) => {
+                let operand = self.expression(operand)?;
+                let arguments = Vec::from_array(self.alloc, [operand])?;
+                Ok(Expr::Apply(Form::Unary(*operator), arguments))
+            }
+            SurfaceExpr::Binary(operator, left, right) => {
+                let left = self.expression(left)?;
+                let right = self.expression(right)?;
+                let arguments = Vec::from_array(self.alloc, [left, right])?;
+                Ok(Expr::Apply(Form::Binary(*operator), arguments))
+            }
+            SurfaceExpr::And(left, right) => self.both(left, right),
+            SurfaceExpr::Or(left, right) => self.either(left, right),
+            SurfaceExpr::PrintText(form, text) => {
+                Ok(Expr::PrintText(*form, text.copied(self.alloc)?))
+            }
+            SurfaceExpr::If(condition, positive, negative) => {
+                self.choice(condition, positive, negative)
+            }
+            SurfaceExpr::Block(statements, value) => self.block(statements, value),
         }
-        SurfaceExpr::Binary(operator, left, right) => {
-            let left = expression(alloc, left)?;
-            let right = expression(alloc, right)?;
-            let arguments = Vec::from_array(alloc, [left, right])?;
-            Ok(Expr::Apply(Form::Binary(*operator), arguments))
+    }
+
+    /// A call whose first argument stands before the others, in front of a dot.
+    #[cycle(expression)]
+    fn dot_call(
+        &mut self,
+        name: &Identifier,
+        others: &[SurfaceExpr],
+        first: &SurfaceExpr,
+    ) -> Result<Expr, NoMemory>
+        ensures { IfOk result (λ e. Resolves (dot_call (written_expr first.now) name.now (writtens_of (map written_expr others.now))) self.old self.new (expr_tree e)) }
+    {
+        let first = self.expression(first)?;
+        let mut arguments = self.expressions(others)?;
+        arguments.insert(0, first)?;
+        let callee = meaning_in(self.functions.as_slice(), &name.name);
+        self.applied(callee, name, arguments)
+    }
+
+    /// `a && b`: `if a then b else False`.
+    #[cycle(expression)]
+    fn both(&mut self, left: &SurfaceExpr, right: &SurfaceExpr) -> Result<Expr, NoMemory>
+        ensures { IfOk result (λ e. Resolves (both (written_expr left.now) (written_expr right.now)) self.old self.new (expr_tree e)) }
+    {
+        let condition = self.expression(left)?;
+        let positive = self.expression(right)?;
+        let negative = truth(self.alloc, Program::FALSE);
+        conditional(self.alloc, condition, positive, negative)
+    }
+
+    /// `a || b`: `if a then True else b`.
+    #[cycle(expression)]
+    fn either(&mut self, left: &SurfaceExpr, right: &SurfaceExpr) -> Result<Expr, NoMemory>
+        ensures { IfOk result (λ e. Resolves (either (written_expr left.now) (written_expr right.now)) self.old self.new (expr_tree e)) }
+    {
+        let condition = self.expression(left)?;
+        let negative = self.expression(right)?;
+        let positive = truth(self.alloc, Program::TRUE);
+        conditional(self.alloc, condition, positive, negative)
+    }
+
+    /// An `if`, whose second branch is `()` where it is left out.
+    #[cycle(expression)]
+    fn choice(
+        &mut self,
+        condition: &SurfaceExpr,
+        positive: &SurfaceExpr,
+        negative: &Option<Box<SurfaceExpr>>,
+    ) -> Result<Expr, NoMemory>
+        ensures { IfOk result (λ e. Resolves (choice_of (written_expr condition.now) (written_expr positive.now) (option_map (λ b. written_expr b.value) negative.now)) self.old self.new (expr_tree e)) }
+    {
+        let condition = self.expression(condition)?;
+        let positive = self.expression(positive)?;
+        let negative = match negative {
+            Some(negative) => self.expression(negative)?,
+            None => Expr::Unit,
+        };
+        conditional(self.alloc, condition, positive, negative)
+    }
+
+    /// A block. Behind it its variables are seen no more.
+    #[cycle(expression)]
+    fn block(
+        &mut self,
+        statements: &[SurfaceStatement],
+        value: &SurfaceExpr,
+    ) -> Result<Expr, NoMemory>
+        ensures { IfOk result (λ e. Resolves (block_of (map written_statement statements.now) (written_expr value.now)) self.old self.new (expr_tree e)) }
+    {
+        let outer = self.scope.len();
+        let statements = self.statements(statements)?;
+        let value = self.expression(value)?;
+        self.scope.truncate(outer);
+        Ok(Expr::Block(statements, Box::new(self.alloc, value)?))
+    }
+
+    /// What expressions mean, from left to right.
+    #[cycle(expression)]
+    fn expressions(&mut self, exprs: &[SurfaceExpr]) -> Result<Vec<Expr>, NoMemory>
+        ensures { IfOk result (λ es. ResolvesAll (writtens_of (map written_expr exprs.now)) self.old self.new (trees_of (map expr_tree es.items))) }
+    {
+        let mut resolved = Vec::new(self.alloc);
+        for expr in exprs {
+            let e = self.expression(expr)?;
+            resolved.push(e)?;
         }
-        SurfaceExpr::Call(name, arguments) => {
-            let arguments = expressions(alloc, arguments)?;
-            Ok(call(print_named(&name.name), arguments))
+        Ok(resolved)
+    }
+
+    /// What statements mean. Behind them their variables are seen.
+    #[cycle(expression)]
+    fn statements(&mut self, statements: &[SurfaceStatement]) -> Result<Vec<Statement>, NoMemory>
+        ensures resolves { IfOk result (λ ss. (last : Written)
+            → ResolvesStatements (map written_statement statements.now) last self.old self.new (map statement_tree ss.items)) }
+        ensures scope { IfOk result (λ _. KeepsScope self.old self.new) }
+    {
+        let mut resolved = Vec::new(self.alloc);
+        for statement in statements {
+            let s = self.statement(statement)?;
+            resolved.push(s)?;
         }
-        SurfaceExpr::PrintText(form, text) => Ok(Expr::PrintText(*form, text.copied(alloc)?)),
-        SurfaceExpr::Block(statements, value) => {
-            let statements = all_statements(alloc, statements)?;
-            let value = expression(alloc, value)?;
-            Ok(Expr::Block(statements, Box::new(alloc, value)?))
-        }
-        _ => Ok(Expr::Unit),
+        Ok(resolved)
     }
-}
 
-#[cycle(expression)]
-fn expressions(alloc: Global, exprs: &[SurfaceExpr]) -> Result<Vec<Expr>, NoMemory>
-    ensures { IfOk result (λ es. map expr_tree es.items ≡ map (λ e. meant (written_expr e)) exprs.now) }
-{
-    let mut resolved = Vec::new(alloc);
-    for expr in exprs {
-        resolved.push(expression(alloc, expr)?)?;
-    }
-    Ok(resolved)
-}
-
-#[cycle(expression)]
-fn all_statements(
-    alloc: Global,
-    statements: &[SurfaceStatement],
-) -> Result<Vec<Statement>, NoMemory>
-    ensures { IfOk result (λ ss. map statement_tree ss.items
-        ≡ map (λ s. record { binder = binder_of s.binder; value = meant (written_expr s.value) }) statements.now) }
-{
-    let mut resolved = Vec::new(alloc);
-    for statement in statements {
-        let value = expression(alloc, &statement.value)?;
-        resolved.push(Statement {
-            binder: binder(&statement.binder),
-            value,
-        })?;
-    }
-    Ok(resolved)
-}
-
-fn binder(binder: &SurfaceBinder) -> Binder
-    ensures { result ≡ binder_of binder.now }
-{
-    match binder {
-        SurfaceBinder::Nothing => Binder::Nothing,
-        _ => Binder::Wildcard,
-    }
-}
-
-/// Which print a name is.
-fn print_named(name: &Name) -> Option<PrintForm>
-    ensures { result ≡ print_named name.now }
-{
-    if name.as_str() == "print" {
-        return Some(PrintForm::Print);
-    }
-    if name.as_str() == "println" {
-        return Some(PrintForm::PrintLine);
-    }
-    None
-}
-
-/// A call of a print, which has one argument.
-fn call(form: Option<PrintForm>, arguments: Vec<Expr>) -> Expr
-    ensures { expr_tree result ≡ call_of form (trees_of (map expr_tree arguments.items)) }
-{
-    match form {
-        Some(form) => {
-            if arguments.len() == 1 {
-                Expr::Apply(Form::Print(form), arguments)
-            } else {
-                Expr::Unit
+    /// What a statement means. A variable is seen behind the statement, and not in its own value.
+    #[cycle(expression)]
+    fn statement(&mut self, statement: &SurfaceStatement) -> Result<Statement, NoMemory>
+        ensures { IfOk result (λ s. ResolvesStatement (written_statement statement.now) self.old self.new (statement_tree s)) }
+    {
+        match &statement.binder {
+            SurfaceBinder::Nothing => {
+                let binder = Binder::Nothing;
+                let value = self.expression(&statement.value)?;
+                Ok(Statement { binder, value })
+            }
+            SurfaceBinder::Wildcard => {
+                let binder = Binder::Wildcard;
+                let value = self.expression(&statement.value)?;
+                Ok(Statement { binder, value })
+            }
+            SurfaceBinder::Variable(name) => {
+                let number = self.number()?;
+                let value = self.expression(&statement.value)?;
+                self.bind(name, number)?;
+                let binder = Binder::Variable(number);
+                Ok(Statement { binder, value })
             }
         }
-        None => Expr::Unit,
     }
+}
+
+/// A constructor of `bool`.
+fn truth(alloc: Global, constructor: u32) -> Expr
+    ensures { expr_tree result ≡ truth constructor }
+{
+    Expr::Apply(Form::Construct(constructor), Vec::new(alloc))
+}
+
+/// An `if` with both branches.
+fn conditional(
+    alloc: Global,
+    condition: Expr,
+    positive: Expr,
+    negative: Expr,
+) -> Result<Expr, NoMemory>
+    ensures { IfOk result (λ e. expr_tree e ≡ branch (expr_tree condition) (expr_tree positive) (expr_tree negative)) }
+{
+    let condition = Box::new(alloc, condition)?;
+    let positive = Box::new(alloc, positive)?;
+    let negative = Box::new(alloc, negative)?;
+    Ok(Expr::If(condition, positive, negative))
 }

@@ -3,8 +3,14 @@
 
 mod builtin;
 mod expression;
+mod fault;
+mod function;
 mod program;
+mod resolver;
+mod scope;
+mod signature;
+mod table;
 #[cfg(test)]
 mod tests;
 
-pub use program::{each_tree_is_resolved, resolve};
+pub use program::{each_tree_is_resolved, resolve, resolved_programs_have_main};

@@ -1,38 +1,32 @@
-ghost use Rattle.std.specs.Prelude.{◌≡◌, ◌<◌, length, map, IfOk, IfSome, vec_len};
+ghost use Rattle.std.specs.Prelude.{◌≡◌, ◌<◌, length, map, None, IfOk, IfSome, IsTrue, ◌↔◌, vec_len};
 ghost use Rattle.kk_syntax.specs.Programs.{function_tree, program_tree};
-ghost use Rattle.kk_syntax.specs.Surface.{written_declaration, written_expr, written_tree};
-ghost use Rattle.kk_names.specs.Names.{functions_of, main_among, program_of, function_of, AnswersNames, KeepsNodes, EachTreeIsResolved};
+ghost use Rattle.kk_syntax.specs.Surface.{written_declaration, written_tree};
+ghost use Rattle.kk_names.specs.Faults.{faults_of};
+ghost use Rattle.kk_names.specs.Methods.{main_among, first_with, AnswersMain, IsNoMain, IsOtherMain};
+ghost use Rattle.kk_names.specs.Names.{functions_meant, program_of, IsMainShaped, AnswersNames, KeepsNodes, EachTreeIsResolved, ResolvedProgramsHaveMain};
 
 use crate::builtin;
-use crate::expression::expression;
+use crate::fault::Fault;
+use crate::resolver::Resolver;
 use kk_base::{Name, NameError, NoMemory};
-use kk_syntax::{Declaration, Fun, FunctionDeclaration, Program, Tree, Ty};
+use kk_syntax::{Declaration, Fun, Program, Tree, Ty};
 use std::alloc::Global;
 
-/// The program of a tree that the grammar of today spells, or the error that there is no function `main`.
+/// The program of a tree; or its first fault; or that it has no function `main`, or one with a parameter or a result.
 ///
-/// A tree may hold more forms than the grammar spells: variables, matches, declared types. These have no meaning yet, and
-/// stand for `()`; no text comes to one.
+/// A tree may hold forms that no text of today's grammar spells: declared types and matches. They have no meaning yet: a
+/// declared type is passed over, and a match is `()`.
 pub fn resolve(alloc: Global, tree: Tree) -> Result<Program, NameError>
     ensures resolved { AnswersNames tree result }
     ensures keeps_nodes { IfOk result (λ program.
         KeepsNodes (written_tree tree).declarations (program_tree program).functions) }
 {
-    let Ok(functions) = functions(alloc, tree.declarations.as_slice()) else {
+    let Ok((functions, fault)) = functions(alloc, tree.declarations.as_slice()) else {
         return Err(NameError::NoMemory);
     };
-    match find_main(functions.as_slice()) {
-        Some(main) => match with_main(alloc, functions, main) {
-            Ok(program) => Ok(program),
-            Err(NoMemory) => Err(NameError::NoMemory),
-        },
-        None => match String::from_str(alloc, "main") {
-            Ok(spelling) => Err(NameError::NoMain {
-                name: Name::new(spelling),
-                at: tree.length,
-            }),
-            Err(_) => Err(NameError::NoMemory),
-        },
+    match fault {
+        Some(fault) => Err(fault.error()),
+        None => with_main(alloc, functions, tree.length),
     }
 }
 
@@ -41,34 +35,78 @@ pub fn each_tree_is_resolved()
     ensures { EachTreeIsResolved }
 {}
 
-// The functions of declarations.
-fn functions(alloc: Global, declarations: &[Declaration]) -> Result<Vec<Fun>, NoMemory>
-    ensures { IfOk result (λ functions. map function_tree functions.items
-        ≡ functions_of (map written_declaration declarations.now)) }
+/// A program that a tree means has a function `main` without parameters and without a result. It is a law, and does
+/// nothing.
+pub fn resolved_programs_have_main()
+    ensures { ResolvedProgramsHaveMain }
+{}
+
+// The functions of declarations, and the first fault of those.
+fn functions(
+    alloc: Global,
+    declarations: &[Declaration],
+) -> Result<(Vec<Fun>, Option<Fault>), NoMemory>
+    ensures functions { IfOk result (λ r. map function_tree r.0.items ≡ functions_meant (map written_declaration declarations.now)) }
+    ensures fault { IfOk result (λ r. r.1 ≡ first_with None (faults_of (map written_declaration declarations.now))) }
 {
-    let mut functions = Vec::new(alloc);
-    for declaration in declarations {
-        if let Declaration::Function(declared) = declaration {
-            functions.push(function(alloc, declared)?)?;
-        }
-    }
-    Ok(functions)
+    let mut resolver = Resolver::new(alloc)?;
+    resolver.declare(declarations)?;
+    let functions = resolver.all_functions(declarations)?;
+    Ok((functions, resolver.first.take()))
 }
 
-// A function, which has no parameters and no types.
-fn function(alloc: Global, declared: &FunctionDeclaration) -> Result<Fun, NoMemory>
-    ensures { IfOk result (λ function. function_tree function ≡ function_of declared.now.name (written_expr declared.now.body)) }
+// The program of functions without faults, or what is wrong with their `main`.
+fn with_main(alloc: Global, functions: Vec<Fun>, length: u32) -> Result<Program, NameError>
+    ensures { AnswersMain (map function_tree functions.items) length result }
 {
-    let name = declared.name.name.copied(alloc)?;
-    let body = expression(alloc, &declared.body)?;
-    Ok(Fun {
-        name,
-        at: declared.name.at,
-        variables: 0,
-        parameters: Vec::new(alloc),
-        result: Ty::Unit,
-        body,
-    })
+    let Some(main) = find_main(functions.as_slice()) else {
+        return Err(no_main(alloc, length));
+    };
+    let function = &functions[main];
+    if !is_main_shaped(function) {
+        return Err(other_main(alloc, function));
+    }
+    match program(alloc, functions, main) {
+        Ok(program) => Ok(program),
+        Err(NoMemory) => Err(NameError::NoMemory),
+    }
+}
+
+// The error that no function is called `main`.
+fn no_main(alloc: Global, length: u32) -> NameError
+    ensures { IsNoMain length result }
+{
+    match String::from_str(alloc, "main") {
+        Ok(spelling) => NameError::NoMain {
+            name: Name::new(spelling),
+            at: length,
+        },
+        Err(_) => NameError::NoMemory,
+    }
+}
+
+// The error that a function `main` has a parameter or a result.
+fn other_main(alloc: Global, function: &Fun) -> NameError
+    ensures { IsOtherMain function.now result }
+{
+    match function.name.copied(alloc) {
+        Ok(name) => NameError::MainShape {
+            name,
+            at: function.at,
+        },
+        Err(NoMemory) => NameError::NoMemory,
+    }
+}
+
+// Whether a function takes nothing and gives nothing.
+fn is_main_shaped(function: &Fun) -> bool
+    ensures { IsTrue result ↔ IsMainShaped (function_tree function.now) }
+{
+    let gives_unit = match function.result {
+        Ty::Unit => true,
+        _ => false,
+    };
+    gives_unit && function.parameters.is_empty()
 }
 
 // The number of `main`.
@@ -82,7 +120,7 @@ fn find_main(functions: &[Fun]) -> Option<usize>
 }
 
 // The program of functions, of which one is `main`. There is no room for more of them than a `u32` can number.
-fn with_main(alloc: Global, functions: Vec<Fun>, main: usize) -> Result<Program, NoMemory>
+fn program(alloc: Global, functions: Vec<Fun>, main: usize) -> Result<Program, NoMemory>
     requires { main < vec_len functions }
     ensures { IfOk result (λ program. program_tree program ≡ program_of (map function_tree functions.items) main) }
 {

@@ -1,60 +1,125 @@
--- Kinds are apart: no token is of two.
-use Rattle.std.proofs.Common.{◌≡◌, ℕ, Bool, true, false, cond, List, [], ◌∷◌, Option, Some, None, is_some, bytes_eq, refl, ap, sym, ◌∙◌, subst, inl, inr, rules}
-use Rattle.std.proofs.lemmas.Bool.{eqb-true, eq-eqb, cases_Bool, true≢false, or_cases, or_from, or_left, or_right}
-use Rattle.std.proofs.lemmas.Option.{cond_some, none-some}
-use Rattle.std.proofs.lemmas.Slice.Eq.{bytes_eq-Decides}
+-- Classes are apart: each token is of one. So a token is of a kind where its class is one of the kind's.
+use Rattle.std.proofs.Common.{◌≡◌, ℕ, Bool, true, false, cond, ◌||◌, List, [], ◌∷◌, map, Option, Some, None, is_some, refl, ap, sym, ◌∙◌, subst, inl, inr, rules}
+use Rattle.std.proofs.lemmas.Bool.{or_cases}
 use Rattle.kk_syntax.specs.declared.token.LocatedToken.{LocatedToken}
 use Rattle.kk_syntax.specs.declared.token.Token.{Token}
 use Rattle.kk_syntax.specs.declared.token.Token.TheVariants as OfToken
 use Rattle.kk_syntax.specs.contracts.token.Keyword.{the_type as the_keywords}
 use Rattle.kk_syntax.specs.contracts.token.Symbol.{the_type as the_symbols}
-use denote.Enum.Bare.{sameb, same_true}
-use Rattle.kk_parser.specs.Kinds.{Kind, keyword, symbol, word, number, string, Said, said_at, says, next_says, is_at}
+use denote.Enum.Bare.{same_true, true_same}
+use Rattle.kk_parser.specs.Classes.{Word, print, println, main, total, div, exn, console, NameClass, word, type_variable, other, Class, keyword as keyword_class, symbol as symbol_class, name, constructor as constructor_class, wildcard as wildcard_class, number as number_class, string as string_class, class_of, name_class, same_word, same_name_class, same_class, is_one_of, is_at}
+use Rattle.kk_parser.specs.Kinds.{Kind, keyword, symbol, name_in, constructor, wildcard, number, string, Said, said_at, says, next_says, is_name_in, classes_of}
 
--- whether two kinds are one: a token is of one kind alone
-abbrev pub same : Kind → Kind → Bool
-same (keyword a) (keyword b) = sameb the_keywords a b
-same (symbol a) (symbol b) = sameb the_symbols a b
-same (word a) (word b) = bytes_eq a b
-same number number = true
-same string string = true
-same _ _ = false
+-- words, classes of names and classes are one where the test says so
+pub same_word-one : (a b : Word) → same_word a b ≡ true → a ≡ b
+same_word-one print print h = refl
+same_word-one println println h = refl
+same_word-one main main h = refl
+same_word-one total total h = refl
+same_word-one div div h = refl
+same_word-one exn exn h = refl
+same_word-one console console h = refl
+same_word-one _ _ h = absurd (cc h)
 
--- whether no token is of a kind of both lists
-abbrev pub apart_one : Kind → List Kind → Bool
-apart_one k [] = true
-apart_one k (l ∷ ls) = cond (same k l) false (apart_one k ls)
+pub same_name_class-one : (a b : NameClass) → same_name_class a b ≡ true → a ≡ b
+same_name_class-one (word a) (word b) h = ap word (same_word-one a b h)
+same_name_class-one type_variable type_variable h = refl
+same_name_class-one other other h = refl
+same_name_class-one _ _ h = absurd (cc h)
 
-abbrev pub apart : List Kind → List Kind → Bool
-apart [] ls = true
-apart (k ∷ ks) ls = cond (apart_one k ls) (apart ks ls) false
+pub same_class-one : (a b : Class) → same_class a b ≡ true → a ≡ b
+same_class-one (keyword_class a) (keyword_class b) h = ap keyword_class (same_true the_keywords (search rules) a b h)
+same_class-one (symbol_class a) (symbol_class b) h = ap symbol_class (same_true the_symbols (search rules) a b h)
+same_class-one (name a) (name b) h = ap name (same_name_class-one a b h)
+same_class-one constructor_class constructor_class h = refl
+same_class-one wildcard_class wildcard_class h = refl
+same_class-one number_class number_class h = refl
+same_class-one string_class string_class h = refl
+same_class-one _ _ h = absurd (cc h)
 
-same_tags : (x y z : ℕ) → lib.Dec.eqb x y ≡ true → lib.Dec.eqb x z ≡ true → lib.Dec.eqb y z ≡ true
-same_tags x y z e f = eq-eqb y z (sym (eqb-true x y e) ∙ eqb-true x z f)
+-- and each is one with itself
+pub same_word-self : (a : Word) → same_word a a ≡ true
+same_word-self print = refl
+same_word-self println = refl
+same_word-self main = refl
+same_word-self total = refl
+same_word-self div = refl
+same_word-self exn = refl
+same_word-self console = refl
 
-same_bytes : (x y z : List ℕ) → bytes_eq x y ≡ true → bytes_eq x z ≡ true → bytes_eq y z ≡ true
-same_bytes x y z e f = (bytes_eq-Decides y z).1 (sym ((bytes_eq-Decides x y).0 e) ∙ (bytes_eq-Decides x z).0 f)
+pub same_name_class-self : (a : NameClass) → same_name_class a a ≡ true
+same_name_class-self (word a) = same_word-self a
+same_name_class-self type_variable = refl
+same_name_class-self other = refl
 
-shared : (t : Token) (at : ℕ) (k l : Kind) (v : Said k) (w : Said l) → said_at k t at ≡ Some v → said_at l t at ≡ Some w → same k l ≡ true
-shared (OfToken.Keyword o) at (keyword a) (keyword b) v w e f = same_tags _ _ _ (cond_some _ _ _ e).0 (cond_some _ _ _ f).0
-shared (OfToken.Symbol o) at (symbol a) (symbol b) v w e f = same_tags _ _ _ (cond_some _ _ _ e).0 (cond_some _ _ _ f).0
-shared (OfToken.Name o) at (word a) (word b) v w e f = same_bytes o a b (cond_some _ _ _ e).0 (cond_some _ _ _ f).0
-shared (OfToken.Number o) at number number v w e f = refl
-shared (OfToken.String o) at string string v w e f = refl
-shared (OfToken.Constructor o) at number l v w e f = absurd (none-some v e)
-shared OfToken.Wildcard at number l v w e f = absurd (none-some v e)
-shared _ at _ _ v w e f = absurd (cc (e, f))
+pub same_class-self : (a : Class) → same_class a a ≡ true
+same_class-self (keyword_class a) = true_same the_keywords a a refl
+same_class-self (symbol_class a) = true_same the_symbols a a refl
+same_class-self (name a) = same_name_class-self a
+same_class-self constructor_class = refl
+same_class-self wildcard_class = refl
+same_class-self number_class = refl
+same_class-self string_class = refl
+
+-- a token says something of a kind where its class is one of the kind's
+given : {A : Type 0} (b : Bool) (v : A) → is_some (cond b (Some v) None) ≡ (b || false)
+given true v = refl
+given false v = refl
+
+given_name : {A : Type 0} (b c : Bool) (v : A) → b ≡ c → is_some (cond b (Some v) None) ≡ c
+given_name true c v e = e
+given_name false c v e = e
+
+name_in_class : (cs : List NameClass) (c : NameClass) → is_name_in cs c ≡ is_one_of (map name cs) (name c)
+name_in_class [] c = refl
+name_in_class (d ∷ ds) c = ap (λ b. same_name_class c d || b) (name_in_class ds c)
+
+no_name : (cs : List NameClass) (c : Class) → ((d : NameClass) → same_class c (name d) ≡ false) → false ≡ is_one_of (map name cs) c
+no_name [] c h = refl
+no_name (d ∷ ds) c h = no_name ds c h ∙ ap (λ b. b || is_one_of (map name ds) c) (sym (h d))
+
+said_class : (k : Kind) (t : Token) (at : ℕ) → is_some (said_at k t at) ≡ is_one_of (classes_of k) (class_of t)
+said_class (keyword k) (OfToken.Keyword found) at = given _ tt
+said_class (symbol s) (OfToken.Symbol found) at = given _ tt
+said_class (name_in cs) (OfToken.Name spelling) at = given_name _ _ _ (name_in_class cs (name_class spelling))
+said_class constructor (OfToken.Constructor spelling) at = refl
+said_class wildcard OfToken.Wildcard at = refl
+said_class number (OfToken.Number value) at = refl
+said_class string (OfToken.String text) at = refl
+said_class (name_in cs) (OfToken.Constructor spelling) at = no_name cs _ (λ d. refl)
+said_class (name_in cs) OfToken.Wildcard at = no_name cs _ (λ d. refl)
+said_class (name_in cs) (OfToken.Number value) at = no_name cs _ (λ d. refl)
+said_class (name_in cs) (OfToken.String text) at = no_name cs _ (λ d. refl)
+said_class (name_in cs) (OfToken.Keyword k) at = no_name cs _ (λ d. refl)
+said_class (name_in cs) (OfToken.Symbol s) at = no_name cs _ (λ d. refl)
+said_class _ _ at = refl
+
+pub says_class : (k : Kind) (t : LocatedToken) → is_some (says k t) ≡ is_one_of (classes_of k) (class_of t.token)
+says_class k t = said_class k t.token t.span.at
+
+pub next_says_class : (k : Kind) (ts : List LocatedToken) → is_some (next_says k ts) ≡ is_at (classes_of k) ts
+next_says_class k [] = refl
+next_says_class k (t ∷ ts) = says_class k t
+
+pub is_at-one : (k : Kind) (t : LocatedToken) (ts : List LocatedToken) (v : Said k) → says k t ≡ Some v → is_at (classes_of k) (t ∷ ts) ≡ true
+is_at-one k t ts v e = sym (says_class k t) ∙ ap is_some e
 
 some_of : {A : Type 0} (o : Option A) → is_some o ≡ true → (v : A) × (o ≡ Some v)
 some_of (Some v) h = (v, refl)
 some_of None h = absurd (cc h)
 
-apart_at : (k l : Kind) (ts : List LocatedToken) → same k l ≡ false → is_some (next_says k ts) ≡ true → is_some (next_says l ts) ≡ true → ⊥
-apart_at k l [] h e f = absurd (cc e)
-apart_at k l (t ∷ ts) h e f =
-    let a = some_of (says k t) e in
-    let b = some_of (says l t) f in
-    true≢false (sym (shared t.token t.span.at k l a.0 b.0 a.1 b.1) ∙ h)
+-- what the first token says where it is of a kind
+pub next_of : (k : Kind) (ts : List LocatedToken) → is_at (classes_of k) ts ≡ true → (t : LocatedToken) × (us : List LocatedToken) × (v : Said k) × (ts ≡ t ∷ us) × (says k t ≡ Some v)
+next_of k [] h = absurd (cc h)
+next_of k (t ∷ us) h = let w = some_of (says k t) (says_class k t ∙ h) in (t, us, w.0, refl, w.1)
+
+-- where no token of a kind is next, the next one says nothing of it
+pub says_nothing : (k : Kind) (ts : List LocatedToken) → is_at (classes_of k) ts ≡ false → next_says k ts ≡ None
+says_nothing k ts h = none_of (next_says k ts) (next_says_class k ts ∙ h)
+  where
+    none_of : {A : Type 0} (o : Option A) → is_some o ≡ false → o ≡ None
+    none_of (Some v) e = absurd (cc e)
+    none_of None e = refl
 
 pub cond_parts : (x y : Bool) → cond x y false ≡ true → (x ≡ true) × (y ≡ true)
 cond_parts true y h = (refl, h)
@@ -68,49 +133,38 @@ pub not_at : (b : Bool) → (b ≡ true → ⊥) → b ≡ false
 not_at true h = absurd (h refl)
 not_at false h = refl
 
-apart_one_at : (k : Kind) (ls : List Kind) (ts : List LocatedToken) → apart_one k ls ≡ true → is_some (next_says k ts) ≡ true → is_at ls ts ≡ false
-apart_one_at k [] ts h e = refl
-apart_one_at k (l ∷ ls) ts h e =
-    let p = cond_not (same k l) (apart_one k ls) h in
-    or_from _ _ (not_at _ (apart_at k l ts p.0 e)) (apart_one_at k ls ts p.1 e)
+-- whether no class is of both lists
+abbrev pub apart : List Class → List Class → Bool
+apart [] ds = true
+apart (c ∷ cs) ds = cond (is_one_of ds c) false (apart cs ds)
+
+apart_classes : (cs ds : List Class) (c : Class) → apart cs ds ≡ true → is_one_of cs c ≡ true → is_one_of ds c ≡ false
+apart_classes [] ds c h e = absurd (cc e)
+apart_classes (d ∷ cs) ds c h e =
+    let p = cond_not (is_one_of ds d) (apart cs ds) h in
+    elim (or_cases (same_class c d) (is_one_of cs c) e) [ inl a ↦ subst (λ x. is_one_of ds x ≡ false) (sym (same_class-one c d a)) p.0 | inr b ↦ apart_classes cs ds c p.1 b ]
 
 -- where a token of one list is next, none of the other is
-pub apart-is_at : (ks ls : List Kind) (ts : List LocatedToken) → apart ks ls ≡ true → is_at ks ts ≡ true → is_at ls ts ≡ false
-apart-is_at [] ls ts h e = absurd (cc e)
-apart-is_at (k ∷ ks) ls ts h e =
-    let p = cond_parts (apart_one k ls) (apart ks ls) h in
-    elim (or_cases (is_some (next_says k ts)) (is_at ks ts) e) [ inl a ↦ apart_one_at k ls ts p.0 a | inr b ↦ apart-is_at ks ls ts p.1 b ]
+pub apart-is_at : (cs ds : List Class) (ts : List LocatedToken) → apart cs ds ≡ true → is_at cs ts ≡ true → is_at ds ts ≡ false
+apart-is_at cs ds [] h e = refl
+apart-is_at cs ds (t ∷ ts) h e = apart_classes cs ds (class_of t.token) h e
 
-same_kind : (k l : Kind) → same k l ≡ true → k ≡ l
-same_kind (keyword a) (keyword b) h = ap keyword (same_true the_keywords (search rules) a b h)
-same_kind (symbol a) (symbol b) h = ap symbol (same_true the_symbols (search rules) a b h)
-same_kind (word a) (word b) h = ap word ((bytes_eq-Decides a b).0 h)
-same_kind number number h = refl
-same_kind string string h = refl
-same_kind _ _ h = absurd (cc h)
+-- whether each class of one list is among the others
+abbrev pub within : List Class → List Class → Bool
+within [] ds = true
+within (c ∷ cs) ds = cond (is_one_of ds c) (within cs ds) false
 
--- whether each kind of one list is among the others
-abbrev pub among : Kind → List Kind → Bool
-among k [] = false
-among k (l ∷ ls) = cond (same k l) true (among k ls)
-
-abbrev pub within : List Kind → List Kind → Bool
-within [] ls = true
-within (k ∷ ks) ls = cond (among k ls) (within ks ls) false
-
-among-is_at : (k : Kind) (ls : List Kind) (ts : List LocatedToken) → among k ls ≡ true → is_some (next_says k ts) ≡ true → is_at ls ts ≡ true
-among-is_at k [] ts h e = absurd (cc h)
-among-is_at k (l ∷ ls) ts h e =
-    elim (cases_Bool (same k l)) [ inl a ↦ or_left _ _ (subst (λ x. is_some (next_says x ts) ≡ true) (same_kind k l a) e) | inr a ↦ or_right _ _ (among-is_at k ls ts (rw a at h) e) ]
+within_classes : (cs ds : List Class) (c : Class) → within cs ds ≡ true → is_one_of cs c ≡ true → is_one_of ds c ≡ true
+within_classes [] ds c h e = absurd (cc e)
+within_classes (d ∷ cs) ds c h e =
+    let p = cond_parts (is_one_of ds d) (within cs ds) h in
+    elim (or_cases (same_class c d) (is_one_of cs c) e) [ inl a ↦ subst (λ x. is_one_of ds x ≡ true) (sym (same_class-one c d a)) p.0 | inr b ↦ within_classes cs ds c p.1 b ]
 
 -- where a token of one list is next that lies within the other, one of the other is
-pub within-is_at : (ks ls : List Kind) (ts : List LocatedToken) → within ks ls ≡ true → is_at ks ts ≡ true → is_at ls ts ≡ true
-within-is_at [] ls ts h e = absurd (cc e)
-within-is_at (k ∷ ks) ls ts h e =
-    let p = cond_parts (among k ls) (within ks ls) h in
-    elim (or_cases (is_some (next_says k ts)) (is_at ks ts) e) [ inl a ↦ among-is_at k ls ts p.0 a | inr b ↦ within-is_at ks ls ts p.1 b ]
+pub within-is_at : (cs ds : List Class) (ts : List LocatedToken) → within cs ds ≡ true → is_at cs ts ≡ true → is_at ds ts ≡ true
+within-is_at cs ds [] h e = e
+within-is_at cs ds (t ∷ ts) h e = within_classes cs ds (class_of t.token) h e
 
 -- at the end there is no token
-pub is_at-end : (ks : List Kind) → is_at ks [] ≡ false
-is_at-end [] = refl
-is_at-end (k ∷ ks) = is_at-end ks
+pub is_at-end : (cs : List Class) → is_at cs [] ≡ false
+is_at-end cs = refl

@@ -1,16 +1,17 @@
 -- What is spelled is read, up to the first token at which too many levels are open.
-use Rattle.std.proofs.Common.{◌≡◌, ℕ, ◌+◌, ◌≤◌, Bool, true, false, ◌⊎◌, List, [], ◌∷◌, ◌++◌, Some, inl, inr, arith}
+use Rattle.std.proofs.Common.{◌≡◌, ℕ, ◌+◌, ◌<◌, ◌≤◌, Bool, true, false, refl, ◌⊎◌, List, [], ◌∷◌, ◌++◌, Some, inl, inr, arith}
 use Rattle.std.proofs.lemmas.Bool.{cases_lt}
 use Rattle.kk_syntax.specs.declared.token.LocatedToken.{LocatedToken}
-use Rattle.kk_parser.specs.Kinds.{Kind, Said, says, is_at}
-use Rattle.kk_parser.specs.Phrases.{Nonterminal, Phrase, token, opener, ◌▸◌, either, many, optional, level, rule, PhraseValue}
-use Rattle.kk_parser.specs.Grammar.{production, meaning}
-use Rattle.kk_parser.specs.Spells.{Marked, tokens_of, Spells, by_token, by_opener, by_both, by_first, by_second, by_none, by_more, by_absence, by_presence, by_level, by_rule}
-use Rattle.kk_parser.specs.Reading.{first, nullable, Finds, finds_token, finds_opener, finds_both, finds_first, finds_second, finds_none, finds_more, finds_absence, finds_presence, finds_level, finds_rule, too_deep, ReadingFails, fails_deep, fails_front, fails_behind, fails_first, fails_second, fails_one, fails_more, fails_presence, fails_level, fails_rule}
-use Rattle.kk_parser.proofs.Apart.{apart, within, cond_parts}
-use Rattle.kk_parser.proofs.Begins.{begins, is_at-one}
+use Rattle.kk_parser.specs.Classes.{Class, is_at}
+use Rattle.kk_parser.specs.Kinds.{Kind, Said, says, string, classes_of}
+use Rattle.kk_parser.specs.Phrases.{Nonterminal, Phrase, token, opener, ◌▸◌, either, many, optional, level, rule, each, perhaps, quoted_or, PhraseValue}
+use Rattle.kk_parser.specs.Forms.{form, form_meaning, form_grammar}
+use Rattle.kk_parser.specs.Spells.{Marked, tokens_of, Spells, by_token, by_opener, by_both, by_first, by_second, by_none, by_more, by_absence, by_presence, by_level, by_rule, by_no_more, by_each, by_nothing, by_something, by_quoted, by_unquoted}
+use Rattle.kk_parser.specs.Reading.{first, nullable, quoted, is_quoted, Finds, finds_token, finds_opener, finds_both, finds_first, finds_second, finds_none, finds_more, finds_absence, finds_presence, finds_level, finds_rule, finds_no_more, finds_each, finds_nothing, finds_something, finds_quoted, finds_unquoted, too_deep, ReadingFails, fails_deep, fails_front, fails_behind, fails_first, fails_second, fails_one, fails_more, fails_presence, fails_level, fails_rule, fails_each_deep, fails_each, fails_each_more, fails_something, fails_quoted, fails_unquoted}
+use Rattle.kk_parser.proofs.Apart.{is_at-one, cond_parts, apart-is_at}
+use Rattle.kk_parser.proofs.Begins.{begins}
 use Rattle.kk_parser.proofs.Tables.{follow_of, end_of}
-use Rattle.kk_parser.proofs.Lookahead.{Follows, decided, decided-production, follows_both, follows_more, follows_rule, stops, begins_by}
+use Rattle.kk_parser.proofs.Lookahead.{Follows, decided, decided-production, follows_both, follows_more, follows_rule, stops, begins_by, is_quoted-quoted, is_quoted-other}
 
 -- no more than `limit` levels are open at the tokens of ts up to us
 pub data Within (limit : ℕ) : List Marked → List Marked → Type 0 where
@@ -84,36 +85,73 @@ module _ (limit : ℕ) where
   read_level h (inl s) = inl (record { finds = finds_level s.finds; within = s.within; levels = h })
   read_level h (inr s) = inr (record { rest = s.rest; fails = fails_level s.fails; within = s.within; opens = s.opens })
 
-  read_rule : {x : Nonterminal} {n m : ℕ} {v : PhraseValue (production x)} {ts us : List Marked} → Read (production x) n v m ts us → Read (rule x) n (meaning x v) m ts us
+  read_rule : {x : Nonterminal} {n m : ℕ} {v : PhraseValue (form x)} {ts us : List Marked} → Read (form x) n v m ts us → Read (rule x) n (form_meaning x v) m ts us
   read_rule (inl s) = inl (record { finds = finds_rule s.finds; within = s.within; levels = s.levels })
   read_rule (inr s) = inr (record { rest = s.rest; fails = fails_rule s.fails; within = s.within; opens = s.opens })
 
-  pub read : {p : Phrase} {n m : ℕ} {v : PhraseValue p} {ts us : List Marked} → Spells p n v m ts us → (ks : List Kind) (end : Bool) → decided p ks end ≡ true → Follows ks end us → n ≤ limit → Read p n v m ts us
-  read (by_token h) ks end d f l = read_token h l
-  read (by_opener h) ks end d f l = read_opener h l
-  read (by_both {a = a} {b = b} {us = us} {ws = ws} r s) ks end d f l =
+  -- a token that opens a level, one too many or not, and a phrase behind it; and more of these
+  read_each : {l : Kind} {a : Phrase} {n k m : ℕ} {t : LocatedToken} {w : Said l} {u : PhraseValue a} {vs : List (PhraseValue a)} {ts us ws : List Marked} → says l t ≡ Some w → n ≤ limit → (n + 1 ≤ limit → Read a (n + 1) u k ts us) → (k ≤ limit → Read (each l a) k vs m us ws) → Read (each l a) n (u ∷ vs) m (record { token = t; levels = n + 1 } ∷ ts) ws
+  read_each {l} {a} {n} {k} {m} {t} {w} {u} {vs} {ts} {us} {ws} h d r s = elim (cases_lt n limit) [
+    | inl e ↦ one_read e (r (omega arith))
+    | inr e ↦ inr (record { rest = record { token = t; levels = n + 1 } ∷ ts; fails = fails_each_deep (is_at-one l t (tokens_of ts) w h) e; within = all_within; opens = omega arith })
+  ]
+    where
+      all_read : n < limit → Whole a (n + 1) u k ts us → Read (each l a) k vs m us ws → Read (each l a) n (u ∷ vs) m (record { token = t; levels = n + 1 } ∷ ts) ws
+      all_read e x (inl y) = inl (record { finds = finds_each h e x.finds y.finds; within = one_within (omega arith) (within_both x.within y.within); levels = y.levels })
+      all_read e x (inr y) = inr (record { rest = y.rest; fails = fails_each_more h e x.finds y.fails; within = one_within (omega arith) (within_both x.within y.within); opens = y.opens })
+
+      one_read : n < limit → Read a (n + 1) u k ts us → Read (each l a) n (u ∷ vs) m (record { token = t; levels = n + 1 } ∷ ts) ws
+      one_read e (inl x) = all_read e x (s x.levels)
+      one_read e (inr x) = inr (record { rest = x.rest; fails = fails_each h e x.fails; within = one_within (omega arith) x.within; opens = x.opens })
+
+  read_something : {k : Kind} {a : Phrase} {n m : ℕ} {t : LocatedToken} {w : Said k} {v : PhraseValue a} {ts us : List Marked} → says k t ≡ Some w → n ≤ limit → Read a n v m ts us → Read (perhaps k a) n (Some v) m (record { token = t; levels = n } ∷ ts) us
+  read_something h l (inl s) = inl (record { finds = finds_something h s.finds; within = one_within l s.within; levels = s.levels })
+  read_something h l (inr s) = inr (record { rest = s.rest; fails = fails_something h s.fails; within = one_within l s.within; opens = s.opens })
+
+  read_quoted : {a : Phrase} {n m : ℕ} {v : Said string} {ts us : List Marked} → is_quoted (tokens_of ts) ≡ true → Read quoted n (v, tt) m ts us → Read (quoted_or a) n (inl v) m ts us
+  read_quoted h (inl s) = inl (record { finds = finds_quoted h s.finds; within = s.within; levels = s.levels })
+  read_quoted h (inr s) = inr (record { rest = s.rest; fails = fails_quoted h s.fails; within = s.within; opens = s.opens })
+
+  read_unquoted : {a : Phrase} {n m : ℕ} {v : PhraseValue a} {ts us : List Marked} → is_quoted (tokens_of ts) ≡ false → Read a n v m ts us → Read (quoted_or a) n (inr v) m ts us
+  read_unquoted h (inl s) = inl (record { finds = finds_unquoted h s.finds; within = s.within; levels = s.levels })
+  read_unquoted h (inr s) = inr (record { rest = s.rest; fails = fails_unquoted h s.fails; within = s.within; opens = s.opens })
+
+  pub read : {p : Phrase} {n m : ℕ} {v : PhraseValue p} {ts us : List Marked} → Spells form_grammar p n v m ts us → (cs : List Class) (end : Bool) → decided p cs end ≡ true → Follows cs end us → n ≤ limit → Read p n v m ts us
+  read (by_token h) cs end d f l = read_token h l
+  read (by_opener h) cs end d f l = read_opener h l
+  read (by_both {a = a} {b = b} {us = us} {ws = ws} r s) cs end d f l =
       let e = cond_parts _ _ d in
-      read_both (read r _ _ e.0 (follows_both (nullable b) end ks (first b) us ws (begins s) f) l) (λ k. read s ks end e.1 f k)
-  read (by_first {a = a} {ts = ts} {us = us} r) ks end d f l =
+      read_both (read r _ _ e.0 (follows_both (nullable b) end cs (first b) us ws (begins s) f) l) (λ k. read s cs end e.1 f k)
+  read (by_first {a = a} {ts = ts} {us = us} r) cs end d f l =
       let e = cond_parts _ _ d in
       let e' = cond_parts _ _ (cond_parts _ _ (cond_parts _ _ e.1).1).1 in
-      read_first (begins_by a ts us e.0 (begins r)) (read r ks end e'.0 f l)
-  read (by_second {a = a} {b = b} {ts = ts} {us = us} r) ks end d f l =
+      read_first (begins_by a ts us e.0 (begins r)) (read r cs end e'.0 f l)
+  read (by_second {a = a} {b = b} {ts = ts} {us = us} r) cs end d f l =
       let e = cond_parts _ _ (cond_parts _ _ d).1 in
       let e' = cond_parts _ _ e.1 in
-      read_second (Rattle.kk_parser.proofs.Apart.apart-is_at (first b) (first a) (tokens_of ts) e'.0 (begins_by b ts us e.0 (begins r))) (read r ks end (cond_parts _ _ e'.1).1 f l)
-  read (by_none {a = a} {ts = ts}) ks end d f l =
-      inl (record { finds = finds_none (stops end ks (first a) ts (cond_parts _ _ (cond_parts _ _ d).1).0 f); within = all_within; levels = l })
-  read (by_more {a = a} {ts = ts} {us = us} {ws = ws} r s) ks end d f l =
+      read_second (apart-is_at (first b) (first a) (tokens_of ts) e'.0 (begins_by b ts us e.0 (begins r))) (read r cs end (cond_parts _ _ e'.1).1 f l)
+  read (by_none {a = a} {ts = ts}) cs end d f l =
+      inl (record { finds = finds_none (stops end cs (first a) ts (cond_parts _ _ (cond_parts _ _ d).1).0 f); within = all_within; levels = l })
+  read (by_more {a = a} {ts = ts} {us = us} {ws = ws} r s) cs end d f l =
       let e = cond_parts _ _ d in
       let e' = cond_parts _ _ e.1 in
-      read_more (begins_by a ts us e.0 (begins r)) (read r (first a ++ ks) end e'.1 (follows_more end ks (first a) us ws (begins s) f) l) (λ k. read s ks end d f k)
-  read (by_absence {a = a} {ts = ts}) ks end d f l =
-      inl (record { finds = finds_absence (stops end ks (first a) ts (cond_parts _ _ (cond_parts _ _ d).1).0 f); within = all_within; levels = l })
-  read (by_presence {a = a} {ts = ts} {us = us} r) ks end d f l =
+      read_more (begins_by a ts us e.0 (begins r)) (read r (first a ++ cs) end e'.1 (follows_more end cs (first a) us ws (begins s) f) l) (λ k. read s cs end d f k)
+  read (by_absence {a = a} {ts = ts}) cs end d f l =
+      inl (record { finds = finds_absence (stops end cs (first a) ts (cond_parts _ _ (cond_parts _ _ d).1).0 f); within = all_within; levels = l })
+  read (by_presence {a = a} {ts = ts} {us = us} r) cs end d f l =
       let e = cond_parts _ _ d in
-      read_presence (begins_by a ts us e.0 (begins r)) (read r ks end (cond_parts _ _ e.1).1 f l)
-  read (by_level r) ks end d f l = read_level l (read r ks end d f l)
-  read (by_rule {x = x} {us = us} r) ks end d f l =
+      read_presence (begins_by a ts us e.0 (begins r)) (read r cs end (cond_parts _ _ e.1).1 f l)
+  read (by_level r) cs end d f l = read_level l (read r cs end d f l)
+  read (by_rule {x = x} {us = us} r) cs end d f l =
       let e = cond_parts _ _ d in
-      read_rule (read r (follow_of x) (end_of x) (decided-production x) (follows_rule end (end_of x) ks (follow_of x) us e.0 e.1 f) l)
+      read_rule (read r (follow_of x) (end_of x) (decided-production x) (follows_rule end (end_of x) cs (follow_of x) us e.0 e.1 f) l)
+  read (by_no_more h) cs end d f l = inl (record { finds = finds_no_more h; within = all_within; levels = l })
+  read (by_each {l = q} {us = us} {ws = ws} h r s) cs end d f l =
+      read_each h l (λ k. read r (classes_of q ++ cs) end d (follows_more end cs (classes_of q) us ws (begins s) f) k) (λ k. read s cs end d f k)
+  read (by_nothing h) cs end d f l = inl (record { finds = finds_nothing h; within = all_within; levels = l })
+  read (by_something h r) cs end d f l = read_something h l (read r cs end d f l)
+  read (by_quoted r) cs end d f l = read_quoted (is_quoted-quoted r) (read r cs end refl f l)
+  read (by_unquoted r) cs end d f l =
+      let e = cond_parts _ _ d in
+      let e' = cond_parts _ _ e.1 in
+      read_unquoted (is_quoted-other r e.0 e'.0) (read r cs end e'.1 f l)

@@ -8,6 +8,7 @@ use Rattle.kk_parser.specs.Spells.{Marked, tokens_of}
 use Rattle.kk_parser.specs.Reading.{ReadingFails, too_deep}
 use Rattle.kk_parser.specs.Parses.{SpellsProgram, BeginsProgram, AtMost, HasTree, GoesOn, IsUnexpected, IsTooDeep, OneProgram}
 use Rattle.kk_parser.proofs.Complete.{Within, all_within, one_within, Opens}
+use Rattle.kk_parser.proofs.FewNodes.{tokens_of-length}
 use Rattle.kk_parser.proofs.Functional.{never_both, same_fails}
 use Rattle.kk_parser.proofs.Local.{one_next, fails_alike}
 use Rattle.kk_parser.proofs.Whole.{tokens_of-append, turned_tokens, program_read, tree_found, one_program}
@@ -84,7 +85,7 @@ never_whole (one_within m r) (x ∷ front) rest opener e n l = never_whole r fro
 -- where the reading fails at a token that opens a level too many, it does so whatever is behind that token
 moved_failure : (before later other : List LocatedToken) (t : LocatedToken) → ReadingFails 200 (rule program) 0 (before ++ t ∷ later) (too_deep (t ∷ later)) → ReadingFails 200 (rule program) 0 (before ++ t ∷ other) (too_deep (t ∷ other))
 moved_failure before later other t r =
-    let a = fails_alike 200 r (one_next {us = other}) in
+    let a = fails_alike 200 r refl (one_next {us = other}) in
     subst (λ ts. ReadingFails 200 (rule program) 0 ts (too_deep (t ∷ other))) (turned_tokens before (t ∷ later) (t ∷ other) a.before a.turns) a.fails
 
 -- where a token opens a level too many, the reading fails there
@@ -101,10 +102,6 @@ too_deep_fails before rest d =
   where
     at_rest : ReadingFails 200 (rule program) 0 (before ++ d.opener.token ∷ tokens_of d.begins.1) (too_deep (d.opener.token ∷ tokens_of d.begins.1)) → ReadingFails 200 (rule program) 0 (before ++ rest) (too_deep rest)
     at_rest r = subst (λ us. ReadingFails 200 (rule program) 0 (before ++ us) (too_deep us)) (sym d.next_is) (moved_failure before (tokens_of d.begins.1) d.later d.opener.token r)
-
-tokens_of-length : (ts : List Marked) → length (tokens_of ts) ≡ length ts
-tokens_of-length [] = refl
-tokens_of-length (t ∷ ts) = omega (arith, tokens_of-length ts)
 
 -- what opens a level too many goes on behind each token before it, and behind those alone
 opener_goes_on : (before rest : List LocatedToken) (d : IsTooDeep before rest) (front : List LocatedToken) (t : LocatedToken) (more later : List LocatedToken) → before ++ d.opener.token ∷ [] ≡ front ++ t ∷ more → GoesOn front (t ∷ later)

@@ -1,15 +1,19 @@
--- A list of tokens comes to one thing: one tree, or one error.
-use Rattle.std.proofs.Common.{◌≡◌, ℕ, List, ◌∷◌, [], ◌++◌, length, sym, ap, ◌∙◌, subst}
+-- Each list of tokens comes to exactly one thing: a tree, or an error.
+use Rattle.std.proofs.Common.{◌≡◌, ℕ, List, ◌∷◌, [], ◌++◌, length, refl, sym, ap, ◌∙◌, subst}
 use Rattle.std.specs.Prelude.{Result, Ok, Err}
 use Rattle.kk_base.specs.Exactly.{IsOnly}
 use Rattle.kk_base.specs.declared.error.ParseError.{ParseError}
 use Rattle.kk_base.specs.declared.error.ParseError.TheVariants.{Unexpected, TooDeep, NoMemory}
 use Rattle.kk_base.specs.declared.span.Span.{Span}
 use Rattle.kk_syntax.specs.declared.token.LocatedToken.{LocatedToken}
-use Rattle.kk_syntax.specs.Surface.{WrittenDeclaration, WrittenTree}
+use Rattle.kk_syntax.specs.Surface.{WrittenTree}
 use Rattle.kk_syntax.specs.TokenList.{TokenList}
-use Rattle.kk_parser.specs.Parses.{HasTree, RefusesTokens, Tells, next_place, ParsesAs}
+use Rattle.kk_parser.specs.Parses.{HasTree, RefusesTokens, Tells, next_place, ParsesAs, EachListIsParsed}
+use Rattle.kk_parser.specs.Phrases.{program, rule}
+use Rattle.kk_parser.specs.Reading.{unexpected, too_deep}
+use Rattle.kk_parser.proofs.EachList.{ReadOrFailed, was_read, has_failed, program_is_read_or_fails}
 use Rattle.kk_parser.proofs.Laws.{program_law, answer_law}
+use Rattle.kk_parser.proofs.Whole.{has_tree, fails_unexpected, finds_unexpected, fails_too_deep}
 
 append_left : {X : Type 0} (before rest later : List X) → before ++ rest ≡ before ++ later → rest ≡ later
 append_left [] rest later e = e
@@ -58,3 +62,22 @@ one_outcome tokens (Err e) (Err d) x y = ap Err (one_error tokens.items tokens.e
 
 pub only_outcome : (tokens : TokenList) (outcome : Result WrittenTree ParseError) → ParsesAs tokens outcome → IsOnly (ParsesAs tokens) outcome
 only_outcome tokens outcome h = record { holds = h; only = λ other k. one_outcome tokens outcome other h k }
+
+outcome_of : (tokens : TokenList) → ReadOrFailed (rule program) 0 tokens.items → (outcome : Result WrittenTree ParseError) × ParsesAs tokens outcome
+outcome_of tokens (was_read declarations m [] r) = (Ok (record { declarations = declarations; length = tokens.end.at }), (has_tree r, refl))
+outcome_of tokens (was_read declarations m (t ∷ us) r) =
+    let u = finds_unexpected r in
+    (Err (Unexpected (length u.0) t.span.line t.span.column), (u.0, t ∷ us, u.1, u.2, (refl, refl, refl)))
+outcome_of tokens (has_failed (unexpected us) r) =
+    let u = fails_unexpected r in
+    let place = next_place us tokens.end in
+    (Err (Unexpected (length u.0) place.line place.column), (u.0, us, u.1, u.2, (refl, refl, refl)))
+outcome_of tokens (has_failed (too_deep us) r) =
+    let u = fails_too_deep r in
+    let place = next_place us tokens.end in
+    (Err (TooDeep (length u.0) place.line place.column), (u.0, us, u.1, u.2, (refl, refl, refl)))
+
+pub each_list_is_parsed : EachListIsParsed
+each_list_is_parsed tokens =
+    let found = outcome_of tokens (program_is_read_or_fails tokens.items) in
+    (found.0, only_outcome tokens found.0 found.1)

@@ -1,20 +1,18 @@
 -- From the reading of a program to what its tokens come to.
 use Rattle.std.proofs.Common.{◌≡◌, ℕ, ◌+◌, true, List, [], ◌∷◌, ◌++◌, refl, sym, ap, ◌∙◌, subst, inl, inr, append_assoc, arith}
-use Rattle.std.proofs.lemmas.List.{append_cancel_right}
+use Rattle.std.proofs.lemmas.List.{append_cancel_right, append-nil}
 use Rattle.kk_syntax.specs.declared.token.LocatedToken.{LocatedToken}
 use Rattle.kk_syntax.specs.Surface.{WrittenDeclaration}
 use Rattle.kk_parser.specs.Phrases.{program, Phrase, rule}
 use Rattle.kk_parser.specs.Spells.{Marked, tokens_of, Spells}
 use Rattle.kk_parser.specs.Reading.{Finds, Failure, unexpected, too_deep, ReadingFails}
 use Rattle.kk_parser.specs.Parses.{SpellsProgram, AtMost, HasTree, GoesOn, IsUnexpected, IsTooDeep}
+use Rattle.kk_parser.specs.Grammar.{program_grammar}
+use Rattle.kk_parser.proofs.Spelling.{formed, unformed}
 use Rattle.kk_parser.proofs.Complete.{Within, all_within, one_within, Opens, Read, read}
-use Rattle.kk_parser.proofs.Sound.{Fronts, no_front, one_front, spelled, rest_of, Opened, Reaches, there, behind, begun}
+use Rattle.kk_parser.proofs.Sound.{Fronts, no_front, one_front, spelled, onward_calm, rest_of, Opened, Reaches, there, behind, begun}
 use Rattle.kk_parser.proofs.Functional.{same_finds, never_both, same_fails}
 use Rattle.kk_parser.proofs.Local.{SameNext, no_next, one_next, Turns, turns_here, turns_behind, finds_alike, fails_alike}
-
-append_nil : {A : Type 0} (xs : List A) → xs ++ [] ≡ xs
-append_nil [] = refl
-append_nil (x ∷ xs) = ap (λ ys. x ∷ ys) (append_nil xs)
 
 pub tokens_of-append : (xs ys : List Marked) → tokens_of (xs ++ ys) ≡ tokens_of xs ++ tokens_of ys
 tokens_of-append [] ys = refl
@@ -48,13 +46,13 @@ reached (behind {x = x} h r) =
 -- what is found whole has a tree
 pub has_tree : {declarations : List WrittenDeclaration} {m : ℕ} {ts : List LocatedToken} → Finds 200 (rule program) 0 ts declarations m [] → HasTree ts declarations
 has_tree {declarations} {m} {ts} r =
-    let s = spelled 200 r (omega arith) [] in
+    let s = spelled 200 r (omega arith) refl [] (onward_calm refl) in
     let c = cut_front s.2 in
     record {
       marked = c.front;
-      tokens_are = sym (c.tokens ∙ append_nil (tokens_of c.front));
+      tokens_are = sym (c.tokens ∙ append-nil (tokens_of c.front));
       shallow = c.shallow;
-      program = (m, subst (λ xs. Spells (rule program) 0 declarations m xs []) (c.marked ∙ append_nil c.front) s.1);
+      program = (m, subst (λ xs. Spells program_grammar (rule program) 0 declarations m xs []) (c.marked ∙ append-nil c.front) (unformed s.1));
     }
 
 -- a program whose tokens go on behind some as others do at first
@@ -67,7 +65,7 @@ record Continued (before us : List LocatedToken) : Type 0 where
   pub tokens : tokens_of marked ≡ before ++ rest
 
 continued : (before us : List LocatedToken) → GoesOn before us → Continued before us
-continued before [] g = record { declarations = g.0; marked = g.1; program = g.2; rest = []; next = no_next; tokens = g.3 ∙ sym (append_nil before) }
+continued before [] g = record { declarations = g.0; marked = g.1; program = g.2; rest = []; next = no_next; tokens = g.3 ∙ sym (append-nil before) }
 continued before (t ∷ us) g =
     let front = g.0 in
     let later = g.1.1 in
@@ -92,7 +90,7 @@ turned_tokens before us rest other r =
 
 -- the reading of a program
 pub program_read : {declarations : List WrittenDeclaration} {ts : List Marked} → SpellsProgram declarations ts → (limit : ℕ) → (m : ℕ) × Read limit (rule program) 0 declarations m ts []
-program_read p limit = (p.0, read limit p.1 [] true refl (inr (refl, refl)) (omega arith))
+program_read p limit = (p.0, read limit (formed p.1) [] true refl (inr (refl, refl)) (omega arith))
 
 unmoved : {p : Phrase} {n : ℕ} {ts us : List LocatedToken} {f : Failure} → ts ≡ us → ReadingFails 200 p n ts f → ReadingFails 200 p n us f
 unmoved {p} {n} {ts} {us} {f} e r = subst (λ x. ReadingFails 200 p n x f) e r
@@ -101,7 +99,7 @@ unmoved {p} {n} {ts} {us} {f} e r = subst (λ x. ReadingFails 200 p n x f) e r
 stuck_fails : (before us : List LocatedToken) → ReadingFails 200 (rule program) 0 (before ++ us) (unexpected us) → GoesOn before us → ⊥
 stuck_fails before us r g =
     let c = continued before us g in
-    let a = fails_alike 200 r c.next in
+    let a = fails_alike 200 r refl c.next in
     let s : ReadingFails 200 (rule program) 0 (tokens_of c.marked) (unexpected c.rest) = unmoved (turned_tokens before us c.rest a.before a.turns ∙ sym c.tokens) a.fails in
     elim (program_read c.program 200).1 [ inl w ↦ never_both 200 w.finds s | inr q ↦ absurd (cc (same_fails 200 q.fails s)) ]
 
@@ -113,15 +111,15 @@ no_rest t us [] h e = elim h [ ]
 stuck_finds : (before : List LocatedToken) (t : LocatedToken) (us : List LocatedToken) {declarations : List WrittenDeclaration} {m : ℕ} → Finds 200 (rule program) 0 (before ++ t ∷ us) declarations m (t ∷ us) → GoesOn before (t ∷ us) → ⊥
 stuck_finds before t us {declarations} {m} r g =
     let c = continued before (t ∷ us) g in
-    let a = finds_alike 200 r c.next in
+    let a = finds_alike 200 r refl c.next in
     let s : Finds 200 (rule program) 0 (tokens_of c.marked) declarations m c.rest = subst (λ x. Finds 200 (rule program) 0 x declarations m c.rest) (turned_tokens before (t ∷ us) c.rest a.before a.turns ∙ sym c.tokens) a.finds in
     elim (program_read c.program 200).1 [ inl w ↦ no_rest t us c.rest c.next ((same_finds 200 w.finds s).rest) | inr q ↦ never_both 200 s q.fails ]
 
 -- where the reading of a program fails since a token is unexpected, it is the first such token
 pub fails_unexpected : {ts us : List LocatedToken} → ReadingFails 200 (rule program) 0 ts (unexpected us) → (before : List LocatedToken) × (before ++ us ≡ ts) × IsUnexpected before us
 fails_unexpected {ts} {us} r =
-    let b = begun 200 r (omega arith) in
-    let x = b.text [] in
+    let b = begun 200 r (omega arith) refl in
+    let x = b.text [] refl in
     let s = reached x.2 in
     let c = s.cut in
     let before = tokens_of c.front in (
@@ -131,7 +129,7 @@ fails_unexpected {ts} {us} r =
         front = c.front;
         tokens_are = refl;
         shallow = c.shallow;
-        begins = (b.value, s.rest, (b.levels, subst (λ xs. Spells (rule program) 0 b.value b.levels xs []) c.marked x.1));
+        begins = (b.value, s.rest, (b.levels, subst (λ xs. Spells program_grammar (rule program) 0 b.value b.levels xs []) c.marked (unformed x.1)));
         stuck = stuck_fails before us (unmoved c.tokens r);
       },
     )
@@ -139,7 +137,7 @@ fails_unexpected {ts} {us} r =
 -- where the reading of a program leaves tokens, the first of them is unexpected
 pub finds_unexpected : {declarations : List WrittenDeclaration} {m : ℕ} {ts : List LocatedToken} {t : LocatedToken} {us : List LocatedToken} → Finds 200 (rule program) 0 ts declarations m (t ∷ us) → (before : List LocatedToken) × (before ++ t ∷ us ≡ ts) × IsUnexpected before (t ∷ us)
 finds_unexpected {declarations} {m} {ts} {t} {us} r =
-    let s = spelled 200 r (omega arith) [] in
+    let s = spelled 200 r (omega arith) refl [] (onward_calm refl) in
     let c = cut_front s.2 in
     let before = tokens_of c.front in (
       before,
@@ -148,7 +146,7 @@ finds_unexpected {declarations} {m} {ts} {t} {us} r =
         front = c.front;
         tokens_are = refl;
         shallow = c.shallow;
-        begins = (declarations, [], (m, subst (λ xs. Spells (rule program) 0 declarations m xs []) c.marked s.1));
+        begins = (declarations, [], (m, subst (λ xs. Spells program_grammar (rule program) 0 declarations m xs []) c.marked (unformed s.1)));
         stuck = stuck_finds before t us (subst (λ x. Finds 200 (rule program) 0 x declarations m (t ∷ us)) c.tokens r);
       },
     )
@@ -156,12 +154,12 @@ finds_unexpected {declarations} {m} {ts} {t} {us} r =
 -- where the reading of a program fails for depth, the token there opens the first level too many
 pub fails_too_deep : {ts us : List LocatedToken} → ReadingFails 200 (rule program) 0 ts (too_deep us) → (before : List LocatedToken) × (before ++ us ≡ ts) × IsTooDeep before us
 fails_too_deep {ts} {us} r =
-    let b = begun 200 r (omega arith) in
-    let x = b.text [] in
+    let b = begun 200 r (omega arith) refl in
+    let x = b.text [] refl in
     let s = reached x.2 in
-    (tokens_of s.cut.front, sym s.cut.tokens, deep b.value b.levels s.cut.front s.rest s.opened s.cut.shallow (subst (λ xs. Spells (rule program) 0 b.value b.levels xs []) s.cut.marked x.1))
+    (tokens_of s.cut.front, sym s.cut.tokens, deep b.value b.levels s.cut.front s.rest s.opened s.cut.shallow (subst (λ xs. Spells program_grammar (rule program) 0 b.value b.levels xs []) s.cut.marked (unformed x.1)))
   where
-    deep : (declarations : List WrittenDeclaration) (m : ℕ) (front rest : List Marked) → Opened 200 (too_deep us) rest → AtMost 200 front → Spells (rule program) 0 declarations m (front ++ rest) [] → IsTooDeep (tokens_of front) us
+    deep : (declarations : List WrittenDeclaration) (m : ℕ) (front rest : List Marked) → Opened 200 (too_deep us) rest → AtMost 200 front → Spells program_grammar (rule program) 0 declarations m (front ++ rest) [] → IsTooDeep (tokens_of front) us
     deep declarations m front [] o h s = absurd o
     deep declarations m front (x ∷ rest) o h s = record {
       front = front;
@@ -170,7 +168,7 @@ fails_too_deep {ts} {us} r =
       tokens_are = refl;
       next_is = o.2;
       shallow = h;
-      begins = (declarations, rest, (m, subst (λ xs. Spells (rule program) 0 declarations m xs []) (sym (append_assoc front (x ∷ []) rest)) s));
+      begins = (declarations, rest, (m, subst (λ xs. Spells program_grammar (rule program) 0 declarations m xs []) (sym (append_assoc front (x ∷ []) rest)) s));
       opens = o.0;
     }
 
@@ -195,18 +193,18 @@ tree_found {declarations} {ts} h =
     (r.0, subst (λ x. Finds 200 (rule program) 0 x declarations r.0 []) h.tokens_are r.1)
 
 -- a number of levels that suffices
-abbrev summed : List Marked → ℕ
-summed [] = 0
-summed (t ∷ ts) = t.levels + summed ts
+abbrev all_levels : List Marked → ℕ
+all_levels [] = 0
+all_levels (t ∷ ts) = t.levels + all_levels ts
 
-at_most_summed : (ts : List Marked) (more : ℕ) → AtMost (summed ts + more) ts
-at_most_summed [] more = tt
-at_most_summed (t ∷ ts) more = (omega arith, subst (λ limit. AtMost limit ts) (omega arith) (at_most_summed ts (t.levels + more)))
+at_most_all : (ts : List Marked) (more : ℕ) → AtMost (all_levels ts + more) ts
+at_most_all [] more = tt
+at_most_all (t ∷ ts) more = (omega arith, subst (λ limit. AtMost limit ts) (omega arith) (at_most_all ts (t.levels + more)))
 
 -- tokens spell one program, however deep it is nested
 pub one_program : {declarations others : List WrittenDeclaration} {ts us : List Marked} → SpellsProgram declarations ts → SpellsProgram others us → tokens_of ts ≡ tokens_of us → declarations ≡ others
 one_program {declarations} {others} {ts} {us} p q e =
-    let limit = summed ts + summed us in
-    let a = program_found limit p (at_most_summed ts (summed us)) in
-    let b = program_found limit q (subst (λ limit. AtMost limit us) (omega arith) (at_most_summed us (summed ts))) in
+    let limit = all_levels ts + all_levels us in
+    let a = program_found limit p (at_most_all ts (all_levels us)) in
+    let b = program_found limit q (subst (λ limit. AtMost limit us) (omega arith) (at_most_all us (all_levels ts))) in
     (same_finds limit a.1 (subst (λ x. Finds limit (rule program) 0 x others b.0 []) (sym e) b.1)).value

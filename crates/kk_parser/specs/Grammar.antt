@@ -1,124 +1,249 @@
--- The grammar: the right side of each production, and what a text of it means.
-use Rattle.std.specs.Prelude.{ℕ, List, [], ◌∷◌, Option, Some, None, codes}
+-- The grammar of programs: the right side of each production, and what a text of it means.
+use Rattle.std.specs.Prelude.{ℕ, List, [], ◌∷◌, Option, Some, None}
 use Rattle.std.proofs.Common.{inl, inr}
-use Rattle.kk_syntax.specs.Surface.{Written, number as Number, unary, binary, call, print_text, sequence, no_written, written, function_declaration}
-use Rattle.kk_syntax.specs.declared.token.Keyword.TheVariants.{Fun}
-use Rattle.kk_syntax.specs.declared.token.Symbol.TheVariants.{OpenParenthesis, CloseParenthesis, OpenBrace, CloseBrace, Semicolon, Dot, Plus, Minus, Star, Slash, Percent, Tilde}
+use Rattle.kk_syntax.specs.Surface.{Written, number as number_written, unit, variable, call, dot_call, construct, unary, binary, both, either as either_written, print_text, branch, branch_alone, sequence, no_written, writtens_of, block_of, WrittenStatement, WrittenType, unit_type, named, no_type, WrittenParameter, WrittenDeclaration, function_declaration}
+use Rattle.kk_syntax.specs.declared.token.Keyword.TheVariants.{Fun, Val, If, Then, Elif, Else}
+use Rattle.kk_syntax.specs.declared.token.Symbol.TheVariants.{OpenParenthesis, CloseParenthesis, OpenBrace, CloseBrace, Comma, Semicolon, Colon, Dot, Equals, Plus, Minus, Star, Slash, Percent, EqualEqual, NotEqual, Less, LessEqual, Greater, GreaterEqual, AndAnd, OrOr, Exclamation, Tilde}
 use Rattle.kk_syntax.specs.declared.operator.BinaryOperator.{BinaryOperator}
-use Rattle.kk_syntax.specs.declared.operator.BinaryOperator.TheVariants.{Add, Subtract, Multiply, Divide, Remainder}
+use Rattle.kk_syntax.specs.declared.operator.BinaryOperator.TheVariants as Operator
+use Rattle.kk_syntax.specs.declared.operator.UnaryOperator.{UnaryOperator}
+use Rattle.kk_syntax.specs.declared.operator.UnaryOperator.TheVariants.{Negate, Not}
 use Rattle.kk_syntax.specs.declared.operator.PrintForm.{PrintForm}
-use Rattle.kk_syntax.specs.declared.operator.PrintForm.TheVariants as Form
+use Rattle.kk_syntax.specs.declared.operator.PrintForm.TheVariants.{Print, PrintLine}
 use Rattle.kk_syntax.specs.declared.tree.Identifier.{Identifier}
-use Rattle.kk_syntax.specs.declared.tree.SurfaceBinder.TheVariants.{Nothing}
-use Rattle.kk_syntax.specs.declared.operator.UnaryOperator.TheVariants.{Negate}
-use Rattle.kk_parser.specs.Kinds.{keyword, symbol, word, number, string}
-use Rattle.kk_parser.specs.Phrases.{Nonterminal, program, main_function, block, statement, print, said, expr, add, mul, un, atom, Meant, Phrase, token, opener, ◌▸◌, either, many, optional, level, rule, PhraseValue}
+use Rattle.kk_syntax.specs.declared.tree.Effect.{Effect}
+use Rattle.kk_syntax.specs.declared.tree.Effect.TheVariants.{Total, Div, Exn, Console}
+use Rattle.kk_syntax.specs.declared.tree.SurfaceBinder.{SurfaceBinder}
+use Rattle.kk_syntax.specs.declared.tree.SurfaceBinder.TheVariants as Binder
+use Rattle.kk_parser.specs.Classes.{word, print as print_name, println as println_name, main as main_name, total as total_name, div as div_name, exn as exn_name, console as console_name}
+use Rattle.kk_parser.specs.Kinds.{Kind, keyword, symbol, name_in, name, name_but_main, type_name, type_name_but_effect, constructor, wildcard, number, string}
+use Rattle.kk_parser.specs.Phrases.{Nonterminal, program, decl, param, effect, eff, type, result_type, expr, block, stmt, if_, or, and, cmp, add, mul, un, post, atom, say, args, Meant, Phrase, token, opener, ◌▸◌, either, many, optional, level, rule, each, perhaps, PhraseValue, Grammar}
 
--- none or more semicolons
+-- ";"* and ";"+
 abbrev pub semicolons : Phrase
 semicolons = many (token (symbol Semicolon))
 
--- a phrase in round brackets, the first of which opens a level
-abbrev pub bracketed : Phrase → Phrase
-bracketed a = opener (symbol OpenParenthesis) ▸ a ▸ token (symbol CloseParenthesis)
+abbrev pub some_semicolons : Phrase
+some_semicolons = token (symbol Semicolon) ▸ semicolons
 
--- "(" ")"
+-- phrases with commas between them, or none
+abbrev pub listed : Phrase → Phrase
+listed a = optional (a ▸ many (token (symbol Comma) ▸ a))
+
+-- "(", which opens a level; a phrase in round brackets; and these alone
+abbrev pub bracket : Phrase
+bracket = opener (symbol OpenParenthesis)
+
+abbrev pub bracketed : Phrase → Phrase
+bracketed a = bracket ▸ a ▸ token (symbol CloseParenthesis)
+
 abbrev pub no_arguments : Phrase
-no_arguments = opener (symbol OpenParenthesis) ▸ token (symbol CloseParenthesis)
+no_arguments = bracket ▸ token (symbol CloseParenthesis)
 
 -- "print" | "println"
 abbrev pub print_word : Phrase
-print_word = either (token (word (codes "print"))) (token (word (codes "println")))
+print_word = either (token (name_in (word print_name ∷ []))) (token (name_in (word println_name ∷ [])))
 
--- "+" | "-"
+-- "==" | "!=" | "<" | "<=" | ">" | ">="; "+" | "-"; "*" | "/" | "%"; "!" | "~". Each operator opens a level.
+abbrev pub comparison : Phrase
+comparison = either (opener (symbol EqualEqual)) (either (opener (symbol NotEqual)) (either (opener (symbol Less)) (either (opener (symbol LessEqual)) (either (opener (symbol Greater)) (opener (symbol GreaterEqual))))))
+
 abbrev pub sum_operator : Phrase
 sum_operator = either (opener (symbol Plus)) (opener (symbol Minus))
 
--- "*" | "/" | "%"
 abbrev pub product_operator : Phrase
 product_operator = either (opener (symbol Star)) (either (opener (symbol Slash)) (opener (symbol Percent)))
 
+abbrev pub unary_operator : Phrase
+unary_operator = either (opener (symbol Exclamation)) (opener (symbol Tilde))
+
+-- "(" [ param { "," param } ] ")"
+abbrev pub parameters : Phrase
+parameters = bracketed (listed (rule param))
+
+-- ":" [ effect ] type, where one of the four effect words is always the effect
+abbrev pub result : Phrase
+result = token (symbol Colon) ▸ either (rule effect ▸ rule type) (rule result_type)
+
+-- name | wildcard
+abbrev pub binder : Phrase
+binder = either (token name) (token wildcard)
+
 -- the right side of a production
 abbrev pub production : Nonterminal → Phrase
--- program = ;* [ main_function ;* ]
-production program = semicolons ▸ optional (rule main_function ▸ semicolons)
--- main_function = "fun" "main" "(" ")" block
-production main_function = level (token (keyword Fun) ▸ token (word (codes "main")) ▸ opener (symbol OpenParenthesis) ▸ token (symbol CloseParenthesis) ▸ rule block)
--- block = "{" ;* statement { ";" [ statement ] } "}": semicolons between statements, and more where one likes
-production block = opener (symbol OpenBrace) ▸ semicolons ▸ rule statement ▸ many (token (symbol Semicolon) ▸ optional (rule statement)) ▸ token (symbol CloseBrace)
--- statement = said | print
-production statement = level (either (rule said) (rule print))
--- print = print_word "(" ( string | expr ) ")"
-production print = print_word ▸ bracketed (either (token string) (rule expr))
--- said = string "." print_word [ "(" ")" ]
-production said = token string ▸ opener (symbol Dot) ▸ print_word ▸ optional no_arguments
--- expr = add
-production expr = level (rule add)
+-- program = ;* [ decl { ;+ decl } ;* ]
+production program = semicolons ▸ optional (rule decl ▸ many (some_semicolons ▸ rule decl) ▸ semicolons)
+-- decl = "fun" name "(" [ param { "," param } ] ")" [ ":" [ effect ] type ] expr; the result may be missing for `main` alone
+production decl = level (token (keyword Fun) ▸ either (token (name_in (word main_name ∷ [])) ▸ parameters ▸ optional result) (token name_but_main ▸ parameters ▸ result) ▸ rule expr)
+-- param = name ":" type
+production param = token name ▸ token (symbol Colon) ▸ rule type
+-- effect = eff | "<" [ eff { "," eff } ] ">"
+production effect = either (rule eff) (token (symbol Less) ▸ listed (rule eff) ▸ token (symbol Greater))
+-- eff = "total" | "div" | "exn" | "console"
+production eff = either (token (name_in (word total_name ∷ []))) (either (token (name_in (word div_name ∷ []))) (either (token (name_in (word exn_name ∷ []))) (token (name_in (word console_name ∷ [])))))
+-- type = tname | "(" ")" | "(" type ")"
+production type = level (either (token type_name) (either no_arguments (bracketed (rule type))))
+-- result_type = type that begins with no effect word
+production result_type = level (either (token type_name_but_effect) (either no_arguments (bracketed (rule type))))
+-- expr = block | if | or
+production expr = level (either (rule block) (either (rule if_) (rule or)))
+-- block = "{" ;* { stmt ;+ } expr ;* "}"
+production block = opener (symbol OpenBrace) ▸ semicolons ▸ many (rule stmt ▸ some_semicolons) ▸ rule expr ▸ semicolons ▸ token (symbol CloseBrace)
+-- stmt = "val" ( name | wildcard ) "=" expr | expr
+production stmt = either (token (keyword Val) ▸ binder ▸ token (symbol Equals) ▸ rule expr) (rule expr)
+-- if = "if" or "then" expr { "elif" or "then" expr } [ "else" expr ]
+production if_ = opener (keyword If) ▸ rule or ▸ token (keyword Then) ▸ rule expr ▸ each (keyword Elif) (rule or ▸ token (keyword Then) ▸ rule expr) ▸ perhaps (keyword Else) (rule expr)
+-- or = and [ "||" or ]
+production or = rule and ▸ optional (opener (symbol OrOr) ▸ rule or)
+-- and = cmp [ "&&" and ]
+production and = rule cmp ▸ optional (opener (symbol AndAnd) ▸ rule and)
+-- cmp = add [ comparison add ]
+production cmp = rule add ▸ optional (comparison ▸ rule add)
 -- add = mul { sum_operator mul }
 production add = rule mul ▸ many (sum_operator ▸ rule mul)
 -- mul = un { product_operator un }
 production mul = rule un ▸ many (product_operator ▸ rule un)
--- un = "~" un | atom
-production un = either (opener (symbol Tilde) ▸ rule un) (rule atom)
--- atom = number | "(" expr ")"
-production atom = either (token number) (bracketed (rule expr))
+-- un = ( "!" | "~" ) un | post
+production un = either (unary_operator ▸ rule un) (rule post)
+-- post = atom { "." name [ "(" args ")" ] }
+production post = rule atom ▸ many (opener (symbol Dot) ▸ token name ▸ optional (bracketed (rule args)))
+-- atom = name [ "(" args ")" ] | Con | number | "(" ")" | "(" expr ")" | say
+production atom = either (token name ▸ optional (bracketed (rule args))) (either (token constructor) (either (token number) (either no_arguments (either (bracketed (rule expr)) (rule say)))))
+-- say = ( "print" | "println" ) "(" string ")" | string "." ( "print" | "println" ) [ "(" ")" ]
+production say = either (print_word ▸ bracketed (token string)) (token string ▸ opener (symbol Dot) ▸ print_word ▸ optional no_arguments)
+-- args = [ expr { "," expr } ]
+production args = listed (rule expr)
 
--- the form of a print, and the byte where its word stands
+-- the form of a print
 abbrev pub print_form : PhraseValue print_word → PrintForm
-print_form (inl at) = Form.Print
-print_form (inr at) = Form.PrintLine
+print_form (inl _) = Print
+print_form (inr _) = PrintLine
 
-abbrev pub print_at : PhraseValue print_word → ℕ
-print_at (inl at) = at
-print_at (inr at) = at
+abbrev pub comparison_of : PhraseValue comparison → BinaryOperator
+comparison_of (inl _) = Operator.Equal
+comparison_of (inr (inl _)) = Operator.NotEqual
+comparison_of (inr (inr (inl _))) = Operator.Less
+comparison_of (inr (inr (inr (inl _)))) = Operator.LessEqual
+comparison_of (inr (inr (inr (inr (inl _))))) = Operator.Greater
+comparison_of (inr (inr (inr (inr (inr _))))) = Operator.GreaterEqual
 
--- the word of a print
-abbrev pub print_name : PrintForm → List ℕ
-print_name Form.Print = codes "print"
-print_name Form.PrintLine = codes "println"
-
--- the operator of a sum
 abbrev pub sum_operator_of : PhraseValue sum_operator → BinaryOperator
-sum_operator_of (inl _) = Add
-sum_operator_of (inr _) = Subtract
+sum_operator_of (inl _) = Operator.Add
+sum_operator_of (inr _) = Operator.Subtract
 
--- the operator of a product
 abbrev pub product_operator_of : PhraseValue product_operator → BinaryOperator
-product_operator_of (inl _) = Multiply
-product_operator_of (inr (inl _)) = Divide
-product_operator_of (inr (inr _)) = Remainder
+product_operator_of (inl _) = Operator.Multiply
+product_operator_of (inr (inl _)) = Operator.Divide
+product_operator_of (inr (inr _)) = Operator.Remainder
+
+abbrev pub unary_operator_of : PhraseValue unary_operator → UnaryOperator
+unary_operator_of (inl _) = Not
+unary_operator_of (inr _) = Negate
 
 -- operators of one level of precedence group to the left
 abbrev pub to_left : {A : Type 0} → (A → BinaryOperator) → Written → List (A × Written) → Written
 to_left operator left [] = left
 to_left operator left ((a, right) ∷ more) = to_left operator (binary (operator a) left right) more
 
--- the statements that stand behind semicolons
-abbrev pub those_given : List (Unit {0} × Option Written) → List Written
-those_given [] = []
-those_given ((_, None) ∷ more) = those_given more
-those_given ((_, Some t) ∷ more) = t ∷ those_given more
+-- what stands in a list with commas
+abbrev pub listed_of : {A : Type 0} → Option (A × List (Unit {0} × A)) → List A
+listed_of None = []
+listed_of (Some (first, more)) = first ∷ Rattle.std.specs.Prelude.map (λ m. m.1) more
 
--- statements one behind the other, of which the last is the value; a value alone is no block
-abbrev pub in_order : Written → List Written → Written
-in_order first [] = first
-in_order first (t ∷ ts) = sequence Nothing first (in_order t ts)
+-- the arguments in brackets, or none
+abbrev pub arguments_of : PhraseValue (optional (bracketed (rule args))) → List Written
+arguments_of None = []
+arguments_of (Some (_, (arguments, _))) = arguments
+
+-- the same, told from no brackets
+abbrev pub arguments_given : PhraseValue (optional (bracketed (rule args))) → Option (List Written)
+arguments_given None = None
+arguments_given (Some (_, (arguments, _))) = Some arguments
+
+-- a name with arguments in brackets is a call; alone it is a variable
+abbrev pub named_of : Identifier → PhraseValue (optional (bracketed (rule args))) → Written
+named_of name None = variable name
+named_of name (Some (_, (arguments, _))) = call name (writtens_of arguments)
+
+-- dot calls, from the left
+abbrev pub dotted : Written → PhraseValue (many (opener (symbol Dot) ▸ token name ▸ optional (bracketed (rule args)))) → Written
+dotted first [] = first
+dotted first ((_, (name, others)) ∷ more) = dotted (dot_call first name (writtens_of (arguments_of others))) more
+
+-- an `elif` is an `if` in the branch of `else`
+abbrev pub if_of : Written → Written → PhraseValue (each (keyword Elif) (rule or ▸ token (keyword Then) ▸ rule expr)) → Option Written → Written
+if_of condition positive [] None = branch_alone condition positive
+if_of condition positive [] (Some negative) = branch condition positive negative
+if_of condition positive ((next, (_, second)) ∷ more) last = branch condition positive (if_of next second more last)
+
+abbrev pub binder_of : PhraseValue binder → SurfaceBinder
+binder_of (inl name) = Binder.Variable name
+binder_of (inr _) = Binder.Wildcard
+
+-- the effects and the type of a result
+abbrev pub effects_of : PhraseValue (either (rule effect ▸ rule type) (rule result_type)) → List Effect
+effects_of (inl (effects, _)) = effects
+effects_of (inr _) = []
+
+abbrev pub type_of : PhraseValue (either (rule effect ▸ rule type) (rule result_type)) → WrittenType
+type_of (inl (_, t)) = t
+type_of (inr t) = t
+
+-- the declaration of a function: what stands between `fun` and its body, and the body
+abbrev pub function_of : PhraseValue (either (token (name_in (word main_name ∷ [])) ▸ parameters ▸ optional result) (token name_but_main ▸ parameters ▸ result)) → Written → WrittenDeclaration
+function_of (inl (name, ((_, (given, _)), None))) body = function_declaration name (listed_of given) [] None body
+function_of (inl (name, ((_, (given, _)), Some (_, result)))) body = function_declaration name (listed_of given) (effects_of result) (Some (type_of result)) body
+function_of (inr (name, ((_, (given, _)), (_, result)))) body = function_declaration name (listed_of given) (effects_of result) (Some (type_of result)) body
+
+-- the type of a name, or one in brackets
+abbrev pub bracketed_type : PhraseValue (either no_arguments (bracketed (rule type))) → WrittenType
+bracketed_type (inl _) = unit_type
+bracketed_type (inr (_, (t, _))) = t
 
 -- what a text of a production means
 abbrev pub meaning : (x : Nonterminal) → PhraseValue (production x) → Meant x
 meaning program (_, None) = []
-meaning program (_, Some (function, _)) = function ∷ []
-meaning main_function (_, (at, (_, (_, body)))) = function_declaration (record { name = codes "main"; at = at }) [] [] None body
-meaning block (_, (_, (first, (more, _)))) = in_order first (those_given more)
-meaning statement (inl t) = t
-meaning statement (inr t) = t
-meaning print (form, (_, (inl text, _))) = print_text (print_form form) text
-meaning print (form, (_, (inr value, _))) = call (record { name = print_name (print_form form); at = print_at form }) (written value no_written)
-meaning said (text, (_, (form, _))) = print_text (print_form form) text
-meaning expr t = t
+meaning program (_, Some (first, (more, _))) = first ∷ Rattle.std.specs.Prelude.map (λ m. m.1) more
+meaning decl (_, (head, body)) = function_of head body
+meaning param (name, (_, t)) = record { name = name; of_type = t }
+meaning effect (inl e) = e ∷ []
+meaning effect (inr (_, (es, _))) = listed_of es
+meaning eff (inl _) = Total
+meaning eff (inr (inl _)) = Div
+meaning eff (inr (inr (inl _))) = Exn
+meaning eff (inr (inr (inr _))) = Console
+meaning type (inl name) = named name no_type
+meaning type (inr t) = bracketed_type t
+meaning result_type (inl name) = named name no_type
+meaning result_type (inr t) = bracketed_type t
+meaning expr (inl t) = t
+meaning expr (inr (inl t)) = t
+meaning expr (inr (inr t)) = t
+meaning block (_, (_, (statements, (last, _)))) = block_of (Rattle.std.specs.Prelude.map (λ s. s.0) statements) last
+meaning stmt (inl (_, (binder, (_, value)))) = record { binder = binder_of binder; value = value }
+meaning stmt (inr value) = record { binder = Binder.Nothing; value = value }
+meaning if_ (_, (condition, (_, (positive, (more, last))))) = if_of condition positive more last
+meaning or (left, None) = left
+meaning or (left, Some (_, right)) = either_written left right
+meaning and (left, None) = left
+meaning and (left, Some (_, right)) = both left right
+meaning cmp (left, None) = left
+meaning cmp (left, Some (operator, right)) = binary (comparison_of operator) left right
 meaning add (left, more) = to_left sum_operator_of left more
 meaning mul (left, more) = to_left product_operator_of left more
-meaning un (inl (_, operand)) = unary Negate operand
+meaning un (inl (operator, operand)) = unary (unary_operator_of operator) operand
 meaning un (inr t) = t
-meaning atom (inl value) = Number value
-meaning atom (inr (_, (t, _))) = t
+meaning post (first, more) = dotted first more
+meaning atom (inl (name, arguments)) = named_of name arguments
+meaning atom (inr (inl name)) = construct name no_written
+meaning atom (inr (inr (inl value))) = number_written value
+meaning atom (inr (inr (inr (inl _)))) = unit
+meaning atom (inr (inr (inr (inr (inl (_, (t, _))))))) = t
+meaning atom (inr (inr (inr (inr (inr t))))) = t
+meaning say (inl (form, (_, (text, _)))) = print_text (print_form form) text
+meaning say (inr (text, (_, (form, _)))) = print_text (print_form form) text
+meaning args es = listed_of es
+
+-- the grammar of programs
+abbrev pub program_grammar : Grammar
+program_grammar = record { right = production; meant = meaning }

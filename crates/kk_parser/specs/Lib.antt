@@ -1,3 +1,5 @@
+pub mod Classes
+pub mod Forms
 pub mod Grammar
 pub mod Kinds
 pub mod Methods
@@ -5,3 +7,4 @@ pub mod Parses
 pub mod Phrases
 pub mod Reading
 pub mod Spells
+pub mod Views

@@ -9,12 +9,13 @@ use Rattle.kk_syntax.specs.declared.token.LocatedToken.{LocatedToken}
 use Rattle.kk_syntax.specs.declared.tree.Tree.{Tree}
 use Rattle.kk_syntax.specs.Surface.{WrittenDeclaration, WrittenTree, written_tree}
 use Rattle.kk_syntax.specs.TokenList.{TokenList}
+use Rattle.kk_parser.specs.Grammar.{program_grammar}
 use Rattle.kk_parser.specs.Phrases.{program, rule}
 use Rattle.kk_parser.specs.Spells.{Marked, tokens_of, Spells}
 
 -- marked tokens that are a program with these declarations
 abbrev pub SpellsProgram : List WrittenDeclaration → List Marked → Type 0
-SpellsProgram declarations ts = (m : ℕ) × Spells (rule program) 0 declarations m ts []
+SpellsProgram declarations ts = (m : ℕ) × Spells program_grammar (rule program) 0 declarations m ts []
 
 -- marked tokens that begin a program
 abbrev pub BeginsProgram : List Marked → Type 0

@@ -1,33 +1,54 @@
--- How a phrase is read from the left with one token of lookahead, whatever the grammar: what is found, or where the
--- reading fails. The parser's own declarations are stated by it; what it has to do with spelling is proved.
-use Rattle.std.specs.Prelude.{◌≡◌, ℕ, ◌+◌, ◌<◌, ◌≤◌, List, [], ◌∷◌, ◌++◌, Some, None, Bool, true, false, if◌then◌else◌, codes}
+-- How a phrase is read from the left with one token of lookahead: what is found, or where the reading fails. The
+-- parser's own declarations are stated by it; what it has to do with spelling is proved.
+use Rattle.std.specs.Prelude.{◌≡◌, ℕ, ◌+◌, ◌<◌, ◌≤◌, List, [], ◌∷◌, ◌++◌, Some, None, Bool, true, false, not, ◌&&◌, if◌then◌else◌}
 use Rattle.std.proofs.Common.{inl, inr}
 use Rattle.kk_syntax.specs.declared.token.LocatedToken.{LocatedToken}
-use Rattle.kk_syntax.specs.declared.token.Keyword.TheVariants.{Fun}
-use Rattle.kk_syntax.specs.declared.token.Symbol.TheVariants.{OpenParenthesis, OpenBrace, Semicolon, Tilde}
-use Rattle.kk_parser.specs.Kinds.{Kind, keyword, symbol, word, number, string, Said, says, is_at}
-use Rattle.kk_parser.specs.Phrases.{Nonterminal, program, main_function, block, statement, print, said, atom, Phrase, token, opener, ◌▸◌, either, many, optional, level, rule, PhraseValue}
-use Rattle.kk_parser.specs.Grammar.{production, meaning}
+use Rattle.kk_syntax.specs.declared.token.Keyword.TheVariants.{Fun, Val, If}
+use Rattle.kk_syntax.specs.declared.token.Symbol.TheVariants.{OpenParenthesis, CloseParenthesis, OpenBrace, Semicolon, Dot, Less, Exclamation, Tilde}
+use Rattle.kk_parser.specs.Classes.{Class, keyword as keyword_class, symbol as symbol_class, number as number_class, string as string_class, constructor as constructor_class, is_at}
+use Rattle.kk_parser.specs.Kinds.{Kind, Said, says, classes_of, symbol, name, type_name, type_name_but_effect, string, effect_words, print_words, name_in}
+use Rattle.kk_parser.specs.Phrases.{Nonterminal, program, decl, param, effect, eff, type, result_type, expr, block, stmt, if_, or, and, cmp, add, mul, un, post, atom, say, args, Phrase, token, opener, ◌▸◌, either, many, optional, level, rule, each, perhaps, quoted_or, PhraseValue}
+use Rattle.kk_parser.specs.Forms.{form, form_meaning}
+
+-- the tokens behind the next one
+abbrev pub behind : List LocatedToken → List LocatedToken
+behind [] = []
+behind (t ∷ ts) = ts
 
 -- whether a text of a nonterminal may have no token
 abbrev pub nullable_of : Nonterminal → Bool
 nullable_of program = true
+nullable_of args = true
 nullable_of _ = false
 
--- the kinds of token with which an expression begins
-abbrev pub expr_first : List Kind
-expr_first = symbol Tilde ∷ number ∷ symbol OpenParenthesis ∷ []
+-- the classes of token with which an atom begins; an operand; and an expression
+abbrev pub atom_first : List Class
+atom_first = number_class ∷ constructor_class ∷ symbol_class OpenParenthesis ∷ string_class ∷ classes_of name
 
--- the kinds of token with which a text of a nonterminal begins
-abbrev pub first_of : Nonterminal → List Kind
-first_of program = symbol Semicolon ∷ keyword Fun ∷ []
-first_of main_function = keyword Fun ∷ []
-first_of block = symbol OpenBrace ∷ []
-first_of statement = string ∷ word (codes "print") ∷ word (codes "println") ∷ []
-first_of print = word (codes "print") ∷ word (codes "println") ∷ []
-first_of said = string ∷ []
-first_of atom = number ∷ symbol OpenParenthesis ∷ []
-first_of _ = expr_first
+abbrev pub operand_first : List Class
+operand_first = symbol_class Exclamation ∷ symbol_class Tilde ∷ atom_first
+
+abbrev pub expr_first : List Class
+expr_first = symbol_class OpenBrace ∷ keyword_class If ∷ operand_first
+
+-- the classes of token with which a text of a nonterminal begins
+abbrev pub first_of : Nonterminal → List Class
+first_of program = symbol_class Semicolon ∷ keyword_class Fun ∷ []
+first_of decl = keyword_class Fun ∷ []
+first_of param = classes_of name
+first_of effect = classes_of (name_in effect_words) ++ symbol_class Less ∷ []
+first_of eff = classes_of (name_in effect_words)
+first_of type = classes_of type_name ++ symbol_class OpenParenthesis ∷ []
+first_of result_type = classes_of type_name_but_effect ++ symbol_class OpenParenthesis ∷ []
+first_of block = symbol_class OpenBrace ∷ []
+first_of stmt = keyword_class Val ∷ expr_first
+first_of if_ = keyword_class If ∷ []
+first_of atom = atom_first
+first_of post = atom_first
+first_of say = classes_of (name_in print_words) ++ string_class ∷ []
+first_of expr = expr_first
+first_of args = expr_first
+first_of _ = operand_first
 
 -- whether a text of a phrase may have no token
 abbrev pub nullable : Phrase → Bool
@@ -37,18 +58,32 @@ nullable (many a) = true
 nullable (optional a) = true
 nullable (level a) = nullable a
 nullable (rule x) = nullable_of x
+nullable (each k a) = true
+nullable (perhaps k a) = true
+nullable (quoted_or a) = nullable a
 nullable _ = false
 
--- the kinds of token with which a text of a phrase begins
-abbrev pub first : Phrase → List Kind
-first (token k) = k ∷ []
-first (opener k) = k ∷ []
+-- the classes of token with which a text of a phrase begins
+abbrev pub first : Phrase → List Class
+first (token k) = classes_of k
+first (opener k) = classes_of k
 first (a ▸ b) = if nullable a then first a ++ first b else first a
 first (either a b) = first a ++ first b
 first (many a) = first a
 first (optional a) = first a
 first (level a) = first a
 first (rule x) = first_of x
+first (each k a) = classes_of k
+first (perhaps k a) = classes_of k
+first (quoted_or a) = string_class ∷ first a
+
+-- a string is next, and no dot behind it: then it is no part of an expression
+abbrev pub is_quoted : List LocatedToken → Bool
+is_quoted ts = is_at (string_class ∷ []) ts && not (is_at (symbol_class Dot ∷ []) (behind ts))
+
+-- a string, and `)`
+abbrev pub quoted : Phrase
+quoted = token string ▸ token (symbol CloseParenthesis)
 
 -- Finds limit p n ts v m us: where n levels are open, the phrase is read from ts, says v, leaves us to read, and m
 -- levels open; no more than `limit` were open at once.
@@ -63,7 +98,13 @@ pub data Finds (limit : ℕ) : (p : Phrase) → ℕ → List LocatedToken → Ph
   finds_absence : {a : Phrase} {n : ℕ} {ts : List LocatedToken} → is_at (first a) ts ≡ false → Finds limit (optional a) n ts None n ts
   finds_presence : {a : Phrase} {n m : ℕ} {v : PhraseValue a} {ts us : List LocatedToken} → is_at (first a) ts ≡ true → Finds limit a n ts v m us → Finds limit (optional a) n ts (Some v) m us
   finds_level : {a : Phrase} {n m : ℕ} {v : PhraseValue a} {ts us : List LocatedToken} → Finds limit a n ts v m us → Finds limit (level a) n ts v n us
-  finds_rule : {x : Nonterminal} {n m : ℕ} {v : PhraseValue (production x)} {ts us : List LocatedToken} → Finds limit (production x) n ts v m us → Finds limit (rule x) n ts (meaning x v) m us
+  finds_rule : {x : Nonterminal} {n m : ℕ} {v : PhraseValue (form x)} {ts us : List LocatedToken} → Finds limit (form x) n ts v m us → Finds limit (rule x) n ts (form_meaning x v) m us
+  finds_no_more : {k : Kind} {a : Phrase} {n : ℕ} {ts : List LocatedToken} → is_at (classes_of k) ts ≡ false → Finds limit (each k a) n ts [] n ts
+  finds_each : {l : Kind} {a : Phrase} {n k m : ℕ} {t : LocatedToken} {w : Said l} {u : PhraseValue a} {vs : List (PhraseValue a)} {ts us ws : List LocatedToken} → says l t ≡ Some w → n < limit → Finds limit a (n + 1) ts u k us → Finds limit (each l a) k us vs m ws → Finds limit (each l a) n (t ∷ ts) (u ∷ vs) m ws
+  finds_nothing : {k : Kind} {a : Phrase} {n : ℕ} {ts : List LocatedToken} → is_at (classes_of k) ts ≡ false → Finds limit (perhaps k a) n ts None n ts
+  finds_something : {k : Kind} {a : Phrase} {n m : ℕ} {t : LocatedToken} {w : Said k} {v : PhraseValue a} {ts us : List LocatedToken} → says k t ≡ Some w → Finds limit a n ts v m us → Finds limit (perhaps k a) n (t ∷ ts) (Some v) m us
+  finds_quoted : {a : Phrase} {n m : ℕ} {v : Said string} {ts us : List LocatedToken} → is_quoted ts ≡ true → Finds limit quoted n ts (v, tt) m us → Finds limit (quoted_or a) n ts (inl v) m us
+  finds_unquoted : {a : Phrase} {n m : ℕ} {v : PhraseValue a} {ts us : List LocatedToken} → is_quoted ts ≡ false → Finds limit a n ts v m us → Finds limit (quoted_or a) n ts (inr v) m us
 
 -- a reading fails at the first of these tokens, or at the end where there is none: it is unexpected, or it opens a
 -- level too many
@@ -73,9 +114,9 @@ pub data Failure : Type 0 where
 
 -- ReadingFails limit p n ts f: where n levels are open, the reading of the phrase from ts fails so.
 pub data ReadingFails (limit : ℕ) : Phrase → ℕ → List LocatedToken → Failure → Type 0 where
-  fails_token : {k : Kind} {n : ℕ} {ts : List LocatedToken} → is_at (k ∷ []) ts ≡ false → ReadingFails limit (token k) n ts (unexpected ts)
-  fails_opener : {k : Kind} {n : ℕ} {ts : List LocatedToken} → is_at (k ∷ []) ts ≡ false → ReadingFails limit (opener k) n ts (unexpected ts)
-  fails_deep : {k : Kind} {n : ℕ} {ts : List LocatedToken} → is_at (k ∷ []) ts ≡ true → limit ≤ n → ReadingFails limit (opener k) n ts (too_deep ts)
+  fails_token : {k : Kind} {n : ℕ} {ts : List LocatedToken} → is_at (classes_of k) ts ≡ false → ReadingFails limit (token k) n ts (unexpected ts)
+  fails_opener : {k : Kind} {n : ℕ} {ts : List LocatedToken} → is_at (classes_of k) ts ≡ false → ReadingFails limit (opener k) n ts (unexpected ts)
+  fails_deep : {k : Kind} {n : ℕ} {ts : List LocatedToken} → is_at (classes_of k) ts ≡ true → limit ≤ n → ReadingFails limit (opener k) n ts (too_deep ts)
   fails_front : {a b : Phrase} {n : ℕ} {ts : List LocatedToken} {f : Failure} → ReadingFails limit a n ts f → ReadingFails limit (a ▸ b) n ts f
   fails_behind : {a b : Phrase} {n k : ℕ} {u : PhraseValue a} {ts us : List LocatedToken} {f : Failure} → Finds limit a n ts u k us → ReadingFails limit b k us f → ReadingFails limit (a ▸ b) n ts f
   fails_first : {a b : Phrase} {n : ℕ} {ts : List LocatedToken} {f : Failure} → is_at (first a) ts ≡ true → ReadingFails limit a n ts f → ReadingFails limit (either a b) n ts f
@@ -84,4 +125,10 @@ pub data ReadingFails (limit : ℕ) : Phrase → ℕ → List LocatedToken → F
   fails_more : {a : Phrase} {n k : ℕ} {u : PhraseValue a} {ts us : List LocatedToken} {f : Failure} → is_at (first a) ts ≡ true → Finds limit a n ts u k us → ReadingFails limit (many a) k us f → ReadingFails limit (many a) n ts f
   fails_presence : {a : Phrase} {n : ℕ} {ts : List LocatedToken} {f : Failure} → is_at (first a) ts ≡ true → ReadingFails limit a n ts f → ReadingFails limit (optional a) n ts f
   fails_level : {a : Phrase} {n : ℕ} {ts : List LocatedToken} {f : Failure} → ReadingFails limit a n ts f → ReadingFails limit (level a) n ts f
-  fails_rule : {x : Nonterminal} {n : ℕ} {ts : List LocatedToken} {f : Failure} → ReadingFails limit (production x) n ts f → ReadingFails limit (rule x) n ts f
+  fails_rule : {x : Nonterminal} {n : ℕ} {ts : List LocatedToken} {f : Failure} → ReadingFails limit (form x) n ts f → ReadingFails limit (rule x) n ts f
+  fails_each_deep : {k : Kind} {a : Phrase} {n : ℕ} {ts : List LocatedToken} → is_at (classes_of k) ts ≡ true → limit ≤ n → ReadingFails limit (each k a) n ts (too_deep ts)
+  fails_each : {k : Kind} {a : Phrase} {n : ℕ} {t : LocatedToken} {w : Said k} {ts : List LocatedToken} {f : Failure} → says k t ≡ Some w → n < limit → ReadingFails limit a (n + 1) ts f → ReadingFails limit (each k a) n (t ∷ ts) f
+  fails_each_more : {l : Kind} {a : Phrase} {n k : ℕ} {t : LocatedToken} {w : Said l} {u : PhraseValue a} {ts us : List LocatedToken} {f : Failure} → says l t ≡ Some w → n < limit → Finds limit a (n + 1) ts u k us → ReadingFails limit (each l a) k us f → ReadingFails limit (each l a) n (t ∷ ts) f
+  fails_something : {k : Kind} {a : Phrase} {n : ℕ} {t : LocatedToken} {w : Said k} {ts : List LocatedToken} {f : Failure} → says k t ≡ Some w → ReadingFails limit a n ts f → ReadingFails limit (perhaps k a) n (t ∷ ts) f
+  fails_quoted : {a : Phrase} {n : ℕ} {ts : List LocatedToken} {f : Failure} → is_quoted ts ≡ true → ReadingFails limit quoted n ts f → ReadingFails limit (quoted_or a) n ts f
+  fails_unquoted : {a : Phrase} {n : ℕ} {ts : List LocatedToken} {f : Failure} → is_quoted ts ≡ false → ReadingFails limit a n ts f → ReadingFails limit (quoted_or a) n ts f

@@ -4,8 +4,12 @@
 mod block;
 mod expr;
 mod fault;
+mod made;
+mod name;
+mod operator;
 mod parser;
 mod program;
+mod result;
 #[cfg(test)]
 mod tests;
 

@@ -1,17 +1,20 @@
-ghost use Rattle.std.specs.Prelude.{◌≡◌, ◌-◌, ◌≤◌, [], None, length, map, All, IfOk, codes};
-ghost use Rattle.kk_syntax.specs.Surface.{written_declaration, written_expr, function_declaration};
+ghost use Rattle.std.specs.Prelude.{◌≡◌, ◌-◌, ◌*◌, ◌≤◌, [], length, map, All, IfOk, OnOk};
+ghost use Rattle.kk_syntax.specs.Surface.{written_declaration, written_expr, written_parameter};
 ghost use Rattle.kk_syntax.specs.WrittenNodes.{nodes_in};
-ghost use Rattle.kk_parser.specs.Kinds.{word};
-ghost use Rattle.kk_parser.specs.Methods.{ReadsPhrase, ReadsFor, error_for};
+ghost use Rattle.kk_parser.specs.Forms.{head as OfHead, head_of};
+ghost use Rattle.kk_parser.specs.Grammar.{parameters as OfParameters, listed, listed_of};
+ghost use Rattle.kk_parser.specs.Methods.{ReadsPhrase, ReadsFor, ReadsAs, error_for};
 ghost use Rattle.kk_parser.specs.Parses.{AnswersParse, EachListIsParsed, OneProgram, in_u32, next_place};
-ghost use Rattle.kk_parser.specs.Phrases.{token, rule, program as OfProgram, main_function as OfMain};
+ghost use Rattle.kk_parser.specs.Phrases.{rule, program as OfProgram, decl as OfDecl, param as OfParam};
+ghost use Rattle.kk_parser.specs.Views.{declaration_of, head_view};
 
 use crate::fault::Fault;
+use crate::name::Names;
 use crate::parser::Parser;
 use kk_base::{ParseError, Span};
 use kk_syntax::{
-    Declaration, FunctionDeclaration, Identifier, Keyword, LocatedToken, SurfaceExpr, Symbol,
-    Token, Tokens, Tree,
+    Declaration, Effect, FunctionDeclaration, Identifier, Keyword, LocatedToken, Parameter,
+    SurfaceExpr, SurfaceType, Symbol, Tokens, Tree,
 };
 use std::alloc::Global;
 
@@ -22,9 +25,9 @@ use std::alloc::Global;
 pub fn parse(alloc: Global, tokens: &Tokens) -> Result<Tree, ParseError>
     ensures parsed { AnswersParse tokens.now result }
 
-    // A declaration has no more nodes than the text has tokens.
+    // A declaration has at most twice as many nodes as the text has tokens.
     ensures few_nodes { IfOk result (λ tree.
-        All (λ declaration. nodes_in declaration ≤ length tokens.now.items) (map written_declaration tree.declarations.items)) }
+        All (λ declaration. nodes_in declaration ≤ 2 * length tokens.now.items) (map written_declaration tree.declarations.items)) }
 {
     let mut parser = Parser {
         alloc,
@@ -79,8 +82,17 @@ fn error_at(fault: Fault, tokens: &Tokens, left: &[LocatedToken]) -> ParseError
     }
 }
 
+/// What stands in the declaration of a function before its body.
+#[derive(Drop)]
+pub struct Head {
+    pub name: Identifier,
+    pub parameters: Vec<Parameter>,
+    pub effects: Vec<Effect>,
+    pub result: Option<SurfaceType>,
+}
+
 impl<'a> Parser<'a> {
-    /// `program = ;* [ main_function ;* ]`
+    /// `program = ;* [ decl { ;+ decl } ;* ]`
     fn program(&mut self) -> Result<Vec<Declaration>, Fault>
         ensures reads { ReadsPhrase (rule OfProgram) (λ declarations. map written_declaration declarations.items) result self.old self.new }
         ensures left { length self.new.rest.now ≤ length self.old.rest.now }
@@ -90,62 +102,138 @@ impl<'a> Parser<'a> {
         if !self.is_at_keyword(Keyword::Fun) {
             return Ok(declarations);
         }
-        let function = self.main_function()?;
-        match declarations.push(function) {
+        let first = self.declaration()?;
+        match declarations.push(first) {
             Ok(()) => {}
             Err(_) => return Err(Fault::NoMemory),
         }
-        self.skip_semicolons();
+        while self.is_at(Symbol::Semicolon) {
+            self.advance();
+            if self.is_at_keyword(Keyword::Fun) {
+                let next = self.declaration()?;
+                match declarations.push(next) {
+                    Ok(()) => {}
+                    Err(_) => return Err(Fault::NoMemory),
+                }
+            }
+        }
         Ok(declarations)
     }
 
-    /// `main_function = "fun" "main" "(" ")" block`: the levels end that it opens.
-    fn main_function(&mut self) -> Result<Declaration, Fault>
-        ensures reads { ReadsPhrase (rule OfMain) written_declaration result self.old self.new }
+    /// `decl = "fun" name "(" [ param { "," param } ] ")" [ ":" [ effect ] type ] expr`: the levels end that it opens. Only
+    /// `main` may leave its result out.
+    fn declaration(&mut self) -> Result<Declaration, Fault>
+        ensures reads { ReadsPhrase (rule OfDecl) written_declaration result self.old self.new }
+        ensures depth { OnOk result (self.new.depth ≡ self.old.depth) }
         ensures left { length self.new.rest.now ≤ length self.old.rest.now }
     {
         let depth = self.depth;
         self.expect_keyword(Keyword::Fun)?;
-        let name = self.main_name()?;
-        self.open(Symbol::OpenParenthesis)?;
-        self.expect(Symbol::CloseParenthesis)?;
-        let body = self.block()?;
+        let head = self.head()?;
+        let body = self.expr()?;
         self.depth = depth;
-        Ok(main_of(self.alloc, name, body))
+        Ok(function_of(head, body))
     }
 
-    /// The name `main`.
-    fn main_name(&mut self) -> Result<Identifier, Fault>
-        ensures reads { ReadsFor (token (word (codes "main"))) (λ at. record { name = codes "main"; at = at }) result self.old self.new }
+    // What stands between `fun` and the body.
+    fn head(&mut self) -> Result<Head, Fault>
+        ensures reads { ReadsAs OfHead head_of head_view result self.old self.new }
         ensures left { length self.new.rest.now ≤ length self.old.rest.now }
     {
-        match self.rest.first() {
-            Some(next) => match &next.token {
-                Token::Name(name) => {
-                    if name.as_str() != "main" {
-                        return Err(Fault::Unexpected);
-                    }
-                    let name = name.copied(self.alloc)?;
-                    let at = next.span.at;
-                    self.advance();
-                    Ok(Identifier { name, at })
-                }
-                _ => Err(Fault::Unexpected),
-            },
-            None => Err(Fault::Unexpected),
+        if self.is_at_name(Names::Main) {
+            let name = self.identifier(Names::Main)?;
+            let parameters = self.parameters()?;
+            if !self.is_at(Symbol::Colon) {
+                return Ok(Head {
+                    name,
+                    parameters,
+                    effects: Vec::new(self.alloc),
+                    result: None,
+                });
+            }
+            let (effects, result) = self.result()?;
+            return Ok(Head {
+                name,
+                parameters,
+                effects,
+                result: Some(result),
+            });
         }
+        let name = self.identifier(Names::ButMain)?;
+        let parameters = self.parameters()?;
+        let (effects, result) = self.result()?;
+        Ok(Head {
+            name,
+            parameters,
+            effects,
+            result: Some(result),
+        })
+    }
+
+    // `"(" [ param { "," param } ] ")"`
+    fn parameters(&mut self) -> Result<Vec<Parameter>, Fault>
+        ensures reads { ReadsAs OfParameters (λ v. listed_of v.1.0) (λ ps. map written_parameter ps.items) result self.old self.new }
+        ensures left { length self.new.rest.now ≤ length self.old.rest.now }
+    {
+        self.open(Symbol::OpenParenthesis)?;
+        let parameters = self.parameter_list()?;
+        self.expect(Symbol::CloseParenthesis)?;
+        Ok(parameters)
+    }
+
+    // `[ param { "," param } ]`
+    fn parameter_list(&mut self) -> Result<Vec<Parameter>, Fault>
+        ensures reads { ReadsAs (listed (rule OfParam)) listed_of (λ ps. map written_parameter ps.items) result self.old self.new }
+        ensures left { length self.new.rest.now ≤ length self.old.rest.now }
+    {
+        let mut parameters = Vec::new(self.alloc);
+        if !self.is_at_name(Names::All) {
+            return Ok(parameters);
+        }
+        let first = self.parameter()?;
+        match parameters.push(first) {
+            Ok(()) => {}
+            Err(_) => return Err(Fault::NoMemory),
+        }
+        while self.is_at(Symbol::Comma) {
+            self.advance();
+            let next = self.parameter()?;
+            match parameters.push(next) {
+                Ok(()) => {}
+                Err(_) => return Err(Fault::NoMemory),
+            }
+        }
+        Ok(parameters)
+    }
+
+    /// `param = name ":" type`
+    fn parameter(&mut self) -> Result<Parameter, Fault>
+        ensures reads { ReadsPhrase (rule OfParam) written_parameter result self.old self.new }
+        ensures depth { OnOk result (self.new.depth ≡ self.old.depth) }
+        ensures left { length self.new.rest.now ≤ length self.old.rest.now }
+    {
+        let name = self.identifier(Names::All)?;
+        self.expect(Symbol::Colon)?;
+        let of_type = self.type_()?;
+        Ok(Parameter { name, of_type })
     }
 }
 
-// The declaration of a function without parameters and without a written type.
-fn main_of(alloc: Global, name: Identifier, body: SurfaceExpr) -> Declaration
-    ensures { written_declaration result ≡ function_declaration name [] [] None (written_expr body) }
+// The declaration of a function.
+fn function_of(head: Head, body: SurfaceExpr) -> Declaration
+    ensures { written_declaration result ≡ declaration_of (head_view head) (written_expr body) }
 {
+    let Head {
+        name,
+        parameters,
+        effects,
+        result,
+    } = head;
     Declaration::Function(FunctionDeclaration {
         name,
-        parameters: Vec::new(alloc),
-        effects: Vec::new(alloc),
-        result: None,
+        parameters,
+        effects,
+        result,
         body,
     })
 }

@@ -1,8 +1,11 @@
-use Rattle.kk_front.proofs.Accepting.{accepted}
+use Rattle.kk_front.proofs.Accepting.{found, typed}
 use Rattle.kk_front.proofs.law.accepted_programs_are_typed.Goals as goal
 
 pub returns-clause-typed : goal.returns-clause-typed
-returns-clause-typed c = λ text program h. (accepted text program h).0
+returns-clause-typed c = typed c.resolved_programs_have_main.ensures
+
+pub returns-clause-parameters : goal.returns-clause-parameters
+returns-clause-parameters c = λ text program h. (found text program h).parameters
 
 pub returns-clause-small : goal.returns-clause-small
-returns-clause-small c = λ text program h. (accepted text program h).1
+returns-clause-small c = λ text program h. (found text program h).counts

@@ -1,23 +1,28 @@
-use Rattle.std.proofs.Common.{map, sym, ap, ◌∙◌, subst}
-use Rattle.kk_syntax.specs.Programs.{program_tree}
-use Rattle.kk_syntax.specs.Surface.{written_declaration, written_tree}
-use Rattle.kk_names.specs.Names.{functions_of, KeepsNodes}
-use Rattle.kk_names.proofs.Nodes.{keeps_nodes}
-use Rattle.kk_names.proofs.Resolving.{found, lacking}
+use Rattle.std.proofs.Common.{map, None, sym, ap, ◌∙◌}
+use Rattle.kk_syntax.specs.Programs.{function_tree}
+use Rattle.kk_syntax.specs.Surface.{written_declaration}
+use Rattle.kk_names.specs.Faults.{faults_of}
+use Rattle.kk_names.specs.Methods.{first_with}
+use Rattle.kk_names.specs.Names.{functions_meant}
+use Rattle.kk_names.proofs.Firsts.{none_is_kept}
+use Rattle.kk_names.proofs.Mains.{fault_answers, main_answers, main_keeps}
 use Rattle.kk_names.proofs.program.resolve.Goals as goal
 
-pub returns-in-Ok-with_main-clause-resolved : goal.returns-in-Ok-with_main-clause-resolved
-returns-in-Ok-with_main-clause-resolved c =
-    let is = c.in-Ok.ensures ∙ ap (λ ds. functions_of (map written_declaration ds)) c.as_slice.ensures.value in
-    found (written_tree c.args.tree) c.in-Ok.functions.items c.as_slice-2.result.now is c.as_slice-2.ensures.value (program_tree c.in-Ok-with_main.program) c.in-Some.main c.in-Some.ensures.value c.in-Ok-with_main.ensures
+pub returns-in-Some-clause-resolved : goal.returns-in-Some-clause-resolved
+returns-in-Some-clause-resolved c =
+    let kept = c.in-Ok.ensures.fault ∙ ap (λ ds. first_with None (faults_of (map written_declaration ds))) c.as_slice.ensures.value in
+    fault_answers c.args.tree c.in-Some.fault c.error.result c.error.ensures (sym kept ∙ c.in-Some.is)
 
-pub returns-in-Ok-with_main-clause-keeps_nodes : goal.returns-in-Ok-with_main-clause-keeps_nodes
-returns-in-Ok-with_main-clause-keeps_nodes c =
+pub returns-clause-resolved : goal.returns-clause-resolved
+returns-clause-resolved c =
     let ds = map written_declaration c.args.tree.declarations.items in
-    let is = c.in-Ok.ensures ∙ ap (λ ds. functions_of (map written_declaration ds)) c.as_slice.ensures.value in
-    subst (KeepsNodes ds) (sym (ap (λ p. p.functions) c.in-Ok-with_main.ensures ∙ is)) (keeps_nodes ds)
+    let functions = c.in-Ok.ensures.functions ∙ ap (λ ds. functions_meant (map written_declaration ds)) c.as_slice.ensures.value in
+    let kept = c.in-Ok.ensures.fault ∙ ap (λ ds. first_with None (faults_of (map written_declaration ds))) c.as_slice.ensures.value in
+    main_answers c.args.tree (map function_tree c.in-Ok.functions.items) functions (none_is_kept (faults_of ds) (sym kept ∙ c.in-None.is)) c.with_main.result c.with_main.ensures
 
-pub returns-in-Ok-from_str-clause-resolved : goal.returns-in-Ok-from_str-clause-resolved
-returns-in-Ok-from_str-clause-resolved c =
-    let is = c.in-Ok.ensures ∙ ap (λ ds. functions_of (map written_declaration ds)) c.as_slice.ensures.value in
-    lacking (written_tree c.args.tree) c.in-Ok.functions.items c.as_slice-2.result.now is c.as_slice-2.ensures.value c.new.result c.in-None.ensures.value (c.new.ensures ∙ c.in-Ok-from_str.ensures.ok)
+pub returns-clause-keeps_nodes : goal.returns-clause-keeps_nodes
+returns-clause-keeps_nodes c =
+    let ds = map written_declaration c.args.tree.declarations.items in
+    let functions = c.in-Ok.ensures.functions ∙ ap (λ ds. functions_meant (map written_declaration ds)) c.as_slice.ensures.value in
+    let kept = c.in-Ok.ensures.fault ∙ ap (λ ds. first_with None (faults_of (map written_declaration ds))) c.as_slice.ensures.value in
+    main_keeps c.args.tree (map function_tree c.in-Ok.functions.items) functions (none_is_kept (faults_of ds) (sym kept ∙ c.in-None.is)) c.with_main.result c.with_main.ensures

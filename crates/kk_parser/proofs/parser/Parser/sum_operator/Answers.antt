@@ -9,12 +9,12 @@ use Rattle.kk_parser.proofs.parser.Parser.sum_operator.Goals as goal
 pub returns-in_err-deepen-clause-reads : goal.returns-in_err-deepen-clause-reads
 returns-in_err-deepen-clause-reads c =
     let h = sym c.is_at.ensures.value ∙ c.if-is_at.true in
-    operator_failed sum_operator Plus sum_operator_of _ _ c.args.self.now c.deepen.new.self (chooses_first _ _ _ _ h) h c.in_err-deepen.ensures.deepens c.from_residual.ensures.1
+    operator_failed sum_operator Plus sum_operator_of _ _ c.args.self.now c.deepen.new.self (chooses_first (opener (symbol Plus)) _ tt _ h) h c.in_err-deepen.ensures.deepens c.from_residual.ensures.1
 
 pub returns-then-is_at-clause-reads : goal.returns-then-is_at-clause-reads
 returns-then-is_at-clause-reads c =
     let h = sym c.is_at.ensures.value ∙ c.if-is_at.true in
-    operator_found sum_operator Plus sum_operator_of _ c.args.self.now c.deepen.new.self (chooses_first _ _ _ _ h) h refl c.in_ok-deepen.ensures.deepens
+    operator_found sum_operator Plus sum_operator_of _ c.args.self.now c.deepen.new.self (chooses_first (opener (symbol Plus)) _ tt _ h) h refl c.in_ok-deepen.ensures.deepens
 
 pub returns-in_err-deepen-2-clause-reads : goal.returns-in_err-deepen-2-clause-reads
 returns-in_err-deepen-2-clause-reads c =

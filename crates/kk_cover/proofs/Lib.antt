@@ -1,0 +1,11 @@
+pub mod Answering
+pub mod Deciding
+pub mod Fewer
+pub mod Joining
+pub mod Keeping
+pub mod Knowing
+pub mod Narrowed
+pub mod Pushing
+pub mod RowSteps
+pub mod Slots
+pub mod Stacks

@@ -1,0 +1,5 @@
+pub mod Covered
+pub mod Narrowing
+pub mod Outlines
+pub mod Problems
+pub mod Typed

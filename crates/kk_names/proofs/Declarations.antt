@@ -1,0 +1,154 @@
+-- How far the loops over parameters and declarations have come.
+use Rattle.std.proofs.Common.{◌≡◌, ℕ, ◌+◌, List, [], ◌∷◌, ◌++◌, length, map, Option, None, refl, sym, ap, ◌∙◌, arith, append_assoc}
+use Rattle.std.specs.Prelude.{is_some}
+use Rattle.kk_syntax.specs.declared.tree.Identifier.{Identifier}
+use Rattle.kk_syntax.specs.Programs.{FunctionTree}
+use Rattle.kk_syntax.specs.Surface.{Written, WrittenType, WrittenParameter, WrittenDeclaration, type_declaration, function_declaration}
+use Rattle.kk_syntax.specs.Trees.{Tree}
+use Rattle.kk_syntax.specs.Types.{TypeTree}
+use Rattle.kk_names.specs.declared.fault.Fault.{Fault}
+use Rattle.kk_names.specs.declared.fault.FaultKind.TheVariants.{Twice}
+use Rattle.kk_names.specs.declared.resolver.Resolver.{Resolver}
+use Rattle.kk_names.specs.declared.table.Declared.{Declared}
+use Rattle.kk_names.specs.Faults.{twice_faults, type_faults, parameter_faults, result_faults, faults_in, second_functions, inside_faults, inside_all, faults_of}
+use Rattle.kk_names.specs.Methods.{first_with, newest_first, faults_if, Notes, Binds, Declares, Resolves, ResolvesParameters, ResolvesFunction}
+use Rattle.kk_names.specs.Names.{functions_of}
+use Rattle.kk_names.specs.Scopes.{Scope, binding, number_in, names_in, with_parameters, parameter_names}
+use Rattle.kk_names.specs.Tables.{built_in_functions, functions_in, means, numbered}
+use Rattle.kk_names.specs.TypeNames.{type_meant}
+use Rattle.kk_names.proofs.Growing.{first_more}
+use Rattle.kk_names.proofs.Tables.{newest_more, is_seen}
+
+-- ---- parameters
+
+-- of all parameters some are left
+pub record ParametersSoFar (old now : Resolver) (left all : List WrittenParameter) (types : List TypeTree) : Type 0 where
+  pub functions : now.functions.items ≡ old.functions.items
+  pub scope : with_parameters now.next left (newest_first now.scope.items) ≡ with_parameters old.next all (newest_first old.scope.items)
+  pub next : now.next + length left ≡ old.next + length all
+  pub first : first_with now.first (parameter_faults (names_in (newest_first now.scope.items)) left) ≡ first_with old.first (parameter_faults (names_in (newest_first old.scope.items)) all)
+  pub types_are : types ++ map (λ parameter. type_meant parameter.of_type) left ≡ map (λ parameter. type_meant parameter.of_type) all
+
+pub parameters_more : (old now checked typed numbered new : Resolver) (parameter : WrittenParameter) (left all : List WrittenParameter) (types : List TypeTree) (number : ℕ) (t : TypeTree)
+    → ParametersSoFar old now (parameter ∷ left) all types
+    → Notes (faults_if (is_some (number_in (newest_first now.scope.items) parameter.name.name)) Twice parameter.name) now checked
+    → Notes (type_faults parameter.of_type) checked typed → t ≡ type_meant parameter.of_type
+    → number ≡ typed.next → numbered.next ≡ typed.next + 1 → numbered.functions.items ≡ typed.functions.items → numbered.scope.items ≡ typed.scope.items → numbered.first ≡ typed.first
+    → Binds (binding parameter.name number) numbered new
+    → ParametersSoFar old new left all (types ++ t ∷ [])
+parameters_more old now checked typed numbered new parameter left all types number t so_far twice notes means number_is next functions scope first binds =
+    let names = names_in (newest_first now.scope.items) in
+    let same_next : typed.next ≡ now.next = omega (arith, ap (λ state. state.next) notes.state, ap (λ state. state.next) twice.state) in
+    let items : new.scope.items ≡ now.scope.items ++ binding parameter.name number ∷ [] = binds.scope ∙ ap (λ xs. xs ++ binding parameter.name number ∷ []) (scope ∙ (notes.scope ∙ twice.scope)) in
+    let number_so : number ≡ now.next = number_is ∙ same_next in
+    let seen : newest_first new.scope.items ≡ binding parameter.name now.next ∷ newest_first now.scope.items =
+    ap newest_first items ∙ (newest_more [] now.scope.items (binding parameter.name number) ∙ ap (λ n. binding parameter.name n ∷ newest_first now.scope.items) number_so) in
+    let next_so : new.next ≡ now.next + 1 = omega (arith, binds.next, same_next, next) in
+    let checked_first : checked.first ≡ first_with now.first (twice_faults names parameter.name) =
+    ap (λ state. state.first) twice.state ∙ ap (λ b. first_with now.first (faults_if b Twice parameter.name)) (is_seen (newest_first now.scope.items) parameter.name.name) in
+    let first_so : new.first ≡ first_with now.first (twice_faults names parameter.name ++ type_faults parameter.of_type) =
+    binds.first ∙ (first ∙ (ap (λ state. state.first) notes.state ∙ (ap (λ f. first_with f (type_faults parameter.of_type)) checked_first
+    ∙ sym (first_more now.first (twice_faults names parameter.name) (type_faults parameter.of_type))))) in
+    record {
+      functions = binds.functions ∙ (functions ∙ (ap (λ state. state.functions) notes.state ∙ (ap (λ state. state.functions) twice.state ∙ so_far.functions)));
+      scope = ap (λ n. with_parameters n left (newest_first new.scope.items)) next_so ∙ (ap (with_parameters (now.next + 1) left) seen ∙ so_far.scope);
+      next = omega (arith, next_so, so_far.next);
+      first =
+          ap (λ f. first_with f (parameter_faults (names_in (newest_first new.scope.items)) left)) first_so
+          ∙ (ap (λ s. first_with (first_with now.first (twice_faults names parameter.name ++ type_faults parameter.of_type)) (parameter_faults (names_in s) left)) seen
+          ∙ (sym (first_more now.first (twice_faults names parameter.name ++ type_faults parameter.of_type) (parameter_faults (parameter.name.name ∷ names) left))
+          ∙ so_far.first));
+      types_are =
+          append_assoc types (t ∷ []) (map (λ p. type_meant p.of_type) left)
+          ∙ (ap (λ x. types ++ x ∷ map (λ p. type_meant p.of_type) left) means ∙ so_far.types_are);
+    }
+
+-- the names of parameters
+pub names_with_parameters : (next : ℕ) (parameters : List WrittenParameter) (scope : Scope) → names_in (with_parameters next parameters scope) ≡ parameter_names parameters (names_in scope)
+names_with_parameters next [] scope = refl
+names_with_parameters next (parameter ∷ more) scope = names_with_parameters (next + 1) more (binding parameter.name next ∷ scope)
+
+-- ---- declarations
+
+-- of all declarations some are left, of which the next function has that number
+pub record DeclaredSoFar (old now : Resolver) (number : ℕ) (left all : List WrittenDeclaration) : Type 0 where
+  pub functions : now.functions.items ++ numbered number left ≡ old.functions.items ++ numbered 0 all
+  pub first : first_with now.first (second_functions (map (λ d. d.name) now.functions.items) left) ≡ first_with old.first (second_functions (map (λ d. d.name) old.functions.items) all)
+
+-- ---- functions
+
+-- of all declarations some are left
+pub record ResolvedSoFar (old now : Resolver) (left all : List WrittenDeclaration) (functions : List FunctionTree) : Type 0 where
+  pub table : now.functions.items ≡ old.functions.items
+  pub first : first_with now.first (inside_all old.functions.items left) ≡ first_with old.first (inside_all old.functions.items all)
+  pub functions_are : functions ++ functions_of old.functions.items left ≡ functions_of old.functions.items all
+
+pub resolved_more : (old now new : Resolver) (declaration : WrittenDeclaration) (left all : List WrittenDeclaration) (functions : List FunctionTree) (function : FunctionTree)
+    → ResolvedSoFar old now (declaration ∷ left) all functions → ResolvesFunction declaration now new
+    → function ∷ functions_of now.functions.items left ≡ functions_of now.functions.items (declaration ∷ left)
+    → ResolvedSoFar old new left all (functions ++ function ∷ [])
+resolved_more old now new declaration left all functions function so_far resolves same =
+    let table = old.functions.items in
+    record {
+      table = resolves.functions ∙ so_far.table;
+      first =
+          ap (λ f. first_with f (inside_all table left)) (resolves.first ∙ ap (λ fs. first_with now.first (inside_faults fs declaration)) so_far.table)
+          ∙ (sym (first_more now.first (inside_faults table declaration) (inside_all table left)) ∙ so_far.first);
+      functions_are =
+          append_assoc functions (function ∷ []) (functions_of table left)
+          ∙ (ap (λ fs. functions ++ fs) (ap (λ fs. function ∷ functions_of fs left) (sym so_far.table) ∙ (same ∙ ap (λ fs. functions_of fs (declaration ∷ left)) so_far.table))
+          ∙ so_far.functions_are);
+    }
+
+functions_split : (table : List Declared) (d : WrittenDeclaration) (ds : List WrittenDeclaration) → functions_of table (d ∷ ds) ≡ functions_of table (d ∷ []) ++ functions_of table ds
+functions_split table (type_declaration name parameters cases) ds = refl
+functions_split table (function_declaration name parameters effects result body) ds = refl
+
+pub one_more_resolved : (old now new : Resolver) (declaration : WrittenDeclaration) (left all : List WrittenDeclaration) (functions : List FunctionTree) (function : FunctionTree)
+    → ResolvedSoFar old now (declaration ∷ left) all functions → ResolvesFunction declaration now new → function ∷ [] ≡ functions_of now.functions.items (declaration ∷ [])
+    → ResolvedSoFar old new left all (functions ++ function ∷ [])
+one_more_resolved old now new declaration left all functions function so_far resolves is =
+    resolved_more old now new declaration left all functions function so_far resolves
+    (ap (λ fs. fs ++ functions_of now.functions.items left) is ∙ sym (functions_split now.functions.items declaration left))
+
+-- a declared type is passed over
+pub type_passed : (old now : Resolver) (name : Identifier) (parameters : _) (cases : _) (left all : List WrittenDeclaration) (functions : List FunctionTree)
+    → ResolvedSoFar old now (type_declaration name parameters cases ∷ left) all functions → ResolvedSoFar old now left all functions
+type_passed old now name parameters cases left all functions so_far = record { table = so_far.table; first = so_far.first; functions_are = so_far.functions_are }
+
+-- a function, from its parts
+pub function_resolved : (name : Identifier) (parameters : List WrittenParameter) (effects : _) (result : Option WrittenType) (body : Written) (old start first second new : Resolver) (types : List TypeTree) (t : Tree)
+    → start.functions.items ≡ old.functions.items → start.scope.items ≡ [] → start.next ≡ 0 → start.first ≡ old.first
+    → ResolvesParameters parameters start first types → Notes (result_faults result) first second → Resolves body second new t
+    → ResolvesFunction (function_declaration name parameters effects result body) old new
+function_resolved name parameters effects result body old start first second new types t functions scope next fault x y z =
+    let table = old.functions.items in
+    let names = parameter_names parameters [] in
+    let seen : newest_first first.scope.items ≡ with_parameters 0 parameters [] = x.scope ∙ (ap (λ n. with_parameters n parameters (newest_first start.scope.items)) next ∙ ap (λ xs. with_parameters 0 parameters (newest_first xs)) scope) in
+    let second_table : second.functions.items ≡ table = ap (λ state. state.functions) y.state ∙ (x.functions ∙ functions) in
+    let second_names : names_in (newest_first second.scope.items) ≡ names = ap (λ xs. names_in (newest_first xs)) y.scope ∙ (ap names_in seen ∙ names_with_parameters 0 parameters []) in
+    let first_so : first.first ≡ first_with old.first (parameter_faults [] parameters) = x.first ∙ (ap (λ f. first_with f (parameter_faults (names_in (newest_first start.scope.items)) parameters)) fault ∙ ap (λ xs. first_with old.first (parameter_faults (names_in (newest_first xs)) parameters)) scope) in
+    let second_so : second.first ≡ first_with (first_with old.first (parameter_faults [] parameters)) (result_faults result) = ap (λ state. state.first) y.state ∙ ap (λ f. first_with f (result_faults result)) first_so in
+    record {
+      functions = ap (λ state. state.functions) z.state ∙ second_table;
+      first =
+          ap (λ state. state.first) z.state
+          ∙ (ap (λ f. first_with f (faults_in second.functions.items (names_in (newest_first second.scope.items)) body)) second_so
+          ∙ (ap (λ fs. first_with (first_with (first_with old.first (parameter_faults [] parameters)) (result_faults result)) (faults_in fs (names_in (newest_first second.scope.items)) body)) second_table
+          ∙ (ap (λ ns. first_with (first_with (first_with old.first (parameter_faults [] parameters)) (result_faults result)) (faults_in table ns body)) second_names
+          ∙ (sym (first_more (first_with old.first (parameter_faults [] parameters)) (result_faults result) (faults_in table names body))
+          ∙ sym (first_more old.first (parameter_faults [] parameters) (result_faults result ++ faults_in table names body))))));
+    }
+
+-- all faults of declarations were noted
+pub all_noted : (start declared : Resolver) (last : Option Fault) (ds : List WrittenDeclaration) → start.functions.items ≡ built_in_functions → start.first ≡ None → Declares ds start declared
+    → last ≡ first_with declared.first (inside_all declared.functions.items ds) → last ≡ first_with None (faults_of ds)
+all_noted start declared last ds table none declares is =
+    let seconds = second_functions (map (λ d. d.name) built_in_functions) ds in
+    let declared_first : declared.first ≡ first_with None seconds =
+    declares.first ∙ (ap (λ f. first_with f (second_functions (map (λ d. d.name) start.functions.items) ds)) none ∙ ap (λ fs. first_with None (second_functions (map (λ d. d.name) fs) ds)) table) in
+    let functions : declared.functions.items ≡ functions_in ds = declares.functions ∙ ap (λ fs. fs ++ numbered 0 ds) table in
+    is
+    ∙ (ap (λ f. first_with f (inside_all declared.functions.items ds)) declared_first
+    ∙ (ap (λ fs. first_with (first_with None seconds) (inside_all fs ds)) functions
+    ∙ sym (first_more None seconds (inside_all (functions_in ds) ds))))

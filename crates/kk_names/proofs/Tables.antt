@@ -1,0 +1,55 @@
+-- Tables of functions, and lists of names.
+use Rattle.std.proofs.Common.{◌≡◌, ℕ, ◌+◌, ◌<◌, List, [], ◌∷◌, ◌++◌, map, length, take, drop, get_or, suc, Bool, true, false, bytes_eq, Option, Some, refl, sym, ap, ◌∙◌, arith}
+use Rattle.std.specs.Prelude.{if◌then◌else◌, is_some, not, ◌==◌, ◌||◌}
+use Rattle.std.proofs.lemmas.Bool.{ne_eqb}
+use Rattle.std.proofs.Math.Seq.{take-suc, drop-cons}
+use Rattle.kk_syntax.specs.declared.tree.Identifier.{Identifier}
+use Rattle.kk_syntax.specs.Surface.{WrittenType, no_type, types_of}
+use Rattle.kk_syntax.specs.Types.{TypeTree}
+use Rattle.kk_names.specs.declared.fault.FaultKind.TheVariants.{Arity}
+use Rattle.kk_names.specs.declared.scope.Bound.{Bound}
+use Rattle.kk_names.specs.declared.table.Declared.{Declared}
+use Rattle.kk_names.specs.Faults.{named_faults}
+use Rattle.kk_names.specs.Methods.{newest_before, newest_first, faults_if}
+use Rattle.kk_names.specs.Scopes.{Scope, number_in, names_in, is_among}
+use Rattle.kk_names.specs.Tables.{meaning_in}
+
+-- one more of a list is taken, and one less is left
+pub take_more : {A : Type 0} (xs : List A) (i : ℕ) (d : A) → i < length xs → take (i + 1) xs ≡ take i xs ++ get_or xs i d ∷ []
+take_more xs i d less = ap (λ j. take j xs) {x = i + 1} {y = suc i} (omega arith) ∙ take-suc xs i d less
+
+pub drop_more : {A : Type 0} (xs : List A) (i : ℕ) (d : A) → i < length xs → drop i xs ≡ get_or xs i d ∷ drop (i + 1) xs
+drop_more xs i d less = drop-cons xs i d less ∙ ap (λ j. get_or xs i d ∷ drop j xs) {x = suc i} {y = i + 1} (omega arith)
+
+-- one variable more is the newest
+pub newest_more : (older : Scope) (scope : List Bound) (one : Bound) → newest_before older (scope ++ one ∷ []) ≡ one ∷ newest_before older scope
+newest_more older [] one = refl
+newest_more older (first ∷ scope) one = newest_more (first ∷ older) scope one
+
+pub number_here : (scope : List Bound) (one : Bound) (name : List ℕ) → bytes_eq one.name name ≡ true → Some one.number ≡ number_in (newest_first (scope ++ one ∷ [])) name
+number_here scope one name is =
+    sym (ap (λ all. number_in all name) (newest_more [] scope one) ∙ ap (λ b. if b then Some one.number else number_in (newest_first scope) name) is)
+
+pub number_elsewhere : (scope : List Bound) (one : Bound) (name : List ℕ) → bytes_eq one.name name ≡ false → number_in (newest_first scope) name ≡ number_in (newest_first (scope ++ one ∷ [])) name
+number_elsewhere scope one name other =
+    sym (ap (λ all. number_in all name) (newest_more [] scope one) ∙ ap (λ b. if b then Some one.number else number_in (newest_first scope) name) other)
+
+either_way : {A : Type 0} (b : Bool) (found : A) (rest : Option A) (among : Bool) → is_some rest ≡ among → is_some (if b then Some found else rest) ≡ (b || among)
+either_way true found rest among h = refl
+either_way false found rest among h = h
+
+-- a name has a meaning where it is among the names
+pub is_meant : (table : List Declared) (name : List ℕ) → is_some (meaning_in table name) ≡ is_among (map (λ d. d.name) table) name
+is_meant [] name = refl
+is_meant (d ∷ more) name = either_way (bytes_eq d.name name) d.callee (meaning_in more name) (is_among (map (λ d. d.name) more) name) (is_meant more name)
+
+pub is_seen : (scope : Scope) (name : List ℕ) → is_some (number_in scope name) ≡ is_among (names_in scope) name
+is_seen [] name = refl
+is_seen (bound ∷ older) name = either_way (bytes_eq bound.name name) bound.number (number_in older name) (is_among (names_in older) name) (is_seen older name)
+
+-- a type that has no arguments, with some
+pub named_noted : (option : Option TypeTree) (meaning : TypeTree) (name : Identifier) (ts : List WrittenType) (n : ℕ) → option ≡ Some meaning → n ≡ length ts → faults_if (not (n == 0)) Arity name ≡ named_faults option name (types_of ts)
+named_noted option meaning name [] n is none = ap (λ m. faults_if (not (m == 0)) Arity name) none ∙ sym (ap (λ o. named_faults o name no_type) is)
+named_noted option meaning name (t ∷ ts) n is some =
+    let never : n ≡ 0 → ⊥ = λ e. omega (arith, e, some) in
+    ap (λ b. faults_if (not b) Arity name) (ne_eqb n 0 never) ∙ sym (ap (λ o. named_faults o name (types_of (t ∷ ts))) is)

@@ -1,0 +1,98 @@
+-- What the expressions of a text are written as, and what those that the code makes are, by their forms.
+use Rattle.std.proofs.Common.{◌≡◌, ℕ, ◌+◌, ◌<◌, List, ◌∷◌, length, map, drop, get_or, Box, Global, Option, Some, None, sym, ap, ◌∙◌}
+use Rattle.kk_syntax.specs.declared.operator.BinaryOperator.{BinaryOperator}
+use Rattle.kk_syntax.specs.declared.program.Expr.{Expr}
+use Rattle.kk_syntax.specs.declared.program.Expr.TheVariants as program
+use Rattle.kk_syntax.specs.declared.program.Expr.TheFolds.{fold-roll-Expr, fold_out-Statement}
+use Rattle.kk_syntax.specs.declared.program.Form.{Form}
+use Rattle.kk_syntax.specs.declared.program.Statement.{Statement}
+use Rattle.kk_syntax.specs.declared.tree.Identifier.{Identifier}
+use Rattle.kk_syntax.specs.declared.tree.SurfaceBinder.TheVariants as OfSurface
+use Rattle.kk_syntax.specs.declared.tree.SurfaceExpr.{SurfaceExpr, size-SurfaceExpr}
+use Rattle.kk_syntax.specs.declared.tree.SurfaceExpr.TheVariants as surface
+use Rattle.kk_syntax.specs.declared.tree.SurfaceExpr.TheFolds.{fold-roll-SurfaceExpr, fold_out-SurfaceStatement}
+use Rattle.kk_syntax.specs.declared.tree.SurfaceStatement.{SurfaceStatement}
+use Rattle.kk_syntax.specs.declared.tree.SurfaceType.{SurfaceType}
+use Rattle.kk_syntax.specs.declared.tree.SurfaceType.TheVariants as OfType
+use Rattle.kk_syntax.specs.declared.tree.SurfaceType.TheFolds.{fold-roll-SurfaceType}
+use Rattle.kk_syntax.specs.declared.tree.Parameter.{Parameter}
+use Rattle.kk_syntax.specs.declared.tree.Declaration.{Declaration}
+use Rattle.kk_syntax.specs.Surface as written
+use Rattle.kk_syntax.specs.Surface.{Written, WrittenRow, WrittenStatement, written_expr, written_statement, writtens_of, WrittenType, type_step, written_type, written_parameter, written_declaration}
+use Rattle.kk_syntax.specs.Trees.{Tree, RowTree, StatementTree, expr_step, row_step, statement_step, expr_tree, statement_tree, trees_of, unit, variable, apply}
+use Rattle.kk_names.proofs.Tables.{drop_more}
+
+-- ---- what is given
+
+pub call_written : (e : SurfaceExpr) (name : Identifier) (arguments : _) (es : List SurfaceExpr) → e ≡ surface.Call name arguments → es ≡ arguments.items
+    → written_expr e ≡ written.call name (writtens_of (map written_expr es))
+call_written e name arguments es is items =
+    ap written_expr (is ∙ sym (surface.rolls-Call name arguments))
+    ∙ (fold-roll-SurfaceExpr Written WrittenRow WrittenStatement written.expr_step written.row_step written.statement_step _ ∙ ap (λ all. written.call name (writtens_of (map written_expr all))) (sym items))
+
+pub construct_written : (e : SurfaceExpr) (name : Identifier) (arguments : _) (es : List SurfaceExpr) → e ≡ surface.Construct name arguments → es ≡ arguments.items
+    → written_expr e ≡ written.construct name (writtens_of (map written_expr es))
+construct_written e name arguments es is items =
+    ap written_expr (is ∙ sym (surface.rolls-Construct name arguments))
+    ∙ (fold-roll-SurfaceExpr Written WrittenRow WrittenStatement written.expr_step written.row_step written.statement_step _ ∙ ap (λ all. written.construct name (writtens_of (map written_expr all))) (sym items))
+
+pub binary_written : (e : SurfaceExpr) (operator : BinaryOperator) (left right : _) (l r : SurfaceExpr) → e ≡ surface.Binary operator left right → l ≡ left.value → r ≡ right.value
+    → written_expr e ≡ written.binary operator (written_expr l) (written_expr r)
+binary_written e operator left right l r is left_is right_is =
+    ap written_expr (is ∙ sym (surface.rolls-Binary operator left right))
+    ∙ (fold-roll-SurfaceExpr Written WrittenRow WrittenStatement written.expr_step written.row_step written.statement_step _
+    ∙ (ap (λ x. written.binary operator (written_expr x) (written_expr right.value)) (sym left_is) ∙ ap (λ x. written.binary operator (written_expr l) (written_expr x)) (sym right_is)))
+
+pub statement_written : (s : SurfaceStatement) → written_statement s ≡ record { binder = s.binder; value = written_expr s.value }
+statement_written s = fold_out-SurfaceStatement Written WrittenRow WrittenStatement written.expr_step written.row_step written.statement_step s
+
+pub left_is : {A : Type 0} (xs : List A) (i : ℕ) (x : A) → x ≡ get_or xs i x → i < length xs → drop i xs ≡ x ∷ drop (i + 1) xs
+left_is xs i x is less = drop_more xs i x less ∙ ap (λ y. y ∷ drop (i + 1) xs) (sym is)
+
+-- the first of the expressions that are left
+pub next_expr : (es : List SurfaceExpr) (i : ℕ) (e : SurfaceExpr) → e ≡ get_or es i e → i < length es
+    → writtens_of (map written_expr (drop i es)) ≡ written.written (written_expr e) (writtens_of (map written_expr (drop (i + 1) es)))
+next_expr es i e is less = ap (λ all. writtens_of (map written_expr all)) (left_is es i e is less)
+
+-- the first of the statements that are left
+pub next_statement : (ss : List SurfaceStatement) (i : ℕ) (s : SurfaceStatement) → s ≡ get_or ss i s → i < length ss
+    → map written_statement (drop i ss) ≡ written_statement s ∷ map written_statement (drop (i + 1) ss)
+next_statement ss i s is less = ap (map written_statement) (left_is ss i s is less)
+
+pub variable_written : (s : SurfaceStatement) (name : Identifier) (v : SurfaceExpr) → s.binder ≡ OfSurface.Variable name → v ≡ s.value → written_statement s ≡ record { binder = OfSurface.Variable name; value = written_expr v }
+variable_written s name v is value =
+    statement_written s
+    ∙ (ap (λ b. let w : WrittenStatement = record { binder = b; value = written_expr s.value } in w) is ∙ ap (λ x. let w : WrittenStatement = record { binder = OfSurface.Variable name; value = written_expr x } in w) (sym value))
+
+-- ---- what is made
+
+pub apply_tree : (e : Expr) (form : Form) (arguments : _) (es : List Expr) → e ≡ program.Apply form arguments → arguments.items ≡ es → expr_tree e ≡ apply form (trees_of (map expr_tree es))
+apply_tree e form arguments es is items =
+    ap expr_tree (is ∙ sym (program.rolls-Apply form arguments))
+    ∙ (fold-roll-Expr Tree RowTree StatementTree expr_step row_step statement_step _ ∙ ap (λ all. apply form (trees_of (map expr_tree all))) items)
+
+pub statement_made : (s : Statement) → statement_tree s ≡ record { binder = s.binder; value = expr_tree s.value }
+statement_made s = fold_out-Statement Tree RowTree StatementTree expr_step row_step statement_step s
+
+pub unit_tree : (e : Expr) → e ≡ program.Unit → expr_tree e ≡ unit
+unit_tree e is = ap expr_tree (is ∙ sym program.rolls-Unit) ∙ fold-roll-Expr Tree RowTree StatementTree expr_step row_step statement_step _
+
+pub variable_tree : (number : ℕ) → expr_tree (program.Variable number) ≡ variable number
+variable_tree number = ap expr_tree (sym (program.rolls-Variable number)) ∙ fold-roll-Expr Tree RowTree StatementTree expr_step row_step statement_step _
+
+-- ---- types
+
+pub named_written : (t : SurfaceType) (name : Identifier) (arguments : _) → t ≡ OfType.Named name arguments → written_type t ≡ written.named name (written.types_of (map written_type arguments.items))
+named_written t name arguments is =
+    ap written_type (is ∙ sym (OfType.rolls-Named name arguments)) ∙ fold-roll-SurfaceType WrittenType type_step _
+
+pub next_parameter : (ps : List Parameter) (i : ℕ) (p : Parameter) → p ≡ get_or ps i p → i < length ps → map written_parameter (drop i ps) ≡ written_parameter p ∷ map written_parameter (drop (i + 1) ps)
+next_parameter ps i p is less = ap (map written_parameter) (left_is ps i p is less)
+
+pub next_declaration : (ds : List Declaration) (i : ℕ) (d : Declaration) → d ≡ get_or ds i d → i < length ds → map written_declaration (drop i ds) ≡ written_declaration d ∷ map written_declaration (drop (i + 1) ds)
+next_declaration ds i d is less = ap (map written_declaration) (left_is ds i d is less)
+
+-- the size of a branch that may be left out
+abbrev pub option_size : Option (Box SurfaceExpr Global) → ℕ
+option_size None = 0
+option_size (Some b) = size-SurfaceExpr b.value

@@ -1,0 +1,171 @@
+use Rattle.std.proofs.Common.{◌≡◌, ◌+◌, Box, Global, Option, List, [], ◌∷◌, ◌++◌, length, map, drop, vec_len, refl, sym, ap, ◌∙◌, subst}
+use Rattle.std.specs.Prelude.{option_map}
+use Rattle.std.proofs.lemmas.List.{map-append, drop_all}
+use Rattle.std.proofs.lemmas.Result.{IfOk-weaker}
+use Rattle.kk_syntax.specs.declared.program.Binder.TheVariants as OfBinder
+use Rattle.kk_syntax.specs.declared.program.Expr.{Expr}
+use Rattle.kk_syntax.specs.declared.program.Form.TheVariants.{Binary}
+use Rattle.kk_syntax.specs.declared.tree.SurfaceExpr.{SurfaceExpr}
+use Rattle.kk_syntax.specs.Surface.{Written, Writtens, WrittenStatement, construct, both, either, branch, branch_alone, written, written_expr, written_statement, writtens_of}
+use Rattle.kk_syntax.specs.Trees as OfTree
+use Rattle.kk_syntax.specs.Trees.{Tree, StatementTree, expr_tree, statement_tree, trees_of}
+use Rattle.kk_names.specs.Expressions.{truth}
+use Rattle.kk_names.specs.declared.resolver.Resolver.{Resolver}
+use Rattle.kk_names.specs.Methods.{choice_of, Resolves, ResolvesAll, ResolvesStatement}
+use Rattle.kk_names.specs.Tables.{meaning_in}
+use Rattle.kk_names.proofs.Arguments.{AllSoFar, all_more, all_done, first_resolved, call_resolved, construct_resolved, dot_call_resolved}
+use Rattle.kk_names.proofs.Growing.{binary_resolved, both_resolved, either_resolved, alone_resolved, branch_resolved, as_written}
+use Rattle.kk_names.proofs.Statements.{StatementsSoFar, statements_more, variable_statement}
+use Rattle.kk_names.proofs.Written.{call_written, construct_written, binary_written, next_expr, next_statement, variable_written, statement_made, apply_tree, unit_tree}
+use Rattle.kk_names.proofs.resolver.Resolver.+expression.Goals as goal
+use Rattle.kk_names.proofs.resolver.Resolver.+expression.Goals.{choice-in-Some+in_ok-negative-in-Some, choice-in-None}
+
+pub expression-returns-in_ok-arguments-in-Call : goal.expression-returns-in_ok-arguments-in-Call
+expression-returns-in_ok-arguments-in-Call t c =
+    let arguments = c.in_ok-arguments-in-Call.arguments in
+    let counted : vec_len arguments ≡ length arguments.items = arguments.ok.0 in
+    let es = writtens_of (map written_expr c.deref.result.now) in
+    let means = c.meaning_in-callee.ensures ∙ ap (λ all. meaning_in all c.in-Call.name.name) c.as_slice.ensures.value in
+    IfOk-weaker c.applied.result _ _
+    (λ e made.
+    as_written _ _ c.args.self.now c.applied.new.self (expr_tree e) (expr_tree e) (call_written c.args.expr.now c.in-Call.name c.in-Call.arguments c.deref.result.now c.in-Call.is c.deref.ensures.value) refl
+    (call_resolved c.in-Call.name es c.meaning_in-callee.result c.args.self.now c.expressions.new.self c.applied.new.self arguments.items (vec_len arguments) (expr_tree e)
+    c.in_ok-arguments-in-Call.ensures means made.0 counted made.1))
+    c.applied.ensures
+
+pub expression-returns-in_ok-arguments-in-Construct : goal.expression-returns-in_ok-arguments-in-Construct
+expression-returns-in_ok-arguments-in-Construct t c =
+    let arguments = c.in_ok-arguments-in-Construct.arguments in
+    let counted : vec_len arguments ≡ length arguments.items = arguments.ok.0 in
+    let es = writtens_of (map written_expr c.deref-in-Construct.result.now) in
+    IfOk-weaker c.applied-in-Construct.result _ _
+    (λ e made.
+    as_written (written_expr c.args.expr.now) (construct c.in-Construct.name es) c.args.self.now c.applied-in-Construct.new.self (expr_tree e) (expr_tree e) (construct_written c.args.expr.now c.in-Construct.name c.in-Construct.arguments c.deref-in-Construct.result.now c.in-Construct.is c.deref-in-Construct.ensures.value) refl
+    (construct_resolved c.in-Construct.name es c.constructor.result c.args.self.now c.expressions-in-Construct.new.self c.applied-in-Construct.new.self arguments.items (vec_len arguments) (expr_tree e)
+    c.in_ok-arguments-in-Construct.ensures c.constructor.ensures made.0 counted made.1))
+    c.applied-in-Construct.ensures
+
+pub expression-returns-in_ok-arguments-in-Binary : goal.expression-returns-in_ok-arguments-in-Binary
+expression-returns-in_ok-arguments-in-Binary t c =
+    let left = c.in_ok-left-in-Binary.left in
+    let right = c.in_ok-right-in-Binary.right in
+    as_written _ _ c.args.self.now c.expression-in-Binary-2.new.self _ _ (binary_written c.args.expr.now c.in-Binary.operator c.in-Binary.left c.in-Binary.right c.deref-in-Binary.result.now c.deref-in-Binary-2.result.now c.in-Binary.is c.deref-in-Binary.ensures c.deref-in-Binary-2.ensures)
+    (apply_tree _ (Binary c.in-Binary.operator) c.in_ok-arguments-in-Binary.arguments (left ∷ right ∷ []) refl c.in_ok-arguments-in-Binary.ensures.items)
+    (binary_resolved c.in-Binary.operator _ _ c.args.self.now c.expression-in-Binary.new.self c.expression-in-Binary-2.new.self (expr_tree left) (expr_tree right) c.in_ok-left-in-Binary.ensures c.in_ok-right-in-Binary.ensures)
+
+pub dot_call-returns : goal.dot_call-returns
+dot_call-returns t c =
+    let arguments = c.insert.new.self in
+    let counted : vec_len arguments ≡ length arguments.items = arguments.ok.0 in
+    let first = c.in_ok-first.first in
+    let others = c.in_ok-arguments.arguments.items in
+    let name = c.args.name.now in
+    let e = written_expr c.args.first.now in
+    let es = writtens_of (map written_expr c.args.others.now) in
+    let items : arguments.items ≡ first ∷ others = c.in_ok-insert.ensures.items in
+    let all = subst (λ (xs : List Expr). ResolvesAll (written e es) c.args.self.now c.expressions.new.self (trees_of (map expr_tree xs))) (sym items)
+    (first_resolved e es c.args.self.now c.expression.new.self c.expressions.new.self (expr_tree first) (map expr_tree others) c.in_ok-first.ensures c.in_ok-arguments.ensures) in
+    let means = c.meaning_in-callee.ensures ∙ ap (λ all. meaning_in all name.name) c.as_slice.ensures.value in
+    IfOk-weaker c.applied.result _ _
+    (λ x made.
+    dot_call_resolved e name es c.args.self.now c.applied.new.self (expr_tree x)
+    (call_resolved name (written e es) c.meaning_in-callee.result c.args.self.now c.expressions.new.self c.applied.new.self arguments.items (vec_len arguments) (expr_tree x) all means made.0 counted made.1))
+    c.applied.ensures
+
+pub both-returns : goal.both-returns
+both-returns t c =
+    let first = expr_tree c.in_ok-condition.condition in
+    let second = expr_tree c.in_ok-positive.positive in
+    let left = written_expr c.args.left.now in
+    let right = written_expr c.args.right.now in
+    IfOk-weaker c.conditional.result _ _
+    (λ e made.
+    as_written (both left right) (both left right) c.args.self.now c.expression-2.new.self (expr_tree e) (OfTree.branch first second (truth 0)) refl
+    (made ∙ ap (OfTree.branch first second) c.truth-negative.ensures)
+    (both_resolved left right c.args.self.now c.expression.new.self c.expression-2.new.self first second c.in_ok-condition.ensures c.in_ok-positive.ensures))
+    c.conditional.ensures
+
+pub either-returns : goal.either-returns
+either-returns t c =
+    let first = expr_tree c.in_ok-condition.condition in
+    let second = expr_tree c.in_ok-negative.negative in
+    let left = written_expr c.args.left.now in
+    let right = written_expr c.args.right.now in
+    IfOk-weaker c.conditional.result _ _
+    (λ e made.
+    as_written (either left right) (either left right) c.args.self.now c.expression-2.new.self (expr_tree e) (OfTree.branch first (truth 1) second) refl
+    (made ∙ ap (λ b. OfTree.branch first b second) c.truth-positive.ensures)
+    (either_resolved left right c.args.self.now c.expression.new.self c.expression-2.new.self first second c.in_ok-condition.ensures c.in_ok-negative.ensures))
+    c.conditional.ensures
+
+pub choice-returns : goal.choice-returns
+choice-returns t c =
+    let first = expr_tree c.in_ok-condition.condition in
+    let second = expr_tree c.in_ok-positive.positive in
+    let third = expr_tree c.match-negative.negative in
+    let e = written_expr c.args.condition.now in
+    let p = written_expr c.args.positive.now in
+    let chosen : Option (Box SurfaceExpr Global) → Written = λ o. choice_of e p (option_map (λ b. written_expr b.value) o) in
+    elim c.match-negative.branch [
+      | choice-in-Some+in_ok-negative-in-Some w ↦
+          let n = written_expr w.deref.result.now in
+          let is = ap chosen w.in-Some.is ∙ ap (λ x. branch e p (written_expr x)) (sym w.deref.ensures) in
+          IfOk-weaker c.conditional.result _ _
+          (λ x made.
+          as_written (chosen c.args.negative.now) (branch e p n) c.args.self.now c.match-negative.self (expr_tree x) (OfTree.branch first second third) is made
+          (subst (λ (r : Resolver). Resolves (branch e p n) c.args.self.now r (OfTree.branch first second third)) (sym w.self-is)
+          (subst (λ (y : Expr). Resolves (branch e p n) c.args.self.now w.expression-in-Some.new.self (OfTree.branch first second (expr_tree y))) (sym w.negative-is)
+          (branch_resolved e p n c.args.self.now c.expression.new.self c.expression-2.new.self w.expression-in-Some.new.self first second (expr_tree w.in_ok-negative-in-Some.negative) c.in_ok-condition.ensures c.in_ok-positive.ensures w.in_ok-negative-in-Some.ensures))))
+          c.conditional.ensures
+      | choice-in-None w ↦
+          IfOk-weaker c.conditional.result _ _
+          (λ x made.
+          as_written (chosen c.args.negative.now) (branch_alone e p) c.args.self.now c.match-negative.self (expr_tree x) (OfTree.branch first second OfTree.unit)
+          (ap chosen w.in-None.is)
+          (made ∙ ap (OfTree.branch first second) (unit_tree c.match-negative.negative w.negative-is))
+          (subst (λ (r : Resolver). Resolves (branch_alone e p) c.args.self.now r (OfTree.branch first second OfTree.unit)) (sym w.self-is)
+          (alone_resolved e p c.args.self.now c.expression.new.self c.expression-2.new.self first second c.in_ok-condition.ensures c.in_ok-positive.ensures)))
+          c.conditional.ensures
+    ]
+
+pub expressions-loop-expr-preserved : goal.expressions-loop-expr-preserved
+expressions-loop-expr-preserved t c =
+    let left = writtens_of (map written_expr (drop (c.loop-expr.expr-index + 1) c.args.exprs.now)) in
+    let all = writtens_of (map written_expr c.args.exprs.now) in
+    let e = written_expr c.expr-item.result in
+    let items : c.push.new.self.items ≡ c.loop-expr.resolved.items ++ c.in_ok-e.e ∷ [] = c.in_ok-push.ensures.items in
+    let trees = ap (map expr_tree) items ∙ map-append expr_tree c.loop-expr.resolved.items (c.in_ok-e.e ∷ []) in
+    subst (λ (ts : List Tree). AllSoFar c.args.self.now c.expression.new.self left all ts) (sym trees)
+    (all_more c.args.self.now c.loop-expr.self c.expression.new.self e left all (map expr_tree c.loop-expr.resolved.items) (expr_tree c.in_ok-e.e)
+    (subst (λ (es : Writtens). AllSoFar c.args.self.now c.loop-expr.self es all (map expr_tree c.loop-expr.resolved.items)) (next_expr c.args.exprs.now c.loop-expr.expr-index c.expr-item.result c.expr-item.is c.loop-expr-test.true) c.loop-expr.invariant)
+    c.in_ok-e.ensures)
+
+pub expressions-returns : goal.expressions-returns
+expressions-returns t c =
+    let all = writtens_of (map written_expr c.args.exprs.now) in
+    all_done c.args.self.now c.loop-expr.self all (map expr_tree c.loop-expr.resolved.items)
+    (subst (λ (es : List SurfaceExpr). AllSoFar c.args.self.now c.loop-expr.self (writtens_of (map written_expr es)) all (map expr_tree c.loop-expr.resolved.items)) (drop_all c.loop-expr.expr-index c.args.exprs.now c.loop-expr-test.false) c.loop-expr.invariant)
+
+pub statement-returns-in_ok-bind-in-Variable : goal.statement-returns-in_ok-bind-in-Variable
+statement-returns-in_ok-bind-in-Variable t c =
+    let s = c.args.statement.now in
+    let number = c.in_ok-number-in-Variable.number in
+    let made = statement_made (record { binder = OfBinder.Variable number; value = c.in_ok-value-in-Variable.value }) in
+    subst (λ (x : StatementTree). ResolvesStatement (written_statement s) c.args.self.now c.bind.new.self x) (sym made)
+    (variable_statement (written_statement s) c.in-Variable.name number (written_expr s.value) c.args.self.now c.number.new.self c.expression-in-Variable.new.self c.bind.new.self (record { binder = OfBinder.Variable number; value = expr_tree c.in_ok-value-in-Variable.value })
+    (variable_written s c.in-Variable.name s.value c.in-Variable.is refl)
+    c.in_ok-number-in-Variable.ensures.number c.in_ok-number-in-Variable.ensures.next c.in_ok-number-in-Variable.ensures.functions c.in_ok-number-in-Variable.ensures.scope c.in_ok-number-in-Variable.ensures.first
+    c.in_ok-value-in-Variable.ensures c.in_ok-bind-in-Variable.ensures refl)
+
+pub statements-loop-statement-preserved : goal.statements-loop-statement-preserved
+statements-loop-statement-preserved t c =
+    let left = map written_statement (drop (c.loop-statement.statement-index + 1) c.args.statements.now) in
+    let all = map written_statement c.args.statements.now in
+    let s = written_statement c.statement-item.result in
+    let made = c.loop-statement.resolved.items in
+    let items : c.push.new.self.items ≡ made ++ c.in_ok-s.s ∷ [] = c.in_ok-push.ensures.items in
+    let trees = ap (map statement_tree) items ∙ map-append statement_tree made (c.in_ok-s.s ∷ []) in
+    subst (λ (ts : List StatementTree). StatementsSoFar c.args.self.now c.statement.new.self left all ts) (sym trees)
+    (statements_more c.args.self.now c.loop-statement.self c.statement.new.self s left all (map statement_tree made) (statement_tree c.in_ok-s.s)
+    (subst (λ (ss : List WrittenStatement). StatementsSoFar c.args.self.now c.loop-statement.self ss all (map statement_tree made)) (next_statement c.args.statements.now c.loop-statement.statement-index c.statement-item.result c.statement-item.is c.loop-statement-test.true) c.loop-statement.invariant)
+    c.in_ok-s.ensures)

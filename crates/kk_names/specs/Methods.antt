@@ -1,0 +1,185 @@
+-- What the calls of the resolver promise: how far they have come, and which fault is the first so far.
+use Rattle.std.specs.Prelude.{◌≡◌, ◌≤◌, ℕ, ◌+◌, List, [], ◌∷◌, ◌++◌, map, length, take, position, bytes_eq, codes, ◌==◌, nat_lt, ◌||◌, ◌&&◌, ◌⊎◌, Bool, Option, Some, None, Result, Ok, Err, if◌then◌else◌}
+use Rattle.kk_base.specs.declared.error.NameError.{NameError}
+use Rattle.kk_base.specs.declared.error.NameError.TheVariants.{NoMain, MainShape, NoMemory}
+use Rattle.kk_syntax.specs.declared.program.Fun.{Fun}
+use Rattle.kk_syntax.specs.declared.program.Program.{Program}
+use Rattle.kk_syntax.specs.declared.program.Ty.{Ty}
+use Rattle.kk_syntax.specs.declared.tree.Identifier.{Identifier}
+use Rattle.kk_syntax.specs.Programs.{FunctionTree, program_tree}
+use Rattle.kk_syntax.specs.Surface.{Written, branch, branch_alone, Writtens, WrittenStatement, WrittenParameter, WrittenDeclaration, block_of}
+use Rattle.kk_syntax.specs.Trees as program
+use Rattle.kk_syntax.specs.Trees.{StatementTree}
+use Rattle.kk_syntax.specs.Types.{TypeTree, type_tree}
+use Rattle.kk_names.specs.declared.fault.Fault.{Fault}
+use Rattle.kk_names.specs.declared.fault.FaultKind.{FaultKind}
+use Rattle.kk_names.specs.declared.resolver.Resolver.{Resolver}
+use Rattle.kk_names.specs.declared.scope.Bound.{Bound}
+use Rattle.kk_names.specs.declared.table.Declared.{Declared}
+use Rattle.kk_names.specs.Expressions.{meant, meant_all}
+use Rattle.kk_names.specs.Faults.{fault_at, rank, faults_in, faults_in_all, parameter_faults, second_functions, inside_faults}
+use Rattle.kk_names.specs.Names.{MakesProgram, LacksMain, HasOtherMain}
+use Rattle.kk_names.specs.Scopes.{Scope, names_in, with_parameters, with_binder, binder_of, binder_count, binders_in, binders_in_all}
+use Rattle.kk_names.specs.Tables.{numbered}
+use Rattle.kk_names.specs.TypeNames.{type_meant}
+
+-- whether a fault of that kind at that byte comes before another
+abbrev pub is_before : FaultKind → ℕ → Fault → Bool
+is_before kind at other = nat_lt at other.at || ((at == other.at) && nat_lt (rank kind) (rank other.kind))
+
+-- the first of the faults so far and of one more
+abbrev pub earlier_of : Option Fault → Fault → Option Fault
+earlier_of None fault = Some fault
+earlier_of (Some other) fault = if is_before fault.kind fault.at other then Some fault else Some other
+
+abbrev pub first_with : Option Fault → List Fault → Option Fault
+first_with first [] = first
+first_with first (fault ∷ more) = first_with (earlier_of first fault) more
+
+-- variables in the order in which they were bound, before older ones
+abbrev pub newest_before : Scope → List Bound → Scope
+newest_before older [] = older
+newest_before older (bound ∷ more) = newest_before (bound ∷ older) more
+
+abbrev pub newest_first : List Bound → Scope
+newest_first = newest_before []
+
+-- how far the resolver has come
+pub record State : Type 0 where
+  pub functions : List Declared
+  pub scope : Scope
+  pub next : ℕ
+  pub first : Option Fault
+
+abbrev pub state_of : Resolver → State
+state_of resolver = record {
+  functions = resolver.functions.items;
+  scope = newest_first resolver.scope.items;
+  next = resolver.next;
+  first = resolver.first;
+}
+
+-- some variables and some faults more
+abbrev pub grown : State → ℕ → List Fault → State
+grown state count faults = record {
+  functions = state.functions;
+  scope = state.scope;
+  next = state.next + count;
+  first = first_with state.first faults;
+}
+
+-- the same with what was seen before
+abbrev pub behind : Written → State → State
+behind e state = grown state (binders_in e) (faults_in state.functions (names_in state.scope) e)
+
+abbrev pub behind_all : Writtens → State → State
+behind_all es state = grown state (binders_in_all es) (faults_in_all state.functions (names_in state.scope) es)
+
+abbrev pub meant_at : State → Written → program.Tree
+meant_at state e = meant state.functions state.scope state.next e
+
+abbrev pub meant_all_at : State → Writtens → program.Trees
+meant_all_at state es = meant_all state.functions state.scope state.next es
+
+-- a fault, if it is one
+abbrev pub faults_if : Bool → FaultKind → Identifier → List Fault
+faults_if is_fault kind name = if is_fault then fault_at kind name ∷ [] else []
+
+-- some faults were noted, and nothing else was changed
+pub record Notes (faults : List Fault) (old new : Resolver) : Type 0 where
+  pub state : state_of new ≡ grown (state_of old) 0 faults
+  pub scope : new.scope.items ≡ old.scope.items
+
+-- an expression was resolved, and means this tree
+pub record Resolves (e : Written) (old new : Resolver) (tree : program.Tree) : Type 0 where
+  pub state : state_of new ≡ behind e (state_of old)
+  pub scope : new.scope.items ≡ old.scope.items
+  pub tree_is : tree ≡ meant_at (state_of old) e
+
+-- an `if`, with or without a second branch
+abbrev pub choice_of : Written → Written → Option Written → Written
+choice_of condition positive None = branch_alone condition positive
+choice_of condition positive (Some negative) = branch condition positive negative
+
+-- the same of several expressions
+pub record ResolvesAll (es : Writtens) (old new : Resolver) (trees : program.Trees) : Type 0 where
+  pub state : state_of new ≡ behind_all es (state_of old)
+  pub scope : new.scope.items ≡ old.scope.items
+  pub trees_are : trees ≡ meant_all_at (state_of old) es
+
+-- the variables of a resolver are the first ones of another
+abbrev pub KeepsScope : Resolver → Resolver → Type 0
+KeepsScope old new = take (length old.scope.items) new.scope.items ≡ old.scope.items
+
+-- a variable was bound, and nothing else was changed
+pub record Binds (bound : Bound) (old new : Resolver) : Type 0 where
+  pub functions : new.functions.items ≡ old.functions.items
+  pub scope : new.scope.items ≡ old.scope.items ++ bound ∷ []
+  pub next : new.next ≡ old.next
+  pub first : new.first ≡ old.first
+
+-- behind a statement that variable is seen
+abbrev pub behind_statement : WrittenStatement → State → State
+behind_statement s state = record {
+  functions = state.functions;
+  scope = with_binder s.binder state.next state.scope;
+  next = state.next + (binder_count s.binder + binders_in s.value);
+  first = first_with state.first (faults_in state.functions (names_in state.scope) s.value);
+}
+
+-- a statement was resolved
+pub record ResolvesStatement (s : WrittenStatement) (old new : Resolver) (tree : StatementTree) : Type 0 where
+  pub state : state_of new ≡ behind_statement s (state_of old)
+  pub longer : length old.scope.items ≤ length new.scope.items
+  pub kept : KeepsScope old new
+  pub binder : tree.binder ≡ binder_of s.binder old.next
+  pub value : tree.value ≡ meant old.functions.items (newest_first old.scope.items) (old.next + binder_count s.binder) s.value
+
+-- Statements were resolved: what comes behind them in their block is then resolved as in the block.
+pub record ResolvesStatements (statements : List WrittenStatement) (last : Written) (old new : Resolver) (trees : List StatementTree) : Type 0 where
+  pub functions : new.functions.items ≡ old.functions.items
+  pub next : new.next + binders_in last ≡ old.next + binders_in (block_of statements last)
+  pub first : (behind last (state_of new)).first ≡ (behind (block_of statements last) (state_of old)).first
+  pub tree_is : program.block_of trees (meant_at (state_of new) last) ≡ meant_at (state_of old) (block_of statements last)
+
+abbrev pub option_type : Option Ty → Option TypeTree
+option_type None = None
+option_type (Some type) = Some (type_tree type)
+
+-- parameters were resolved: they are seen, and mean these types
+pub record ResolvesParameters (parameters : List WrittenParameter) (old new : Resolver) (types : List TypeTree) : Type 0 where
+  pub functions : new.functions.items ≡ old.functions.items
+  pub scope : newest_first new.scope.items ≡ with_parameters old.next parameters (newest_first old.scope.items)
+  pub next : new.next ≡ old.next + length parameters
+  pub first : new.first ≡ first_with old.first (parameter_faults (names_in (newest_first old.scope.items)) parameters)
+  pub types_are : types ≡ map (λ parameter. type_meant parameter.of_type) parameters
+
+-- functions are declared, and noted where an earlier one has their name
+pub record Declares (declarations : List WrittenDeclaration) (old new : Resolver) : Type 0 where
+  pub functions : new.functions.items ≡ old.functions.items ++ numbered 0 declarations
+  pub first : new.first ≡ first_with old.first (second_functions (map (λ d. d.name) old.functions.items) declarations)
+
+-- a function's faults were noted
+pub record ResolvesFunction (declared : WrittenDeclaration) (old new : Resolver) : Type 0 where
+  pub functions : new.functions.items ≡ old.functions.items
+  pub first : new.first ≡ first_with old.first (inside_faults old.functions.items declared)
+
+-- what comes of functions and the length of their text
+abbrev pub AnswersMain : List FunctionTree → ℕ → Result Program NameError → Type 0
+AnswersMain functions length (Ok program) = MakesProgram functions (program_tree program)
+AnswersMain functions length (Err NoMemory) = Unit {0}
+AnswersMain functions length (Err error) = LacksMain functions length error ⊎ HasOtherMain functions error
+
+-- the number of `main` among the functions as the code holds them
+abbrev pub main_among : List Fun → Option ℕ
+main_among functions = position (λ function. bytes_eq function.name (codes "main")) functions
+
+-- the error that no function is called `main`, unless memory ran out
+abbrev pub IsNoMain : ℕ → NameError → Type 0
+IsNoMain length NoMemory = Unit {0}
+IsNoMain length error = error ≡ NoMain (codes "main") length
+
+-- the error that `main` has a parameter or a result, unless memory ran out
+abbrev pub IsOtherMain : Fun → NameError → Type 0
+IsOtherMain function NoMemory = Unit {0}
+IsOtherMain function error = error ≡ MainShape function.name function.at

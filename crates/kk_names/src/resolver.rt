@@ -1,0 +1,141 @@
+ghost use Rattle.std.specs.Prelude.{◌≡◌, ◌+◌, [], ◌∷◌, map, None, IfOk, vec_len};
+ghost use Rattle.kk_syntax.specs.Trees.{expr_tree, trees_of};
+ghost use Rattle.kk_names.specs.Expressions.{applied};
+ghost use Rattle.kk_syntax.specs.Surface.{variable};
+ghost use Rattle.kk_names.specs.Faults.{fault_at, use_faults};
+ghost use Rattle.kk_names.specs.Methods.{Notes, Resolves, Binds, faults_if};
+ghost use Rattle.kk_names.specs.Scopes.{binding};
+ghost use Rattle.kk_names.specs.Tables.{built_in_functions};
+
+use crate::fault::{Fault, FaultKind};
+use crate::scope::{Bound, number_in};
+use crate::table::{Callee, Declared, built_in_functions};
+use kk_base::NoMemory;
+use kk_syntax::{Expr, Identifier};
+use std::alloc::Global;
+
+/// What resolves the names of a text. It goes on behind a fault, and keeps the first one.
+#[derive(Drop)]
+pub struct Resolver {
+    pub alloc: Global,
+    /// The functions of the text, and those that are built in.
+    pub functions: Vec<Declared>,
+    /// The variables that are seen. The last one of a name counts.
+    pub scope: Vec<Bound>,
+    /// The number of the next variable.
+    pub next: u32,
+    /// The first fault so far.
+    pub first: Option<Fault>,
+}
+
+impl Resolver {
+    /// A resolver that knows the functions that are built in.
+    pub fn new(alloc: Global) -> Result<Self, NoMemory>
+        ensures functions { IfOk result (λ r. r.functions.items ≡ built_in_functions) }
+        ensures first { IfOk result (λ r. r.first ≡ None) }
+    {
+        let functions = built_in_functions(alloc)?;
+        Ok(Resolver {
+            alloc,
+            functions,
+            scope: Vec::new(alloc),
+            next: 0,
+            first: None,
+        })
+    }
+
+    /// Notes a fault.
+    pub fn note(&mut self, kind: FaultKind, name: &Identifier) -> Result<(), NoMemory>
+        ensures { IfOk result (λ _. Notes (fault_at kind name.now ∷ []) self.old self.new) }
+    {
+        let is_first = match &self.first {
+            Some(first) => first.is_behind(kind, name.at),
+            None => true,
+        };
+        if is_first {
+            let at = name.at;
+            let name = name.name.copied(self.alloc)?;
+            self.first = Some(Fault { kind, name, at });
+        }
+        Ok(())
+    }
+
+    /// Notes a fault, if it is one.
+    pub fn note_if(
+        &mut self,
+        is_fault: bool,
+        kind: FaultKind,
+        name: &Identifier,
+    ) -> Result<(), NoMemory>
+        ensures { IfOk result (λ _. Notes (faults_if is_fault kind name.now) self.old self.new) }
+    {
+        if is_fault {
+            self.note(kind, name)?;
+        }
+        Ok(())
+    }
+
+    /// What a variable is where it is used.
+    pub fn variable(&mut self, name: &Identifier) -> Result<Expr, NoMemory>
+        ensures { IfOk result (λ e. Resolves (variable name.now) self.old self.new (expr_tree e)) }
+    {
+        match number_in(self.scope.as_slice(), &name.name) {
+            Some(number) => Ok(Expr::Variable(number)),
+            None => {
+                self.note(FaultKind::Unknown, name)?;
+                Ok(Expr::Unit)
+            }
+        }
+    }
+
+    /// What a name makes of its arguments.
+    pub fn applied(
+        &mut self,
+        callee: Option<Callee>,
+        name: &Identifier,
+        arguments: Vec<Expr>,
+    ) -> Result<Expr, NoMemory>
+        ensures { IfOk result (λ e. Notes (use_faults callee name.now (vec_len arguments)) self.old self.new
+            × (expr_tree e ≡ applied callee (trees_of (map expr_tree arguments.items)))) }
+    {
+        match callee {
+            Some(callee) => {
+                if callee.parameters != arguments.len() {
+                    self.note(FaultKind::Arity, name)?;
+                }
+                Ok(Expr::Apply(callee.form, arguments))
+            }
+            None => {
+                self.note(FaultKind::Unknown, name)?;
+                Ok(Expr::Unit)
+            }
+        }
+    }
+
+    /// Gives a variable its number. There is no room for more of them than a `u32` can number.
+    pub fn number(&mut self) -> Result<u32, NoMemory>
+        ensures number { IfOk result (λ number. number ≡ self.old.next) }
+        ensures next { IfOk result (λ _. self.new.next ≡ self.old.next + 1) }
+        ensures functions { self.new.functions.items ≡ self.old.functions.items }
+        ensures scope { self.new.scope.items ≡ self.old.scope.items }
+        ensures first { self.new.first ≡ self.old.first }
+    {
+        let number = self.next;
+        match number.checked_add(1) {
+            Some(next) => {
+                self.next = next;
+                Ok(number)
+            }
+            None => Err(NoMemory),
+        }
+    }
+
+    /// Binds a variable of this number.
+    pub fn bind(&mut self, name: &Identifier, number: u32) -> Result<(), NoMemory>
+        ensures { IfOk result (λ _. Binds (binding name.now number) self.old self.new) }
+    {
+        let name = name.name.copied(self.alloc)?;
+        self.scope.push(Bound { name, number })?;
+        Ok(())
+    }
+}

@@ -1,0 +1,163 @@
+-- The grammar in the form in which it is read with one token of lookahead. It spells what the grammar of programs
+-- spells, with the same levels and the same meaning; four productions have other right sides, in which what two
+-- alternatives begin with stands before the choice.
+use Rattle.std.specs.Prelude.{ℕ, List, [], ◌∷◌, ◌++◌, map, Option, Some, None, ◌⊎◌}
+use Rattle.std.proofs.Common.{inl, inr}
+use Rattle.kk_syntax.specs.Surface.{Written, number as number_written, unit, construct, no_written, print_text, block_of, WrittenStatement, WrittenType, unit_type, named, no_type, WrittenDeclaration, WrittenParameter}
+use Rattle.kk_syntax.specs.declared.token.Keyword.TheVariants.{Val, Then, Elif, Else}
+use Rattle.kk_syntax.specs.declared.token.Symbol.TheVariants.{CloseParenthesis, OpenBrace, CloseBrace, Semicolon, Dot, Equals}
+use Rattle.kk_syntax.specs.declared.operator.PrintForm.{PrintForm}
+use Rattle.kk_syntax.specs.declared.operator.PrintForm.TheVariants.{Print, PrintLine}
+use Rattle.kk_syntax.specs.declared.tree.Effect.{Effect}
+use Rattle.kk_syntax.specs.declared.tree.Identifier.{Identifier}
+use Rattle.kk_parser.specs.Classes.{word as a_word, main as main_name}
+use Rattle.kk_syntax.specs.declared.tree.SurfaceBinder.TheVariants as Binder
+use Rattle.kk_parser.specs.Kinds.{keyword, symbol, name_in, name_but_main, name_but_print, type_name, type_name_but_effect, constructor, number, string}
+use Rattle.kk_parser.specs.Phrases.{Nonterminal, program, decl, param, effect, eff, type, result_type, expr, block, stmt, if_, or, and, cmp, add, mul, un, post, atom, say, args, Meant, Phrase, token, opener, ◌▸◌, either, many, optional, level, rule, each, perhaps, quoted_or, PhraseValue, Grammar}
+use Rattle.kk_parser.specs.Grammar.{production, meaning, semicolons, some_semicolons, bracket, bracketed, no_arguments, print_word, print_form, binder, binder_of, named_of, if_of, parameters, result, listed_of, effects_of, type_of}
+
+-- "(" ( ")" | a ")" )
+abbrev pub in_brackets : Phrase → Phrase
+in_brackets a = bracket ▸ either (token (symbol CloseParenthesis)) (a ▸ token (symbol CloseParenthesis))
+
+-- "val" ( name | wildcard ) "=" expr
+abbrev pub binding : Phrase
+binding = token (keyword Val) ▸ binder ▸ token (symbol Equals) ▸ rule expr
+
+-- the statements that bind, and an expression behind them
+abbrev pub items : Phrase
+items = many (binding ▸ some_semicolons) ▸ rule expr
+
+-- what stands behind the first of some phrases: semicolons, and more of these phrases where one likes
+abbrev pub and_more : Phrase → Phrase
+and_more a = many (token (symbol Semicolon) ▸ optional a)
+
+-- string "." print_word [ "(" ")" ]
+abbrev pub spoken : Phrase
+spoken = token string ▸ opener (symbol Dot) ▸ print_word ▸ optional no_arguments
+
+-- a print's name, and what may stand behind it: "(" ( string ")" | args ")" )
+abbrev pub printed : Phrase
+printed = print_word ▸ optional (bracket ▸ quoted_or (rule args ▸ token (symbol CloseParenthesis)))
+
+-- the right side of a production, in this form
+abbrev pub form : Nonterminal → Phrase
+form program = semicolons ▸ optional (rule decl ▸ and_more (rule decl))
+form type = level (either (token type_name) (in_brackets (rule type)))
+form result_type = level (either (token type_name_but_effect) (in_brackets (rule type)))
+form block = opener (symbol OpenBrace) ▸ semicolons ▸ items ▸ and_more items ▸ token (symbol CloseBrace)
+form atom = either (token number) (either (token constructor) (either (in_brackets (rule expr)) (either spoken (either printed (token name_but_print ▸ optional (bracketed (rule args)))))))
+form decl = production decl
+form param = production param
+form effect = production effect
+form eff = production eff
+form expr = production expr
+form stmt = production stmt
+form if_ = production if_
+form or = production or
+form and = production and
+form cmp = production cmp
+form add = production add
+form mul = production mul
+form un = production un
+form post = production post
+form say = production say
+form args = production args
+
+-- what stands behind semicolons
+abbrev pub those_given : {A : Type 0} → List (Unit {0} × Option A) → List A
+those_given [] = []
+those_given ((_, None) ∷ more) = those_given more
+those_given ((_, Some a) ∷ more) = a ∷ those_given more
+
+-- a statement that binds, and some of them
+abbrev pub binding_of : PhraseValue binding → WrittenStatement
+binding_of (_, (binder, (_, value))) = record { binder = binder_of binder; value = value }
+
+abbrev pub bindings_of : PhraseValue (many (binding ▸ some_semicolons)) → List WrittenStatement
+bindings_of [] = []
+bindings_of ((statement, _) ∷ more) = binding_of statement ∷ bindings_of more
+
+-- an expression as a statement
+abbrev pub as_statement : Written → WrittenStatement
+as_statement value = record { binder = Binder.Nothing; value = value }
+
+-- a block of items: the last expression is the value, and those before it are statements
+abbrev pub block_from : PhraseValue items → List (PhraseValue items) → Written
+block_from (bindings, value) [] = block_of (bindings_of bindings) value
+block_from (bindings, value) (next ∷ more) = block_of (bindings_of bindings ++ as_statement value ∷ []) (block_from next more)
+
+-- what stands in round brackets, or nothing
+abbrev pub inside : {A B C : Type 0} → C → (A → C) → B × (Unit {0} ⊎ (A × Unit {0})) → C
+inside none one (_, inl _) = none
+inside none one (_, inr (a, _)) = one a
+
+abbrev pub spoken_of : PhraseValue spoken → Written
+spoken_of (text, (_, (word, _))) = print_text (print_form word) text
+
+-- what stands behind `if` or `elif`
+abbrev pub branches : Phrase
+branches = rule or ▸ token (keyword Then) ▸ rule expr ▸ each (keyword Elif) (rule or ▸ token (keyword Then) ▸ rule expr) ▸ perhaps (keyword Else) (rule expr)
+
+abbrev pub branches_of : PhraseValue branches → Written
+branches_of (condition, (_, (positive, (more, last)))) = if_of condition positive more last
+
+-- what stands in a declaration of a function between `fun` and its body
+abbrev pub head : Phrase
+head = either (token (name_in (a_word main_name ∷ [])) ▸ parameters ▸ optional result) (token name_but_main ▸ parameters ▸ result)
+
+pub record WrittenHead : Type 0 where
+  pub name : Identifier
+  pub parameters : List WrittenParameter
+  pub effects : List Effect
+  pub result : Option WrittenType
+
+abbrev pub head_of : PhraseValue head → WrittenHead
+head_of (inl (name, ((_, (given, _)), None))) = record { name = name; parameters = listed_of given; effects = []; result = None }
+head_of (inl (name, ((_, (given, _)), Some (_, result)))) = record { name = name; parameters = listed_of given; effects = effects_of result; result = Some (type_of result) }
+head_of (inr (name, ((_, (given, _)), (_, result)))) = record { name = name; parameters = listed_of given; effects = effects_of result; result = Some (type_of result) }
+
+-- the name of a print
+abbrev pub print_identifier : PhraseValue print_word → Identifier
+print_identifier (inl name) = name
+print_identifier (inr name) = name
+
+abbrev pub printed_of : PhraseValue printed → Written
+printed_of (word, None) = named_of (print_identifier word) None
+printed_of (word, Some (_, inl text)) = print_text (print_form word) text
+printed_of (word, Some (_, inr (arguments, _))) = named_of (print_identifier word) (Some (tt, (arguments, tt)))
+
+-- what a text of a production means, in this form
+abbrev pub form_meaning : (x : Nonterminal) → PhraseValue (form x) → Meant x
+form_meaning program (_, None) = []
+form_meaning program (_, Some (first, more)) = first ∷ those_given more
+form_meaning type (inl name) = named name no_type
+form_meaning type (inr t) = inside unit_type (λ u. u) t
+form_meaning result_type (inl name) = named name no_type
+form_meaning result_type (inr t) = inside unit_type (λ u. u) t
+form_meaning block (_, (_, (first, (more, _)))) = block_from first (those_given more)
+form_meaning atom (inl value) = number_written value
+form_meaning atom (inr (inl name)) = construct name no_written
+form_meaning atom (inr (inr (inl t))) = inside unit (λ u. u) t
+form_meaning atom (inr (inr (inr (inl (text, (_, (word, _))))))) = print_text (print_form word) text
+form_meaning atom (inr (inr (inr (inr (inl p))))) = printed_of p
+form_meaning atom (inr (inr (inr (inr (inr (name, arguments)))))) = named_of name arguments
+form_meaning decl v = meaning decl v
+form_meaning param v = meaning param v
+form_meaning effect v = meaning effect v
+form_meaning eff v = meaning eff v
+form_meaning expr v = meaning expr v
+form_meaning stmt v = meaning stmt v
+form_meaning if_ v = meaning if_ v
+form_meaning or v = meaning or v
+form_meaning and v = meaning and v
+form_meaning cmp v = meaning cmp v
+form_meaning add v = meaning add v
+form_meaning mul v = meaning mul v
+form_meaning un v = meaning un v
+form_meaning post v = meaning post v
+form_meaning say v = meaning say v
+form_meaning args v = meaning args v
+
+abbrev pub form_grammar : Grammar
+form_grammar = record { right = form; meant = form_meaning }

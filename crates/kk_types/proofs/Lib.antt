@@ -1,0 +1,4 @@
+pub mod Checking
+pub mod Inferring
+pub mod Sameness
+pub mod Scopes
