@@ -9,3 +9,4 @@ pub mod Pushing
 pub mod RowSteps
 pub mod Slots
 pub mod Stacks
+pub mod Walking

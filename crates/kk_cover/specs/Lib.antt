@@ -1,4 +1,5 @@
 pub mod Covered
+pub mod Matches
 pub mod Narrowing
 pub mod Outlines
 pub mod Problems

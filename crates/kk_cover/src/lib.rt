@@ -1,6 +1,7 @@
 //! Whether each match of a program is covered, and a pattern that no row matches where one is not.
 #![tactic(auto)]
 
+mod covering;
 mod example;
 mod finding;
 mod problem;
@@ -9,4 +10,5 @@ mod rows;
 mod settling;
 mod table;
 
+pub use covering::{CoverError, cover};
 pub use finding::uncovered;
