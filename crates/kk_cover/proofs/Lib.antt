@@ -9,4 +9,5 @@ pub mod Pushing
 pub mod RowSteps
 pub mod Slots
 pub mod Stacks
+pub mod Texts
 pub mod Walking

@@ -3,4 +3,5 @@ pub mod Matches
 pub mod Narrowing
 pub mod Outlines
 pub mod Problems
+pub mod Spelled
 pub mod Typed

@@ -8,7 +8,9 @@ mod problem;
 mod row;
 mod rows;
 mod settling;
+mod spelling;
 mod table;
 
 pub use covering::{CoverError, cover};
 pub use finding::uncovered;
+pub use spelling::example_text;
