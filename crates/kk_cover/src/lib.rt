@@ -10,6 +10,8 @@ mod rows;
 mod settling;
 mod spelling;
 mod table;
+#[cfg(test)]
+mod tests;
 
 pub use covering::{CoverError, cover};
 pub use finding::uncovered;
