@@ -14,7 +14,13 @@ enum Piece {
 }
 
 /// The name of each constructor, and the number of its type: `bool`, a list, and a pair of `bool`.
-const CONSTRUCTORS: [(&str, u32); 5] = [("False", 0), ("True", 0), ("Nil", 1), ("Cons", 1), ("Pair", 2)];
+const CONSTRUCTORS: [(&str, u32); 5] = [
+    ("False", 0),
+    ("True", 0),
+    ("Nil", 1),
+    ("Cons", 1),
+    ("Pair", 2),
+];
 
 const ANY: Piece = Piece::Any;
 
@@ -79,7 +85,10 @@ fn rows(alloc: Global, patterns: Rows, body: Expr) -> Result<Vec<Row>, AllocErro
 /// A match, a match as its scrutinee, and a match as the body of its first row.
 fn nested(alloc: Global, matches: [Rows; 3]) -> Result<Expr, AllocError> {
     let [outer, inner, body] = matches;
-    let inner = Expr::Match(Box::new(alloc, Expr::Unit)?, rows(alloc, inner, Expr::Unit)?);
+    let inner = Expr::Match(
+        Box::new(alloc, Expr::Unit)?,
+        rows(alloc, inner, Expr::Unit)?,
+    );
     let body = Expr::Match(Box::new(alloc, Expr::Unit)?, rows(alloc, body, Expr::Unit)?);
     Ok(Expr::Match(Box::new(alloc, inner)?, rows(alloc, outer, body)?))
 }
@@ -125,7 +134,10 @@ fn program(alloc: Global, matches: [Rows; 3]) -> Result<Program, AllocError> {
         })?;
     }
     let covered = nested(alloc, [ALL, ALL, ALL])?;
-    let functions = vec![in alloc; function(alloc, covered), function(alloc, nested(alloc, matches)?)]?;
+    let functions = vec![in alloc;
+        function(alloc, covered),
+        function(alloc, nested(alloc, matches)?),
+    ]?;
     Ok(Program {
         types: Vec::new(alloc),
         constructors,
@@ -135,26 +147,36 @@ fn program(alloc: Global, matches: [Rows; 3]) -> Result<Program, AllocError> {
 }
 
 /// Matches, and the example for the first that is not covered; no text where all are.
-const CASES: [([Rows; 3], &str); 14] = [
+const CASES: [([Rows; 3], &[u8]); 14] = [
     // Nested constructors, and the first one that leaves something uncovered.
-    ([LAST, ALL, ALL], "Cons(_, Cons(_, _))"),
-    ([&[&[CONS, ANY, ANY]], ALL, ALL], "Nil"),
-    ([&[&[NIL], &[CONS, ANY, NIL], &[CONS, ANY, CONS, ANY, ANY]], ALL, ALL], ""),
+    ([LAST, ALL, ALL], b"Cons(_, Cons(_, _))"),
+    ([&[&[CONS, ANY, ANY]], ALL, ALL], b"Nil"),
+    (
+        [
+            &[&[NIL], &[CONS, ANY, NIL], &[CONS, ANY, CONS, ANY, ANY]],
+            ALL,
+            ALL,
+        ],
+        b"",
+    ),
     // Numbers, with and without `_`.
-    ([&[&[ZERO]], ALL, ALL], "1"),
-    ([&[&[THREE], &[ONE], &[ZERO]], ALL, ALL], "2"),
-    ([&[&[THREE], &[ANY]], ALL, ALL], ""),
-    ([&[&[NIL], &[CONS, ZERO, ANY]], ALL, ALL], "Cons(1, _)"),
+    ([&[&[ZERO]], ALL, ALL], b"1"),
+    ([&[&[THREE], &[ONE], &[ZERO]], ALL, ALL], b"2"),
+    ([&[&[THREE], &[ANY]], ALL, ALL], b""),
+    ([&[&[NIL], &[CONS, ZERO, ANY]], ALL, ALL], b"Cons(1, _)"),
     // `bool`, alone and in pairs.
-    ([&[&[TRUE]], ALL, ALL], "False"),
-    ([&[&[TRUE], &[FALSE]], ALL, ALL], ""),
-    ([&[&[PAIR, TRUE, ANY], &[PAIR, ANY, FALSE]], ALL, ALL], "Pair(False, True)"),
+    ([&[&[TRUE]], ALL, ALL], b"False"),
+    ([&[&[TRUE], &[FALSE]], ALL, ALL], b""),
+    (
+        [&[&[PAIR, TRUE, ANY], &[PAIR, ANY, FALSE]], ALL, ALL],
+        b"Pair(False, True)",
+    ),
     // A type without constructors may have a match without rows; where no row looks, the example is `_`.
-    ([&[], ALL, ALL], "_"),
+    ([&[], ALL, ALL], b"_"),
     // Outer before inner, and the scrutinee before the rows.
-    ([&[&[ZERO]], LAST, &[&[TRUE]]], "1"),
-    ([ALL, LAST, &[&[TRUE]]], "Cons(_, Cons(_, _))"),
-    ([ALL, ALL, &[&[TRUE]]], "False"),
+    ([&[&[ZERO]], LAST, &[&[TRUE]]], b"1"),
+    ([ALL, LAST, &[&[TRUE]]], b"Cons(_, Cons(_, _))"),
+    ([ALL, ALL, &[&[TRUE]]], b"False"),
 ];
 
 #[test]
@@ -163,11 +185,11 @@ fn the_first_match_that_is_not_covered_has_an_example(rt: HostRuntime) -> Result
     for (matches, expected) in CASES {
         let program = program(alloc, matches)?;
         match cover(alloc, &program) {
-            Ok(()) => assert_eq!(rt; "", expected),
+            Ok(()) => assert!(rt; expected.is_empty()),
             Err(CoverError::NotCovered { function, example }) => {
                 let text = example_text(alloc, &program, &example)?;
-                assert_eq!(rt; function, 1, "{expected}");
-                assert_eq!(rt; text.as_slice(), expected.as_bytes(), "{expected}");
+                assert_eq!(rt; function, 1);
+                assert_eq!(rt; text.as_slice(), expected);
             }
             Err(CoverError::NoMemory) => assert!(rt; false, "no memory"),
         }

@@ -23,8 +23,8 @@ collect-returns-in_ok-collect-in-Match t c =
     let whole = ap (λ e. matches (expr_tree e)) c.in-Match.is ∙ matches_match c.in-Match.scrutinee c.in-Match.rows in
     on_ok c.collect_rows.result _ _
     (λ (last : match_rows c.collect_rows.new.all.items ≡ match_rows c.collect-in-Match.new.all.items ++ bodies).
-      found_match old (match_rows c.push.new.self.items) (match_rows c.collect-in-Match.new.all.items) (match_rows c.collect_rows.new.all.items) scrutinee bodies (row_outlines rows) pushed inner last
-      ∙ ap (λ (xs : List (List Outline)). old ++ xs) (sym whole))
+    found_match old (match_rows c.push.new.self.items) (match_rows c.collect-in-Match.new.all.items) (match_rows c.collect_rows.new.all.items) scrutinee bodies (row_outlines rows) pushed inner last
+    ∙ ap (λ (xs : List (List Outline)). old ++ xs) (sym whole))
     (rw c.deref-in-Match-2.ensures.value at c.collect_rows.ensures)
 
 pub collect-returns-in_ok-collect_statements-in-Block : goal.collect-returns-in_ok-collect_statements-in-Block
@@ -38,6 +38,6 @@ collect-returns-in_ok-collect_statements-in-Block t c =
     ∙ (ap matches (block_tree c.in-Block.statements c.in-Block.value) ∙ matches_block ss last) in
     on_ok c.collect-in-Block.result _ _
     (λ (rest : match_rows c.collect-in-Block.new.all.items ≡ match_rows c.collect_statements.new.all.items ++ matches last).
-      found_block old (match_rows c.collect_statements.new.all.items) (match_rows c.collect-in-Block.new.all.items) (matches_of_statements ss) (matches last) first rest
-      ∙ ap (λ (xs : List (List Outline)). old ++ xs) (sym whole))
+    found_block old (match_rows c.collect_statements.new.all.items) (match_rows c.collect-in-Block.new.all.items) (matches_of_statements ss) (matches last) first rest
+    ∙ ap (λ (xs : List (List Outline)). old ++ xs) (sym whole))
     (rw c.deref-in-Block-2.ensures at c.collect-in-Block.ensures)

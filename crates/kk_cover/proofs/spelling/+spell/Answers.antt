@@ -21,9 +21,9 @@ spell-returns-in_ok-spell_name-in-Constructor t c =
     ∙ ap (spelled program) (constructor_outline c.in-Constructor.constructor c.in-Constructor.parts) in
     on_ok c.spell_parts.result _ _
     (λ (last : c.spell_parts.new.bytes.items ≡ c.spell_name.new.bytes.items ++ parts).
-      last
-      ∙ (ap (λ (xs : List ℕ). xs ++ parts) c.in_ok-spell_name-in-Constructor.ensures
-      ∙ (append_assoc old name parts ∙ ap (λ (xs : List ℕ). old ++ xs) (sym whole))))
+    last
+    ∙ (ap (λ (xs : List ℕ). xs ++ parts) c.in_ok-spell_name-in-Constructor.ensures
+    ∙ (append_assoc old name parts ∙ ap (λ (xs : List ℕ). old ++ xs) (sym whole))))
     (rw c.deref.ensures.value at c.spell_parts.ensures)
 
 pub spell_parts-returns : goal.spell_parts-returns
