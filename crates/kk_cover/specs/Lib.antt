@@ -4,4 +4,5 @@ pub mod Narrowing
 pub mod Outlines
 pub mod Problems
 pub mod Spelled
+pub mod Turned
 pub mod Typed

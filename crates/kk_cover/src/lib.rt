@@ -12,6 +12,7 @@ mod spelling;
 mod table;
 #[cfg(test)]
 mod tests;
+mod turning;
 
 pub use covering::{CoverError, cover};
 pub use finding::uncovered;
