@@ -1,16 +1,9 @@
 -- A match as rows of one position.
-use Rattle.std.proofs.Common.{◌≡◌, inl, inr, List, [], ◌∷◌, ◌++◌, map, refl, sym, subst}
-use Rattle.kk_syntax.specs.Types.{TypeTree}
-use Rattle.kk_syntax.specs.Programs.{ProgramTree}
-use Rattle.kk_cover.specs.Covered.{Each, IsExample, IsCovered}
+use Rattle.std.proofs.Common.{inl, inr, List, [], ◌∷◌, map}
+use Rattle.kk_cover.specs.Covered.{Each, IsExample}
 use Rattle.kk_cover.specs.Outlines.{Outline, Outlines, no_outline, outline, Clash, ClashIn}
-use Rattle.kk_cover.specs.Typed.{Values, Typed, TypedIn, values_of}
-use Rattle.kk_cover.specs.Narrowing.{IsExampleIn, anys, top}
-use Rattle.kk_cover.specs.Problems.{OpenProblem, built, Settled}
-use Rattle.kk_cover.proofs.Joining.{typed_anys}
-use Rattle.kk_cover.proofs.Keeping.{each_back}
-use Rattle.kk_cover.proofs.Knowing.{knows}
-use Rattle.kk_cover.proofs.Deciding.{Leads, Decides, decides_next}
+use Rattle.kk_cover.specs.Typed.{Values, Typed, TypedIn}
+use Rattle.kk_cover.specs.Narrowing.{IsExampleIn, top}
 
 abbrev pub ones : List Outline → List Outlines
 ones rows = map (λ p. outline p no_outline) rows

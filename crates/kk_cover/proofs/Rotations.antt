@@ -1,11 +1,11 @@
 -- The first positions of rows, turned to their end: types, examples and weights.
-use Rattle.std.proofs.Common.{◌≡◌, ◌≤◌, ◌⊎◌, inl, inr, ℕ, zero, suc, ◌+◌, List, [], ◌∷◌, ◌++◌, length, map, take, drop, refl, sym, ap, ◌∙◌, subst, arith, length-append}
+use Rattle.std.proofs.Common.{◌≡◌, ◌≤◌, inl, inr, ℕ, List, [], ◌∷◌, ◌++◌, length, map, take, drop, refl, sym, ap, subst, arith, length-append}
 use Rattle.std.proofs.lemmas.List.{take-append-drop, length-take-le}
 use Rattle.kk_cover.specs.Covered.{Each}
-use Rattle.kk_cover.specs.Outlines.{Outline, any, exactly, made, Outlines, no_outline, outline, ClashIn}
+use Rattle.kk_cover.specs.Outlines.{any, exactly, made, Outlines, no_outline, outline, ClashIn}
 use Rattle.kk_cover.specs.Typed.{Values, TypedIn}
 use Rattle.kk_cover.specs.Narrowing.{IsExampleIn, IsCoveredIn, join, front, back}
-use Rattle.kk_cover.specs.Problems.{OpenProblem, built}
+use Rattle.kk_cover.specs.Problems.{OpenProblem}
 use Rattle.kk_cover.specs.Turned.{rotated, leading, first_leading, turned}
 use Rattle.kk_cover.proofs.Joining.{typed_join, typed_front, typed_back, clash_split, clash_left, clash_right}
 use Rattle.kk_cover.proofs.Deciding.{Leads, Closed}

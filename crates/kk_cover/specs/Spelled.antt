@@ -1,5 +1,5 @@
 -- How an example is written.
-use Rattle.std.specs.Prelude.{ℕ, List, [], ◌∷◌, ◌++◌, codes, slice_index_or}
+use Rattle.std.specs.Prelude.{ℕ, List, [], ◌++◌, codes, slice_index_or}
 use Rattle.std.specs.Fmt.{signed_decimal}
 use Rattle.kk_syntax.specs.Programs.{ProgramTree}
 use Rattle.kk_cover.specs.Outlines.{Outline, any, exactly, made, Outlines, no_outline, outline}

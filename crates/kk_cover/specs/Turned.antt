@@ -1,10 +1,10 @@
 -- Rows whose first positions are turned to their end, so that the first row looks at the first position.
-use Rattle.std.specs.Prelude.{◌≡◌, ℕ, zero, suc, Bool, true, false, List, [], ◌∷◌, ◌++◌, length, map, Option, None, Some}
+use Rattle.std.specs.Prelude.{◌≡◌, ℕ, suc, Bool, true, false, List, [], ◌∷◌, ◌++◌, length, map, Option, None, Some}
 use Rattle.std.specs.Bool.{MatchBool}
 use Rattle.kk_syntax.specs.Programs.{ProgramTree}
 use Rattle.kk_syntax.specs.Types.{TypeTree}
 use Rattle.kk_cover.specs.Covered.{Each}
-use Rattle.kk_cover.specs.Outlines.{Outline, any, exactly, made, Outlines, no_outline, outline}
+use Rattle.kk_cover.specs.Outlines.{any, exactly, made, Outlines, no_outline, outline}
 use Rattle.kk_cover.specs.Typed.{TypedIn, values_of}
 use Rattle.kk_cover.specs.Narrowing.{IsExampleIn, IsCoveredIn, join, front, back}
 use Rattle.kk_cover.specs.Problems.{OpenProblem}

@@ -13,13 +13,15 @@ enum Piece {
     Made(u32, usize),
 }
 
-/// The name of each constructor, and the number of its type: `bool`, a list, and a pair of `bool`.
-const CONSTRUCTORS: [(&str, u32); 5] = [
+/// The name of each constructor, and the number of its type: `bool`, a list, a pair of `bool`, and a chain of `bool` without
+/// an end.
+const CONSTRUCTORS: [(&str, u32); 6] = [
     ("False", 0),
     ("True", 0),
     ("Nil", 1),
     ("Cons", 1),
     ("Pair", 2),
+    ("Link", 3),
 ];
 
 const ANY: Piece = Piece::Any;
@@ -33,6 +35,8 @@ const NIL: Piece = Piece::Made(2, 0);
 const CONS: Piece = Piece::Made(3, 2);
 
 const PAIR: Piece = Piece::Made(4, 2);
+
+const LINK: Piece = Piece::Made(5, 2);
 
 const ZERO: Piece = Piece::Number(0);
 
@@ -116,6 +120,10 @@ fn fields(alloc: Global, name: &str) -> Result<Vec<Ty>, AllocError> {
             fields.push(Ty::Named(0, Vec::new(alloc)))?;
             fields.push(Ty::Named(0, Vec::new(alloc)))?;
         }
+        "Link" => {
+            fields.push(Ty::Named(0, Vec::new(alloc)))?;
+            fields.push(Ty::Named(3, Vec::new(alloc)))?;
+        }
         _ => {}
     }
     Ok(fields)
@@ -197,5 +205,39 @@ fn the_first_match_that_is_not_covered_has_an_example(rt: HostRuntime) -> Result
     let program = program(alloc, [ALL, ALL, ALL])?;
     let last = rows(alloc, LAST, Expr::Unit)?;
     assert!(rt; uncovered(alloc, &program, &last)?.is_some());
+    Ok(())
+}
+
+/// A row that looks at two positions of a chain, twenty positions apart.
+fn far_apart(alloc: Global, first: usize, pieces: (Piece, Piece)) -> Result<Row, AllocError> {
+    let mut chain = Vec::new(alloc);
+    for position in 0..40_usize {
+        chain.push(LINK)?;
+        if position == first {
+            chain.push(pieces.0)?;
+        } else if position.saturating_sub(20) == first && position >= 20 {
+            chain.push(pieces.1)?;
+        } else {
+            chain.push(ANY)?;
+        }
+    }
+    chain.push(ANY)?;
+    Ok(Row {
+        pattern: pattern(alloc, &chain)?,
+        body: Expr::Unit,
+    })
+}
+
+#[test]
+fn twenty_pairs_of_positions_far_apart_are_decided_at_once(rt: HostRuntime) -> Result<(), Fail> {
+    let alloc = rt.alloc();
+    let mut rows = Vec::new(alloc);
+    for first in 0..20_usize {
+        for pieces in [(TRUE, TRUE), (TRUE, FALSE), (FALSE, TRUE), (FALSE, FALSE)] {
+            rows.push(far_apart(alloc, first, pieces)?)?;
+        }
+    }
+    let program = program(alloc, [ALL, ALL, ALL])?;
+    assert!(rt; uncovered(alloc, &program, &rows)?.is_none());
     Ok(())
 }

@@ -1,4 +1,4 @@
-use Rattle.std.proofs.Common.{◌≡◌, true, List, [], ◌∷◌, ◌++◌, map, ap, ◌∙◌, subst, append_assoc}
+use Rattle.std.proofs.Common.{true, List, [], ◌∷◌, ◌++◌, map, ap, ◌∙◌, subst, append_assoc}
 use Rattle.kk_syntax.specs.Programs.{program_tree}
 use Rattle.kk_cover.specs.Problems.{OpenProblem, problem_view}
 use Rattle.kk_cover.specs.Turned.{Tells}

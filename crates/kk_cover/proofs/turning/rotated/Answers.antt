@@ -1,4 +1,4 @@
-use Rattle.std.proofs.Common.{◌≡◌, ◌++◌, List, take, drop, length, min, ap, ◌∙◌}
+use Rattle.std.proofs.Common.{◌≡◌, ◌++◌, List, take, drop, ap, ◌∙◌}
 use Rattle.std.proofs.lemmas.List.{take_min, drop_min}
 use Rattle.kk_cover.specs.declared.problem.Slot.{Slot}
 use Rattle.kk_cover.specs.Problems.{row_view}
