@@ -1,11 +1,12 @@
 -- The search ends: what a problem comes down to weighs less than the problem.
-use Rattle.std.proofs.Common.{◌≡◌, ◌<◌, ◌≤◌, inl, inr, ℕ, zero, suc, ◌+◌, ◌==◌, Bool, true, false, cond, List, [], ◌∷◌, ◌++◌, length, Option, None, Some, get_or, refl, sym, ap, subst, arith}
+use Rattle.std.proofs.Common.{◌≡◌, ◌<◌, ◌≤◌, inl, inr, ℕ, zero, suc, ◌+◌, ◌==◌, Bool, true, false, cond, List, [], ◌∷◌, ◌++◌, length, map, Option, None, Some, get_or, refl, sym, ap, ◌∙◌, subst, arith}
 use Rattle.std.proofs.lemmas.List.{get_or_past}
 use Rattle.kk_syntax.specs.Programs.{ConstructorTree, ProgramTree}
 use Rattle.kk_cover.specs.declared.problem.Asked.{Asked}
 use Rattle.kk_cover.specs.declared.problem.Asked.TheVariants as OfAsked
 use Rattle.kk_cover.specs.Outlines.{Outline, any, exactly, made, Outlines, no_outline, outline}
-use Rattle.kk_cover.specs.Narrowing.{join, anys, kept, narrow, narrowed, open_row, opened}
+use Rattle.kk_cover.specs.Turned.{rotated, first_leading, turned}
+use Rattle.kk_cover.specs.Narrowing.{join, front, back, anys, kept, narrow, narrowed, open_row, opened}
 use Rattle.kk_cover.specs.Problems.{OpenProblem, asked, or_else, first_asked, no_constructor, owner, arity, made_child, children, StepsTo, Settles}
 use Rattle.kk_cover.proofs.Keeping.{IfKept, if_so_from}
 
@@ -209,3 +210,27 @@ pub fewer : (program : ProgramTree) (p : OpenProblem) (before more after : List 
 unfolding left
 fewer program p before more after settles grown =
     omega (arith, ap (left program) grown, left-append program before more, left-append program before (p ∷ []), settles_less program p more settles)
+
+looks_parts : (k : ℕ) (ps : Outlines) → looks (back k ps) + looks (front k ps) ≡ looks ps
+unfolding looks
+looks_parts zero ps = omega arith
+looks_parts (suc k) no_outline = omega arith
+looks_parts (suc k) (outline p ps) = omega (arith, looks_parts k ps)
+
+looks-rotated : (k : ℕ) (rows : List Outlines) → all_looks (map (rotated k) rows) ≡ all_looks rows
+unfolding all_looks
+looks-rotated k [] = refl
+looks-rotated k (row ∷ rows) = omega (arith, looks-join (back k row) (front k row), looks_parts k row, looks-rotated k rows)
+
+-- a problem that is turned weighs the same
+pub left-turned : (program : ProgramTree) (p : OpenProblem) (before : List OpenProblem) → left program (before ++ (turned p ∷ [])) ≡ left program (before ++ (p ∷ []))
+unfolding left weight exponent
+left-turned program p before =
+    left-append program before (turned p ∷ [])
+    ∙ (ap (λ n. left program before + (power (length program.constructors) (times n (suc (all_fields program.constructors)) + p.width) + 0)) (looks-rotated (first_leading p.rows) p.rows)
+    ∙ sym (left-append program before (p ∷ [])))
+
+-- one of some problems weighs no more than they do
+pub picked_less : (program : ProgramTree) (q : OpenProblem) (before behind : List OpenProblem) → left program (q ∷ []) ≤ left program (before ++ (q ∷ behind))
+unfolding left
+picked_less program q before behind = omega (arith, left-append program before (q ∷ behind))

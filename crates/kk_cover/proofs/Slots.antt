@@ -1,5 +1,5 @@
 -- Slots and rows of slots, seen as outlines.
-use Rattle.std.proofs.Common.{◌≡◌, ℕ, ℤ, zero, suc, List, [], ◌∷◌, ◌++◌, map, replicate, refl, sym, ap, ◌∙◌}
+use Rattle.std.proofs.Common.{◌≡◌, ℕ, ℤ, zero, suc, List, [], ◌∷◌, ◌++◌, map, take, drop, replicate, refl, sym, ap, ◌∙◌}
 use Rattle.std.proofs.lemmas.List.{map-append}
 use Rattle.kk_syntax.specs.declared.program.Pat.{Pat}
 use Rattle.kk_syntax.specs.declared.program.Pat.TheVariants.{Wildcard, rolls-Wildcard, Number, rolls-Number, Constructor, rolls-Constructor}
@@ -8,7 +8,8 @@ use Rattle.kk_syntax.specs.Patterns.{Pattern, patterns_of, pattern_step, pattern
 use Rattle.kk_cover.specs.declared.problem.Slot.{Slot}
 use Rattle.kk_cover.specs.declared.problem.Slot.TheVariants.{Any}
 use Rattle.kk_cover.specs.Outlines.{Outline, any, exactly, made, outline, outline_of, outlines_of, outline_list, pattern_outline}
-use Rattle.kk_cover.specs.Narrowing.{join, anys}
+use Rattle.kk_cover.specs.Narrowing.{join, anys, front, back}
+use Rattle.kk_cover.specs.Turned.{rotated}
 use Rattle.kk_cover.specs.Problems.{slot_outline, row_view}
 
 pub outlines-append : (xs ys : List Outline) → outline_list (xs ++ ys) ≡ join (outline_list xs) (outline_list ys)
@@ -36,3 +37,18 @@ wildcard_outline = ap pattern_outline (sym rolls-Wildcard) ∙ ap outline_of (fo
 
 pub number_outline : (n : ℤ) → pattern_outline (Number n) ≡ exactly n
 number_outline n = ap pattern_outline (sym (rolls-Number n)) ∙ ap outline_of (fold-roll-Pat Pattern pattern_step _)
+
+pub back_view : (k : ℕ) (slots : List Slot) → back k (row_view slots) ≡ row_view (drop k slots)
+back_view zero slots = refl
+back_view (suc k) [] = refl
+back_view (suc k) (x ∷ slots) = back_view k slots
+
+pub front_view : (k : ℕ) (slots : List Slot) → front k (row_view slots) ≡ row_view (take k slots)
+front_view zero slots = refl
+front_view (suc k) [] = refl
+front_view (suc k) (x ∷ slots) = ap (outline (slot_outline x)) (front_view k slots)
+
+pub rotated_view : (k : ℕ) (slots : List Slot) → row_view (drop k slots ++ take k slots) ≡ rotated k (row_view slots)
+rotated_view k slots =
+    view-append (drop k slots) (take k slots)
+    ∙ (ap (λ ps. join ps (row_view (take k slots))) (sym (back_view k slots)) ∙ ap (λ ps. join (back k (row_view slots)) ps) (sym (front_view k slots)))

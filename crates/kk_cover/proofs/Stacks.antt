@@ -2,10 +2,11 @@
 use Rattle.std.proofs.Common.{◌≡◌, ◌≤◌, ℕ, zero, suc, ◌+◌, List, [], ◌∷◌, ◌++◌, length, map, take, get_or, refl, sym, ap, ◌∙◌, arith}
 use Rattle.std.proofs.lemmas.List.{map-append, take_more}
 use Rattle.kk_cover.specs.declared.problem.Head.{Head}
+use Rattle.kk_cover.specs.declared.problem.Problem.{Problem}
 use Rattle.kk_syntax.specs.declared.program.Pat.{Pat}
 use Rattle.kk_cover.specs.Outlines.{Outline, Outlines, no_outline, outline, outline_list, pattern_outline}
 use Rattle.kk_cover.specs.Narrowing.{join, front, back, top}
-use Rattle.kk_cover.specs.Problems.{plug, built, stacked_on, stacked}
+use Rattle.kk_cover.specs.Problems.{problem_view, plug, built, stacked_on, stacked}
 use Rattle.kk_cover.proofs.Deciding.{built-append}
 use Rattle.kk_cover.proofs.Slots.{outlines-append}
 
@@ -72,3 +73,7 @@ left_more i es stack after p left popped = sym (back_some i es (stacked after) (
 pub stacked_none : (stack : List Pat) → length stack ≡ 0 → stacked stack ≡ no_outline
 stacked_none [] none = refl
 stacked_none (p ∷ stack) none = absurd (omega (arith, none))
+
+-- the last of the problems is taken
+pub popped_view : (problems rest : List Problem) (problem : Problem) → problems ≡ rest ++ (problem ∷ []) → map problem_view problems ≡ map problem_view rest ++ (problem_view problem ∷ [])
+popped_view problems rest problem is = ap (map problem_view) is ∙ map-append problem_view rest (problem ∷ [])

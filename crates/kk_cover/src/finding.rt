@@ -4,7 +4,7 @@ ghost use Rattle.kk_cover.specs.Outlines.{no_outline, outline};
 ghost use Rattle.kk_cover.specs.Problems.{problem_view};
 
 use crate::problem::Problem;
-use crate::{example, row, settling};
+use crate::{example, row, settling, turning};
 use kk_base::NoMemory;
 use kk_syntax::{Pat, Program, Row};
 use std::alloc::Global;
@@ -13,21 +13,26 @@ use std::alloc::Global;
 /// example has the first constructor of a type that leaves something uncovered, outer before inner and left before right;
 /// the least number from 0 up that no row asks for; and `_` where no row looks.
 ///
-/// Right at each type at which the rows are typed. The search is a list of open problems and has no recursion. It is from
-/// left to right, so its time doubles with each pair of positions far apart that rows look at together.
+/// Right at each type at which the rows are typed. The positions of the example are found from left to right: at each, the
+/// first problem that is not covered is gone into, and no other. There is no recursion.
 pub fn uncovered(alloc: Global, program: &Program, rows: &[Row]) -> Result<Option<Pat>, NoMemory>
     ensures { IfOk result (λ found. Answers program.now rows.now found) }
 {
-    let mut problems = Vec::new(alloc);
-    problems.push(whole(alloc, rows)?)?;
-    'search: while let Some(problem) = problems.pop() {
-        if problem.rows.is_empty() {
-            let example = example::build(alloc, &problem.path, problem.width)?;
-            return Ok(Some(example));
-        }
-        settling::settle(alloc, program, &problem, &mut problems)?;
+    let mut problem = whole(alloc, rows)?;
+    let covered = turning::is_covered(alloc, program, &problem)?;
+    if covered {
+        return Ok(None);
     }
-    Ok(None)
+    'search: while !problem.rows.is_empty() {
+        let mut children = Vec::new(alloc);
+        settling::settle(alloc, program, &problem, &mut children)?;
+        match turning::last_open(alloc, program, children)? {
+            Some(next) => problem = next,
+            None => return Ok(None),
+        }
+    }
+    let example = example::build(alloc, &problem.path, problem.width)?;
+    Ok(Some(example))
 }
 
 // The problem to begin with: the rows of a match, with one position.
