@@ -2,11 +2,6 @@ ghost use Rattle.std.specs.Prelude.{IfOk, IfErr};
 ghost use Rattle.kk_syntax.specs.Programs.{program_tree};
 ghost use Rattle.kk_mono.specs.Counts.{IsSmall};
 ghost use Rattle.kk_mono.specs.Instances.{IsInstanceProgram};
-ghost use Rattle.kk_lexer.specs.Readings.{EachTextIsRead};
-ghost use Rattle.kk_parser.specs.Parses.{EachListIsParsed};
-ghost use Rattle.kk_names.specs.Names.{EachTreeIsResolved};
-ghost use Rattle.kk_types.specs.Checks.{EachProgramIsChecked};
-ghost use Rattle.kk_mono.specs.Counts.{EachProgramIsCounted};
 ghost use Rattle.kk_front.specs.Judgement.{ChecksLength, IsProgramOf, Refuses, EachTextIsJudged};
 
 use crate::accept::{AcceptedProgram, accept};
@@ -51,7 +46,7 @@ pub fn read(alloc: Global, text: &[u8]) -> Result<AcceptedProgram, Refusal>
 /// Each text is accepted as exactly one program, or refused for exactly one cause, which is no want of memory. It is a
 /// law, and does nothing.
 pub fn each_text_is_judged()
-    ensures { EachTextIsRead → EachListIsParsed → EachTreeIsResolved → EachProgramIsChecked → EachProgramIsCounted → EachTextIsJudged }
+    ensures { EachTextIsJudged }
 {
     each_text_is_read();
     each_list_is_parsed();

@@ -2,4 +2,5 @@ use Rattle.kk_front.proofs.Judging.{each_text_is_judged}
 use Rattle.kk_front.proofs.judge.each_text_is_judged.Goals as goal
 
 pub returns : goal.returns
-returns c = each_text_is_judged
+returns c =
+    each_text_is_judged c.each_text_is_read.ensures c.each_list_is_parsed.ensures.exactly_one c.each_tree_is_resolved.ensures c.each_program_is_checked.ensures c.each_program_is_counted.ensures
