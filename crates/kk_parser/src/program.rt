@@ -25,7 +25,7 @@ use std::alloc::Global;
 pub fn parse(alloc: Global, tokens: &Tokens) -> Result<Tree, ParseError>
     ensures parsed { AnswersParse tokens.now result }
 
-    // A declaration has at most twice as many nodes as the text has tokens.
+    // A declaration has at most twice as many nodes as there are tokens.
     ensures few_nodes { IfOk result (λ tree.
         All (λ declaration. nodes_in declaration ≤ 2 * length tokens.now.items) (map written_declaration tree.declarations.items)) }
 {
