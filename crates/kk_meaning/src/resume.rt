@@ -208,7 +208,7 @@ impl<'a> Machine<'a> {
     }
 
     // The run has ended.
-    pub fn end(&mut self) -> Turn
+    fn end(&mut self) -> Turn
         requires fits { Fits self.old }
         ensures setting { setting_of self.new ≡ setting_of self.old }
         ensures fits { Fits self.new }

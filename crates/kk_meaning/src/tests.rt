@@ -160,13 +160,13 @@ fn runs_do_what_the_definition_says(rt: HostRuntime) -> Result<(), Fail> {
 // The steps were counted by hand.
 #[test]
 fn runs_take_as_many_steps_as_the_definition_says(rt: HostRuntime) -> Result<(), Fail> {
-    for (main, depth, steps, end) in [
-        (ARITHMETIC, 1, 12, "ended"),
-        (DEPTH, 5, 112, "ended"),
-        (DEPTH, 4, 56, "stack full"),
-        (ENDLESS, 1, 1_000, "goes on"),
+    for (main, cells, depth, steps, end) in [
+        (ARITHMETIC, 0, 1, 12, "ended"),
+        (DEPTH, 3, 5, 112, "ended"),
+        (DEPTH, 3, 4, 56, "stack full"),
+        (ENDLESS, 0, 1, 1_000, "goes on"),
     ] {
-        let run = run(rt.alloc(), main, b"", 65_536, depth, 1_000)?;
+        let run = run(rt.alloc(), main, b"", cells, depth, 1_000)?;
         assert_eq!(rt; (run.steps, run.end), (steps, end), "{main}");
     }
     Ok(())

@@ -15,7 +15,7 @@ use Rattle.kk_names.specs.declared.table.Declared.{Declared}
 use Rattle.kk_names.specs.declared.scope.Bound.{Bound}
 use Rattle.kk_names.specs.Expressions.{meant}
 use Rattle.kk_names.specs.Faults.{faults_in}
-use Rattle.kk_names.specs.Methods.{State, state_of, behind, meant_at, newest_first, first_with, KeepsScope, Binds, Resolves, ResolvesStatement}
+use Rattle.kk_names.specs.Methods.{State, state_of, behind, meant_at, newest_first, first_with, KeepsScope, Binds, Resolves, ResolvesStatement, ResolvesStatements}
 use Rattle.kk_names.specs.Scopes.{Scope, binding, names_in, with_binder, binder_names, binder_of, binder_count, binders_in}
 use Rattle.kk_names.proofs.Growing.{first_more}
 use Rattle.kk_names.proofs.Tables.{newest_more}
@@ -123,3 +123,21 @@ pub variable_statement : (s : WrittenStatement) (name : Identifier) (number : �
 unfolding this
 variable_statement s name number value old numbered valued new t is number_is next functions scope first resolves binds made =
     subst (λ (x : WrittenStatement). ResolvesStatement x old new t) (sym is) (numbered_statement name number value old numbered valued new t number_is next functions scope first resolves binds made)
+
+-- a block: its statements, its value, and then the variables that were seen before
+pub block_resolved : (statements : List WrittenStatement) (last : Written) (old stated valued new : Resolver) (trees : List StatementTree) (t : Tree)
+    → ResolvesStatements statements last old stated trees → KeepsScope old stated → Resolves last stated valued t
+    → new.functions.items ≡ valued.functions.items → new.scope.items ≡ take (length old.scope.items) valued.scope.items → new.next ≡ valued.next → new.first ≡ valued.first
+    → Resolves (block_of statements last) old new (program.block_of trees t)
+block_resolved statements last old stated valued new trees t made kept value functions scope next first =
+    let back : new.scope.items ≡ old.scope.items = scope ∙ (ap (take (length old.scope.items)) value.scope ∙ kept) in
+    let number : valued.next ≡ stated.next + binders_in last = ap (λ state. state.next) value.state in
+    record {
+      state = state_is _ _ _ _ _ _ _ _
+          (functions ∙ (ap (λ state. state.functions) value.state ∙ made.functions))
+          (ap newest_first back)
+          (next ∙ (number ∙ made.next))
+          (first ∙ (ap (λ state. state.first) value.state ∙ made.first));
+      scope = back;
+      tree_is = ap (program.block_of trees) value.tree_is ∙ made.tree_is;
+    }

@@ -3,16 +3,18 @@
 -- alternatives begin with stands before the choice.
 use Rattle.std.specs.Prelude.{ℕ, List, [], ◌∷◌, ◌++◌, map, Option, Some, None, ◌⊎◌}
 use Rattle.std.proofs.Common.{inl, inr}
-use Rattle.kk_syntax.specs.Surface.{Written, number as number_written, unit, construct, no_written, print_text, block_of, WrittenStatement, WrittenType, unit_type, named, no_type, WrittenDeclaration}
-use Rattle.kk_syntax.specs.declared.token.Keyword.TheVariants.{Val}
+use Rattle.kk_syntax.specs.Surface.{Written, number as number_written, unit, construct, no_written, print_text, block_of, WrittenStatement, WrittenType, unit_type, named, no_type, WrittenDeclaration, WrittenParameter}
+use Rattle.kk_syntax.specs.declared.token.Keyword.TheVariants.{Val, Then, Elif, Else}
 use Rattle.kk_syntax.specs.declared.token.Symbol.TheVariants.{CloseParenthesis, OpenBrace, CloseBrace, Semicolon, Dot, Equals}
 use Rattle.kk_syntax.specs.declared.operator.PrintForm.{PrintForm}
 use Rattle.kk_syntax.specs.declared.operator.PrintForm.TheVariants.{Print, PrintLine}
+use Rattle.kk_syntax.specs.declared.tree.Effect.{Effect}
 use Rattle.kk_syntax.specs.declared.tree.Identifier.{Identifier}
+use Rattle.kk_parser.specs.Classes.{word as a_word, main as main_name}
 use Rattle.kk_syntax.specs.declared.tree.SurfaceBinder.TheVariants as Binder
-use Rattle.kk_parser.specs.Kinds.{keyword, symbol, name_but_print, type_name, type_name_but_effect, constructor, number, string}
-use Rattle.kk_parser.specs.Phrases.{Nonterminal, program, decl, param, effect, eff, type, result_type, expr, block, stmt, if_, or, and, cmp, add, mul, un, post, atom, say, args, Meant, Phrase, token, opener, ◌▸◌, either, many, optional, level, rule, quoted_or, PhraseValue, Grammar}
-use Rattle.kk_parser.specs.Grammar.{production, meaning, semicolons, some_semicolons, bracket, bracketed, no_arguments, print_word, print_form, binder, binder_of, named_of}
+use Rattle.kk_parser.specs.Kinds.{keyword, symbol, name_in, name_but_main, name_but_print, type_name, type_name_but_effect, constructor, number, string}
+use Rattle.kk_parser.specs.Phrases.{Nonterminal, program, decl, param, effect, eff, type, result_type, expr, block, stmt, if_, or, and, cmp, add, mul, un, post, atom, say, args, Meant, Phrase, token, opener, ◌▸◌, either, many, optional, level, rule, each, perhaps, quoted_or, PhraseValue, Grammar}
+use Rattle.kk_parser.specs.Grammar.{production, meaning, semicolons, some_semicolons, bracket, bracketed, no_arguments, print_word, print_form, binder, binder_of, named_of, if_of, parameters, result, listed_of, effects_of, type_of}
 
 -- "(" ( ")" | a ")" )
 abbrev pub in_brackets : Phrase → Phrase
@@ -68,10 +70,13 @@ those_given [] = []
 those_given ((_, None) ∷ more) = those_given more
 those_given ((_, Some a) ∷ more) = a ∷ those_given more
 
--- statements that bind
+-- a statement that binds, and some of them
+abbrev pub binding_of : PhraseValue binding → WrittenStatement
+binding_of (_, (binder, (_, value))) = record { binder = binder_of binder; value = value }
+
 abbrev pub bindings_of : PhraseValue (many (binding ▸ some_semicolons)) → List WrittenStatement
 bindings_of [] = []
-bindings_of (((_, (binder, (_, value))), _) ∷ more) = record { binder = binder_of binder; value = value } ∷ bindings_of more
+bindings_of ((statement, _) ∷ more) = binding_of statement ∷ bindings_of more
 
 -- an expression as a statement
 abbrev pub as_statement : Written → WrittenStatement
@@ -86,6 +91,31 @@ block_from (bindings, value) (next ∷ more) = block_of (bindings_of bindings ++
 abbrev pub inside : {A B C : Type 0} → C → (A → C) → B × (Unit {0} ⊎ (A × Unit {0})) → C
 inside none one (_, inl _) = none
 inside none one (_, inr (a, _)) = one a
+
+abbrev pub spoken_of : PhraseValue spoken → Written
+spoken_of (text, (_, (word, _))) = print_text (print_form word) text
+
+-- what stands behind `if` or `elif`
+abbrev pub branches : Phrase
+branches = rule or ▸ token (keyword Then) ▸ rule expr ▸ each (keyword Elif) (rule or ▸ token (keyword Then) ▸ rule expr) ▸ perhaps (keyword Else) (rule expr)
+
+abbrev pub branches_of : PhraseValue branches → Written
+branches_of (condition, (_, (positive, (more, last)))) = if_of condition positive more last
+
+-- what stands in a declaration of a function between `fun` and its body
+abbrev pub head : Phrase
+head = either (token (name_in (a_word main_name ∷ [])) ▸ parameters ▸ optional result) (token name_but_main ▸ parameters ▸ result)
+
+pub record WrittenHead : Type 0 where
+  pub name : Identifier
+  pub parameters : List WrittenParameter
+  pub effects : List Effect
+  pub result : Option WrittenType
+
+abbrev pub head_of : PhraseValue head → WrittenHead
+head_of (inl (name, ((_, (given, _)), None))) = record { name = name; parameters = listed_of given; effects = []; result = None }
+head_of (inl (name, ((_, (given, _)), Some (_, result)))) = record { name = name; parameters = listed_of given; effects = effects_of result; result = Some (type_of result) }
+head_of (inr (name, ((_, (given, _)), (_, result)))) = record { name = name; parameters = listed_of given; effects = effects_of result; result = Some (type_of result) }
 
 -- the name of a print
 abbrev pub print_identifier : PhraseValue print_word → Identifier

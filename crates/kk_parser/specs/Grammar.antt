@@ -155,6 +155,11 @@ abbrev pub arguments_of : PhraseValue (optional (bracketed (rule args))) → Lis
 arguments_of None = []
 arguments_of (Some (_, (arguments, _))) = arguments
 
+-- the same, told from no brackets
+abbrev pub arguments_given : PhraseValue (optional (bracketed (rule args))) → Option (List Written)
+arguments_given None = None
+arguments_given (Some (_, (arguments, _))) = Some arguments
+
 -- a name with arguments in brackets is a call; alone it is a variable
 abbrev pub named_of : Identifier → PhraseValue (optional (bracketed (rule args))) → Written
 named_of name None = variable name

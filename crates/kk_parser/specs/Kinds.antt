@@ -90,3 +90,8 @@ classes_of constructor = constructor_class ∷ []
 classes_of wildcard = wildcard_class ∷ []
 classes_of number = number_class ∷ []
 classes_of string = string_class ∷ []
+
+-- the classes of the names of a kind
+abbrev pub names_of : Kind → List NameClass
+names_of (name_in classes) = classes
+names_of _ = []

@@ -7,3 +7,4 @@ pub mod Parses
 pub mod Phrases
 pub mod Reading
 pub mod Spells
+pub mod Views

@@ -1,9 +1,12 @@
 -- What the methods of the parser promise: which phrase they read.
-use Rattle.std.specs.Prelude.{◌≡◌, ℕ, ◌+◌, ◌-◌, ◌^◌, ◌<◌, ◌≤◌, min, List, [], ◌∷◌, Option, Some, None, Result, Ok, Err, true, false}
+use Rattle.std.specs.Prelude.{◌≡◌, ℕ, ◌+◌, ◌-◌, ◌^◌, ◌<◌, ◌≤◌, min, List, [], ◌∷◌, ◌++◌, Option, Some, None, Result, Ok, Err, true, false}
 use Rattle.kk_base.specs.declared.span.Span.{Span}
 use Rattle.kk_base.specs.declared.error.ParseError.{ParseError}
 use Rattle.kk_base.specs.declared.error.ParseError.TheVariants as OfError
 use Rattle.kk_syntax.specs.declared.token.LocatedToken.{LocatedToken}
+use Rattle.kk_syntax.specs.declared.tree.SurfaceExpr.{SurfaceExpr}
+use Rattle.kk_syntax.specs.Surface.{WrittenStatement, written_expr}
+use Rattle.kk_parser.specs.Forms.{items, bindings_of}
 use Rattle.kk_parser.specs.declared.fault.Fault.{Fault}
 use Rattle.kk_parser.specs.declared.fault.Fault.TheVariants.{Unexpected, TooDeep, NoMemory}
 use Rattle.kk_parser.specs.declared.parser.Parser.{Parser}
@@ -32,6 +35,16 @@ ReadsPhrase p view (Err fault) old new = FailedBy fault p old new
 abbrev pub ReadsFor : {A : Type 0} (p : Phrase) → (PhraseValue p → A) → Result A Fault → Parser → Parser → Type 0
 ReadsFor p means (Ok x) old new = (v : PhraseValue p) × (means v ≡ x) × Read p v old new
 ReadsFor p means (Err fault) old new = FailedBy fault p old new
+
+-- a method read a phrase; its result, seen as mathematics, is what is meant by what the phrase says
+abbrev pub ReadsAs : {A B : Type 0} (p : Phrase) → (PhraseValue p → B) → (A → B) → Result A Fault → Parser → Parser → Type 0
+ReadsAs p means view (Ok x) old new = (v : PhraseValue p) × (means v ≡ view x) × Read p v old new
+ReadsAs p means view (Err fault) old new = FailedBy fault p old new
+
+-- a method read items: it put their statements behind others, and its result is their value
+abbrev pub ReadsItems : List WrittenStatement → List WrittenStatement → Result SurfaceExpr Fault → Parser → Parser → Type 0
+ReadsItems before after (Ok value) old new = (v : PhraseValue items) × (after ≡ before ++ bindings_of v.0) × (v.1 ≡ written_expr value) × Read items v old new
+ReadsItems before after (Err fault) old new = FailedBy fault items old new
 
 -- a method read a phrase where the next token may begin one, and else nothing
 abbrev pub ReadsIfNext : {A : Type 0} (p : Phrase) → (PhraseValue p → A) → Result (Option A) Fault → Parser → Parser → Type 0

@@ -60,6 +60,7 @@ nullable (level a) = nullable a
 nullable (rule x) = nullable_of x
 nullable (each k a) = true
 nullable (perhaps k a) = true
+nullable (quoted_or a) = nullable a
 nullable _ = false
 
 -- the classes of token with which a text of a phrase begins

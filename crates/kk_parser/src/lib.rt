@@ -1,8 +1,16 @@
-//! Specs alone.
+//! From the tokens of a text to the tree that they spell, or the first token with which no program goes on.
 #![tactic(auto)]
 
-ghost use Rattle.kk_parser.specs.Parses.{EachListIsParsed};
-ghost use Rattle.kk_parser.specs.Reading.{Finds};
+mod block;
+mod expr;
+mod fault;
+mod made;
+mod name;
+mod operator;
+mod parser;
+mod program;
+mod result;
+#[cfg(test)]
+mod tests;
 
-pub mod fault;
-pub mod parser;
+pub use program::{each_list_is_parsed, parse};

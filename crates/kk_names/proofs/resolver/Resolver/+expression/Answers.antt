@@ -1,12 +1,14 @@
-use Rattle.std.proofs.Common.{◌≡◌, ◌+◌, Box, Global, Option, List, [], ◌∷◌, ◌++◌, length, map, drop, vec_len, refl, sym, ap, ◌∙◌, subst}
+use Rattle.std.proofs.Common.{◌≡◌, ◌+◌, Box, Global, Option, List, [], ◌∷◌, ◌++◌, length, map, take, drop, vec_len, refl, sym, ap, ◌∙◌, subst}
 use Rattle.std.specs.Prelude.{option_map}
 use Rattle.std.proofs.lemmas.List.{map-append, drop_all}
 use Rattle.std.proofs.lemmas.Result.{IfOk-weaker}
 use Rattle.kk_syntax.specs.declared.program.Binder.TheVariants as OfBinder
 use Rattle.kk_syntax.specs.declared.program.Expr.{Expr}
+use Rattle.kk_syntax.specs.declared.program.Expr.TheVariants.{Block}
 use Rattle.kk_syntax.specs.declared.program.Form.TheVariants.{Binary}
 use Rattle.kk_syntax.specs.declared.tree.SurfaceExpr.{SurfaceExpr}
-use Rattle.kk_syntax.specs.Surface.{Written, Writtens, WrittenStatement, construct, both, either, branch, branch_alone, written, written_expr, written_statement, writtens_of}
+use Rattle.kk_syntax.specs.Surface.{Written, Writtens, WrittenStatement, construct, both, either, branch, branch_alone, block_of, written, written_expr, written_statement, writtens_of}
+use Rattle.kk_syntax.proofs.Blocks.{block_tree}
 use Rattle.kk_syntax.specs.Trees as OfTree
 use Rattle.kk_syntax.specs.Trees.{Tree, StatementTree, expr_tree, statement_tree, trees_of}
 use Rattle.kk_names.specs.Expressions.{truth}
@@ -15,7 +17,7 @@ use Rattle.kk_names.specs.Methods.{choice_of, Resolves, ResolvesAll, ResolvesSta
 use Rattle.kk_names.specs.Tables.{meaning_in}
 use Rattle.kk_names.proofs.Arguments.{AllSoFar, all_more, all_done, first_resolved, call_resolved, construct_resolved, dot_call_resolved}
 use Rattle.kk_names.proofs.Growing.{binary_resolved, both_resolved, either_resolved, alone_resolved, branch_resolved, as_written}
-use Rattle.kk_names.proofs.Statements.{StatementsSoFar, statements_more, variable_statement}
+use Rattle.kk_names.proofs.Statements.{block_resolved, StatementsSoFar, statements_more, variable_statement}
 use Rattle.kk_names.proofs.Written.{call_written, construct_written, binary_written, next_expr, next_statement, variable_written, statement_made, apply_tree, unit_tree}
 use Rattle.kk_names.proofs.resolver.Resolver.+expression.Goals as goal
 use Rattle.kk_names.proofs.resolver.Resolver.+expression.Goals.{choice-in-Some+in_ok-negative-in-Some, choice-in-None}
@@ -127,6 +129,20 @@ choice-returns t c =
           (alone_resolved e p c.args.self.now c.expression.new.self c.expression-2.new.self first second c.in_ok-condition.ensures c.in_ok-positive.ensures)))
           c.conditional.ensures
     ]
+
+pub block-returns : goal.block-returns
+block-returns t c =
+    let old = c.args.self.now in
+    let new : Resolver = record { alloc = c.expression.new.self.alloc; functions = c.expression.new.self.functions; scope = c.truncate.new.self; next = c.expression.new.self.next; first = c.expression.new.self.first } in
+    let statements = map written_statement c.args.statements.now in
+    let last = written_expr c.args.value.now in
+    let made = map statement_tree c.in_ok-statements.statements.items in
+    let outer : c.len-outer.result ≡ length old.scope.items = c.len-outer.ensures ∙ old.scope.ok.0 in
+    let back = c.truncate.ensures.items ∙ ap (λ n. take n c.expression.new.self.scope.items) outer in
+    as_written (block_of statements last) (block_of statements last) old new (expr_tree (Block c.in_ok-statements.statements c.in_ok-new.field-0)) (OfTree.block_of made (expr_tree c.in_ok-value.value)) refl
+    (block_tree c.in_ok-statements.statements c.in_ok-new.field-0 ∙ ap (λ e. OfTree.block_of made (expr_tree e)) c.in_ok-new.ensures.ok)
+    (block_resolved statements last old c.statements.new.self c.expression.new.self new made (expr_tree c.in_ok-value.value)
+    (c.in_ok-statements.ensures.resolves last) c.in_ok-statements.ensures.scope c.in_ok-value.ensures refl back refl refl)
 
 pub expressions-loop-expr-preserved : goal.expressions-loop-expr-preserved
 expressions-loop-expr-preserved t c =

@@ -1,0 +1,66 @@
+-- What the declarations of a program say of its constructors.
+use Rattle.std.proofs.Common.{◌≡◌, ◌<◌, ℕ, ◌==◌, Bool, true, false, cond, List, length, map, Option, None, Some, get_or, refl, sym, ap, ◌∙◌}
+use Rattle.std.proofs.lemmas.Bool.{eqb-true, eq-eqb}
+use Rattle.std.proofs.lemmas.List.{length-map}
+use Rattle.std.proofs.lemmas.Option.{slice_get_within, slice_get-get_or, get_or_from_slice_get}
+use Rattle.std.specs.List.{slice_get}
+use Rattle.kk_syntax.specs.Types.{TypeTree, int32, unit_type, type_variable, named, TypeTrees}
+use Rattle.kk_syntax.specs.Programs.{ConstructorTree, ProgramTree}
+use Rattle.kk_cover.specs.Typed.{values_of, fields_of, fields_at, with_arguments, is_int32}
+use Rattle.kk_cover.specs.Problems.{no_constructor, owner, arity}
+use Rattle.kk_cover.proofs.Deciding.{Knows}
+
+record Declared (o : Option ConstructorTree) (by : ℕ) (arguments : TypeTrees) (us : List TypeTree) : Type 0 where
+  constructor : ConstructorTree
+  there : o ≡ Some constructor
+  owned : constructor.of_type ≡ by
+  same : us ≡ map (with_arguments arguments) constructor.fields
+
+declared : (o : Option ConstructorTree) (by : ℕ) (arguments : TypeTrees) (us : List TypeTree) → fields_of o by arguments ≡ Some us → Declared o by arguments us
+declared None by arguments us is = absurd (cc)
+declared (Some constructor) by arguments us is = pick (constructor.of_type == by) refl is
+  where
+    pick : (b : Bool) → (constructor.of_type == by) ≡ b → cond b (Some (map (with_arguments arguments) constructor.fields)) None ≡ Some us → Declared (Some constructor) by arguments us
+    pick true test e = record { constructor = constructor; there = refl; owned = eqb-true constructor.of_type by test; same = cc }
+    pick false test e = absurd (cc)
+
+owner_is : (program : ProgramTree) (c : ℕ) (constructor : ConstructorTree) → slice_get program.constructors c ≡ Some constructor → owner program c ≡ constructor.of_type
+owner_is program c constructor there = ap (λ (x : ConstructorTree). x.of_type) (get_or_from_slice_get program.constructors c constructor no_constructor there)
+
+fields_made : (o : Option ConstructorTree) (constructor : ConstructorTree) (by : ℕ) (arguments : TypeTrees) → o ≡ Some constructor → constructor.of_type ≡ by → fields_of o by arguments ≡ Some (map (with_arguments arguments) constructor.fields)
+fields_made o constructor by arguments there owned =
+    ap (λ x. fields_of x by arguments) there
+    ∙ ap (λ b. cond b (Some (map (with_arguments arguments) constructor.fields)) None) (eq-eqb constructor.of_type by owned)
+
+within : (program : ProgramTree) (t : TypeTree) (c d : ℕ) (us vs : List TypeTree) → fields_at program t c ≡ Some us → fields_at program t d ≡ Some vs → (d < length program.constructors) × (owner program d ≡ owner program c)
+within program int32 c d us vs at_c at_d = absurd (cc)
+within program unit_type c d us vs at_c at_d = absurd (cc)
+within program (type_variable of) c d us vs at_c at_d = absurd (cc)
+within program (named by arguments) c d us vs at_c at_d =
+    let first = declared (slice_get program.constructors c) by arguments us at_c in
+    let second = declared (slice_get program.constructors d) by arguments vs at_d in (
+      slice_get_within program.constructors d second.constructor second.there,
+      owner_is program d second.constructor second.there ∙ (second.owned ∙ (sym first.owned ∙ sym (owner_is program c first.constructor first.there))),
+    )
+
+members : (program : ProgramTree) (t : TypeTree) (c d : ℕ) (us : List TypeTree) → fields_at program t c ≡ Some us → d < length program.constructors → owner program d ≡ owner program c → (vs : List TypeTree) × (fields_at program t d ≡ Some vs) × (length vs ≡ arity program d)
+members program int32 c d us at_c lt own = absurd (cc)
+members program unit_type c d us at_c lt own = absurd (cc)
+members program (type_variable of) c d us at_c lt own = absurd (cc)
+members program (named by arguments) c d us at_c lt own =
+    let first = declared (slice_get program.constructors c) by arguments us at_c in
+    let constructor = get_or program.constructors d no_constructor in
+    let owned : constructor.of_type ≡ by = own ∙ (owner_is program c first.constructor first.there ∙ first.owned) in (
+      map (with_arguments arguments) constructor.fields,
+      fields_made (slice_get program.constructors d) constructor by arguments (slice_get-get_or program.constructors d no_constructor lt) owned,
+      length-map constructor.fields (with_arguments arguments),
+    )
+
+apart : (program : ProgramTree) (t : TypeTree) (c : ℕ) (us : List TypeTree) → fields_at program t c ≡ Some us → is_int32 t ≡ false
+apart program int32 c us at_c = absurd (cc)
+apart program unit_type c us at_c = refl
+apart program (type_variable of) c us at_c = refl
+apart program (named by arguments) c us at_c = refl
+
+pub knows : (program : ProgramTree) → Knows (values_of program) program
+knows program = record { within = within program; members = members program; apart = apart program }

@@ -1,0 +1,15 @@
+pub mod Answering
+pub mod Deciding
+pub mod Fewer
+pub mod Joining
+pub mod Keeping
+pub mod Knowing
+pub mod Narrowed
+pub mod Pushing
+pub mod Rotations
+pub mod RowSteps
+pub mod Searching
+pub mod Slots
+pub mod Stacks
+pub mod Texts
+pub mod Walking

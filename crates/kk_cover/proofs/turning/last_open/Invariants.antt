@@ -1,0 +1,16 @@
+use Rattle.std.proofs.Common.{◌≡◌, ◌++◌, List, map, true, vec_len}
+use Rattle.kk_syntax.specs.Programs.{program_tree}
+use Rattle.kk_cover.specs.Covered.{Each}
+use Rattle.kk_cover.specs.Problems.{OpenProblem, problem_view}
+use Rattle.kk_cover.specs.Turned.{Tells}
+use Rattle.kk_cover.proofs.turning.last_open.Given as goal
+
+abbrev pub invariant-loop-problem : goal.invariant-loop-problem
+invariant-loop-problem l = record {
+  closed : List OpenProblem;
+  place : map problem_view l.fn.problems.items ≡ map problem_view l.left.items ++ closed;
+  tells : Each (λ p. Tells (program_tree l.program) p true) closed;
+}
+
+abbrev pub decreases-loop-problem : goal.decreases-loop-problem
+decreases-loop-problem l = vec_len l.left

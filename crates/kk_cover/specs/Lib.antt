@@ -1,0 +1,8 @@
+pub mod Covered
+pub mod Matches
+pub mod Narrowing
+pub mod Outlines
+pub mod Problems
+pub mod Spelled
+pub mod Turned
+pub mod Typed

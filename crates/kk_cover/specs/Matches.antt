@@ -1,0 +1,89 @@
+-- The matches of a program in the order of the text, and what an answer for all of them says.
+use Rattle.std.specs.Prelude.{◌≡◌, ℕ, List, [], ◌∷◌, ◌++◌, map, take, Option, Some, MatchOption, Result, Ok, Err, slice_get}
+use Rattle.std.specs.Borrow.{Bor}
+use Rattle.kk_syntax.specs.declared.program.Pat.{Pat}
+use Rattle.kk_syntax.specs.declared.program.Program.{Program}
+use Rattle.kk_syntax.specs.declared.program.Row.{Row}
+use Rattle.kk_syntax.specs.Programs.{FunctionTree, ProgramTree, program_tree}
+use Rattle.kk_syntax.specs.Trees.{Tree, number, unit, variable, read_byte, print_text, apply, branch, match, sequence, Trees, no_tree, tree, Rows, no_row, row, StatementTree}
+use Rattle.kk_syntax.specs.Types.{TypeTree}
+use Rattle.kk_cover.specs.declared.covering.CoverError.{CoverError}
+use Rattle.kk_cover.specs.declared.covering.CoverError.TheVariants.{NotCovered, NoMemory}
+use Rattle.kk_cover.specs.Covered.{Each, IsExample, IsCovered, row_outlines}
+use Rattle.kk_cover.specs.Outlines.{Outline, outline_of, pattern_outline}
+use Rattle.kk_cover.specs.Typed.{Typed, values_of}
+
+-- the rows of a match: what their patterns ask
+abbrev pub asked_by : Rows → List Outline
+asked_by no_row = []
+asked_by (row pattern body rest) = outline_of pattern ∷ asked_by rest
+
+-- The matches of an expression, each as its rows, in the order of the text: a match before those in its scrutinee, and
+-- these before those in its rows.
+abbrev mutual
+  pub matches : Tree → List (List Outline)
+  matches (number value) = []
+  matches unit = []
+  matches (variable of) = []
+  matches read_byte = []
+  matches (print_text form text) = []
+  matches (apply form arguments) = matches_of_all arguments
+  matches (branch condition positive negative) = matches condition ++ (matches positive ++ matches negative)
+  matches (match scrutinee rows) = asked_by rows ∷ (matches scrutinee ++ matches_of_rows rows)
+  matches (sequence binder first rest) = matches first ++ matches rest
+
+  pub matches_of_all : Trees → List (List Outline)
+  matches_of_all no_tree = []
+  matches_of_all (tree first rest) = matches first ++ matches_of_all rest
+
+  pub matches_of_rows : Rows → List (List Outline)
+  matches_of_rows no_row = []
+  matches_of_rows (row pattern body rest) = matches body ++ matches_of_rows rest
+
+-- the matches of statements
+abbrev pub matches_of_statements : List StatementTree → List (List Outline)
+matches_of_statements [] = []
+matches_of_statements (s ∷ ss) = matches s.value ++ matches_of_statements ss
+
+-- matches in memory, each as its rows
+abbrev pub match_rows : List (Bor (List Row)) → List (List Outline)
+match_rows all = map (λ rows. row_outlines rows.now) all
+
+-- a match is covered, at each type at which its rows are typed
+abbrev pub IsMatchCovered : ProgramTree → List Outline → Type 0
+IsMatchCovered program rows = (t : TypeTree) → Each (Typed (values_of program) t) rows → IsCovered (values_of program) t rows
+
+-- an example for a match, at each type at which its rows are typed
+abbrev pub IsMatchExample : ProgramTree → List Outline → Outline → Type 0
+IsMatchExample program rows e = (t : TypeTree) → Each (Typed (values_of program) t) rows → IsExample (values_of program) t rows e
+
+-- an example for the first of some matches that is not covered
+pub record IsFirstExample (program : ProgramTree) (all : List (List Outline)) (e : Outline) : Type 0 where
+  pub before : List (List Outline)
+  pub rows : List Outline
+  pub behind : List (List Outline)
+  pub place : all ≡ before ++ (rows ∷ behind)
+  pub covered : Each (IsMatchCovered program) before
+  pub example : IsMatchExample program rows e
+
+-- all of some matches are covered, or this is an example for the first that is not
+abbrev pub AnswersAll : ProgramTree → List (List Outline) → Option Pat → Type 0
+AnswersAll program all found = MatchOption found (Each (IsMatchCovered program) all) (λ example. IsFirstExample program all (pattern_outline example))
+
+-- each match of a function is covered
+abbrev pub IsFunctionCovered : ProgramTree → FunctionTree → Type 0
+IsFunctionCovered program function = Each (IsMatchCovered program) (matches function.body)
+
+-- an example for the first function that has a match that is not covered
+pub record IsFirstFunction (program : ProgramTree) (number : ℕ) (e : Outline) : Type 0 where
+  pub function : FunctionTree
+  pub there : slice_get program.functions number ≡ Some function
+  pub covered : Each (IsFunctionCovered program) (take number program.functions)
+  pub example : IsFirstExample program (matches function.body) e
+
+-- What is answered of a program: each match of each function is covered, or the first function that has another, and an
+-- example for the first that it has.
+abbrev pub AnswersProgram : Program → Result (Unit {0}) CoverError → Type 0
+AnswersProgram program (Ok _) = Each (IsFunctionCovered (program_tree program)) (program_tree program).functions
+AnswersProgram program (Err (NotCovered function example)) = IsFirstFunction (program_tree program) function (pattern_outline example)
+AnswersProgram program (Err NoMemory) = Unit {0}

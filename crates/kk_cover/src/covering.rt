@@ -1,0 +1,118 @@
+ghost use Rattle.std.specs.Prelude.{◌≡◌, ◌++◌, IfOk, OnOk, map};
+ghost use Rattle.kk_syntax.specs.Programs.{program_tree};
+ghost use Rattle.kk_syntax.specs.Trees.{expr_tree, trees_of, row_tree, rows_of, statement_tree};
+ghost use Rattle.kk_cover.specs.Matches.{matches, matches_of_all, matches_of_rows, matches_of_statements, match_rows, AnswersAll, AnswersProgram};
+
+use crate::finding;
+use kk_base::NoMemory;
+use kk_syntax::{Expr, Pat, Program, Row, Statement};
+use std::alloc::Global;
+use thiserror::Error;
+
+/// Why a program is not covered.
+#[derive(Debug, Drop, Error)]
+pub enum CoverError {
+    /// The first function in the text that has a match that is not covered, by its number, and an example for the first
+    /// such match in it: a pattern that clashes with each of its rows. Outer matches come before inner ones.
+    #[error("a match in function {function} is not covered")]
+    NotCovered { function: u32, example: Pat },
+    #[error("no memory")]
+    NoMemory,
+}
+
+/// Whether each match of a program is covered. If not, the first function that has another, and an example.
+///
+/// The recursion is as deep as the program.
+pub fn cover(alloc: Global, program: &Program) -> Result<(), CoverError>
+    ensures { AnswersProgram program.now result }
+{
+    for (number, function) in program.functions.iter().enumerate() {
+        match first(alloc, program, &function.body) {
+            Ok(None) => {}
+            Ok(Some(example)) => {
+                return match u32::try_from(number) {
+                    Ok(function) => Err(CoverError::NotCovered { function, example }),
+                    Err(_) => Err(CoverError::NoMemory),
+                };
+            }
+            Err(NoMemory) => return Err(CoverError::NoMemory),
+        }
+    }
+    Ok(())
+}
+
+// An example for the first match of an expression that is not covered.
+fn first(alloc: Global, program: &Program, expr: &Expr) -> Result<Option<Pat>, NoMemory>
+    ensures { IfOk result (λ found. AnswersAll (program_tree program.now) (matches (expr_tree expr.now)) found) }
+{
+    let mut all = Vec::new(alloc);
+    collect(expr, &mut all)?;
+    for rows in &all {
+        if let Some(example) = finding::uncovered(alloc, program, rows)? {
+            return Ok(Some(example));
+        }
+    }
+    Ok(None)
+}
+
+// Adds the rows of each match of an expression, in the order of the text, outer before inner.
+#[cycle(collect)]
+fn collect<'a>(expr: &'a Expr, all: &mut Vec<&'a [Row]>) -> Result<(), NoMemory>
+    ensures { OnOk result (match_rows all.new.items ≡ match_rows all.old.items ++ matches (expr_tree expr.now)) }
+{
+    match expr {
+        Expr::Number(_) | Expr::Unit | Expr::Variable(_) | Expr::ReadByte | Expr::PrintText(_, _) =>
+            { Ok(()) }
+        Expr::Apply(_, arguments) => collect_each(arguments, all),
+        Expr::If(condition, positive, negative) => {
+            collect(condition, all)?;
+            collect(positive, all)?;
+            collect(negative, all)
+        }
+        Expr::Match(scrutinee, rows) => {
+            all.push(rows.as_slice())?;
+            collect(scrutinee, all)?;
+            collect_rows(rows, all)
+        }
+        Expr::Block(statements, value) => {
+            collect_statements(statements, all)?;
+            collect(value, all)
+        }
+    }
+}
+
+// The same for several expressions.
+#[cycle(collect)]
+fn collect_each<'a>(exprs: &'a [Expr], all: &mut Vec<&'a [Row]>) -> Result<(), NoMemory>
+    ensures { OnOk result (match_rows all.new.items ≡ match_rows all.old.items ++ matches_of_all (trees_of (map expr_tree exprs.now))) }
+{
+    for expr in exprs {
+        collect(expr, all)?;
+    }
+    Ok(())
+}
+
+// The same for the bodies of rows.
+#[cycle(collect)]
+fn collect_rows<'a>(rows: &'a [Row], all: &mut Vec<&'a [Row]>) -> Result<(), NoMemory>
+    ensures { OnOk result (match_rows all.new.items ≡ match_rows all.old.items ++ matches_of_rows (rows_of (map row_tree rows.now))) }
+{
+    for row in rows {
+        collect(&row.body, all)?;
+    }
+    Ok(())
+}
+
+// The same for statements.
+#[cycle(collect)]
+fn collect_statements<'a>(
+    statements: &'a [Statement],
+    all: &mut Vec<&'a [Row]>,
+) -> Result<(), NoMemory>
+    ensures { OnOk result (match_rows all.new.items ≡ match_rows all.old.items ++ matches_of_statements (map statement_tree statements.now)) }
+{
+    for statement in statements {
+        collect(&statement.value, all)?;
+    }
+    Ok(())
+}

@@ -1,0 +1,19 @@
+//! Whether each match of a program is covered, and a pattern that no row matches where one is not.
+#![tactic(auto)]
+
+mod covering;
+mod example;
+mod finding;
+mod problem;
+mod row;
+mod rows;
+mod settling;
+mod spelling;
+mod table;
+#[cfg(test)]
+mod tests;
+mod turning;
+
+pub use covering::{CoverError, cover};
+pub use finding::uncovered;
+pub use spelling::example_text;

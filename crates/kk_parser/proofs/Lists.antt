@@ -1,0 +1,55 @@
+-- Phrases with commas between them, as they are read one by one.
+use Rattle.std.proofs.Common.{◌≡◌, ℕ, true, false, List, [], ◌∷◌, ◌++◌, map, Some, None, refl, sym, ◌∙◌, append_assoc}
+use Rattle.std.proofs.lemmas.List.{append-nil}
+use Rattle.kk_syntax.specs.declared.token.LocatedToken.{LocatedToken}
+use Rattle.kk_syntax.specs.declared.token.Symbol.TheVariants.{Comma}
+use Rattle.kk_parser.specs.declared.parser.Parser.{Parser}
+use Rattle.kk_parser.specs.Classes.{is_at}
+use Rattle.kk_parser.specs.Grammar.{listed, listed_of}
+use Rattle.kk_parser.specs.Kinds.{symbol, classes_of}
+use Rattle.kk_parser.specs.Methods.{Read}
+use Rattle.kk_parser.specs.Phrases.{Phrase, PhraseValue, token, ◌▸◌, many}
+use Rattle.kk_parser.specs.Reading.{first, Finds, Failure, ReadingFails, finds_both, finds_more, finds_absence, finds_presence, fails_front, fails_behind, fails_one, fails_presence}
+use Rattle.kk_parser.proofs.Steps.{Continues, continues_many, ends_many}
+
+-- a comma, and one more
+abbrev pub next_listed : Phrase → Phrase
+next_listed a = token (symbol Comma) ▸ a
+
+-- those given were read, and more may stand behind them
+pub record Lists (a : Phrase) (given : List (PhraseValue a)) (start here : Parser) : Type 0 where
+  pub says : List (PhraseValue (next_listed a)) → PhraseValue (listed a)
+  pub read : Continues (listed a) (many (next_listed a)) says start here
+  pub meant : (vs : List (PhraseValue (next_listed a))) → listed_of (says vs) ≡ given ++ map (λ m. m.1) vs
+
+-- a list was read
+abbrev pub ReadsList : (a : Phrase) → List (PhraseValue a) → Parser → Parser → Type 0
+ReadsList a given start here = (v : PhraseValue (listed a)) × (listed_of v ≡ given) × Read (listed a) v start here
+
+pub lists_none : (a : Phrase) (start : Parser) → is_at (first (a ▸ many (next_listed a))) start.rest.now ≡ false → ReadsList a [] start start
+lists_none a start h = (None, refl, finds_absence h)
+
+pub lists_one : (a : Phrase) (u : PhraseValue a) (start here : Parser) → is_at (first (a ▸ many (next_listed a))) start.rest.now ≡ true → Read a u start here → Lists a (u ∷ []) start here
+lists_one a u start here h r = record {
+  says = λ vs. Some (u, vs);
+  read = record { found = λ v m us s. finds_presence h (finds_both r s); failed = λ f s. fails_presence h (fails_behind r s) };
+  meant = λ vs. refl;
+}
+
+pub lists_more : (a : Phrase) (given : List (PhraseValue a)) (u : PhraseValue a) (start here mid next : Parser) → Lists a given start here → is_at (classes_of (symbol Comma)) here.rest.now ≡ true → Read (token (symbol Comma)) tt here mid → Read a u mid next → Lists a (given ++ u ∷ []) start next
+lists_more a given u start here mid next l h r s = record {
+  says = λ vs. l.says ((tt, u) ∷ vs);
+  read = continues_many (listed a) (next_listed a) l.says (tt, u) start here next l.read h (finds_both r s);
+  meant = λ vs. l.meant ((tt, u) ∷ vs) ∙ sym (append_assoc given (u ∷ []) (map (λ m. m.1) vs));
+}
+
+pub lists_end : (a : Phrase) (given : List (PhraseValue a)) (start here : Parser) → Lists a given start here → is_at (classes_of (symbol Comma)) here.rest.now ≡ false → ReadsList a given start here
+lists_end a given start here l h =
+    (l.says [], l.meant [] ∙ append-nil given, ends_many (listed a) (next_listed a) l.says start here l.read h)
+
+-- the first failed, or one behind a comma
+pub lists_fails_first : (a : Phrase) (start : Parser) (f : Failure) → is_at (first (a ▸ many (next_listed a))) start.rest.now ≡ true → ReadingFails 200 a start.depth start.rest.now f → ReadingFails 200 (listed a) start.depth start.rest.now f
+lists_fails_first a start f h r = fails_presence h (fails_front r)
+
+pub lists_fails : (a : Phrase) (given : List (PhraseValue a)) (start here mid : Parser) (f : Failure) → Lists a given start here → is_at (classes_of (symbol Comma)) here.rest.now ≡ true → Read (token (symbol Comma)) tt here mid → ReadingFails 200 a mid.depth mid.rest.now f → ReadingFails 200 (listed a) start.depth start.rest.now f
+lists_fails a given start here mid f l h r s = l.read.failed f (fails_one h (fails_behind r s))

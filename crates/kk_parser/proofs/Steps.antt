@@ -1,0 +1,289 @@
+-- The steps of the parser's methods: what a reading of a phrase comes to, from what its parts come to.
+use Rattle.std.proofs.Common.{◌≡◌, ℕ, ◌+◌, ◌<◌, ◌≤◌, Bool, true, false, List, [], ◌∷◌, ◌++◌, Option, Some, None, option_copied, slice_get, Result, Ok, Err, IfOk, OnOk, IfErr, IsErrAnd, is_some, refl, sym, ap, ◌∙◌, subst, inl, inr}
+use Rattle.std.specs.Borrow.{Bor}
+use Rattle.kk_syntax.specs.declared.token.LocatedToken.{LocatedToken}
+use Rattle.kk_syntax.specs.declared.token.Keyword.{Keyword}
+use Rattle.kk_syntax.specs.declared.token.Symbol.{Symbol}
+use Rattle.kk_syntax.specs.declared.token.Token.{Token}
+use Rattle.kk_syntax.specs.declared.token.Token.TheVariants as OfToken
+use Rattle.kk_syntax.specs.declared.tree.Identifier.{Identifier}
+use Rattle.kk_syntax.specs.declared.tree.SurfaceExpr.{SurfaceExpr}
+use Rattle.kk_syntax.specs.Surface.{Written, WrittenStatement}
+use Rattle.kk_parser.specs.declared.fault.Fault.{Fault}
+use Rattle.kk_parser.specs.declared.fault.Fault.TheVariants.{Unexpected, TooDeep, NoMemory}
+use Rattle.kk_parser.specs.declared.parser.Parser.{Parser}
+use Rattle.kk_parser.specs.Classes.{NameClass, name_class, Class, class_of, is_one_of, is_at}
+use Rattle.kk_parser.specs.Kinds.{Kind, keyword, symbol, name_in, is_name_in, Said, said_at, says, next_says, classes_of}
+use Rattle.kk_parser.specs.Phrases.{Nonterminal, Phrase, token, opener, ◌▸◌, either, many, optional, rule, PhraseValue}
+use Rattle.kk_parser.specs.Forms.{form, form_meaning, items}
+use Rattle.kk_parser.specs.Reading.{first, Finds, finds_token, finds_opener, Failure, unexpected, too_deep, ReadingFails, fails_deep, finds_first, finds_second, finds_none, finds_more, finds_both, finds_rule, fails_rule, fails_front, fails_behind, fails_first, fails_second, fails_more}
+use Rattle.kk_parser.proofs.Apart.{next_says_class}
+use Rattle.kk_parser.proofs.Begins.{is_at-front, is_at-back}
+use Rattle.kk_parser.specs.Methods.{behind, Read, FailedBy, ReadsPhrase, ReadsFor, ReadsAs, ReadsItems, ReadsIfNext, Deepens}
+
+finds_next : (k : Kind) (n : ℕ) (ts : List LocatedToken) (v : Said k) → next_says k ts ≡ Some v → Finds 200 (token k) n ts v n (behind ts)
+finds_next k n [] v e = absurd (cc e)
+finds_next k n (t ∷ ts) v e = finds_token e
+
+opens_next : (k : Kind) (n : ℕ) (ts : List LocatedToken) (v : Said k) → next_says k ts ≡ Some v → n < 200 → Finds 200 (opener k) n ts v (n + 1) (behind ts)
+opens_next k n [] v e h = absurd (cc e)
+opens_next k n (t ∷ ts) v e h = finds_opener e h
+
+pub said_next : (k : Kind) (ts : List LocatedToken) → is_at (classes_of k) ts ≡ true → (v : Said k) × (next_says k ts ≡ Some v)
+said_next k ts h = of (next_says k ts) (next_says_class k ts ∙ h)
+  where
+    of : (o : Option (Said k)) → is_some o ≡ true → (v : Said k) × (o ≡ Some v)
+    of (Some v) e = (v, refl)
+    of None e = absurd (cc e)
+
+-- a token of a kind was next, and was passed
+pub token_read : (k : Kind) (old new : Parser) (v : Said k) → next_says k old.rest.now ≡ Some v → new.rest.now ≡ behind old.rest.now → new.depth ≡ old.depth → Read (token k) v old new
+token_read k old new v e r d =
+    subst (λ us. Finds 200 (token k) old.depth old.rest.now v new.depth us) (sym r) (subst (λ m. Finds 200 (token k) old.depth old.rest.now v m (behind old.rest.now)) (sym d) (finds_next k old.depth old.rest.now v e))
+
+pub opener_read : (k : Kind) (old new : Parser) (v : Said k) → next_says k old.rest.now ≡ Some v → old.depth < 200 → new.rest.now ≡ behind old.rest.now → new.depth ≡ old.depth + 1 → Read (opener k) v old new
+opener_read k old new v e h r d =
+    subst (λ us. Finds 200 (opener k) old.depth old.rest.now v new.depth us) (sym r) (subst (λ m. Finds 200 (opener k) old.depth old.rest.now v m (behind old.rest.now)) (sym d) (opens_next k old.depth old.rest.now v e h))
+
+-- a symbol was next, and was passed
+pub symbol_read : (s : Symbol) (old new : Parser) → is_at (classes_of (symbol s)) old.rest.now ≡ true → new.rest.now ≡ behind old.rest.now → new.depth ≡ old.depth → Read (token (symbol s)) tt old new
+symbol_read s old new h r d = token_read (symbol s) old new tt ((said_next (symbol s) old.rest.now h).1) r d
+
+pub keyword_read : (w : Keyword) (old new : Parser) → is_at (classes_of (keyword w)) old.rest.now ≡ true → new.rest.now ≡ behind old.rest.now → new.depth ≡ old.depth → Read (token (keyword w)) tt old new
+keyword_read w old new h r d = token_read (keyword w) old new tt ((said_next (keyword w) old.rest.now h).1) r d
+
+-- a token that is next may open a level too many
+pub too_deep_failed : (p : Phrase) (old new : Parser) (e : Fault) → (200 ≤ old.depth → ReadingFails 200 p old.depth old.rest.now (too_deep old.rest.now)) → Deepens (Err e) old new → FailedBy e p old new
+too_deep_failed p old new e h d =
+    subst (λ x. FailedBy x p old new) (sym d.0) (subst (λ us. ReadingFails 200 p old.depth old.rest.now (too_deep us)) (sym d.2) (h d.1))
+
+pub deepen_failed : (k : Kind) (old new : Parser) (e : Fault) → is_at (classes_of k) old.rest.now ≡ true → Deepens (Err e) old new → FailedBy e (opener k) old new
+deepen_failed k old new e h d = too_deep_failed (opener k) old new e (fails_deep h) d
+
+-- a symbol or a keyword was next, and it opens a level or one too many
+pub deepen_reads : (s : Symbol) (old new : Parser) (r : Result (Unit {0}) Fault) → is_at (classes_of (symbol s)) old.rest.now ≡ true → Deepens r old new → ReadsPhrase (opener (symbol s)) (λ _. tt) r old new
+deepen_reads s old new (Ok _) h d = opener_read (symbol s) old new tt ((said_next (symbol s) old.rest.now h).1) d.0 d.2 d.1
+deepen_reads s old new (Err e) h d = deepen_failed (symbol s) old new e h d
+
+pub deepen_reads_keyword : (w : Keyword) (old new : Parser) (r : Result (Unit {0}) Fault) → is_at (classes_of (keyword w)) old.rest.now ≡ true → Deepens r old new → ReadsPhrase (opener (keyword w)) (λ _. tt) r old new
+deepen_reads_keyword w old new (Ok _) h d = opener_read (keyword w) old new tt ((said_next (keyword w) old.rest.now h).1) d.0 d.2 d.1
+deepen_reads_keyword w old new (Err e) h d = deepen_failed (keyword w) old new e h d
+
+-- a failure of a part is one of the whole
+pub passed_on : (p q : Phrase) (old mid new : Parser) → ((f : Failure) → ReadingFails 200 q mid.depth mid.rest.now f → ReadingFails 200 p old.depth old.rest.now f) → (e : Fault) → FailedBy e q mid new → FailedBy e p old new
+passed_on p q old mid new t Unexpected h = t (unexpected new.rest.now) h
+passed_on p q old mid new t TooDeep h = t (too_deep new.rest.now) h
+passed_on p q old mid new t NoMemory h = tt
+
+-- where a method gives up by `?`, it fails as what it called
+pub gives_up : {A : Type 0} (p : Phrase) (view : A → PhraseValue p) (r : Result A Fault) (e : Fault) (old new : Parser) → IsErrAnd r (λ y. y ≡ e) → FailedBy e p old new → ReadsPhrase p view r old new
+gives_up p view (Ok x) e old new i h = absurd i
+gives_up p view (Err y) e old new i h = subst (λ x. FailedBy x p old new) (sym i) h
+
+pub gives_up_for : {A : Type 0} (p : Phrase) (means : PhraseValue p → A) (r : Result A Fault) (e : Fault) (old new : Parser) → IsErrAnd r (λ y. y ≡ e) → FailedBy e p old new → ReadsFor p means r old new
+gives_up_for p means (Ok x) e old new i h = absurd i
+gives_up_for p means (Err y) e old new i h = subst (λ x. FailedBy x p old new) (sym i) h
+
+pub gives_up_as : {A B : Type 0} (p : Phrase) (means : PhraseValue p → B) (view : A → B) (r : Result A Fault) (e : Fault) (old new : Parser) → IsErrAnd r (λ y. y ≡ e) → FailedBy e p old new → ReadsAs p means view r old new
+gives_up_as p means view (Ok x) e old new i h = absurd i
+gives_up_as p means view (Err y) e old new i h = subst (λ x. FailedBy x p old new) (sym i) h
+
+pub gives_up_items : (before after : List WrittenStatement) (r : Result SurfaceExpr Fault) (e : Fault) (old new : Parser) → IsErrAnd r (λ y. y ≡ e) → FailedBy e items old new → ReadsItems before after r old new
+gives_up_items before after (Ok x) e old new i h = absurd i
+gives_up_items before after (Err y) e old new i h = subst (λ x. FailedBy x items old new) (sym i) h
+
+pub gives_up_if_next : {A : Type 0} (p : Phrase) (means : PhraseValue p → A) (r : Result (Option A) Fault) (e : Fault) (old new : Parser) → IsErrAnd r (λ y. y ≡ e) → is_at (first p) old.rest.now ≡ true → FailedBy e p old new → ReadsIfNext p means r old new
+gives_up_if_next p means (Ok x) e old new i t h = absurd i
+gives_up_if_next p means (Err y) e old new i t h = (t, subst (λ x. FailedBy x p old new) (sym i) h)
+
+-- where a method gives up by `?`, the phrase that it reads fails as the part that it called for
+pub gives_up_in : {A : Type 0} (p q : Phrase) (view : A → PhraseValue p) (r : Result A Fault) (e : Fault) (old mid new : Parser) → ((f : Failure) → ReadingFails 200 q mid.depth mid.rest.now f → ReadingFails 200 p old.depth old.rest.now f) → IsErrAnd r (λ y. y ≡ e) → FailedBy e q mid new → ReadsPhrase p view r old new
+gives_up_in p q view r e old mid new t i h = gives_up p view r e old new i (passed_on p q old mid new t e h)
+
+pub gives_up_for_in : {A : Type 0} (p q : Phrase) (means : PhraseValue p → A) (r : Result A Fault) (e : Fault) (old mid new : Parser) → ((f : Failure) → ReadingFails 200 q mid.depth mid.rest.now f → ReadingFails 200 p old.depth old.rest.now f) → IsErrAnd r (λ y. y ≡ e) → FailedBy e q mid new → ReadsFor p means r old new
+gives_up_for_in p q means r e old mid new t i h = gives_up_for p means r e old new i (passed_on p q old mid new t e h)
+
+pub gives_up_as_in : {A B : Type 0} (p q : Phrase) (means : PhraseValue p → B) (view : A → B) (r : Result A Fault) (e : Fault) (old mid new : Parser) → ((f : Failure) → ReadingFails 200 q mid.depth mid.rest.now f → ReadingFails 200 p old.depth old.rest.now f) → IsErrAnd r (λ y. y ≡ e) → FailedBy e q mid new → ReadsAs p means view r old new
+gives_up_as_in p q means view r e old mid new t i h = gives_up_as p means view r e old new i (passed_on p q old mid new t e h)
+
+-- of the phrases that another may be, one is chosen by the next token
+pub record Chooses (p one : Phrase) (words : PhraseValue one) (ts : List LocatedToken) : Type 0 where
+  pub whole : PhraseValue p
+  pub next : is_at (first p) ts ≡ true
+  pub found : (n m : ℕ) (us : List LocatedToken) → Finds 200 one n ts words m us → Finds 200 p n ts whole m us
+  pub failed : (n : ℕ) (f : Failure) → ReadingFails 200 one n ts f → ReadingFails 200 p n ts f
+
+abbrev pub chooses_only : (one : Phrase) (words : PhraseValue one) (ts : List LocatedToken) → is_at (first one) ts ≡ true → Chooses one one words ts
+chooses_only one words ts h = record { whole = words; next = h; found = λ n m us r. r; failed = λ n f r. r }
+
+abbrev pub chooses_first : (one b : Phrase) (words : PhraseValue one) (ts : List LocatedToken) → is_at (first one) ts ≡ true → Chooses (either one b) one words ts
+chooses_first one b words ts h = record {
+  whole = inl words;
+  next = is_at-front (first one) (first b) ts h;
+  found = λ n m us r. finds_first h r;
+  failed = λ n f r. fails_first h r;
+}
+
+abbrev pub chooses_second : (one a b : Phrase) (words : PhraseValue one) (ts : List LocatedToken) → is_at (first a) ts ≡ false → Chooses b one words ts → Chooses (either a b) one words ts
+chooses_second one a b words ts h c = record {
+  whole = inr c.whole;
+  next = is_at-back (first a) (first b) ts c.next;
+  found = λ n m us r. finds_second h (c.found n m us r);
+  failed = λ n f r. fails_second h (c.failed n f r);
+}
+
+-- an operator is next: it opens a level, or one too many
+pub operator_found : {A : Type 0} (p : Phrase) (s : Symbol) (means : PhraseValue p → A) (x : A) (old new : Parser) (c : Chooses p (opener (symbol s)) tt old.rest.now) → is_at (classes_of (symbol s)) old.rest.now ≡ true → means c.whole ≡ x → Deepens (Ok tt) old new → ReadsIfNext p means (Ok (Some x)) old new
+operator_found p s means x old new c h e d =
+    (c.next, c.whole, e, c.found old.depth new.depth new.rest.now (opener_read (symbol s) old new tt ((said_next (symbol s) old.rest.now h).1) d.0 d.2 d.1))
+
+pub operator_failed : {A : Type 0} (p : Phrase) (s : Symbol) (means : PhraseValue p → A) (r : Result (Option A) Fault) (e : Fault) (old new : Parser) → Chooses p (opener (symbol s)) tt old.rest.now → is_at (classes_of (symbol s)) old.rest.now ≡ true → Deepens (Err e) old new → IsErrAnd r (λ y. y ≡ e) → ReadsIfNext p means r old new
+operator_failed p s means r e old new c h d i =
+    gives_up_if_next p means r e old new i c.next (passed_on p (opener (symbol s)) old old new (λ f. c.failed old.depth f) e (deepen_failed (symbol s) old new e h d))
+
+-- what the next token says, where one is next
+pub next_says-first : (k : Kind) (ts : List LocatedToken) (o : Option (Bor LocatedToken)) (b : Bor LocatedToken) → option_copied o ≡ slice_get ts 0 → o ≡ Some b → next_says k ts ≡ says k b.now
+next_says-first k [] o b e d = absurd (cc (e, ap option_copied d))
+next_says-first k (t ∷ ts) o b e d = words (says k) t b.now (sym e ∙ ap option_copied d)
+  where
+    words : (f : LocatedToken → Option (Said k)) (t u : LocatedToken) → Some t ≡ Some u → f t ≡ f u
+    words f t u h = cc
+
+-- nothing is next where no token is
+pub is_at-none : (classes : List Class) (ts : List LocatedToken) (o : Option (Bor LocatedToken)) → option_copied o ≡ slice_get ts 0 → o ≡ None → is_at classes ts ≡ false
+is_at-none classes [] o e d = refl
+is_at-none classes (t ∷ ts) o e d = absurd (cc (e, ap option_copied d))
+
+-- where a token is next, its class is what counts
+pub is_at-first : (classes : List Class) (ts : List LocatedToken) (o : Option (Bor LocatedToken)) (b : Bor LocatedToken) → option_copied o ≡ slice_get ts 0 → o ≡ Some b → is_at classes ts ≡ is_one_of classes (class_of b.now.token)
+is_at-first classes [] o b e d = absurd (cc (e, ap option_copied d))
+is_at-first classes (t ∷ ts) o b e d = of (λ u. is_one_of classes (class_of u.token)) t b.now (sym e ∙ ap option_copied d)
+  where
+    of : (f : LocatedToken → Bool) (t u : LocatedToken) → Some t ≡ Some u → f t ≡ f u
+    of f t u h = cc
+
+-- a token of a kind is next
+pub is_at-said : (k : Kind) (ts : List LocatedToken) (v : Said k) → next_says k ts ≡ Some v → is_at (classes_of k) ts ≡ true
+is_at-said k ts v e = sym (next_says_class k ts) ∙ ap is_some e
+
+pub is_at-unsaid : (k : Kind) (ts : List LocatedToken) → next_says k ts ≡ None → is_at (classes_of k) ts ≡ false
+is_at-unsaid k ts e = sym (next_says_class k ts) ∙ ap is_some e
+
+-- a name of one of some classes is next, or of none of them
+pub said_name : (classes : List NameClass) (spelling : List ℕ) (at : ℕ) → is_name_in classes (name_class spelling) ≡ true → said_at (name_in classes) (OfToken.Name spelling) at ≡ Some (record { name = spelling; at = at })
+said_name classes spelling at h = rw h refl
+
+pub unsaid_name : (classes : List NameClass) (spelling : List ℕ) (at : ℕ) → is_name_in classes (name_class spelling) ≡ false → said_at (name_in classes) (OfToken.Name spelling) at ≡ None
+unsaid_name classes spelling at h = rw h refl
+
+pub unsaid_other : (classes : List NameClass) (t : Token) (at : ℕ) → ((spelling : List ℕ) → t ≡ OfToken.Name spelling → ⊥) → said_at (name_in classes) t at ≡ None
+unsaid_other classes (OfToken.Name spelling) at h = absurd (h spelling refl)
+unsaid_other classes (OfToken.Constructor spelling) at h = refl
+unsaid_other classes OfToken.Wildcard at h = refl
+unsaid_other classes (OfToken.Number value) at h = refl
+unsaid_other classes (OfToken.String text) at h = refl
+unsaid_other classes (OfToken.Keyword k) at h = refl
+unsaid_other classes (OfToken.Symbol s) at h = refl
+
+pub is_at-name : (classes : List NameClass) (ts : List LocatedToken) (spelling : List ℕ) (at : ℕ) (b : Bool) → b ≡ is_name_in classes (name_class spelling) → next_says (name_in classes) ts ≡ said_at (name_in classes) (OfToken.Name spelling) at → b ≡ is_at (classes_of (name_in classes)) ts
+is_at-name classes ts spelling at true h e = sym (is_at-said (name_in classes) ts _ (e ∙ said_name classes spelling at (sym h)))
+is_at-name classes ts spelling at false h e = sym (is_at-unsaid (name_in classes) ts (e ∙ unsaid_name classes spelling at (sym h)))
+
+-- a token was passed, and its name copied
+pub name_taken : (k : Kind) (view : Identifier → Said k) (i : Identifier) (r : Result Identifier Fault) (old new : Parser) → next_says k old.rest.now ≡ Some (view i) → IfOk r (λ x. x ≡ i) → OnOk r (new.rest.now ≡ behind old.rest.now) → new.depth ≡ old.depth → IfErr r (λ f. f ≡ NoMemory) → ReadsPhrase (token k) view r old new
+name_taken k view i (Ok x) old new e c b d f = token_read k old new (view x) (e ∙ ap (λ y. Some (view y)) (sym c)) b d
+name_taken k view i (Err y) old new e c b d f = subst (λ x. FailedBy x (token k) old new) (sym f) tt
+
+-- Continues p q says start here: to read q from here is to read p from the start, which then says what `says` gives
+pub record Continues (p q : Phrase) (says : PhraseValue q → PhraseValue p) (start here : Parser) : Type 0 where
+  pub found : (v : PhraseValue q) (m : ℕ) (us : List LocatedToken) → Finds 200 q here.depth here.rest.now v m us → Finds 200 p start.depth start.rest.now (says v) m us
+  pub failed : (f : Failure) → ReadingFails 200 q here.depth here.rest.now f → ReadingFails 200 p start.depth start.rest.now f
+
+pub continues_start : (p : Phrase) (start : Parser) → Continues p p (λ v. v) start start
+continues_start p start = record { found = λ v m us r. r; failed = λ f r. r }
+
+-- one of many was read
+pub continues_many : (p a : Phrase) (says : List (PhraseValue a) → PhraseValue p) (u : PhraseValue a) (start here next : Parser) → Continues p (many a) says start here → is_at (first a) here.rest.now ≡ true → Read a u here next → Continues p (many a) (λ vs. says (u ∷ vs)) start next
+continues_many p a says u start here next c h r = record {
+  found = λ v m us s. c.found (u ∷ v) m us (finds_more h r s);
+  failed = λ f s. c.failed f (fails_more h r s);
+}
+
+-- one of many was read that stand before something else
+pub continues_many_before : (p a b : Phrase) (says : PhraseValue (many a ▸ b) → PhraseValue p) (u : PhraseValue a) (start here next : Parser) → Continues p (many a ▸ b) says start here → is_at (first a) here.rest.now ≡ true → Read a u here next → Continues p (many a ▸ b) (λ v. says (u ∷ v.0, v.1)) start next
+continues_many_before p a b says u start here next c h r = record {
+  found = λ v m us s. c.found (u ∷ v.0, v.1) m us (more_found s);
+  failed = λ f s. c.failed f (more_failed s);
+}
+  where
+    more_found : {v : PhraseValue (many a ▸ b)} {m : ℕ} {us : List LocatedToken} → Finds 200 (many a ▸ b) next.depth next.rest.now v m us → Finds 200 (many a ▸ b) here.depth here.rest.now (u ∷ v.0, v.1) m us
+    more_found (finds_both s t) = finds_both (finds_more h r s) t
+
+    more_failed : {f : Failure} → ReadingFails 200 (many a ▸ b) next.depth next.rest.now f → ReadingFails 200 (many a ▸ b) here.depth here.rest.now f
+    more_failed (fails_front s) = fails_front (fails_more h r s)
+    more_failed (fails_behind s t) = fails_behind (finds_more h r s) t
+
+-- the same in other words
+pub continues_as : (p q : Phrase) (says other : PhraseValue q → PhraseValue p) (start here : Parser) → ((v : PhraseValue q) → says v ≡ other v) → Continues p q says start here → Continues p q other start here
+continues_as p q says other start here e c = record {
+  found = λ v m us r. subst (λ w. Finds 200 p start.depth start.rest.now w m us) (e v) (c.found v m us r);
+  failed = c.failed;
+}
+
+-- there are no more
+pub ends_many : (p a : Phrase) (says : List (PhraseValue a) → PhraseValue p) (start here : Parser) → Continues p (many a) says start here → is_at (first a) here.rest.now ≡ false → Read p (says []) start here
+ends_many p a says start here c h = c.found [] here.depth here.rest.now (finds_none h)
+
+pub continues_rule : (x : Nonterminal) (start : Parser) → Continues (rule x) (form x) (form_meaning x) start start
+continues_rule x start = record { found = λ v m us r. finds_rule r; failed = λ f r. fails_rule r }
+
+-- the first of two phrases was read
+pub continues_both : (a b : Phrase) (u : PhraseValue a) (start here : Parser) → Read a u start here → Continues (a ▸ b) b (λ v. (u, v)) start here
+continues_both a b u start here r = record { found = λ v m us s. finds_both r s; failed = λ f s. fails_behind r s }
+
+pub continues_on : (p q r : Phrase) (says : PhraseValue q → PhraseValue p) (more : PhraseValue r → PhraseValue q) (start here next : Parser) → Continues p q says start here → Continues q r more here next → Continues p r (λ v. says (more v)) start next
+continues_on p q r says more start here next c d = record { found = λ v m us s. c.found (more v) m us (d.found v m us s); failed = λ f s. c.failed f (d.failed f s) }
+
+pub continues_second : (a b : Phrase) (start : Parser) → is_at (first a) start.rest.now ≡ false → Continues (either a b) b (λ v. inr v) start start
+continues_second a b start h = record { found = λ v m us r. finds_second h r; failed = λ f r. fails_second h r }
+
+pub continues_first : (a b : Phrase) (start : Parser) → is_at (first a) start.rest.now ≡ true → Continues (either a b) a (λ v. inl v) start start
+continues_first a b start h = record { found = λ v m us r. finds_first h r; failed = λ f r. fails_first h r }
+
+-- what was read from the start to a state was read to one with the same tokens and levels
+pub read_to : (p : Phrase) (v : PhraseValue p) (start here next : Parser) → next.depth ≡ here.depth → next.rest.now ≡ here.rest.now → Read p v start here → Read p v start next
+read_to p v start here next d e r =
+    subst (λ us. Finds 200 p start.depth start.rest.now v next.depth us) (sym e) (subst (λ m. Finds 200 p start.depth start.rest.now v m here.rest.now) (sym d) r)
+
+-- what is read from one state is read from one with the same tokens and levels
+pub read_from : (p : Phrase) (v : PhraseValue p) (start here next : Parser) → here.depth ≡ start.depth → here.rest.now ≡ start.rest.now → Read p v here next → Read p v start next
+read_from p v start here next d e r =
+    subst (λ ts. Finds 200 p start.depth ts v next.depth next.rest.now) e (subst (λ n. Finds 200 p n here.rest.now v next.depth next.rest.now) d r)
+
+pub fails_from : (p : Phrase) (f : Failure) (start here : Parser) → here.depth ≡ start.depth → here.rest.now ≡ start.rest.now → ReadingFails 200 p here.depth here.rest.now f → ReadingFails 200 p start.depth start.rest.now f
+fails_from p f start here d e r =
+    subst (λ ts. ReadingFails 200 p start.depth ts f) e (subst (λ n. ReadingFails 200 p n here.rest.now f) d r)
+
+-- the last part of a phrase was read, or failed
+pub reads_on : {A : Type 0} (p q : Phrase) (view : A → PhraseValue p) (part : A → PhraseValue q) (says : PhraseValue q → PhraseValue p) (r : Result A Fault) (start here next : Parser) → Continues p q says start here → ((x : A) → says (part x) ≡ view x) → ReadsPhrase q part r here next → ReadsPhrase p view r start next
+reads_on p q view part says (Ok x) start here next c e r = subst (λ v. Read p v start next) (e x) (c.found (part x) next.depth next.rest.now r)
+reads_on p q view part says (Err e) start here next c d r = passed_on p q start here next c.failed e r
+
+-- one more operator and its operand on the right
+pub continues_left : (p a b : Phrase) (says : Written → List (PhraseValue (a ▸ b)) → PhraseValue p) (left : Written) (u : PhraseValue a) (v : PhraseValue b) (next_left : Written) (start here mid next : Parser) → Continues p (many (a ▸ b)) (says left) start here → is_at (first (a ▸ b)) here.rest.now ≡ true → Read a u here mid → Read b v mid next → ((vs : List (PhraseValue (a ▸ b))) → says left ((u, v) ∷ vs) ≡ says next_left vs) → Continues p (many (a ▸ b)) (says next_left) start next
+continues_left p a b says left u v next_left start here mid next c h r s e = record {
+  found = λ vs m us t. subst (λ w. Finds 200 p start.depth start.rest.now w m us) (e vs) (c.found ((u, v) ∷ vs) m us (finds_more h (finds_both r s) t));
+  failed = λ f t. c.failed f (fails_more h (finds_both r s) t);
+}
+
+-- what continues from a state continues from one with the same tokens and levels
+pub continues_to : (p q : Phrase) (says : PhraseValue q → PhraseValue p) (start here next : Parser) → next.depth ≡ here.depth → next.rest.now ≡ here.rest.now → Continues p q says start here → Continues p q says start next
+continues_to p q says start here next d e c = record {
+  found = λ v m us r. c.found v m us (subst (λ n. Finds 200 q n here.rest.now v m us) d (subst (λ ts. Finds 200 q next.depth ts v m us) e r));
+  failed = λ f r. c.failed f (fails_from q f here next d e r);
+}
+
+-- the last part of a phrase was read for what it means, or failed
+pub reads_as_on : {A : Type 0} (p q : Phrase) (view : A → PhraseValue p) (means says : PhraseValue q → PhraseValue p) (r : Result A Fault) (start here next : Parser) → Continues p q says start here → ((v : PhraseValue q) → says v ≡ means v) → ReadsAs q means view r here next → ReadsPhrase p view r start next
+reads_as_on p q view means says (Ok x) start here next c e r = subst (λ v. Read p v start next) (e r.0 ∙ r.1) (c.found r.0 next.depth next.rest.now r.2)
+reads_as_on p q view means says (Err e) start here next c d r = passed_on p q start here next c.failed e r

@@ -1,0 +1,14 @@
+use Rattle.std.proofs.Common.{ap, ◌∙◌}
+use Rattle.kk_parser.specs.Classes.{name_class}
+use Rattle.kk_parser.specs.Kinds.{name_in, is_name_in, said_at}
+use Rattle.kk_parser.specs.Views.{classes_in}
+use Rattle.kk_parser.proofs.Steps.{next_says-first, is_at-name}
+use Rattle.kk_parser.proofs.parser.Parser.is_at_name.Goals as goal
+
+pub returns-in-Name-clause-value : goal.returns-in-Name-clause-value
+returns-in-Name-clause-value c =
+    let next = c.in-Some.next.now in
+    let classes = classes_in c.args.names in
+    is_at-name classes c.args.self.now.rest.now c.in-Name.name next.span.at c.has.result
+    (c.has.ensures ∙ ap (is_name_in classes) (c.name_class.ensures ∙ ap name_class c.as_str.ensures))
+    (next_says-first (name_in classes) c.args.self.now.rest.now c.first.result c.in-Some.next c.first.ensures.value c.in-Some.is ∙ ap (λ t. said_at (name_in classes) t next.span.at) c.in-Name.is)

@@ -1,0 +1,9 @@
+use Rattle.kk_parser.proofs.OneOutcome.{each_list_is_parsed}
+use Rattle.kk_parser.proofs.Laws.{program_law}
+use Rattle.kk_parser.proofs.program.each_list_is_parsed.Goals as goal
+
+pub returns-clause-exactly_one : goal.returns-clause-exactly_one
+returns-clause-exactly_one c = each_list_is_parsed
+
+pub returns-clause-at_any_depth : goal.returns-clause-at_any_depth
+returns-clause-at_any_depth c = program_law

@@ -1,0 +1,380 @@
+ghost use Rattle.std.specs.Prelude.{◌≡◌, ◌+◌, ◌≤◌, [], ◌∷◌, map, length, IfOk, OnOk};
+ghost use Rattle.kk_syntax.specs.Surface.{written_expr, unit};
+ghost use Rattle.kk_parser.specs.Classes.{is_at};
+ghost use Rattle.kk_parser.specs.Forms.{branches, branches_of, in_brackets, inside, spoken as OfSpoken, spoken_of, printed as OfPrinted, printed_of};
+ghost use Rattle.kk_parser.specs.Grammar.{arguments_given, bracketed, if_of, named_of, print_form, no_arguments};
+ghost use Rattle.kk_parser.specs.Kinds.{name_but_print};
+ghost use Rattle.kk_parser.specs.Methods.{ReadsPhrase, ReadsFor, ReadsAs};
+ghost use Rattle.kk_parser.specs.Phrases.{token, optional, ◌▸◌, rule, expr as OfExpr, if_ as OfIf, or as OfOr, and as OfAnd, cmp as OfCmp, add as OfAdd, mul as OfMul, un as OfUn, post as OfPost, atom as OfAtom, args as OfArgs};
+ghost use Rattle.kk_parser.specs.Reading.{expr_first, is_quoted};
+ghost use Rattle.kk_parser.specs.Views.{arguments_view};
+
+use crate::fault::Fault;
+use crate::made::{binary, both, branch, branch_alone, dot_call, either, unary};
+use crate::name::Names;
+use crate::parser::Parser;
+use kk_syntax::{Keyword, SurfaceExpr, Symbol, Token};
+
+impl<'a> Parser<'a> {
+    /// `expr = block | if | or`: the levels end that it opens.
+    #[cycle(expr)]
+    pub fn expr(&mut self) -> Result<SurfaceExpr, Fault>
+        ensures reads { ReadsPhrase (rule OfExpr) written_expr result self.old self.new }
+        ensures depth { OnOk result (self.new.depth ≡ self.old.depth) }
+        ensures left { length self.new.rest.now ≤ length self.old.rest.now }
+    {
+        let depth = self.depth;
+        if self.is_at(Symbol::OpenBrace) {
+            let value = self.block()?;
+            self.depth = depth;
+            return Ok(value);
+        }
+        if self.is_at_keyword(Keyword::If) {
+            let value = self.if_()?;
+            self.depth = depth;
+            return Ok(value);
+        }
+        let value = self.or()?;
+        self.depth = depth;
+        Ok(value)
+    }
+
+    /// `if = "if" or "then" expr { "elif" or "then" expr } [ "else" expr ]`
+    #[cycle(expr)]
+    fn if_(&mut self) -> Result<SurfaceExpr, Fault>
+        ensures reads { ReadsPhrase (rule OfIf) written_expr result self.old self.new }
+        ensures depth { OnOk result (self.old.depth ≤ self.new.depth) }
+        ensures left { length self.new.rest.now ≤ length self.old.rest.now }
+    {
+        self.open_keyword(Keyword::If)?;
+        self.branches()
+    }
+
+    // What stands behind `if` or `elif`. The next `elif` is an `if` in the branch of `else`.
+    #[cycle(expr)]
+    fn branches(&mut self) -> Result<SurfaceExpr, Fault>
+        ensures reads { ReadsAs branches branches_of written_expr result self.old self.new }
+        ensures depth { OnOk result (self.old.depth ≤ self.new.depth) }
+        ensures left { length self.new.rest.now ≤ length self.old.rest.now }
+    {
+        let condition = self.or()?;
+        self.expect_keyword(Keyword::Then)?;
+        let positive = self.expr()?;
+        if self.is_at_keyword(Keyword::Elif) {
+            self.deepen()?;
+            let negative = self.branches()?;
+            return Ok(branch(self.alloc, condition, positive, negative)?);
+        }
+        if self.is_at_keyword(Keyword::Else) {
+            self.advance();
+            let negative = self.expr()?;
+            return Ok(branch(self.alloc, condition, positive, negative)?);
+        }
+        Ok(branch_alone(self.alloc, condition, positive)?)
+    }
+
+    /// `or = and [ "||" or ]`
+    #[cycle(expr)]
+    fn or(&mut self) -> Result<SurfaceExpr, Fault>
+        ensures reads { ReadsPhrase (rule OfOr) written_expr result self.old self.new }
+        ensures depth { OnOk result (self.old.depth ≤ self.new.depth) }
+        ensures left { length self.new.rest.now ≤ length self.old.rest.now }
+    {
+        let left = self.and()?;
+        if !self.is_at(Symbol::OrOr) {
+            return Ok(left);
+        }
+        self.open(Symbol::OrOr)?;
+        let right = self.or()?;
+        Ok(either(self.alloc, left, right)?)
+    }
+
+    /// `and = cmp [ "&&" and ]`
+    #[cycle(expr)]
+    fn and(&mut self) -> Result<SurfaceExpr, Fault>
+        ensures reads { ReadsPhrase (rule OfAnd) written_expr result self.old self.new }
+        ensures depth { OnOk result (self.old.depth ≤ self.new.depth) }
+        ensures left { length self.new.rest.now ≤ length self.old.rest.now }
+    {
+        let left = self.cmp()?;
+        if !self.is_at(Symbol::AndAnd) {
+            return Ok(left);
+        }
+        self.open(Symbol::AndAnd)?;
+        let right = self.and()?;
+        Ok(both(self.alloc, left, right)?)
+    }
+
+    /// `cmp = add [ ( "==" | "!=" | "<" | "<=" | ">" | ">=" ) add ]`
+    #[cycle(expr)]
+    fn cmp(&mut self) -> Result<SurfaceExpr, Fault>
+        ensures reads { ReadsPhrase (rule OfCmp) written_expr result self.old self.new }
+        ensures depth { OnOk result (self.old.depth ≤ self.new.depth) }
+        ensures left { length self.new.rest.now ≤ length self.old.rest.now }
+    {
+        let left = self.add()?;
+        let Some(operator) = self.comparison()? else {
+            return Ok(left);
+        };
+        let right = self.add()?;
+        Ok(binary(self.alloc, operator, left, right)?)
+    }
+
+    /// `add = mul { ( "+" | "-" ) mul }`, to the left.
+    #[cycle(expr)]
+    fn add(&mut self) -> Result<SurfaceExpr, Fault>
+        ensures reads { ReadsPhrase (rule OfAdd) written_expr result self.old self.new }
+        ensures depth { OnOk result (self.old.depth ≤ self.new.depth) }
+        ensures left { length self.new.rest.now ≤ length self.old.rest.now }
+    {
+        let mut left = self.mul()?;
+        while let Some(operator) = self.sum_operator()? {
+            let right = self.mul()?;
+            left = binary(self.alloc, operator, left, right)?;
+        }
+        Ok(left)
+    }
+
+    /// `mul = un { ( "*" | "/" | "%" ) un }`, to the left.
+    #[cycle(expr)]
+    fn mul(&mut self) -> Result<SurfaceExpr, Fault>
+        ensures reads { ReadsPhrase (rule OfMul) written_expr result self.old self.new }
+        ensures depth { OnOk result (self.old.depth ≤ self.new.depth) }
+        ensures left { length self.new.rest.now ≤ length self.old.rest.now }
+    {
+        let mut left = self.un()?;
+        while let Some(operator) = self.product_operator()? {
+            let right = self.un()?;
+            left = binary(self.alloc, operator, left, right)?;
+        }
+        Ok(left)
+    }
+
+    /// `un = ( "!" | "~" ) un | post`
+    #[cycle(expr)]
+    fn un(&mut self) -> Result<SurfaceExpr, Fault>
+        ensures reads { ReadsPhrase (rule OfUn) written_expr result self.old self.new }
+        ensures depth { OnOk result (self.old.depth ≤ self.new.depth) }
+        ensures left { length self.new.rest.now ≤ length self.old.rest.now }
+    {
+        let Some(operator) = self.unary_operator()? else {
+            return self.post();
+        };
+        let operand = self.un()?;
+        Ok(unary(self.alloc, operator, operand)?)
+    }
+
+    /// `post = atom { "." name [ "(" args ")" ] }`, to the left.
+    #[cycle(expr)]
+    fn post(&mut self) -> Result<SurfaceExpr, Fault>
+        ensures reads { ReadsPhrase (rule OfPost) written_expr result self.old self.new }
+        ensures depth { OnOk result (self.old.depth ≤ self.new.depth) }
+        ensures left { length self.new.rest.now ≤ length self.old.rest.now }
+    {
+        let mut first = self.atom()?;
+        while self.is_at(Symbol::Dot) {
+            self.open(Symbol::Dot)?;
+            let name = self.identifier(Names::All)?;
+            let given = self.arguments()?;
+            let others = match given {
+                Some(others) => others,
+                None => Vec::new(self.alloc),
+            };
+            first = dot_call(self.alloc, first, name, others)?;
+        }
+        Ok(first)
+    }
+
+    /// `atom = name [ "(" args ")" ] | Con | number | "(" ")" | "(" expr ")" | say`
+    #[cycle(expr)]
+    fn atom(&mut self) -> Result<SurfaceExpr, Fault>
+        ensures reads { ReadsPhrase (rule OfAtom) written_expr result self.old self.new }
+        ensures depth { OnOk result (self.old.depth ≤ self.new.depth) }
+        ensures left { length self.new.rest.now ≤ length self.old.rest.now }
+    {
+        if let Some(value) = self.number() {
+            return Ok(SurfaceExpr::Number(value));
+        }
+        if self.is_at_constructor() {
+            let name = self.constructor()?;
+            return Ok(SurfaceExpr::Construct(name, Vec::new(self.alloc)));
+        }
+        if self.is_at(Symbol::OpenParenthesis) {
+            return self.in_brackets();
+        }
+        if self.is_at_string() {
+            return self.spoken();
+        }
+        if self.is_at_name(Names::Prints) {
+            return self.printed();
+        }
+        self.named()
+    }
+
+    // `"(" ")" | "(" expr ")"`
+    #[cycle(expr)]
+    fn in_brackets(&mut self) -> Result<SurfaceExpr, Fault>
+        ensures reads { ReadsAs (in_brackets (rule OfExpr)) (inside unit (λ e. e)) written_expr result self.old self.new }
+        ensures depth { OnOk result (self.old.depth ≤ self.new.depth) }
+        ensures left { length self.new.rest.now ≤ length self.old.rest.now }
+    {
+        self.open(Symbol::OpenParenthesis)?;
+        if self.is_at(Symbol::CloseParenthesis) {
+            self.advance();
+            return Ok(SurfaceExpr::Unit);
+        }
+        let inner = self.expr()?;
+        self.expect(Symbol::CloseParenthesis)?;
+        Ok(inner)
+    }
+
+    // `string "." ( "print" | "println" ) [ "(" ")" ]`
+    fn spoken(&mut self) -> Result<SurfaceExpr, Fault>
+        ensures reads { ReadsAs OfSpoken spoken_of written_expr result self.old self.new }
+        ensures depth { OnOk result (self.old.depth ≤ self.new.depth) }
+        ensures left { length self.new.rest.now ≤ length self.old.rest.now }
+    {
+        let text = self.string()?;
+        self.open(Symbol::Dot)?;
+        let (form, _) = self.print_word()?;
+        self.no_arguments()?;
+        Ok(SurfaceExpr::PrintText(form, text))
+    }
+
+    // `[ "(" ")" ]`
+    fn no_arguments(&mut self) -> Result<(), Fault>
+        ensures reads { ReadsFor (optional no_arguments) (λ _. tt) result self.old self.new }
+        ensures depth { OnOk result (self.old.depth ≤ self.new.depth) }
+        ensures left { length self.new.rest.now ≤ length self.old.rest.now }
+    {
+        if !self.is_at(Symbol::OpenParenthesis) {
+            return Ok(());
+        }
+        self.open(Symbol::OpenParenthesis)?;
+        self.expect(Symbol::CloseParenthesis)?;
+        Ok(())
+    }
+
+    // A print's name, and what stands behind it: `[ "(" ( string ")" | args ")" ) ]`
+    #[cycle(expr)]
+    fn printed(&mut self) -> Result<SurfaceExpr, Fault>
+        ensures reads { ReadsAs OfPrinted printed_of written_expr result self.old self.new }
+        ensures depth { OnOk result (self.old.depth ≤ self.new.depth) }
+        ensures left { length self.new.rest.now ≤ length self.old.rest.now }
+    {
+        let (form, name) = self.print_word()?;
+        if !self.is_at(Symbol::OpenParenthesis) {
+            return Ok(SurfaceExpr::Variable(name));
+        }
+        self.open(Symbol::OpenParenthesis)?;
+        if self.is_at_quoted() {
+            let text = self.string()?;
+            self.expect(Symbol::CloseParenthesis)?;
+            return Ok(SurfaceExpr::PrintText(form, text));
+        }
+        let arguments = self.args()?;
+        self.expect(Symbol::CloseParenthesis)?;
+        Ok(SurfaceExpr::Call(name, arguments))
+    }
+
+    // Whether a string is next, and no dot behind it.
+    fn is_at_quoted(&self) -> bool
+        ensures { result ≡ is_quoted self.now.rest.now }
+    {
+        let Some((next, behind)) = self.rest.split_first() else {
+            return false;
+        };
+        let is_string = match &next.token {
+            Token::String(_) => true,
+            _ => false,
+        };
+        let is_dot = match behind.first() {
+            Some(next) => match &next.token {
+                Token::Symbol(symbol) => *symbol == Symbol::Dot,
+                _ => false,
+            },
+            None => false,
+        };
+        is_string && !is_dot
+    }
+
+    // Another name, and arguments in brackets or none.
+    #[cycle(expr)]
+    fn named(&mut self) -> Result<SurfaceExpr, Fault>
+        ensures reads { ReadsAs (token name_but_print ▸ optional (bracketed (rule OfArgs))) (λ v. named_of v.0 v.1) written_expr result self.old self.new }
+        ensures depth { OnOk result (self.old.depth ≤ self.new.depth) }
+        ensures left { length self.new.rest.now ≤ length self.old.rest.now }
+    {
+        let name = self.identifier(Names::ButPrints)?;
+        match self.arguments()? {
+            Some(arguments) => Ok(SurfaceExpr::Call(name, arguments)),
+            None => Ok(SurfaceExpr::Variable(name)),
+        }
+    }
+
+    // `[ "(" args ")" ]`
+    #[cycle(expr)]
+    fn arguments(&mut self) -> Result<Option<Vec<SurfaceExpr>>, Fault>
+        ensures reads { ReadsAs (optional (bracketed (rule OfArgs))) arguments_given arguments_view result self.old self.new }
+        ensures depth { OnOk result (self.old.depth ≤ self.new.depth) }
+        ensures left { length self.new.rest.now ≤ length self.old.rest.now }
+    {
+        if !self.is_at(Symbol::OpenParenthesis) {
+            return Ok(None);
+        }
+        self.open(Symbol::OpenParenthesis)?;
+        let arguments = self.args()?;
+        self.expect(Symbol::CloseParenthesis)?;
+        Ok(Some(arguments))
+    }
+
+    /// `args = [ expr { "," expr } ]`
+    #[cycle(expr)]
+    fn args(&mut self) -> Result<Vec<SurfaceExpr>, Fault>
+        ensures reads { ReadsPhrase (rule OfArgs) (λ es. map written_expr es.items) result self.old self.new }
+        ensures depth { OnOk result (self.new.depth ≡ self.old.depth) }
+        ensures left { length self.new.rest.now ≤ length self.old.rest.now }
+    {
+        let mut arguments = Vec::new(self.alloc);
+        if !self.is_at_expr() {
+            return Ok(arguments);
+        }
+        let first = self.expr()?;
+        match arguments.push(first) {
+            Ok(()) => {}
+            Err(_) => return Err(Fault::NoMemory),
+        }
+        while self.is_at(Symbol::Comma) {
+            self.advance();
+            let next = self.expr()?;
+            match arguments.push(next) {
+                Ok(()) => {}
+                Err(_) => return Err(Fault::NoMemory),
+            }
+        }
+        Ok(arguments)
+    }
+
+    // Whether an expression begins with the next token.
+    pub fn is_at_expr(&self) -> bool
+        ensures { result ≡ is_at expr_first self.now.rest.now }
+    {
+        match self.rest.first() {
+            Some(next) => match &next.token {
+                Token::Name(_) | Token::Constructor(_) | Token::Number(_) | Token::String(_) => {
+                    true
+                }
+                Token::Keyword(word) => *word == Keyword::If,
+                Token::Symbol(symbol) => matches!(
+                    symbol,
+                    Symbol::OpenBrace
+                        | Symbol::OpenParenthesis
+                        | Symbol::Exclamation
+                        | Symbol::Tilde
+                ),
+                Token::Wildcard => false,
+            },
+            None => false,
+        }
+    }
+}

@@ -1,0 +1,239 @@
+ghost use Rattle.std.specs.Prelude.{◌≡◌, ◌-◌, ◌*◌, ◌≤◌, [], length, map, All, IfOk, OnOk};
+ghost use Rattle.kk_syntax.specs.Surface.{written_declaration, written_expr, written_parameter};
+ghost use Rattle.kk_syntax.specs.WrittenNodes.{nodes_in};
+ghost use Rattle.kk_parser.specs.Forms.{head as OfHead, head_of};
+ghost use Rattle.kk_parser.specs.Grammar.{parameters as OfParameters, listed, listed_of};
+ghost use Rattle.kk_parser.specs.Methods.{ReadsPhrase, ReadsFor, ReadsAs, error_for};
+ghost use Rattle.kk_parser.specs.Parses.{AnswersParse, EachListIsParsed, OneProgram, in_u32, next_place};
+ghost use Rattle.kk_parser.specs.Phrases.{rule, program as OfProgram, decl as OfDecl, param as OfParam};
+ghost use Rattle.kk_parser.specs.Views.{declaration_of, head_view};
+
+use crate::fault::Fault;
+use crate::name::Names;
+use crate::parser::Parser;
+use kk_base::{ParseError, Span};
+use kk_syntax::{
+    Declaration, Effect, FunctionDeclaration, Identifier, Keyword, LocatedToken, Parameter,
+    SurfaceExpr, SurfaceType, Symbol, Tokens, Tree,
+};
+use std::alloc::Global;
+
+/// The tree that the tokens spell.
+///
+/// An error tells the number of the tokens before the cause, from 0 (a `u32`'s last value where there are more), and
+/// the line and the column of the cause.
+pub fn parse(alloc: Global, tokens: &Tokens) -> Result<Tree, ParseError>
+    ensures parsed { AnswersParse tokens.now result }
+
+    // A declaration has at most twice as many nodes as the text has tokens.
+    ensures few_nodes { IfOk result (λ tree.
+        All (λ declaration. nodes_in declaration ≤ 2 * length tokens.now.items) (map written_declaration tree.declarations.items)) }
+{
+    let mut parser = Parser {
+        alloc,
+        rest: tokens.as_slice(),
+        depth: 0,
+    };
+    match parser.program() {
+        Ok(declarations) => {
+            if parser.rest.is_empty() {
+                Ok(Tree {
+                    declarations,
+                    length: tokens.end().at,
+                })
+            } else {
+                Err(error_at(Fault::Unexpected, tokens, parser.rest))
+            }
+        }
+        Err(fault) => Err(error_at(fault, tokens, parser.rest)),
+    }
+}
+
+/// Each list of tokens comes to exactly one thing: a tree, or a first token that is unexpected or opens a level too many;
+/// and at any depth it spells one program at most. It is a law, and does nothing.
+pub fn each_list_is_parsed()
+    ensures exactly_one { EachListIsParsed }
+    ensures at_any_depth { OneProgram }
+{}
+
+// The error for a fault at the first of the tokens that are left, or at the end.
+fn error_at(fault: Fault, tokens: &Tokens, left: &[LocatedToken]) -> ParseError
+    requires { length left.now ≤ length tokens.now.items }
+    ensures { result ≡ in_u32 (error_for fault (length tokens.now.items - length left.now) (next_place left.now tokens.now.end)) }
+{
+    let passed = tokens.as_slice().len() - left.len();
+    let index = passed.min(u32::MAX as usize) as u32;
+    let Span { line, column, .. } = match left.first() {
+        Some(next) => next.span,
+        None => tokens.end(),
+    };
+    match fault {
+        Fault::Unexpected => ParseError::Unexpected {
+            index,
+            line,
+            column,
+        },
+        Fault::TooDeep => ParseError::TooDeep {
+            index,
+            line,
+            column,
+        },
+        Fault::NoMemory => ParseError::NoMemory,
+    }
+}
+
+/// What stands in the declaration of a function before its body.
+#[derive(Drop)]
+pub struct Head {
+    pub name: Identifier,
+    pub parameters: Vec<Parameter>,
+    pub effects: Vec<Effect>,
+    pub result: Option<SurfaceType>,
+}
+
+impl<'a> Parser<'a> {
+    /// `program = ;* [ decl { ;+ decl } ;* ]`
+    fn program(&mut self) -> Result<Vec<Declaration>, Fault>
+        ensures reads { ReadsPhrase (rule OfProgram) (λ declarations. map written_declaration declarations.items) result self.old self.new }
+        ensures left { length self.new.rest.now ≤ length self.old.rest.now }
+    {
+        self.skip_semicolons();
+        let mut declarations = Vec::new(self.alloc);
+        if !self.is_at_keyword(Keyword::Fun) {
+            return Ok(declarations);
+        }
+        let first = self.declaration()?;
+        match declarations.push(first) {
+            Ok(()) => {}
+            Err(_) => return Err(Fault::NoMemory),
+        }
+        while self.is_at(Symbol::Semicolon) {
+            self.advance();
+            if self.is_at_keyword(Keyword::Fun) {
+                let next = self.declaration()?;
+                match declarations.push(next) {
+                    Ok(()) => {}
+                    Err(_) => return Err(Fault::NoMemory),
+                }
+            }
+        }
+        Ok(declarations)
+    }
+
+    /// `decl = "fun" name "(" [ param { "," param } ] ")" [ ":" [ effect ] type ] expr`: the levels end that it opens. Only
+    /// `main` may leave its result out.
+    fn declaration(&mut self) -> Result<Declaration, Fault>
+        ensures reads { ReadsPhrase (rule OfDecl) written_declaration result self.old self.new }
+        ensures depth { OnOk result (self.new.depth ≡ self.old.depth) }
+        ensures left { length self.new.rest.now ≤ length self.old.rest.now }
+    {
+        let depth = self.depth;
+        self.expect_keyword(Keyword::Fun)?;
+        let head = self.head()?;
+        let body = self.expr()?;
+        self.depth = depth;
+        Ok(function_of(head, body))
+    }
+
+    // What stands between `fun` and the body.
+    fn head(&mut self) -> Result<Head, Fault>
+        ensures reads { ReadsAs OfHead head_of head_view result self.old self.new }
+        ensures left { length self.new.rest.now ≤ length self.old.rest.now }
+    {
+        if self.is_at_name(Names::Main) {
+            let name = self.identifier(Names::Main)?;
+            let parameters = self.parameters()?;
+            if !self.is_at(Symbol::Colon) {
+                return Ok(Head {
+                    name,
+                    parameters,
+                    effects: Vec::new(self.alloc),
+                    result: None,
+                });
+            }
+            let (effects, result) = self.result()?;
+            return Ok(Head {
+                name,
+                parameters,
+                effects,
+                result: Some(result),
+            });
+        }
+        let name = self.identifier(Names::ButMain)?;
+        let parameters = self.parameters()?;
+        let (effects, result) = self.result()?;
+        Ok(Head {
+            name,
+            parameters,
+            effects,
+            result: Some(result),
+        })
+    }
+
+    // `"(" [ param { "," param } ] ")"`
+    fn parameters(&mut self) -> Result<Vec<Parameter>, Fault>
+        ensures reads { ReadsAs OfParameters (λ v. listed_of v.1.0) (λ ps. map written_parameter ps.items) result self.old self.new }
+        ensures left { length self.new.rest.now ≤ length self.old.rest.now }
+    {
+        self.open(Symbol::OpenParenthesis)?;
+        let parameters = self.parameter_list()?;
+        self.expect(Symbol::CloseParenthesis)?;
+        Ok(parameters)
+    }
+
+    // `[ param { "," param } ]`
+    fn parameter_list(&mut self) -> Result<Vec<Parameter>, Fault>
+        ensures reads { ReadsAs (listed (rule OfParam)) listed_of (λ ps. map written_parameter ps.items) result self.old self.new }
+        ensures left { length self.new.rest.now ≤ length self.old.rest.now }
+    {
+        let mut parameters = Vec::new(self.alloc);
+        if !self.is_at_name(Names::All) {
+            return Ok(parameters);
+        }
+        let first = self.parameter()?;
+        match parameters.push(first) {
+            Ok(()) => {}
+            Err(_) => return Err(Fault::NoMemory),
+        }
+        while self.is_at(Symbol::Comma) {
+            self.advance();
+            let next = self.parameter()?;
+            match parameters.push(next) {
+                Ok(()) => {}
+                Err(_) => return Err(Fault::NoMemory),
+            }
+        }
+        Ok(parameters)
+    }
+
+    /// `param = name ":" type`
+    fn parameter(&mut self) -> Result<Parameter, Fault>
+        ensures reads { ReadsPhrase (rule OfParam) written_parameter result self.old self.new }
+        ensures depth { OnOk result (self.new.depth ≡ self.old.depth) }
+        ensures left { length self.new.rest.now ≤ length self.old.rest.now }
+    {
+        let name = self.identifier(Names::All)?;
+        self.expect(Symbol::Colon)?;
+        let of_type = self.type_()?;
+        Ok(Parameter { name, of_type })
+    }
+}
+
+// The declaration of a function.
+fn function_of(head: Head, body: SurfaceExpr) -> Declaration
+    ensures { written_declaration result ≡ declaration_of (head_view head) (written_expr body) }
+{
+    let Head {
+        name,
+        parameters,
+        effects,
+        result,
+    } = head;
+    Declaration::Function(FunctionDeclaration {
+        name,
+        parameters,
+        effects,
+        result,
+        body,
+    })
+}

@@ -1,0 +1,1 @@
+fun main() { println(if True then 1 else False) }

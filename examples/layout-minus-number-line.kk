@@ -1,0 +1,4 @@
+fun main()
+  val x = 10
+    -3
+  println(x)

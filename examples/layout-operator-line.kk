@@ -1,0 +1,5 @@
+fun main()
+  val x = 10
+    - 3
+    * 2
+  println(x)

@@ -1,0 +1,1 @@
+fun main(): total ((())) { print("") }

@@ -1,0 +1,1 @@
+fun main(): int32 { 1 }

@@ -1,0 +1,4 @@
+fun main()
+  val x = 3
+  /* c */ -1
+  println(x)

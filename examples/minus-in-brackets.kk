@@ -1,0 +1,4 @@
+fun main()
+  println(3 -1)
+  println(3
+    -1)

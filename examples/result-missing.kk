@@ -1,0 +1,2 @@
+fun f() { 1 }
+fun main() { println(1) }

@@ -1,0 +1,3 @@
+fun main()
+	println(1)
+  println(2)

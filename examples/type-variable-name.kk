@@ -1,0 +1,2 @@
+fun f(x: t1): int32 { 1 }
+fun main() { () }
