@@ -36,8 +36,7 @@ abbrev pub ChecksTypes : ProgramTree → Result (Unit {0}) Refusal → Type 0
 ChecksTypes program (Ok _) = TypesAs program (Ok tt)
 ChecksTypes program (Err refusal) = TellsUntyped program refusal
 
--- What a program whose names are resolved comes to. The first failure decides, in this order: a function with too many
--- parameters; a function that is not typed; a function with too many nodes; too many instances; too many nodes in all.
+-- what a program whose names are resolved comes to: its parameters, its types, and its nodes and instances are checked
 abbrev pub ChecksProgram : ProgramTree → Result ProgramTree Refusal → Type 0
 ChecksProgram =
     Then (ToldAs OfText.Over (Checking ParametersAs))
@@ -45,7 +44,8 @@ ChecksProgram =
     (ToldAs OfText.Over (Checking CountsAs)))
 
 -- What a text comes to. The first failure decides, in this order: its length; a lexeme that cannot be read; tokens that,
--- laid out, are no program; names; and then those of its program.
+-- laid out, are no program; names; a function with too many parameters; a function that is not typed; a function with too
+-- many nodes; too many instances; too many nodes in all.
 abbrev pub JudgedAs : List ℕ → Result ProgramTree Refusal → Type 0
 JudgedAs =
     Then (ToldAs OfText.Over (Checking ChecksLength))

@@ -1,4 +1,4 @@
-//! From the bytes of a text to its program, or to the one refusal of its first failure.
+//! From the bytes of a text to its program and the program's instances, or to the one refusal of its first failure.
 #![tactic(auto)]
 
 mod accept;
