@@ -2,7 +2,7 @@
 use Rattle.std.specs.Prelude.{ℕ, List}
 pub use Rattle.kk_syntax.specs.Programs.{ProgramTree, program_tree}
 use Rattle.kk_syntax.specs.PositionsOf.{PositionTable}
-use Rattle.kk_syntax.specs.Typing.{IsTyped}
+use Rattle.kk_syntax.specs.PlainTyping.{IsTyped}
 use Rattle.kk_source.specs.State.{Setting}
 use Rattle.kk_front.specs.Judgement.{IsProgramOf}
 use Rattle.kk_build.specs.Agreement.{Agrees, IsBounded}

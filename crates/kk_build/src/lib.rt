@@ -5,7 +5,7 @@ ghost use Rattle.std.specs.Prelude.{IfOk, IfErr};
 ghost use Rattle.kk_base.specs.Sizes.{AreSizes};
 ghost use Rattle.kk_syntax.specs.PositionsOf.{PositionTable};
 ghost use Rattle.kk_syntax.specs.Programs.{program_tree};
-ghost use Rattle.kk_syntax.specs.Typing.{IsTyped};
+ghost use Rattle.kk_syntax.specs.PlainTyping.{IsTyped};
 ghost use Rattle.kk_front.specs.Judgement.{Refuses};
 ghost use Rattle.kk_norm.specs.Normal.{IsWithin};
 ghost use Rattle.kk_build.specs.Agreement.{Agrees, IsBounded};

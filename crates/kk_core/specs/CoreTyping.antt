@@ -1,7 +1,7 @@
 -- The types of programs in core form without type variables and without cells; and how large the programs are.
 use Rattle.std.specs.Prelude.{◌≡◌, ◌+◌, ◌≤◌, ℕ, List, [], ◌∷◌, length, Bool, true, false, Some, slice_get}
 use Rattle.kk_syntax.specs.Types.{TypeTree, int32, unit_type}
-use Rattle.kk_syntax.specs.Typing.{Signature, Scope, type_in, with_parameters, bool, IsFormTyped}
+use Rattle.kk_syntax.specs.PlainTyping.{Signature, Scope, type_in, with_parameters, bool, IsFormTyped}
 use Rattle.kk_core.specs.Codes.{Operation, number, unit, read_byte, print_text, apply, Code, give, tail_call, branch, case, compute, use_of, unpack, inside, FunctionCode, ProgramCode}
 use Rattle.kk_core.specs.Sizes.{forms, IsOrdered}
 

@@ -6,7 +6,7 @@ use Rattle.kk_base.specs.declared.refusal.Refusal.TheVariants as OfText
 use Rattle.kk_syntax.specs.Programs.{ProgramTree}
 use Rattle.kk_syntax.specs.Surface.{WrittenTree}
 use Rattle.kk_syntax.specs.Types.{unit_type}
-use Rattle.kk_syntax.specs.Typing.{signature_of, IsTyped}
+use Rattle.kk_syntax.specs.PlainTyping.{signature_of, IsTyped}
 use Rattle.kk_names.specs.Names.{ResolvesAs, HasMain, ResolvedProgramsHaveMain}
 use Rattle.kk_types.specs.Checks.{TypesAs}
 use Rattle.kk_mono.specs.Counts.{ParametersAs, CountsAs}

@@ -1,6 +1,6 @@
 ghost use Rattle.std.specs.Prelude.{ℕ, List};
 ghost use Rattle.kk_syntax.specs.Programs.{ProgramTree};
-ghost use Rattle.kk_syntax.specs.Typing.{IsTyped};
+ghost use Rattle.kk_syntax.specs.PlainTyping.{IsTyped};
 ghost use Rattle.kk_mono.specs.Counts.{ParametersAs, KeepsCounts};
 ghost use Rattle.kk_front.specs.Judgement.{IsProgramOf};
 

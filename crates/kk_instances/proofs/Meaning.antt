@@ -9,7 +9,7 @@ use Rattle.kk_syntax.specs.Trees.{Tree}
 use Rattle.kk_syntax.specs.Types.{unit_type}
 use Rattle.kk_syntax.specs.Programs.{FunctionTree, ProgramTree, no_function, body_of}
 use Rattle.kk_syntax.specs.Shapes.{is_among}
-use Rattle.kk_syntax.specs.Typing.{Signature, signature_of, with_parameters, IsFunctionTyped, IsTyped}
+use Rattle.kk_syntax.specs.PlainTyping.{Signature, signature_of, with_parameters, IsFunctionTyped, IsTyped}
 use Rattle.kk_source.specs.State.{State, call, expression}
 use Rattle.kk_source.specs.SourceAfter.{ending_of, store_machine, first_state}
 use Rattle.kk_mono.specs.Instances.{IsInstance, main_is, called_is, numbered, place_in, instance_of, renamed, IsInstanceProgram}

@@ -8,7 +8,7 @@ use Rattle.kk_syntax.specs.declared.program.Form.TheVariants.{Unary, Binary, Pri
 use Rattle.kk_syntax.specs.Trees.{Tree, number, unit, variable, read_byte, print_text, apply, branch, match, sequence, Trees, no_tree, tree}
 use Rattle.kk_syntax.specs.Shapes.{is_among}
 use Rattle.kk_syntax.specs.Types.{TypeTree}
-use Rattle.kk_syntax.specs.Typing.{bool, Signature, Scope, with_binder, IsFormTyped, HasType, HaveTypes}
+use Rattle.kk_syntax.specs.PlainTyping.{bool, Signature, Scope, with_binder, IsFormTyped, HasType, HaveTypes}
 use Rattle.kk_mono.specs.Instances.{called_by, calls, calls_of_all, renamed, renamed_all, renamed_form}
 use Rattle.kk_instances.proofs.Renamed.{FormCalls, TreeCalls, TreesCall}
 

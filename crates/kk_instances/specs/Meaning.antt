@@ -3,7 +3,7 @@ use Rattle.std.specs.Prelude.{◌≡◌, ℕ, List, [], map, slice_index_or}
 use Rattle.kk_base.specs.Machines.{trace, ending_after}
 use Rattle.kk_syntax.specs.Programs.{ProgramTree}
 use Rattle.kk_syntax.specs.PositionsOf.{PositionTable}
-use Rattle.kk_syntax.specs.Typing.{IsTyped}
+use Rattle.kk_syntax.specs.PlainTyping.{IsTyped}
 use Rattle.kk_source.specs.State.{Setting}
 use Rattle.kk_source.specs.SourceAfter.{store_machine, first_state}
 use Rattle.kk_mono.specs.Instances.{AreInstances, numbered}

@@ -1,5 +1,5 @@
 ghost use Rattle.kk_syntax.specs.Programs.{ProgramTree};
-ghost use Rattle.kk_syntax.specs.Typing.{IsTyped};
+ghost use Rattle.kk_syntax.specs.PlainTyping.{IsTyped};
 ghost use Rattle.kk_mono.specs.Instances.{IsInstanceProgram};
 ghost use Rattle.kk_instances.specs.Meaning.{MeansTheSame};
 

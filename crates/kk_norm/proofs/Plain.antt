@@ -7,7 +7,7 @@ use Rattle.kk_syntax.specs.declared.program.Form.{Form}
 use Rattle.kk_syntax.specs.declared.program.Form.TheVariants.{Unary, Binary, Print, Construct, Call}
 use Rattle.kk_syntax.specs.Shapes.{free, free_all, is_among, without, bound_by}
 use Rattle.kk_syntax.specs.Types.{TypeTree}
-use Rattle.kk_syntax.specs.Typing.{Signature, signature_of, Scope, type_in, with_parameters, with_binder, IsFormTyped, HasType, HaveTypes, IsFunctionTyped, IsTyped}
+use Rattle.kk_syntax.specs.PlainTyping.{Signature, signature_of, Scope, type_in, with_parameters, with_binder, IsFormTyped, HasType, HaveTypes, IsFunctionTyped, IsTyped}
 use Rattle.kk_syntax.specs.Trees.{Tree, number, unit, variable, read_byte, print_text, apply, branch, match, sequence, Trees, no_tree, tree}
 use Rattle.kk_syntax.specs.Programs.{FunctionTree, ProgramTree}
 use Rattle.kk_norm.specs.NoCells.{MakesNoCell, NoCells, NoCellsAll, IsPlain, ArePlain}

@@ -7,7 +7,7 @@ use Rattle.kk_syntax.specs.declared.program.Binder.{Binder}
 use Rattle.kk_syntax.specs.declared.program.Binder.TheVariants as OfBinder
 use Rattle.kk_syntax.specs.Shapes.{is_among, variable_of}
 use Rattle.kk_syntax.specs.Types.{TypeTree}
-use Rattle.kk_syntax.specs.Typing.{Scope, type_in, with_parameters, with_binder}
+use Rattle.kk_syntax.specs.PlainTyping.{Scope, type_in, with_parameters, with_binder}
 use Rattle.kk_core.specs.Sizes.{below}
 use Rattle.kk_norm.specs.Names.{Names, name_of, named}
 use Rattle.kk_norm.proofs.Variables.{same_number, other_number}

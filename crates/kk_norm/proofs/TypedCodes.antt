@@ -5,7 +5,7 @@ use Rattle.kk_syntax.specs.declared.program.Form.{Form}
 use Rattle.kk_syntax.specs.declared.program.Form.TheVariants.{Unary, Binary, Print, Construct, Call}
 use Rattle.kk_syntax.specs.Shapes.{variable_of}
 use Rattle.kk_syntax.specs.Types.{TypeTree}
-use Rattle.kk_syntax.specs.Typing.{Signature, Scope, type_in, with_binder, bool, IsFormTyped, HasType, HaveTypes}
+use Rattle.kk_syntax.specs.PlainTyping.{Signature, Scope, type_in, with_binder, bool, IsFormTyped, HasType, HaveTypes}
 use Rattle.kk_syntax.specs.Trees.{Tree, number, unit, variable, read_byte, print_text, apply, branch, match, sequence, Trees, no_tree, tree}
 use Rattle.kk_core.specs.Codes as Core
 use Rattle.kk_core.specs.Codes.{Operation, Code, give, tail_call, compute, use_of, inside}

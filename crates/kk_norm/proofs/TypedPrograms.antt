@@ -1,7 +1,7 @@
 -- The core form of a typed program is typed; and all that is promised of a core form.
 use Rattle.std.proofs.Common.{◌≡◌, ℕ, ◌+◌, ◌<◌, true, zero, suc, List, [], ◌∷◌, length, Some, map, refl, ap, subst, ◌∙◌, arith}
 use Rattle.std.specs.Prelude.{slice_get}
-use Rattle.kk_syntax.specs.Typing.{Signature, signature_of, Scope, with_parameters, IsFunctionTyped, IsTyped}
+use Rattle.kk_syntax.specs.PlainTyping.{Signature, signature_of, Scope, with_parameters, IsFunctionTyped, IsTyped}
 use Rattle.kk_syntax.specs.Programs.{FunctionTree, ProgramTree}
 use Rattle.kk_core.specs.CoreTyping.{IsCodeTyped, AreCodesTyped, IsCoreTyped}
 use Rattle.kk_core.specs.Sizes.{below, Ordered}

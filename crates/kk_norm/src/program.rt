@@ -1,6 +1,6 @@
 ghost use Rattle.std.specs.Prelude.{◌≡◌, map, IfOk};
 ghost use Rattle.kk_syntax.specs.Programs.{function_tree, program_tree};
-ghost use Rattle.kk_syntax.specs.Typing.{IsTyped};
+ghost use Rattle.kk_syntax.specs.PlainTyping.{IsTyped};
 ghost use Rattle.kk_core.specs.Codes.{function_code, core_code};
 ghost use Rattle.kk_norm.specs.NoCells.{IsPlain, ArePlain};
 ghost use Rattle.kk_norm.specs.Normal.{IsFunctionWithin, AreWithin, IsWithin, IsNormalForm};

@@ -1,11 +1,14 @@
+pub mod GroundPrograms
 pub mod Patterns
 pub mod Places
+pub mod PlainTyping
 pub mod PositionsOf
 pub mod Programs
 pub mod Shapes
 pub mod Surface
 pub mod TokenList
 pub mod Trees
+pub mod TypedPrograms
 pub mod Types
 pub mod Typing
 pub mod WrittenNodes

@@ -1,5 +1,6 @@
--- The types of programs without type variables and without cells: `int32`, `bool` and `()`. One clause for each form.
-use Rattle.std.specs.Prelude.{◌≡◌, ◌≤◌, ◌+◌, ℕ, List, [], ◌∷◌, map, Option, Some, None, if◌then◌else◌, ◌==◌, slice_get}
+-- The types of the whole language: one clause for each form. A typing of a body is the list of the types that are chosen
+-- in it; they decide the type of each of its nodes.
+use Rattle.std.specs.Prelude.{◌≡◌, ◌<◌, ◌+◌, ℕ, List, [], ◌∷◌, ◌++◌, length, map, option_map, MatchOption, Option, Some, None, if◌then◌else◌, ◌==◌, slice_get, Result, Ok, Err}
 use Rattle.kk_syntax.specs.declared.operator.UnaryOperator.{UnaryOperator}
 use Rattle.kk_syntax.specs.declared.operator.UnaryOperator.TheVariants.{Negate, Not}
 use Rattle.kk_syntax.specs.declared.operator.BinaryOperator.{BinaryOperator}
@@ -8,21 +9,16 @@ use Rattle.kk_syntax.specs.declared.program.Binder.{Binder}
 use Rattle.kk_syntax.specs.declared.program.Binder.TheVariants as OfBinder
 use Rattle.kk_syntax.specs.declared.program.Form.{Form}
 use Rattle.kk_syntax.specs.declared.program.Form.TheVariants.{Unary, Binary, Print, Construct, Call}
-use Rattle.kk_syntax.specs.Types.{TypeTree, int32, unit_type, named, no_type}
-use Rattle.kk_syntax.specs.Trees.{Tree, number, unit, variable, read_byte, print_text, apply, branch, match, sequence, Trees, no_tree, tree}
-use Rattle.kk_syntax.specs.Programs.{FunctionTree, ProgramTree}
+use Rattle.kk_syntax.specs.declared.program.TypeDecl.{TypeDecl}
+use Rattle.kk_syntax.specs.Patterns.{Pattern, anything, variable as pattern_variable, exactly, constructor, Patterns, no_part, part}
+use Rattle.kk_syntax.specs.Programs.{ConstructorTree, FunctionTree, ProgramTree}
+use Rattle.kk_syntax.specs.Shapes.{bound}
+use Rattle.kk_syntax.specs.Trees.{Tree, number, unit, variable, read_byte, print_text, apply, branch, match, sequence, Trees, no_tree, tree, Rows, no_row, row}
+use Rattle.kk_syntax.specs.Types.{TypeTree, int32, unit_type, type_variable, named, no_type, types_of, put, type_at, variables_below}
 
 -- `bool` is the first type of each program, and `False` and `True` are its first constructors
 abbrev pub bool : TypeTree
 bool = named 0 no_type
-
--- the types of a function's parameters and of its result
-pub record Signature : Type 0 where
-  pub parameters : List TypeTree
-  pub result : TypeTree
-
-abbrev pub signature_of : FunctionTree → Signature
-signature_of function = record { parameters = function.parameters; result = function.result }
 
 -- a variable of a function, and its type
 pub record TypedVariable : Type 0 where
@@ -67,40 +63,182 @@ binary_type LessEqual = bool
 binary_type Greater = bool
 binary_type GreaterEqual = bool
 
--- A form takes arguments of these types, and gives a value of that one. A print of a number gives `()`. `False` and `True`
--- are the constructors that make no cells.
-abbrev pub IsFormTyped : List Signature → Form → List TypeTree → TypeTree → Type 0
-IsFormTyped signatures (Unary operator) ts t = (ts ≡ unary_type operator ∷ []) × (t ≡ unary_type operator)
-IsFormTyped signatures (Binary operator) ts t = (ts ≡ int32 ∷ int32 ∷ []) × (t ≡ binary_type operator)
-IsFormTyped signatures (Print form) ts t = (ts ≡ int32 ∷ []) × (t ≡ unit_type)
-IsFormTyped signatures (Construct c) ts t = (ts ≡ []) × (t ≡ bool) × (c ≤ 1)
-IsFormTyped signatures (Call f) ts t = slice_get signatures f ≡ Some (record { parameters = ts; result = t })
+-- variables of a pattern, each with a type, before other variables
+abbrev pub with_bound : List ℕ → List TypeTree → Scope → Scope
+with_bound [] ts scope = scope
+with_bound (x ∷ xs) [] scope = scope
+with_bound (x ∷ xs) (t ∷ ts) scope = with_bound xs ts (record { variable = x; type = t } ∷ scope)
 
--- an expression has a type; there is no match
+-- What a use takes and gives, over type variables, of which there are so many: at each use types are chosen for them.
+pub record Scheme : Type 0 where
+  pub variables : ℕ
+  pub parameters : List TypeTree
+  pub result : TypeTree
+
+abbrev pub function_scheme : FunctionTree → Scheme
+function_scheme function = record { variables = function.variables; parameters = function.parameters; result = function.result }
+
+-- the number of type variables of a declared type
+abbrev pub variables_of_type : Option TypeDecl → ℕ
+variables_of_type None = 0
+variables_of_type (Some declaration) = declaration.variables
+
+-- a constructor takes its fields, and gives its type at the variables of that type
+abbrev pub scheme_in : ProgramTree → ConstructorTree → Scheme
+scheme_in program made =
+    let count = variables_of_type (slice_get program.types made.of_type) in
+    record { variables = count; parameters = made.fields; result = named made.of_type (types_of (variables_below count)) }
+
+abbrev pub constructor_scheme : ProgramTree → ℕ → Option Scheme
+constructor_scheme program c = option_map (scheme_in program) (slice_get program.constructors c)
+
+-- what a form takes and gives, if there is such a constructor or function
+abbrev pub form_scheme : ProgramTree → Form → Option Scheme
+form_scheme program (Unary operator) = Some (record { variables = 0; parameters = unary_type operator ∷ []; result = unary_type operator })
+form_scheme program (Binary operator) = Some (record { variables = 0; parameters = int32 ∷ int32 ∷ []; result = binary_type operator })
+form_scheme program (Print form) = Some (record { variables = 0; parameters = int32 ∷ []; result = unit_type })
+form_scheme program (Construct c) = constructor_scheme program c
+form_scheme program (Call f) = option_map function_scheme (slice_get program.functions f)
+
+-- What is chosen in a body: types for the type variables of a constructor or of a function that is used there; and the
+-- type of the value of a statement, of the scrutinee of a match, or of a variable of a pattern.
+pub data Choice : Type 0 where
+  constructing : (by : ℕ) → (at : List TypeTree) → Choice
+  calling : (function : ℕ) → (at : List TypeTree) → Choice
+  holding : (of : TypeTree) → Choice
+
+-- a choice, with types put in place of the variables
+abbrev pub put_choice : (ℕ → TypeTree) → Choice → Choice
+put_choice s (constructing by at) = constructing by (map (put s) at)
+put_choice s (calling function at) = calling function (map (put s) at)
+put_choice s (holding of) = holding (put s of)
+
+-- what is chosen at a form
+abbrev pub chosen_at : Form → List TypeTree → List Choice
+chosen_at (Unary operator) ts = []
+chosen_at (Binary operator) ts = []
+chosen_at (Print form) ts = []
+chosen_at (Construct c) ts = constructing c ts ∷ []
+chosen_at (Call f) ts = calling f ts ∷ []
+
+-- choices in two parts, one behind the other
+abbrev pub InTurn : (List Choice → Type 0) → (List Choice → Type 0) → List Choice → Type 0
+InTurn P Q choices = (first : List Choice) × (rest : List Choice) × (choices ≡ first ++ rest) × P first × Q rest
+
+-- A use of a scheme: types are chosen for its variables, it gives this type at them, and the rest is a typing of its
+-- arguments at the types that it takes.
+pub record Uses (scheme : Option Scheme) (chosen : List TypeTree → List Choice) (Arguments : List TypeTree → List Choice → Type 0) (t : TypeTree) (choices : List Choice) : Type 0 where
+  pub of : Scheme
+  pub is : scheme ≡ Some of
+  pub at : List TypeTree
+  pub each : length at ≡ of.variables
+  pub gives : t ≡ put (type_at at) of.result
+  pub rest : List Choice
+  pub choices_are : choices ≡ chosen at ++ rest
+  pub arguments : Arguments (map (put (type_at at)) of.parameters) rest
+
+-- These choices are a typing of a pattern, of patterns, at a type, at types. The variables of the patterns are in the scope
+-- already.
 abbrev mutual
-  pub HasType : List Signature → Scope → Tree → TypeTree → Type 0
-  HasType signatures scope (number value) t = t ≡ int32
-  HasType signatures scope unit t = t ≡ unit_type
-  HasType signatures scope (variable x) t = type_in scope x ≡ Some t
-  HasType signatures scope read_byte t = t ≡ int32
-  HasType signatures scope (print_text form text) t = t ≡ unit_type
-  HasType signatures scope (apply form es) t = (ts : List TypeTree) × HaveTypes signatures scope es ts × IsFormTyped signatures form ts t
-  HasType signatures scope (branch e positive negative) t =
-      HasType signatures scope e bool × HasType signatures scope positive t × HasType signatures scope negative t
-  HasType signatures scope (match e rows) t = ⊥
-  HasType signatures scope (sequence binder first rest) t =
-      (s : TypeTree) × HasType signatures scope first s × HasType signatures (with_binder binder s scope) rest t
+  pub IsPatternTyped : ProgramTree → Scope → Pattern → TypeTree → List Choice → Type 0
+  IsPatternTyped program scope anything t choices = choices ≡ []
+  IsPatternTyped program scope (pattern_variable x) t choices = (type_in scope x ≡ Some t) × (choices ≡ [])
+  IsPatternTyped program scope (exactly value) t choices = (t ≡ int32) × (choices ≡ [])
+  IsPatternTyped program scope (constructor c parts) t choices =
+      Uses (constructor_scheme program c) (λ ts. constructing c ts ∷ []) (λ ts rest. ArePatternsTyped program scope parts ts rest) t choices
 
-  pub HaveTypes : List Signature → Scope → Trees → List TypeTree → Type 0
-  HaveTypes signatures scope no_tree ts = ts ≡ []
-  HaveTypes signatures scope (tree first rest) ts =
-      (s : TypeTree) × (more : List TypeTree) × (ts ≡ s ∷ more) × HasType signatures scope first s × HaveTypes signatures scope rest more
+  pub ArePatternsTyped : ProgramTree → Scope → Patterns → List TypeTree → List Choice → Type 0
+  ArePatternsTyped program scope no_part [] choices = choices ≡ []
+  ArePatternsTyped program scope no_part (t ∷ ts) choices = ⊥
+  ArePatternsTyped program scope (part first rest) [] choices = ⊥
+  ArePatternsTyped program scope (part first rest) (t ∷ ts) choices =
+      InTurn (IsPatternTyped program scope first t) (ArePatternsTyped program scope rest ts) choices
 
--- a function's body has the type of its result
-abbrev pub IsFunctionTyped : List Signature → FunctionTree → Type 0
-IsFunctionTyped signatures function = HasType signatures (with_parameters 0 function.parameters []) function.body function.result
+-- types are chosen for the variables of a pattern, and the rest is a typing where they are in the scope
+pub record Binds (variables : List ℕ) (scope : Scope) (Inside : Scope → List Choice → Type 0) (choices : List Choice) : Type 0 where
+  pub at : List TypeTree
+  pub each : length at ≡ length variables
+  pub rest : List Choice
+  pub choices_are : choices ≡ map holding at ++ rest
+  pub inside : Inside (with_bound variables at scope) rest
 
--- each function is typed, and `main` has no parameters and gives `()`
-pub record IsTyped (program : ProgramTree) : Type 0 where
-  pub functions : (f : ℕ) (function : FunctionTree) → slice_get program.functions f ≡ Some function → IsFunctionTyped (map signature_of program.functions) function
-  pub main : slice_get (map signature_of program.functions) program.main ≡ Some (record { parameters = []; result = unit_type })
+-- one type is chosen, and the rest is a typing with it
+pub record Holds (With : TypeTree → List Choice → Type 0) (choices : List Choice) : Type 0 where
+  pub of : TypeTree
+  pub rest : List Choice
+  pub choices_are : choices ≡ holding of ∷ rest
+  pub inside : With of rest
+
+-- These choices are a typing of an expression at a type, of expressions at types, and of the rows of a match whose
+-- scrutinee has the first type at the second one.
+abbrev mutual
+  pub IsTypedBy : ProgramTree → Scope → Tree → TypeTree → List Choice → Type 0
+  IsTypedBy program scope (number value) t choices = (t ≡ int32) × (choices ≡ [])
+  IsTypedBy program scope unit t choices = (t ≡ unit_type) × (choices ≡ [])
+  IsTypedBy program scope (variable x) t choices = (type_in scope x ≡ Some t) × (choices ≡ [])
+  IsTypedBy program scope read_byte t choices = (t ≡ int32) × (choices ≡ [])
+  IsTypedBy program scope (print_text form text) t choices = (t ≡ unit_type) × (choices ≡ [])
+  IsTypedBy program scope (apply form es) t choices =
+      Uses (form_scheme program form) (chosen_at form) (λ ts rest. AreTypedBy program scope es ts rest) t choices
+  IsTypedBy program scope (branch e positive negative) t choices =
+      InTurn (IsTypedBy program scope e bool) (InTurn (IsTypedBy program scope positive t) (IsTypedBy program scope negative t)) choices
+  IsTypedBy program scope (match e rows) t choices =
+      Holds (λ u. InTurn (IsTypedBy program scope e u) (AreRowsTypedBy program scope rows u t)) choices
+  IsTypedBy program scope (sequence binder first rest) t choices =
+      Holds (λ s. InTurn (IsTypedBy program scope first s) (IsTypedBy program (with_binder binder s scope) rest t)) choices
+
+  pub AreTypedBy : ProgramTree → Scope → Trees → List TypeTree → List Choice → Type 0
+  AreTypedBy program scope no_tree [] choices = choices ≡ []
+  AreTypedBy program scope no_tree (t ∷ ts) choices = ⊥
+  AreTypedBy program scope (tree first rest) [] choices = ⊥
+  AreTypedBy program scope (tree first rest) (t ∷ ts) choices =
+      InTurn (IsTypedBy program scope first t) (AreTypedBy program scope rest ts) choices
+
+  pub AreRowsTypedBy : ProgramTree → Scope → Rows → TypeTree → TypeTree → List Choice → Type 0
+  AreRowsTypedBy program scope no_row u t choices = choices ≡ []
+  AreRowsTypedBy program scope (row pattern body rest) u t choices =
+      InTurn
+      (Binds (bound pattern) scope (λ inner. InTurn (IsPatternTyped program inner pattern u) (IsTypedBy program inner body t)))
+      (AreRowsTypedBy program scope rest u t) choices
+
+-- These choices are a typing of a function: its body has the type of its result. Inside, its own type variables stand for
+-- themselves.
+abbrev pub IsTyping : ProgramTree → FunctionTree → List Choice → Type 0
+IsTyping program function choices =
+    let own = put (type_at (variables_below function.variables)) in
+    IsTypedBy program (with_parameters 0 (map own function.parameters) []) function.body (own function.result) choices
+
+-- types in place of variables, where the first so many stand for themselves
+abbrev pub Fixes : ℕ → (ℕ → TypeTree) → Type 0
+Fixes count s = (x : ℕ) → x < count → s x ≡ type_variable x
+
+-- A typing of a function is principal if each other one is it, with types put in place of the variables that remain open:
+-- those that are not the function's own.
+pub record IsPrincipal (program : ProgramTree) (function : FunctionTree) (choices : List Choice) : Type 0 where
+  pub typing : IsTyping program function choices
+  pub each : (others : List Choice) → IsTyping program function others → (s : ℕ → TypeTree) × Fixes function.variables s × (others ≡ map (put_choice s) choices)
+
+-- a function is typed if it has a typing
+abbrev pub IsTypable : ProgramTree → FunctionTree → Type 0
+IsTypable program function = (choices : List Choice) × IsTyping program function choices
+
+-- for each function of a program, by its number, a principal typing
+pub record ArePrincipal (program : ProgramTree) (typings : List (List Choice)) : Type 0 where
+  pub length : length typings ≡ length program.functions
+  pub each : (f : ℕ) (function : FunctionTree) (choices : List Choice) → slice_get program.functions f ≡ Some function → slice_get typings f ≡ Some choices → IsPrincipal program function choices
+
+-- the function of this number is typed, if there is one
+abbrev pub IsTypableAt : ProgramTree → ℕ → Type 0
+IsTypableAt program f = MatchOption (slice_get program.functions f) (Unit {0}) (IsTypable program)
+
+-- there is a function of this number, it is not typed, and each function before it is
+pub record IsFirstUntyped (program : ProgramTree) (f : ℕ) : Type 0 where
+  pub function : FunctionTree
+  pub is : slice_get program.functions f ≡ Some function
+  pub untyped : ¬ IsTypable program function
+  pub earlier : (g : ℕ) → g < f → IsTypableAt program g
+
+-- what a program comes to: each function is typed, or one is the first that is not
+abbrev pub TypesAs : ProgramTree → Result (Unit {0}) ℕ → Type 0
+TypesAs program (Ok _) = (f : ℕ) → IsTypableAt program f
+TypesAs program (Err f) = IsFirstUntyped program f

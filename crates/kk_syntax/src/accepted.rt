@@ -5,5 +5,5 @@ use crate::typed::Typed;
 #[derive(Debug, Drop)]
 pub struct Accepted {
     pub typed: Typed,
-    pub ground: Ground,
+    pub instances: Ground,
 }

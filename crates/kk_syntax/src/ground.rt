@@ -1,18 +1,20 @@
-use crate::program::Expr;
+use crate::program::{Constructor, Expr, TypeDecl};
+use crate::typed::Taken;
 
-/// The instances of a program: all that `main` comes to, with ground types alone.
+/// The instances of a program: all that `main` comes to, at types without variables.
 #[derive(Debug, Drop)]
 pub struct Ground {
-    /// The ground types: `bool`, and then each type that an instance takes.
+    /// The types and the constructors of the program, as they are declared.
+    pub declarations: Vec<TypeDecl>,
+    pub constructors: Vec<Constructor>,
+    /// The types without variables that the instances take, each once.
     pub types: Vec<GroundType>,
-    /// The constructors of these types: `False`, `True`, and then those of the others, in their order.
-    pub constructors: Vec<GroundConstructor>,
     /// `main`'s is the first.
     pub instances: Vec<Instance>,
 }
 
 /// A type without variables, as a node among others: its arguments are nodes before it, by their numbers.
-#[derive(Debug, Drop)]
+#[derive(Clone, Debug, PartialEq, Eq, Hash, Drop)]
 pub enum GroundType {
     Int32,
     /// `()`
@@ -21,30 +23,19 @@ pub enum GroundType {
     Named(u32, Vec<u32>),
 }
 
-/// A constructor of a ground type.
-#[derive(Debug, Drop)]
-pub struct GroundConstructor {
-    /// Its number in the program.
-    pub constructor: u32,
-    /// The number of its ground type.
-    pub of_type: u32,
-    /// Its place among the constructors of its type, from 0.
-    pub tag: u32,
-    /// The ground types of its fields, by their numbers.
-    pub fields: Vec<u32>,
-}
-
-/// A function at ground types.
+/// A function at types without variables.
 #[derive(Debug, Drop)]
 pub struct Instance {
-    /// The number of its function.
+    /// The number of its function in the program.
     pub function: u32,
-    /// The ground types that stand for the function's type variables.
+    /// The types that stand for the function's type variables.
     pub arguments: Vec<u32>,
-    /// The ground types of its parameters.
+    /// The types of its parameters.
     pub parameters: Vec<u32>,
-    /// The ground type of its result.
+    /// The type of its result.
     pub result: u32,
-    /// The function's body, in which a call names an instance, and a construction and a pattern a ground constructor.
+    /// The types that are taken in its body, in the order of the text; here a call names the function.
+    pub taken: Vec<Taken>,
+    /// The function's body, in which a call names an instance.
     pub body: Expr,
 }

@@ -13,7 +13,7 @@ mod tree;
 mod typed;
 
 pub use accepted::Accepted;
-pub use ground::{Ground, GroundConstructor, GroundType, Instance};
+pub use ground::{Ground, GroundType, Instance};
 pub use literal::StringLiteral;
 pub use operator::{BinaryOperator, PrintForm, UnaryOperator};
 pub use positions::{Ownership, Positions};
@@ -27,4 +27,4 @@ pub use tree::{
     SurfaceBinder, SurfaceExpr, SurfacePattern, SurfaceRow, SurfaceStatement, SurfaceType, Tree,
     TypeDeclaration,
 };
-pub use typed::{BodyTypes, TypeNode, Typed};
+pub use typed::{BodyTypes, Taken, TypeNode, Typed};

@@ -13,13 +13,25 @@ pub enum TypeNode {
     Named(u32, Vec<u32>),
 }
 
+/// The types that are taken at a place of a body, by the numbers of their nodes.
+#[derive(Debug, Drop)]
+pub enum Taken {
+    /// For the type variables of a constructor that is used, by its number, in their order: by a construction or by a
+    /// pattern.
+    Construct(u32, Vec<u32>),
+    /// For the type variables of a function that is called, by its number, in their order.
+    Call(u32, Vec<u32>),
+    /// The type of the value of a statement, of the scrutinee of a match, or of a variable of a pattern.
+    Value(u32),
+}
+
 /// The types that are taken in the body of a function.
 #[derive(Debug, Drop)]
 pub struct BodyTypes {
     pub nodes: Vec<TypeNode>,
-    /// Nodes, in the order of the text: at a use of a constructor or of a function the types that are taken for its
-    /// type variables, in their order; at a `val` and at a variable of a pattern, its type.
-    pub taken: Vec<u32>,
+    /// In the order of the text: a use before its arguments; a statement before its value, and a match before its
+    /// scrutinee; the variables of a row's pattern, from left to right, before the pattern, and that before the body.
+    pub taken: Vec<Taken>,
 }
 
 /// A program, and the types that it is taken at.

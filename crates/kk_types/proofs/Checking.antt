@@ -8,7 +8,7 @@ use Rattle.kk_base.specs.Exactly.{IsOnly}
 use Rattle.kk_syntax.specs.declared.program.Fun.{Fun}
 use Rattle.kk_syntax.specs.declared.program.Program.{Program}
 use Rattle.kk_syntax.specs.Programs.{FunctionTree, ProgramTree, function_tree, program_tree}
-use Rattle.kk_syntax.specs.Typing.{Signature, signature_of, with_parameters, IsFunctionTyped}
+use Rattle.kk_syntax.specs.PlainTyping.{Signature, signature_of, with_parameters, IsFunctionTyped}
 use Rattle.kk_types.specs.declared.error.TypeError.{TypeError}
 use Rattle.kk_types.specs.declared.error.TypeError.TheVariants.{NotTyped, NoMemory}
 use Rattle.kk_types.specs.Checks.{IsTypedAt, IsFirstUntyped, TypesAs, EachProgramIsChecked, AnswersTypes, Names}

@@ -10,7 +10,7 @@ use Rattle.kk_syntax.specs.declared.program.Form.{Form}
 use Rattle.kk_syntax.specs.declared.program.Form.TheVariants.{Unary, Binary, Print, Construct, Call}
 use Rattle.kk_syntax.specs.Trees.{Tree, number, unit, variable, read_byte, print_text, apply, branch, match, sequence, Trees, no_tree, tree, trees_of, StatementTree, block_of, expr_tree, statement_tree}
 use Rattle.kk_syntax.specs.Types.{TypeTree, int32, unit_type}
-use Rattle.kk_syntax.specs.Typing.{bool, Signature, Scope, with_binder, unary_type, binary_type, IsFormTyped, HasType, HaveTypes}
+use Rattle.kk_syntax.specs.PlainTyping.{bool, Signature, Scope, with_binder, unary_type, binary_type, IsFormTyped, HasType, HaveTypes}
 use Rattle.kk_types.specs.Inference.{is_type, on_type, common_type, branch_type, result_where, form_signature, inferred, are_taken, scope_after}
 use Rattle.kk_syntax.proofs.Blocks.{block_tree}
 use Rattle.kk_types.specs.declared.failure.Failure.{Failure}

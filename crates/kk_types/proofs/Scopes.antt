@@ -6,7 +6,7 @@ use Rattle.kk_syntax.specs.declared.program.Expr.TheVariants.{Variable, rolls-Va
 use Rattle.kk_syntax.specs.declared.program.Expr.TheFolds.{fold-roll-Expr}
 use Rattle.kk_syntax.specs.Trees.{Tree, variable, RowTree, StatementTree, expr_step, row_step, statement_step, expr_tree}
 use Rattle.kk_syntax.specs.Types.{type_tree}
-use Rattle.kk_syntax.specs.Typing.{Signature, type_in}
+use Rattle.kk_syntax.specs.PlainTyping.{Signature, type_in}
 use Rattle.kk_types.specs.Inference.{inferred}
 use Rattle.kk_types.specs.declared.scope.Bound.{Bound}
 use Rattle.kk_types.specs.Views.{bound_view, scope_of}

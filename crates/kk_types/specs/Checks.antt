@@ -3,7 +3,7 @@ use Rattle.std.specs.Prelude.{◌≡◌, ◌<◌, ℕ, map, Some, slice_get, Res
 use Rattle.kk_base.specs.Exactly.{IsOnly, ExactlyOne}
 use Rattle.kk_syntax.specs.declared.program.Program.{Program}
 use Rattle.kk_syntax.specs.Programs.{FunctionTree, ProgramTree, program_tree}
-use Rattle.kk_syntax.specs.Typing.{signature_of, IsFunctionTyped}
+use Rattle.kk_syntax.specs.PlainTyping.{signature_of, IsFunctionTyped}
 use Rattle.kk_types.specs.declared.error.TypeError.{TypeError}
 use Rattle.kk_types.specs.declared.error.TypeError.TheVariants.{NotTyped, NoMemory}
 

@@ -6,7 +6,7 @@ use Rattle.kk_syntax.specs.declared.program.Ty.{Ty}
 use Rattle.kk_syntax.specs.Programs.{FunctionTree}
 use Rattle.kk_syntax.specs.Trees.{Tree, number, unit, variable, read_byte, print_text, apply, branch, match, sequence, Trees, no_tree, tree, StatementTree}
 use Rattle.kk_syntax.specs.Types.{TypeTree, int32, unit_type, type_variable, named, TypeTrees, no_type, type, types_of, type_tree}
-use Rattle.kk_syntax.specs.Typing.{bool, Signature, Scope, type_in, with_parameters, with_binder, unary_type, binary_type}
+use Rattle.kk_syntax.specs.PlainTyping.{bool, Signature, Scope, type_in, with_parameters, with_binder, unary_type, binary_type}
 
 -- whether two types are one
 abbrev mutual

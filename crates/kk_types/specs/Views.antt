@@ -5,7 +5,7 @@ use Rattle.kk_syntax.specs.declared.program.Fun.{Fun}
 use Rattle.kk_syntax.specs.declared.program.Ty.{Ty}
 use Rattle.kk_syntax.specs.Programs.{function_tree}
 use Rattle.kk_syntax.specs.Types.{TypeTree, type_tree}
-use Rattle.kk_syntax.specs.Typing.{Signature, signature_of, TypedVariable, Scope}
+use Rattle.kk_syntax.specs.PlainTyping.{Signature, signature_of, TypedVariable, Scope}
 use Rattle.kk_types.specs.declared.failure.Failure.{Failure}
 use Rattle.kk_types.specs.declared.failure.Failure.TheVariants.{Untyped, NoMemory}
 use Rattle.kk_types.specs.declared.form.FormTypes.{FormTypes}

@@ -1,6 +1,6 @@
 ghost use Rattle.std.specs.Prelude.{◌≡◌, [], ◌∷◌, IsTrue};
 ghost use Rattle.kk_syntax.specs.Types.{int32, unit_type, type_tree};
-ghost use Rattle.kk_syntax.specs.Typing.{bool};
+ghost use Rattle.kk_syntax.specs.PlainTyping.{bool};
 ghost use Rattle.kk_types.specs.Inference.{same_type, AreTypes};
 
 use kk_syntax::{Program, Ty};

@@ -1,7 +1,7 @@
 ghost use Rattle.std.specs.Prelude.{◌≡◌, [], Some, option_map, slice_get};
 ghost use Rattle.kk_syntax.specs.declared.program.Form.TheVariants.{Unary, Binary, Construct};
 ghost use Rattle.kk_syntax.specs.Types.{type_tree};
-ghost use Rattle.kk_syntax.specs.Typing.{binary_type};
+ghost use Rattle.kk_syntax.specs.PlainTyping.{binary_type};
 ghost use Rattle.kk_types.specs.Inference.{form_signature};
 ghost use Rattle.kk_types.specs.Views.{form_view, signatures_of};
 

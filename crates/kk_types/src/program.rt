@@ -1,7 +1,7 @@
 ghost use Rattle.std.specs.Prelude.{◌≡◌, [], map, IfOk, IfErr};
 ghost use Rattle.kk_syntax.specs.Programs.{function_tree};
 ghost use Rattle.kk_syntax.specs.Types.{type_tree};
-ghost use Rattle.kk_syntax.specs.Typing.{with_parameters};
+ghost use Rattle.kk_syntax.specs.PlainTyping.{with_parameters};
 ghost use Rattle.kk_types.specs.Checks.{AnswersTypes, Names, EachProgramIsChecked};
 ghost use Rattle.kk_types.specs.Inference.{is_function_typed};
 ghost use Rattle.kk_types.specs.Views.{signatures_of, scope_of, Judges};

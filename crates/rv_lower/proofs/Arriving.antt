@@ -5,7 +5,7 @@ use Rattle.kk_base.specs.Machines.{Machine, weight_of}
 use Rattle.kk_base.specs.Simulations.{Reaches}
 use Rattle.kk_syntax.specs.PositionsOf.{PositionTable}
 use Rattle.kk_syntax.specs.Types.{TypeTree}
-use Rattle.kk_syntax.specs.Typing.{Signature, Scope}
+use Rattle.kk_syntax.specs.PlainTyping.{Signature, Scope}
 use Rattle.kk_source.specs.State.{Store, Environment}
 use Rattle.kk_core.specs.Codes.{Code, ProgramCode}
 use Rattle.kk_core.specs.CoreStates.{CoreSetting, Join, CallFrame, CoreState}

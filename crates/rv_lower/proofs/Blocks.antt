@@ -2,7 +2,7 @@
 use Rattle.std.proofs.Common.{◌≡◌, ◌+◌, ◌<◌, ◌≤◌, ℕ, suc, List, [], ◌∷◌, ◌++◌, Option, Some, Bool, true, false, All, refl, sym, ◌∙◌, ap, subst, arith, append_assoc}
 use Rattle.std.specs.Prelude.{if◌then◌else◌}
 use Rattle.kk_syntax.specs.Types.{TypeTree}
-use Rattle.kk_syntax.specs.Typing.{bool}
+use Rattle.kk_syntax.specs.PlainTyping.{bool}
 use Rattle.kk_source.specs.State.{Value, Store, Environment, ended as core_ended}
 use Rattle.kk_source.specs.Live.{value_of}
 use Rattle.kk_source.specs.Step.{is_true}

@@ -4,7 +4,7 @@ use Rattle.std.proofs.lemmas.Bool.{or_cases, or_left, or_right, false≢true}
 use Rattle.std.proofs.lemmas.List.Elements.{All-nil, All-cons}
 use Rattle.kk_syntax.specs.Shapes.{is_among as is_bound}
 use Rattle.kk_syntax.specs.Types.{TypeTree}
-use Rattle.kk_syntax.specs.Typing.{Signature, Scope}
+use Rattle.kk_syntax.specs.PlainTyping.{Signature, Scope}
 use Rattle.kk_core.specs.Codes.{Code, give, tail_call, branch, case, compute, use_of, unpack, inside}
 use Rattle.kk_core.specs.CoreTyping.{HasCodeType}
 use Rattle.kk_core.specs.Sizes.{forms, AreBound, Ordered}

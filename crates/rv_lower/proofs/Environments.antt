@@ -2,7 +2,7 @@
 use Rattle.std.proofs.Common.{◌≡◌, ◌+◌, ◌<◌, ◌≤◌, ◌==◌, ℕ, List, [], ◌∷◌, ◌++◌, Option, Some, None, Bool, true, false, refl, sym, ◌∙◌, ap, subst, arith, eqb-true, ne_eqb}
 use Rattle.std.specs.Prelude.{if◌then◌else◌}
 use Rattle.kk_syntax.specs.Types.{TypeTree}
-use Rattle.kk_syntax.specs.Typing.{Signature, Scope, type_in}
+use Rattle.kk_syntax.specs.PlainTyping.{Signature, Scope, type_in}
 use Rattle.kk_source.specs.State.{Value, Environment}
 use Rattle.kk_source.specs.Live.{value_of}
 use Rattle.kk_core.specs.Codes.{Code}

@@ -1,7 +1,7 @@
 -- How a state of the assembler's machine stands for a state of the core machine.
 use Rattle.std.specs.Prelude.{refl, ◌≡◌, ℕ, suc, ◌+◌, ◌^◌, ◌<◌, ◌≤◌, List, [], ◌∷◌, ◌++◌, Bool, false, Option, Some, All}
 use Rattle.kk_syntax.specs.Types.{TypeTree, int32, unit_type, type_variable, named}
-use Rattle.kk_syntax.specs.Typing.{Signature, Scope, type_in}
+use Rattle.kk_syntax.specs.PlainTyping.{Signature, Scope, type_in}
 use Rattle.kk_source.specs.State.{Value, integer, unit, Environment}
 use Rattle.kk_source.specs.Live.{value_of}
 use Rattle.kk_source.specs.Step.{truth}

@@ -5,7 +5,7 @@ use Rattle.std.proofs.lemmas.Option.{get_or_from_slice_get}
 use Rattle.kk_base.proofs.Simulations.{simulates_agree, simulates_passing}
 use Rattle.kk_syntax.specs.PositionsOf.{PositionTable}
 use Rattle.kk_syntax.specs.Types.{unit_type}
-use Rattle.kk_syntax.specs.Typing.{Signature}
+use Rattle.kk_syntax.specs.PlainTyping.{Signature}
 use Rattle.kk_core.specs.Codes.{FunctionCode, ProgramCode}
 use Rattle.kk_core.specs.CoreStates.{core_first_state, no_code}
 use Rattle.kk_core.specs.CoreTyping.{IsCoreTyped, IsSmall}

@@ -3,7 +3,7 @@ use Rattle.std.proofs.Common.{◌≡◌, ℕ, zero, suc, ◌+◌, ◌*◌, ◌<�
 use Rattle.std.specs.Prelude.{slice_get}
 use Rattle.std.proofs.lemmas.Bool.{or_cases, or_left, or_right, false≢true, eq-eqb, eqb-true, ne_eqb, cases_eq}
 use Rattle.kk_syntax.specs.Shapes.{is_among as is_bound}
-use Rattle.kk_syntax.specs.Typing.{Signature, with_parameters}
+use Rattle.kk_syntax.specs.PlainTyping.{Signature, with_parameters}
 use Rattle.kk_core.specs.Codes.{FunctionCode, ProgramCode}
 use Rattle.kk_core.specs.CoreTyping.{IsCodeTyped, AreCodesTyped, IsCoreTyped, IsFunctionSmall, AreSmall, IsSmall, all_forms}
 use Rattle.kk_core.specs.Sizes.{forms, below}

@@ -7,7 +7,7 @@ use Rattle.kk_syntax.specs.declared.operator.UnaryOperator.TheVariants.{Negate, 
 use Rattle.kk_syntax.specs.declared.program.Form.{Form}
 use Rattle.kk_syntax.specs.declared.program.Form.TheVariants.{Unary, Binary, Print, Construct, Call}
 use Rattle.kk_syntax.specs.Types.{TypeTree, int32, unit_type}
-use Rattle.kk_syntax.specs.Typing.{Signature, Scope, type_in, bool, binary_type, IsFormTyped}
+use Rattle.kk_syntax.specs.PlainTyping.{Signature, Scope, type_in, bool, binary_type, IsFormTyped}
 use Rattle.kk_source.specs.State.{Value, integer, unit, constant, Store, Environment}
 use Rattle.kk_source.specs.Live.{value_of}
 use Rattle.kk_source.specs.Notes.{events_of}

@@ -9,7 +9,7 @@ use Rattle.kk_syntax.specs.declared.program.Form.{Form}
 use Rattle.kk_syntax.specs.declared.program.Form.TheVariants.{Unary, Binary, Print, Construct, Call}
 use Rattle.kk_syntax.specs.Shapes.{is_among as is_bound}
 use Rattle.kk_syntax.specs.Types.{TypeTree}
-use Rattle.kk_syntax.specs.Typing.{Signature, Scope, IsFormTyped}
+use Rattle.kk_syntax.specs.PlainTyping.{Signature, Scope, IsFormTyped}
 use Rattle.kk_source.specs.Step.{piece_of}
 use Rattle.kk_core.specs.Codes.{Operation, number, unit, read_byte, print_text, apply}
 use Rattle.kk_core.specs.CoreTyping.{HaveTypes, IsOperationTyped}

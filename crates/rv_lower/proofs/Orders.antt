@@ -1,7 +1,7 @@
 -- What follows from the order of a code's variables, and where its lines stand.
 use Rattle.std.proofs.Common.{◌≡◌, ◌+◌, ◌≤◌, ℕ, suc, List, [], ◌∷◌, ◌++◌, length, Option, Bool, true, false, refl, sym, ◌∙◌, ap, arith, append_assoc, true≢false}
 use Rattle.kk_syntax.specs.Types.{TypeTree}
-use Rattle.kk_syntax.specs.Typing.{Signature, Scope}
+use Rattle.kk_syntax.specs.PlainTyping.{Signature, Scope}
 use Rattle.kk_source.specs.State.{Environment}
 use Rattle.kk_core.specs.Codes.{Code, give, tail_call, branch, case, compute, use_of, unpack, inside}
 use Rattle.kk_core.specs.CoreStates.{Join, CallFrame}

@@ -11,7 +11,7 @@ use Rattle.kk_syntax.specs.declared.operator.BinaryOperator.{BinaryOperator}
 use Rattle.kk_syntax.specs.declared.operator.BinaryOperator.TheVariants.{Add, Subtract, Multiply, Divide, Remainder, Equal, NotEqual, Less, LessEqual, Greater, GreaterEqual}
 use Rattle.kk_syntax.specs.declared.operator.PrintForm.{PrintForm}
 use Rattle.kk_syntax.specs.Types.{TypeTree, int32, unit_type}
-use Rattle.kk_syntax.specs.Typing.{bool, binary_type}
+use Rattle.kk_syntax.specs.PlainTyping.{bool, binary_type}
 use Rattle.kk_source.specs.State.{Value, integer, unit}
 use Rattle.kk_source.specs.Step.{truth, number_result, byte_value, piece_of}
 use Rattle.kk_source.specs.Arithmetic.{negation_of, sum_of, difference_of, product_of, quotient_of, remainder_of}

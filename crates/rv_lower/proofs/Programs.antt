@@ -4,7 +4,7 @@ use Rattle.std.proofs.lemmas.List.{map-append, take_more, take_all}
 use Rattle.kk_core.specs.declared.form.CoreFunction.{CoreFunction}
 use Rattle.kk_core.specs.Codes.{FunctionCode, ProgramCode, function_code}
 use Rattle.kk_core.specs.CoreTyping.{IsCoreTyped, AreCodesTyped, IsSmall, all_forms}
-use Rattle.kk_syntax.specs.Typing.{Signature}
+use Rattle.kk_syntax.specs.PlainTyping.{Signature}
 use Rattle.std.specs.Prelude.{slice_get}
 use Rattle.rv_lower.specs.Meaning.{IsAsmOf}
 use Rattle.rv_lower.proofs.Follows.{lowered_code_does_as_core}

@@ -7,7 +7,7 @@ use Rattle.kk_base.proofs.Simulations.{simulates_until_ended}
 use Rattle.kk_syntax.specs.PositionsOf.{is_lent}
 use Rattle.kk_syntax.specs.declared.program.Form.TheVariants.{Unary, Binary, Print, Construct, Call}
 use Rattle.kk_syntax.specs.Types.{TypeTree}
-use Rattle.kk_syntax.specs.Typing.{Signature}
+use Rattle.kk_syntax.specs.PlainTyping.{Signature}
 use Rattle.kk_source.specs.State.{Value, Store, Environment, stack_full}
 use Rattle.kk_source.specs.Live.{value_of}
 use Rattle.kk_source.specs.Ends.{exit_of}

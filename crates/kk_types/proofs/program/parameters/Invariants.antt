@@ -1,6 +1,6 @@
 use Rattle.std.proofs.Common.{◌≡◌, [], map, drop}
 use Rattle.kk_syntax.specs.Types.{type_tree}
-use Rattle.kk_syntax.specs.Typing.{with_parameters}
+use Rattle.kk_syntax.specs.PlainTyping.{with_parameters}
 use Rattle.kk_types.specs.Views.{scope_of}
 use Rattle.kk_types.proofs.program.parameters.Given as goal
 

@@ -2,7 +2,7 @@ use Rattle.std.proofs.Common.{option_map, map, Some, refl, ap, sym, ◌∙◌, l
 use Rattle.std.proofs.lemmas.Option.{slice_get-map, slice_get_read, slice_get_past}
 use Rattle.kk_syntax.specs.Programs.{function_tree}
 use Rattle.kk_syntax.specs.Types.{type_tree}
-use Rattle.kk_syntax.specs.Typing.{signature_of}
+use Rattle.kk_syntax.specs.PlainTyping.{signature_of}
 use Rattle.kk_types.proofs.form.FormTypes.of_call.Goals as goal
 
 pub returns-in-Some : goal.returns-in-Some

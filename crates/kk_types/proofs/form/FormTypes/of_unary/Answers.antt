@@ -1,6 +1,6 @@
 use Rattle.std.proofs.Common.{[], ◌∷◌, Some, ap, ◌∙◌}
 use Rattle.kk_syntax.specs.Types.{type_tree}
-use Rattle.kk_syntax.specs.Typing.{bool}
+use Rattle.kk_syntax.specs.PlainTyping.{bool}
 use Rattle.kk_types.proofs.Sameness.{types_are}
 use Rattle.kk_types.proofs.form.FormTypes.of_unary.Goals as goal
 
