@@ -22,8 +22,8 @@ pub use name::Name;
 pub use outside::{Next, Put, Read, Sink, Source, Store, StoreCall, Wrote};
 pub use refusal::Refusal;
 pub use simulation::{
-    Layers, Simulation, TwoAgreements, agreements_compose, every_state_is_passing, layers_compose,
-    related_states_agree, seen_machines_simulate,
+    Layers, agreements_compose, every_state_is_passing, layers_compose, related_states_agree,
+    seen_machines_simulate,
 };
 pub use sizes::{GREATEST_CELLS, GREATEST_DEPTH};
 pub use span::Span;

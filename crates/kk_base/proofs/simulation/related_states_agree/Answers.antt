@@ -5,8 +5,8 @@ use Rattle.kk_base.proofs.simulation.related_states_agree.Goals as goal
 
 pub returns : goal.returns
 returns g c =
-    let m = g.M.Simulation in
+    let l = g.L.Layers in
     record {
-      agree = simulates_agree m.upper m.lower m.related m.passing m.pace m.simulates;
-      in_steps = λ each credit idle s t related. agree_in_steps m.upper m.lower credit (λ n. n * m.pace + idle + 1) s t each (simulates_agree m.upper m.lower m.related m.passing m.pace m.simulates credit idle s t related);
+      agree = λ upper lower. simulates_agree upper lower l.related l.passing;
+      in_steps = λ upper lower pace simulates each credit idle s t related. agree_in_steps upper lower credit (λ n. n * pace + idle + 1) s t each (simulates_agree upper lower l.related l.passing pace simulates credit idle s t related);
     }
