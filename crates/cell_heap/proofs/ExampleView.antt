@@ -1,24 +1,18 @@
 -- A machine of four cells that has a view: a counted cell, a free one on the chain, a held token, and one that was never used.
-use Rattle.std.proofs.Common.{◌≡◌, ◌≢◌, ◌≤◌, ◌<◌, ◌↔◌, ℕ, ◌+◌, ◌*◌, ◌%◌, inr, [], ◌∷◌, true, nat_eq, if◌then◌else◌, refl, sym, ap, subst, lit<, lit≤, arith}
+use Rattle.std.proofs.Common.{◌≡◌, ◌≢◌, ◌≤◌, ◌<◌, ◌↔◌, ℕ, ◌+◌, ◌*◌, ◌%◌, [], ◌∷◌, nat_eq, if◌then◌else◌, refl, sym, ap, subst, lit<, lit≤, arith}
 use Rattle.std.proofs.lemmas.Bool.Decides.{nat_tests}
-use Rattle.kk_base.specs.Memory.{Part}
 use Rattle.rv_isa.specs.Bytes.{number_at, with_number, bytes_at, with_bytes}
 use Rattle.rv_isa.specs.Processor.{Processor}
 use Rattle.cell_heap.specs.Cells.{Body, Cell, no_cell, free, token, waiting, counted, Heap, changed, owned, occurs}
-use Rattle.cell_heap.specs.Pool.{Pool, IsCell, IsUsable, places}
+use Rattle.cell_heap.specs.Pool.{IsCell, IsUsable, places}
 use Rattle.cell_heap.specs.View.{View, HasBorder}
 use Rattle.cell_heap.specs.Memory.{Shows, IsShown, IsChain, IsHeldChain, Memory}
 use Rattle.cell_heap.specs.Counts.{HasCounts, count_of, references_to}
 use Rattle.cell_heap.specs.GivingUp.{GivesUp, all_given, constant, last}
 use Rattle.cell_heap.specs.Sound.{IsSound}
+use Rattle.cell_heap.proofs.Examples.{pool, pair, memory_part, slot_stands}
 use Rattle.cell_heap.proofs.Sums.{occurs-other}
 use Rattle.cell_heap.proofs.Frames.{changed-by}
-
-abbrev pool : Pool
-pool = record { first = 64; cells = 4 }
-
-abbrev pair : Body
-pair = record { tag = 1; mask = 2; fields = 7 ∷ 1 ∷ [] }
 
 -- the pair at 64; 96 is the chain's only cell; the token at 128 is held by the slot at 200, and was a pair of 5 and `Nil`
 abbrev memory : ℕ → ℕ
@@ -32,15 +26,12 @@ heap = changed 64 (counted 1 pair) (changed 96 free (changed 128 (token (5 ∷ 1
 abbrev view : View
 view = record { heap = heap; frees = 96 ∷ []; border = 160; held = record { cell = 128; slot = 200 } ∷ [] }
 
-abbrev part : Part
-part = record { start = 64; size = 192; readable = true; writable = true; executable = true; bytes = [] }
-
 abbrev machine : Processor
 machine = record {
   registers = λ x. if nat_eq x 8 then 96 else if nat_eq x 9 then 128 else if nat_eq x 18 then 160 else if nat_eq x 19 then 192 else 0;
   pc = 0;
   memory = memory;
-  parts = part ∷ [];
+  parts = memory_part ∷ [];
   left = [];
   executed = 0;
   trace = [];
@@ -63,7 +54,7 @@ all-cells x n64 n96 n128 n160 cell =
     let whole = cell.aligned in
     grind arith
 
-usable : IsUsable pool (part ∷ [])
+usable : IsUsable pool (memory_part ∷ [])
 usable = record {
   aligned = refl;
   some = lit< tt;
@@ -94,20 +85,9 @@ chain : IsChain memory heap 96 (96 ∷ [])
 unfolding number_at with_number bytes_at with_bytes
 chain = (refl, refl, refl, refl)
 
-held : IsHeldChain pool (part ∷ []) memory heap 128 (record { cell = 128; slot = 200 } ∷ [])
+held : IsHeldChain pool (memory_part ∷ []) memory heap 128 (record { cell = 128; slot = 200 } ∷ [])
 unfolding number_at with_number bytes_at with_bytes
-held = (
-  refl,
-  record {
-    is_token = tt;
-    is_slot = record { aligned = refl; below = lit≤ tt; apart = inr (lit≤ tt); loads = refl; stores = refl };
-    names_slot = refl;
-    is_in_slot = refl;
-  },
-  refl,
-  refl,
-  refl,
-)
+held = (refl, record { is_token = tt; is_slot = slot_stands; names_slot = refl; is_in_slot = refl }, refl, refl, refl)
 
 has_border : HasBorder pool view
 has_border = record {

@@ -4,11 +4,11 @@ use Rattle.kk_base.specs.Memory.{Part}
 use Rattle.rv_isa.specs.Bytes.{number_at, with_number, bytes_at, with_bytes}
 use Rattle.cell_heap.specs.Cells.{Body, no_cell, free, token, counted, Heap, changed, chosen}
 use Rattle.cell_heap.specs.Pool.{Pool, places, end_of}
-use Rattle.cell_heap.specs.Memory.{HasBody, IsChain, IsHeldChain}
+use Rattle.cell_heap.specs.Memory.{HasBody, IsChain, IsSlot, IsHeldChain}
 use Rattle.cell_heap.specs.GivingUp.{GivesUp, all_given, constant, lowered, last}
 use Rattle.cell_heap.specs.Counts.{references_to, credit}
 
-abbrev pool : Pool
+abbrev pub pool : Pool
 pool = record { first = 64; cells = 4 }
 
 places_are : places pool ≡ 64 ∷ 96 ∷ 128 ∷ 160 ∷ []
@@ -30,7 +30,7 @@ blank x = 0
 abbrev one_pair : ℕ → ℕ
 one_pair = with_number 76 4 1 (with_number 72 4 7 (with_number 68 4 (1 + 256 * 2) (with_number 64 4 1 blank)))
 
-abbrev pair : Body
+abbrev pub pair : Body
 pair = record { tag = 1; mask = 2; fields = 7 ∷ 1 ∷ [] }
 
 pair_stands : HasBody one_pair 64 pair
@@ -52,23 +52,15 @@ chain_stands = (refl, refl, refl, (refl, refl, refl, refl))
 abbrev one_held : ℕ → ℕ
 one_held = with_number 200 4 64 (with_number 68 4 200 (with_number 64 4 0 one_pair))
 
-abbrev memory_part : Part
+abbrev pub memory_part : Part
 memory_part = record { start = 64; size = 192; readable = true; writable = true; executable = true; bytes = [] }
+
+pub slot_stands : IsSlot pool (memory_part ∷ []) 200
+slot_stands = record { aligned = refl; below = lit≤ tt; apart = inr (lit≤ tt); loads = refl; stores = refl }
 
 held_stands : IsHeldChain pool (memory_part ∷ []) one_held (changed 64 (token (7 ∷ 1 ∷ [])) (λ x. no_cell)) 64 (record { cell = 64; slot = 200 } ∷ [])
 unfolding number_at with_number bytes_at with_bytes
-held_stands = (
-  refl,
-  record {
-    is_token = tt;
-    is_slot = record { aligned = refl; below = lit≤ tt; apart = inr (lit≤ tt); loads = refl; stores = refl };
-    names_slot = refl;
-    is_in_slot = refl;
-  },
-  refl,
-  refl,
-  refl,
-)
+held_stands = (refl, record { is_token = tt; is_slot = slot_stands; names_slot = refl; is_in_slot = refl }, refl, refl, refl)
 
 -- ---- giving up
 

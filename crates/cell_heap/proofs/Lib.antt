@@ -1,4 +1,4 @@
-mod Examples
+pub mod Examples
 mod ExampleView
 pub mod Sums
 pub mod Frames

@@ -10,7 +10,8 @@ use Rattle.rv_isa.specs.Standing.{Code, Stands}
 use Rattle.rv_isa.proofs.Standing.{Stands-leads}
 use Rattle.rv_isa.proofs.Instructions.{leads-jalr, step-exit}
 use Rattle.cell_runtime.specs.Calls.{Exits}
-use Rattle.cell_runtime.proofs.Operands.{x0, x1, imm_0}
+use Rattle.rv_isa.proofs.Registers.{x0, x1}
+use Rattle.cell_runtime.proofs.Operands.{imm_0}
 
 -- a jump to the way back
 pub leads-back : {code : Code} {s : Processor} {n w : ℕ} (t : Processor) → Stands code s → Leads n s t → code t.pc ≡ Some (Jalr x0 x1 imm_0) → value t.registers 1 ≡ w → w % 4 ≡ 0 → w < 2 ^ 32

@@ -1,5 +1,5 @@
 -- What follows of a drop: the heap that it leaves is one from which the next one begins, and credit pays its instructions.
-use Rattle.std.proofs.Common.{◌≡◌, ◌≤◌, ℕ, ◌+◌, ◌*◌, [], ◌∷◌, arith}
+use Rattle.std.proofs.Common.{◌≤◌, ℕ, ◌+◌, [], ◌∷◌, arith}
 use Rattle.rv_isa.specs.Processor.{Processor}
 use Rattle.cell_heap.specs.Pool.{Pool, places}
 use Rattle.cell_heap.specs.View.{View}

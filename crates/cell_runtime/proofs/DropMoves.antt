@@ -40,6 +40,13 @@ pub record IsChosen (code : Code) (pool : Pool) (first heap : Heap) (waits frees
   pub scanning : IsScanning pool mask left scanned.last
   pub rest_is : rest ≡ chosen mask left
 
+-- a field is passed over, which is no reference
+record IsPassed (code : Code) (pool : Pool) (first heap : Heap) (waits frees : List ℕ) (mask : ℕ) (ys : List ℕ) (s t : Processor) : Type 0 where
+  leads : Leads 7 s t
+  quiet : IsQuiet first s t
+  within : IsWithin code pool first heap waits frees t
+  scanning : IsScanning pool (mask / 2) ys t
+
 mask-clear : (mask : ℕ) → (mask % 2 ≡ 1 → ⊥) → mask % 2 ≡ 0
 mask-clear mask other = grind arith
 
@@ -166,6 +173,22 @@ module _ (code : Code) (at : ℕ) (has : Has code at drop_code) (fits : at + 112
           };
         }
 
+    abbrev behind_clear : ℕ → ℕ → Processor → Processor
+    behind_clear mask y s = behind_field mask y 0 (at + 32) (s.executed + 1 + 1 + 1 + 1 + 1 + 1 + 1) s
+
+    passes : (y : ℕ) (ys : List ℕ) (mask : ℕ) (s : Processor) → s.pc ≡ at + 32 → IsWithin code pool first heap waits frees s → IsScanning pool mask (y ∷ ys) s → mask ≢ 0 → mask % 2 ≡ 0
+        → IsPassed code pool first heap waits frees mask ys s (behind_clear mask y s)
+    passes y ys mask s here within scanning some clear =
+        let use_it = field-use within (value s.registers 11) y ys scanning.fields in
+        let leads = row_skip code at has fits at_whole s mask (value s.registers 11) y within.stands here scanning.mask_is some clear refl use_it scanning.fields.0 in
+        let executed = s.executed + 1 + 1 + 1 + 1 + 1 + 1 + 1 in
+        record {
+          leads = leads;
+          quiet = quiet_field first mask y 0 (at + 32) executed s;
+          within = within_field first mask y 0 (at + 32) executed s (Stands-leads leads within.stands) within;
+          scanning = scanning_field first mask y 0 (at + 32) executed s pool ys scanning;
+        }
+
     -- no reference is among the fields that are left
     pub scan-none : (xs : List ℕ) (mask : ℕ) (s : Processor) → s.pc ≡ at + 32 → IsWithin code pool first heap waits frees s → IsScanning pool mask xs s → [] ≡ chosen mask xs
         → IsScanned code pool first heap waits frees (at + 72) (7 * length xs + 1) s
@@ -179,12 +202,9 @@ module _ (code : Code) (at : ℕ) (has : Has code at drop_code) (fits : at + 112
                 | inl set ↦ absurd (nil-cons y (chosen (mask / 2) ys) (none ∙ chosen-set mask y ys set))
                 | inr other ↦
                     (let clear = mask-clear mask other in
-                    let use_it = field-use within (value s.registers 11) y ys scanning.fields in
-                    let leads = row_skip code at has fits at_whole s mask (value s.registers 11) y within.stands here scanning.mask_is some clear refl use_it scanning.fields.0 in
-                    let t = behind_field mask y 0 (at + 32) (s.executed + 1 + 1 + 1 + 1 + 1 + 1 + 1) s in
-                    let there = within_field first mask y 0 (at + 32) (s.executed + 1 + 1 + 1 + 1 + 1 + 1 + 1) s (Stands-leads leads within.stands) within in
-                    let rest = scan-none ys (mask / 2) t refl there (scanning_field first mask y 0 (at + 32) (s.executed + 1 + 1 + 1 + 1 + 1 + 1 + 1) s pool ys scanning) (none ∙ chosen-clear mask y ys clear) in
-                    IsScanned-from leads (quiet_field first mask y 0 (at + 32) (s.executed + 1 + 1 + 1 + 1 + 1 + 1 + 1) s) refl (more-fields (length ys)) rest)
+                    let passed = passes y ys mask s here within scanning some clear in
+                    let rest = scan-none ys (mask / 2) (behind_clear mask y s) refl passed.within passed.scanning (none ∙ chosen-clear mask y ys clear) in
+                    IsScanned-from passed.leads passed.quiet refl (more-fields (length ys)) rest)
               ]
         ]
 
@@ -221,12 +241,9 @@ module _ (code : Code) (at : ℕ) (has : Has code at drop_code) (fits : at + 112
                     })
                 | inr other ↦
                     (let clear = mask-clear mask other in
-                    let use_it = field-use within (value s.registers 11) y ys scanning.fields in
-                    let leads = row_skip code at has fits at_whole s mask (value s.registers 11) y within.stands here scanning.mask_is some clear refl use_it scanning.fields.0 in
-                    let t = behind_field mask y 0 (at + 32) (s.executed + 1 + 1 + 1 + 1 + 1 + 1 + 1) s in
-                    let there = within_field first mask y 0 (at + 32) (s.executed + 1 + 1 + 1 + 1 + 1 + 1 + 1) s (Stands-leads leads within.stands) within in
-                    let later = scan-some x rest ys (mask / 2) t refl there (scanning_field first mask y 0 (at + 32) (s.executed + 1 + 1 + 1 + 1 + 1 + 1 + 1) s pool ys scanning) (given ∙ chosen-clear mask y ys clear) in
-                    IsChosen-from leads (quiet_field first mask y 0 (at + 32) (s.executed + 1 + 1 + 1 + 1 + 1 + 1 + 1) s) refl y later)
+                    let passed = passes y ys mask s here within scanning some clear in
+                    let later = scan-some x rest ys (mask / 2) (behind_clear mask y s) refl passed.within passed.scanning (given ∙ chosen-clear mask y ys clear) in
+                    IsChosen-from passed.leads passed.quiet refl y later)
               ]
         ]
 

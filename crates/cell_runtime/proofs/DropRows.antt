@@ -1,7 +1,6 @@
 -- The routine that gives up a reference: its instructions, and what each straight row of them does.
 use Rattle.std.proofs.Common.{◌≡◌, ◌≢◌, ℕ, suc, ◌+◌, ◌-◌, ◌/◌, ◌%◌, ◌^◌, ◌<◌, ◌≤◌, List, [], ◌∷◌, true, bit_and, refl, sym, ap, ◌∙◌, lit<, lit≤, arith}
 use Rattle.std.proofs.lemmas.Nat.{and_mask}
-use Rattle.rv_isa.specs.declared.register.Register.{Register}
 use Rattle.rv_isa.specs.declared.immediate.Immediate.{Immediate}
 use Rattle.rv_isa.specs.declared.immediate.BranchOffset.{BranchOffset}
 use Rattle.rv_isa.specs.declared.immediate.ShiftAmount.{ShiftAmount}
@@ -16,11 +15,9 @@ use Rattle.rv_isa.specs.Standing.{Code, Has, Stands}
 use Rattle.rv_isa.proofs.Standing.{Has-get}
 use Rattle.rv_isa.proofs.Instructions.{leads-sets, leads-addi, leads-lw, leads-sw, leads-beq_taken, leads-beq_not_taken, leads-bne_taken, leads-bne_not_taken}
 use Rattle.cell_heap.specs.Memory.{word}
-use Rattle.cell_runtime.proofs.Operands.{x0, x1, x5, x8, x10, x11, x12, imm_0, imm_1, imm_4, imm_minus_1, forward_8}
+use Rattle.rv_isa.proofs.Registers.{x0, x1, x5, x8, x10, x11, x12, x13}
+use Rattle.cell_runtime.proofs.Operands.{imm_0, imm_1, imm_4, imm_minus_1, forward_8}
 use Rattle.cell_runtime.proofs.Calling.{leads-back, then_one}
-
-abbrev pub x13 : Register
-x13 = record { number = 13; in_range = lit< tt }
 
 abbrev pub imm_8 : Immediate
 imm_8 = record { word = 8; in_range = (lit< tt, lit< tt) }

@@ -1,5 +1,5 @@
 -- The hold and the unhold of a token, executed.
-use Rattle.std.proofs.Common.{◌≡◌, ◌≢◌, ℕ, ◌+◌, ◌*◌, ◌%◌, ◌<◌, ◌≤◌, ◌⊎◌, inl, inr, List, [], ◌∷◌, map, Some, refl, sym, ap, ◌∙◌, subst, arith}
+use Rattle.std.proofs.Common.{◌≡◌, ◌≢◌, ℕ, ◌+◌, ◌<◌, ◌≤◌, ◌⊎◌, inl, inr, List, [], ◌∷◌, map, Some, refl, sym, ap, ◌∙◌, subst, arith}
 use Rattle.std.proofs.lemmas.Bool.Decides.{nat_tests}
 use Rattle.rv_isa.specs.declared.instr.Instr.{Instr}
 use Rattle.rv_isa.specs.declared.instr.Instr.TheVariants.{Beq, Addi, Lw, Sw, Jalr}
@@ -12,16 +12,17 @@ use Rattle.rv_isa.specs.Standing.{Code, Has, Stands}
 use Rattle.rv_isa.proofs.Standing.{next-is}
 use Rattle.rv_isa.proofs.Instructions.{leads-addi, leads-lw, leads-sw, leads-beq_taken, leads-beq_not_taken}
 use Rattle.cell_heap.specs.Cells.{token, occurs}
-use Rattle.cell_heap.specs.Pool.{Pool, end_of}
+use Rattle.cell_heap.specs.Pool.{Pool}
 use Rattle.cell_heap.specs.View.{Link, View}
 use Rattle.cell_heap.specs.Memory.{word, IsSlot, IsHeldChain, Memory}
-use Rattle.cell_heap.proofs.Frames.{IsHeld-cell, byte-stored_apart}
+use Rattle.cell_heap.proofs.Frames.{IsHeld-cell, cell-inside, byte-stored_apart}
 use Rattle.rv_isa.specs.declared.placed.Symbol.TheVariants.{Hold, Unhold}
 use Rattle.cell_runtime.specs.Registers.{KeptBy}
 use Rattle.cell_runtime.specs.Calls.{HasWayBack}
 use Rattle.cell_runtime.specs.Lines.{Makes}
 use Rattle.cell_runtime.specs.Tokens.{Held, no_token, newest, AfterHold, IsHoldOfPools, Unheld, AfterUnhold, IsUnholdOfPools}
-use Rattle.cell_runtime.proofs.Operands.{x0, x1, x5, x9, x10, imm_0, imm_4, forward_8, forward_16}
+use Rattle.rv_isa.proofs.Registers.{x0, x1, x5, x9, x10}
+use Rattle.cell_runtime.proofs.Operands.{imm_0, imm_4, forward_8, forward_16}
 use Rattle.cell_runtime.proofs.Spelling.{plain, plain_makes}
 use Rattle.cell_runtime.proofs.Calling.{leads-back, then_one}
 use Rattle.cell_runtime.proofs.HoldingTokens.{linked, token_cell, memory_held, memory_with, newest_below}
@@ -84,12 +85,9 @@ module _ (code : Code) (pool : Pool) (view : View) (s : Processor) (stands : Sta
       let next_fits = newest_below pool view s memory in
       let is_cell = token_cell pool view s (held_at cell s) memory cell slot fields is_token is_slot holds cells_apart slots_apart next_fits refl refl in
       let behind = is_cell.behind in
-      let before = is_cell.before in
-      let aligned = is_cell.aligned in
+      let inside = cell-inside pool cell memory.usable.aligned is_cell in
       let some = memory.usable.some in
       let below = memory.usable.below in
-      let pool_aligned = memory.usable.aligned in
-      let inside : cell + 32 ≤ end_of pool = ends cell pool.first pool.cells aligned pool_aligned before in
       let to : sum_word cell 0 ≡ cell = omega arith in
       let to_second : sum_word cell 4 ≡ cell + 4 = omega arith in
       let not_null : cell ≢ 0 = λ e. absurd (omega arith) in
@@ -122,9 +120,6 @@ module _ (code : Code) (pool : Pool) (view : View) (s : Processor) (stands : Sta
     where
       kept : (cell x : ℕ) → KeptBy Hold x → value (put 9 cell (put 5 cell s.registers)) x ≡ value s.registers x
       kept cell x out = let a : x ≢ 9 = out.0 in let b : x ≢ 5 = out.1.0 in grind (arith, nat_tests)
-
-      ends : (cell first cells : ℕ) → cell % 32 ≡ 0 → first % 32 ≡ 0 → cell < first + 32 * cells → cell + 32 ≤ first + 32 * cells
-      ends cell first cells a b before = omega arith
 
       outside : (cell next slot x : ℕ) → (x < cell) ⊎ (cell + 8 ≤ x) → linked cell next slot s.memory x ≡ s.memory x
       outside cell next slot x (inl low) = byte-stored_apart (with_number cell 4 next s.memory) (cell + 4) slot x (inl (omega arith)) ∙ byte-stored_apart s.memory cell next x (inl low)
@@ -168,17 +163,14 @@ module _ (code : Code) (pool : Pool) (view : View) (s : Processor) (stands : Sta
       let holds = ap (word s.memory) (sym slot_is) ∙ chain.1.is_in_slot in
       let is_cell = IsHeld-cell memory.shown chain.1 in
       let behind = is_cell.behind in
-      let before = is_cell.before in
-      let aligned = is_cell.aligned in
+      let inside = cell-inside pool link.cell memory.usable.aligned is_cell in
       let some = memory.usable.some in
       let below = memory.usable.below in
-      let pool_aligned = memory.usable.aligned in
-      let inside : link.cell + 4 ≤ end_of pool = ends link.cell pool.first pool.cells aligned pool_aligned before in
       let to : sum_word link.cell 0 ≡ link.cell = omega arith in
       let not_null : link.cell ≢ 0 = λ e. absurd (omega arith) in
       let a = looks stands has.0 has.1.0 is_slot holds in
       let b = then_one stands a (λ on. leads-beq_not_taken on has.1.0 not_null (next-is stands (s.pc + 4) _ has.1.1.0)) in
-      let c = then_one stands b (λ on. leads-lw on {at = link.cell} {v = word s.memory link.cell} has.1.1.0 to (omega arith) (memory.usable.loads link.cell behind inside) refl (next-is stands (s.pc + 4 + 4) _ has.1.1.1.0)) in
+      let c = then_one stands b (λ on. leads-lw on {at = link.cell} {v = word s.memory link.cell} has.1.1.0 to (omega arith) (memory.usable.loads link.cell behind (omega arith)) refl (next-is stands (s.pc + 4 + 4) _ has.1.1.1.0)) in
       let t = record s {
         registers = put 9 (word s.memory link.cell) (put 5 link.cell s.registers);
         pc = s.pc + 4 + 4 + 4;
@@ -202,9 +194,6 @@ module _ (code : Code) (pool : Pool) (view : View) (s : Processor) (stands : Sta
     where
       kept : (next cell x : ℕ) → KeptBy Unhold x → value (put 9 next (put 5 cell s.registers)) x ≡ value s.registers x
       kept next cell x out = let a : x ≢ 9 = out.0 in let b : x ≢ 5 = out.1.0 in grind (arith, nat_tests)
-
-      ends : (cell first cells : ℕ) → cell % 32 ≡ 0 → first % 32 ≡ 0 → cell < first + 32 * cells → cell + 4 ≤ first + 32 * cells
-      ends cell first cells a b before = omega arith
 
   unholds_by : (held : List Link) (count : ℕ) → Unheld view s.memory (value s.registers 10) held count → (t : Processor) × AfterUnhold pool view held count s t
   unholds_by held count (no_token none) = unhold_none none

@@ -15,7 +15,8 @@ use Rattle.rv_isa.proofs.Runs.{Leads-then}
 use Rattle.rv_isa.proofs.Standing.{Stands-leads, next-is}
 use Rattle.rv_isa.proofs.Memory.{bytes_at-one, bytes_at-add, byte-same, byte-apart}
 use Rattle.rv_isa.proofs.Instructions.{leads-addi, leads-sb, leads-divu, leads-remu, leads-bne_taken, leads-bne_not_taken}
-use Rattle.cell_runtime.proofs.Operands.{x0, x5, x6, x7, x11, imm_0, imm_48, imm_minus_1, back_20}
+use Rattle.rv_isa.proofs.Registers.{x0, x5, x6, x7, x11}
+use Rattle.cell_runtime.proofs.Operands.{imm_0, imm_48, imm_minus_1, back_20}
 use Rattle.cell_runtime.proofs.Calling.{then_one}
 
 abbrev pub digits_code : List Instr → List Instr

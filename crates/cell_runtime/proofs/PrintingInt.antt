@@ -24,7 +24,8 @@ use Rattle.rv_isa.specs.declared.placed.Section.TheVariants.{Data}
 use Rattle.cell_runtime.specs.Calls.{HasWayBack}
 use Rattle.cell_runtime.specs.Lines.{Makes}
 use Rattle.cell_runtime.specs.Prints.{IsPrintInt, BeforePrintInt, AfterPrintInt, int_piece, int_count, buffer_bytes}
-use Rattle.cell_runtime.proofs.Operands.{x0, x1, x5, x6, x7, x10, x11, x12, x17, imm_0, imm_1, imm_10, imm_45, imm_64, imm_minus_1, forward_8, forward_16}
+use Rattle.rv_isa.proofs.Registers.{x0, x1, x5, x6, x7, x10, x11, x12, x17}
+use Rattle.cell_runtime.proofs.Operands.{imm_0, imm_1, imm_10, imm_45, imm_64, imm_minus_1, forward_8, forward_16}
 use Rattle.cell_runtime.proofs.Spelling.{plain, address_makes}
 use Rattle.cell_runtime.proofs.Calling.{leads-back, then_one}
 use Rattle.cell_runtime.proofs.Ranges.{can-within}
@@ -214,11 +215,34 @@ module _ (code : Code) (u : UpperImmediate) (l : Immediate) (buffer end : ℕ) (
   kept_low : (upper x : ℕ) → x ≢ 5 → x ≢ 6 → x ≢ 7 → x ≢ 12 → value (fronted upper end s.registers) x ≡ value s.registers x
   kept_low upper x a b c d = grind (arith, nat_tests)
 
-  digits_at : ℕ
-  digits_at = s.pc + 4 + 4 + 4 + 4 + 4 + 4 + 4 + 4
-
   below_end : end < 2 ^ 32
   below_end = let in_range = before.in_range in omega arith
+
+  -- at the digits' loop
+  abbrev at_loop : (ℕ → ℕ) → ℕ → Processor
+  at_loop registers executed = record s {
+    registers = registers;
+    pc = s.pc + 4 + 4 + 4 + 4 + 4 + 4 + 4 + 4;
+    memory = with_number end 1 10 s.memory;
+    executed = executed;
+  }
+
+  front_with : (registers : ℕ → ℕ) (executed size count : ℕ) → Leads count s (at_loop registers executed) → value registers 7 ≡ size → value registers 6 ≡ 10 → value registers 5 ≡ end → value registers 12 ≡ end + value s.registers 11
+      → ((x : ℕ) → x ≢ 5 → x ≢ 6 → x ≢ 7 → x ≢ 12 → value registers x ≡ value s.registers x) → (h : Processor) × Front code (s.pc + 4 + 4 + 4 + 4 + 4 + 4 + 4 + 4) size end buffer count s h
+  front_with registers executed size count leads number ten place stop others = (
+    at_loop registers executed,
+    record {
+      leads = leads;
+      at_digits = record { stands = Stands-leads leads stands; pc_is = refl; number = number; ten = ten; place = place; below = below_end; room = room };
+      line = line_there;
+      outside = λ x other. byte-apart end 10 s.memory x other;
+      stop = stop;
+      registers = others;
+      parts = refl;
+      left = refl;
+      trace = refl;
+    },
+  )
 
   -- of a number that is not negative
   front_low : value s.registers 10 < 2 ^ 31 → (h : Processor) × Front code (s.pc + 4 + 4 + 4 + 4 + 4 + 4 + 4 + 4) (value s.registers 10) end buffer 7 s h
@@ -226,51 +250,18 @@ module _ (code : Code) (u : UpperImmediate) (l : Immediate) (buffer end : ℕ) (
       let below = stands.below (s.pc + 4 + 4 + 4 + 4 + 4 + 4 + 4 + 4) _ has.1.1.1.1.1.1.1.1.0 in
       let aligned = stands.aligned (s.pc + 4 + 4 + 4 + 4 + 4 + 4 + 4 + 4) _ has.1.1.1.1.1.1.1.1.0 in
       let to : sum_word (s.pc + 4 + 4 + 4 + 4 + 4 + 4) 8 ≡ s.pc + 4 + 4 + 4 + 4 + 4 + 4 + 4 + 4 = omega arith in
-      let leads = then_one stands to_test (λ on. leads-bge_taken on has.1.1.1.1.1.1.0 (not_negative (value s.registers 10) low) to aligned) in (
-        record s {
-          registers = fronted u.word end s.registers;
-          pc = s.pc + 4 + 4 + 4 + 4 + 4 + 4 + 4 + 4;
-          memory = with_number end 1 10 s.memory;
-          executed = s.executed + 1 + 1 + 1 + 1 + 1 + 1 + 1;
-        },
-        record {
-          leads = leads;
-          at_digits = record { stands = Stands-leads leads stands; pc_is = refl; number = refl; ten = refl; place = refl; below = below_end; room = room };
-          line = line_there;
-          outside = λ x other. byte-apart end 10 s.memory x other;
-          stop = refl;
-          registers = kept_low u.word;
-          parts = refl;
-          left = refl;
-          trace = refl;
-        },
-      )
+      let leads = then_one stands to_test (λ on. leads-bge_taken on has.1.1.1.1.1.1.0 (not_negative (value s.registers 10) low) to aligned) in
+      front_with (fronted u.word end s.registers) (s.executed + 1 + 1 + 1 + 1 + 1 + 1 + 1) (value s.registers 10) 7 leads refl refl refl refl (kept_low u.word)
 
   -- of a negative number, whose size is what is missing to 2^32
   front_high : 2 ^ 31 ≤ value s.registers 10 → (h : Processor) × Front code (s.pc + 4 + 4 + 4 + 4 + 4 + 4 + 4 + 4) (2 ^ 32 - value s.registers 10) end buffer 8 s h
   front_high high =
       let word = before.word in
+      let size = 2 ^ 32 - value s.registers 10 in
       let size_is : difference_word 0 (value s.registers 10) ≡ 2 ^ 32 - value s.registers 10 = omega arith in
       let tested = then_one stands to_test (λ on. leads-bge_not_taken on has.1.1.1.1.1.1.0 (negative (value s.registers 10) high word) (next-is stands (s.pc + 4 + 4 + 4 + 4 + 4 + 4) _ has.1.1.1.1.1.1.1.0)) in
-      let leads = then_one stands tested (λ on. leads-sub on {v = 2 ^ 32 - value s.registers 10} has.1.1.1.1.1.1.1.0 size_is (next-is stands (s.pc + 4 + 4 + 4 + 4 + 4 + 4 + 4) _ has.1.1.1.1.1.1.1.1.0)) in (
-        record s {
-          registers = put 7 (2 ^ 32 - value s.registers 10) (fronted u.word end s.registers);
-          pc = s.pc + 4 + 4 + 4 + 4 + 4 + 4 + 4 + 4;
-          memory = with_number end 1 10 s.memory;
-          executed = s.executed + 1 + 1 + 1 + 1 + 1 + 1 + 1 + 1;
-        },
-        record {
-          leads = leads;
-          at_digits = record { stands = Stands-leads leads stands; pc_is = refl; number = refl; ten = refl; place = refl; below = below_end; room = room };
-          line = line_there;
-          outside = λ x other. byte-apart end 10 s.memory x other;
-          stop = refl;
-          registers = kept u.word (2 ^ 32 - value s.registers 10);
-          parts = refl;
-          left = refl;
-          trace = refl;
-        },
-      )
+      let leads = then_one stands tested (λ on. leads-sub on {v = 2 ^ 32 - value s.registers 10} has.1.1.1.1.1.1.1.0 size_is (next-is stands (s.pc + 4 + 4 + 4 + 4 + 4 + 4 + 4) _ has.1.1.1.1.1.1.1.1.0)) in
+      front_with (put 7 size (fronted u.word end s.registers)) (s.executed + 1 + 1 + 1 + 1 + 1 + 1 + 1 + 1) size 8 leads refl refl refl refl (kept u.word size)
 
 -- ---- the whole
 

@@ -19,7 +19,8 @@ use Rattle.rv_isa.specs.declared.placed.Symbol.TheVariants.{Routine}
 use Rattle.cell_runtime.specs.Registers.{KeptBy}
 use Rattle.cell_runtime.specs.Lines.{Makes}
 use Rattle.cell_runtime.specs.Prints.{IsPrintText, BeforePrintText, AfterPrintText, put_of}
-use Rattle.cell_runtime.proofs.Operands.{x0, x1, x10, x11, x12, x17, imm_0, imm_1, imm_64}
+use Rattle.rv_isa.proofs.Registers.{x0, x1, x10, x11, x12, x17}
+use Rattle.cell_runtime.proofs.Operands.{imm_0, imm_1, imm_64}
 use Rattle.cell_runtime.proofs.Spelling.{plain, plain_makes}
 use Rattle.cell_runtime.proofs.Calling.{leads-back, then_one}
 

@@ -23,7 +23,8 @@ use Rattle.rv_isa.specs.declared.placed.Symbol.TheVariants.{Start}
 use Rattle.cell_runtime.specs.Registers.{KeptBy}
 use Rattle.cell_runtime.specs.Lines.{Spells, Makes}
 use Rattle.cell_runtime.specs.Starts.{all_free, first_view, AfterStart, IsStartOf}
-use Rattle.cell_runtime.proofs.Operands.{x0, x1, x2, x8, x9, x18, x19, imm_0}
+use Rattle.rv_isa.proofs.Registers.{x0, x1, x2, x8, x9, x18, x19}
+use Rattle.cell_runtime.proofs.Operands.{imm_0}
 use Rattle.cell_runtime.proofs.Spelling.{plain, plain_is}
 use Rattle.cell_runtime.proofs.Calling.{then_one}
 

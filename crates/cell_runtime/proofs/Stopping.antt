@@ -18,7 +18,8 @@ use Rattle.cell_runtime.specs.Registers.{KeptBy}
 use Rattle.cell_runtime.specs.Calls.{Exits}
 use Rattle.cell_runtime.specs.Lines.{Makes}
 use Rattle.cell_runtime.specs.Stops.{number_of, IsStop}
-use Rattle.cell_runtime.proofs.Operands.{x0, x10, x17, imm_93}
+use Rattle.rv_isa.proofs.Registers.{x0, x10, x17}
+use Rattle.cell_runtime.proofs.Operands.{imm_93}
 use Rattle.cell_runtime.proofs.Spelling.{plain, plain_makes}
 use Rattle.cell_runtime.proofs.Calling.{ends-exit}
 

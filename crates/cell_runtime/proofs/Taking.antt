@@ -17,14 +17,15 @@ use Rattle.cell_heap.specs.Cells.{token, changed, free}
 use Rattle.cell_heap.specs.Pool.{Pool, end_of}
 use Rattle.cell_heap.specs.View.{Link, View}
 use Rattle.cell_heap.specs.Memory.{word, IsChain, IsHeldChain, Memory}
-use Rattle.cell_heap.proofs.Frames.{shown-cell, byte-stored_apart}
+use Rattle.cell_heap.proofs.Frames.{shown-cell, cell-inside, byte-stored_apart}
 use Rattle.rv_isa.specs.declared.routine.Routine.TheVariants.{Take}
 use Rattle.rv_isa.specs.declared.placed.Symbol.TheVariants.{Routine}
 use Rattle.cell_runtime.specs.Registers.{KeptBy}
 use Rattle.cell_runtime.specs.Calls.{HasWayBack, Exits}
 use Rattle.cell_runtime.specs.Lines.{Makes}
 use Rattle.cell_runtime.specs.Takes.{from_chain, at_border, from_held, IsFull, AfterTake, IsTakeOfPools}
-use Rattle.cell_runtime.proofs.Operands.{x0, x1, x5, x8, x9, x10, x18, x19, imm_0, imm_4, imm_32, imm_101, forward_16, forward_24}
+use Rattle.rv_isa.proofs.Registers.{x0, x1, x5, x8, x9, x10, x18, x19}
+use Rattle.cell_runtime.proofs.Operands.{imm_0, imm_4, imm_32, imm_101, forward_16, forward_24}
 use Rattle.cell_runtime.proofs.Spelling.{plain, plain_makes}
 use Rattle.cell_runtime.proofs.Calling.{leads-back, then_one, exits-after}
 use Rattle.cell_runtime.proofs.Stopping.{stop_code, stop_exits}
@@ -56,11 +57,9 @@ module _ (code : Code) (pool : Pool) (view : View) (s : Processor) (stands : Sta
       let is_free = first_free pool view s s memory refl refl refl refl cell frees first in
       let is_cell = shown-cell memory.shown cell free is_free (λ e. cc) in
       let behind = is_cell.behind in
-      let before = is_cell.before in
-      let aligned = is_cell.aligned in
+      let inside = cell-inside pool cell memory.usable.aligned is_cell in
       let some = memory.usable.some in
       let below = memory.usable.below in
-      let pool_aligned = memory.usable.aligned in
       let not_null : value s.registers 8 ≢ 0 = λ none. absurd (omega arith) in
       let to : sum_word (value s.registers 8) 0 ≡ cell = rw is (omega arith) in
       let a = leads-beq_not_taken stands has.0 not_null (next-is stands s.pc _ has.1.0) in
@@ -179,13 +178,10 @@ module _ (code : Code) (pool : Pool) (view : View) (s : Processor) (stands : Sta
           let is_cell = newest_cell pool view s (emptied s link.slot) memory link links newest refl refl in
           let slot_below = held.is_slot.below in
           let behind = is_cell.behind in
-          let before = is_cell.before in
-          let aligned = is_cell.aligned in
+          let inside = cell-inside pool link.cell memory.usable.aligned is_cell in
           let some = memory.usable.some in
           let below = memory.usable.below in
-          let pool_aligned = memory.usable.aligned in
           let not_null : value s.registers 9 ≢ 0 = λ none. absurd (omega arith) in
-          let inside : link.cell + 32 ≤ end_of pool = ends link.cell pool.first pool.cells aligned pool_aligned before in
           let to : sum_word (value s.registers 9) 0 ≡ link.cell = rw is (omega arith) in
           let to_second : sum_word (value s.registers 9) 4 ≡ link.cell + 4 = rw is (omega arith) in
           let to_slot : sum_word link.slot 0 ≡ link.slot = omega arith in
@@ -228,9 +224,6 @@ module _ (code : Code) (pool : Pool) (view : View) (s : Processor) (stands : Sta
               let b : x ≢ 10 = out.1.1.1.1.0 in
               let c : x ≢ 5 = out.1.1.1.0 in
               grind (arith, nat_tests)
-
-          ends : (cell first cells : ℕ) → cell % 32 ≡ 0 → first % 32 ≡ 0 → cell < first + 32 * cells → cell + 32 ≤ first + 32 * cells
-          ends cell first cells a b before = omega arith
 
           apart : (slot x : ℕ) → (x < slot) ⊎ (slot + 4 ≤ x) → with_number slot 4 0 s.memory x ≡ s.memory x
           apart slot x (inl low) = byte-stored_apart s.memory slot 0 x (inl low)

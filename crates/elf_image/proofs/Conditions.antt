@@ -160,15 +160,31 @@ is_right file header executable told aligned holds =
     let multiple : nat_eq (header.entry % 4) 0 ≡ true = eq-eqb _ _ aligned in
     told ∙ rw (multiple, holds) refl
 
+-- what the parts and the entry of a file are by the answers of the tests, where it passes them
+pub record Passes (file : List ℕ) : Type 0 where
+  pub apart : are_apart (parts_of file) ≡ true
+  pub reach : are_in_reach (parts_of file) ≡ true
+  pub begins : is_entry (parts_of file) (entry_of file) ≡ true
+
+pub passes : (file : List ℕ) (header : FileHeader) (segments : List ProgramHeader) {first second third : List ProgramHeader} {apart reach executable : Bool} → IsFileHeader header file → HasSegments file segments
+    → first ≡ segments → apart ≡ are_apart (map extent_of first) → apart ≡ true
+    → second ≡ segments → reach ≡ list_all (λ h. nat_le (end_of (extent_of h)) greatest_end) second → reach ≡ true
+    → third ≡ segments → executable ≡ list_any (λ h. is_executable_at (extent_of h) header.entry) third → header.entry % 4 ≡ 0 → executable ≡ true → Passes file
+passes file header segments {first} {second} {third} {apart} {reach} {executable} says has first_is apart_told is_apart second_is reach_told in_reach third_is told aligned holds =
+    record {
+      apart = apart_tells file segments first apart has first_is apart_told ∙ is_apart;
+      reach = reach_tells file segments second reach has second_is reach_told ∙ in_reach;
+      begins = is_right file header executable (entry_tells file header segments third executable says has third_is told) aligned holds;
+    }
+
 -- a file that meets every condition
 pub is_loaded : (file : List ℕ) (header : FileHeader) (segments seen : List ProgramHeader) (parts : List Part) → IsFileHeader header file → HasSegments file segments
-    → are_apart (parts_of file) ≡ true → are_in_reach (parts_of file) ≡ true → length file ≤ greatest_file → is_entry (parts_of file) (entry_of file) ≡ true
-    → seen ≡ segments → parts ≡ map (part_of file) seen → IsLoaded file header.entry parts
+    → Passes file → length file ≤ greatest_file → seen ≡ segments → parts ≡ map (part_of file) seen → IsLoaded file header.entry parts
 unfolding reason_of
-is_loaded file header segments seen parts says has apart reach fits begins same are =
+is_loaded file header segments seen parts says has passed fits same are =
     let small : nat_le (length file) greatest_file ≡ true = le-leb _ _ fits in
     record {
-      sound = rw (says.long, says.elf, says.rv32, says.executable, has.readable, has.inside, apart, reach, small, begins) refl;
+      sound = rw (says.long, says.elf, says.rv32, says.executable, has.readable, has.inside, passed.apart, passed.reach, small, passed.begins) refl;
       entry_is = says.entry_is;
       parts_are = are ∙ ap (map (part_of file)) same ∙ sym has.parts_are;
     }
@@ -190,13 +206,12 @@ pub record IsImage (entry : ℕ) (parts : List Part) : Type 0 where
   pub filled : are_filled parts ≡ true
 
 pub is_image : (file : List ℕ) (header : FileHeader) (segments seen : List ProgramHeader) (parts : List Part) → IsFileHeader header file → HasSegments file segments
-    → are_apart (parts_of file) ≡ true → are_in_reach (parts_of file) ≡ true → is_entry (parts_of file) (entry_of file) ≡ true
-    → seen ≡ segments → parts ≡ map (part_of file) seen → IsImage header.entry parts
-is_image file header segments seen parts says has apart reach begins same are =
+    → Passes file → seen ≡ segments → parts ≡ map (part_of file) seen → IsImage header.entry parts
+is_image file header segments seen parts says has passed same are =
     let of_file : parts_of file ≡ parts = has.parts_are ∙ ap (map (part_of file)) (sym same) ∙ sym are in
     record {
-      begins = subst (λ (ps : List Part). is_entry ps header.entry ≡ true) of_file (subst (λ (n : ℕ). is_entry (parts_of file) n ≡ true) (sym says.entry_is) begins);
-      apart = subst (λ (ps : List Part). are_apart ps ≡ true) of_file apart;
-      in_reach = subst (λ (ps : List Part). are_in_reach ps ≡ true) of_file reach;
+      begins = subst (λ (ps : List Part). is_entry ps header.entry ≡ true) of_file (subst (λ (n : ℕ). is_entry (parts_of file) n ≡ true) (sym says.entry_is) passed.begins);
+      apart = subst (λ (ps : List Part). are_apart ps ≡ true) of_file passed.apart;
+      in_reach = subst (λ (ps : List Part). are_in_reach ps ≡ true) of_file passed.reach;
       filled = subst (λ (ps : List Part). are_filled ps ≡ true) (ap (map (part_of file)) (sym same) ∙ sym are) (filled-parts file segments has.each_filled);
     }

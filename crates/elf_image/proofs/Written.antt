@@ -181,7 +181,7 @@ loads : (file text : List ℕ) (size : ℕ) (parts : List Part) → Says file te
     → length file ≤ greatest_file → is_entry (parts_of file) (entry_of file) ≡ true → parts ≡ map (part_of file) (segments_of text size) → IsLoaded file (entry_of file) parts
 unfolding file_header_of
 loads file text size parts s has apart reach fits begins same =
-    is_loaded file (file_header_of file) (segments_of text size) (segments_of text size) parts (says-header file text size s) has apart reach fits begins refl same
+    is_loaded file (file_header_of file) (segments_of text size) (segments_of text size) parts (says-header file text size s) has (record { apart = apart; reach = reach; begins = begins }) fits refl same
 
 -- the file of a program loads the program
 pub reads_again : (entry : ℕ) (parts : List Part) (file : List ℕ) → IsProgramImage entry parts → is_entry parts entry ≡ true → are_apart parts ≡ true → are_in_reach parts ≡ true

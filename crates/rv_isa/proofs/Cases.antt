@@ -98,30 +98,24 @@ abbrev Kept : ℕ → Processor → Processor → Type 0
 Kept n s t = (t.parts ≡ s.parts) × (t.executed ≡ s.executed + n)
 
 module _ {I : Type 0} (set : InstructionSet I) where
-  -- what stays in every step, and what grows
-  pub step-parts : (s : Processor) → (step_over set s).processor.parts ≡ s.parts
-  step-parts s = step-by set (λ after. after.processor.parts ≡ s.parts) s record {
-    trap = λ cause word. refl;
-    nothing = λ next. refl;
-    set = λ rd v next. refl;
-    store = λ at width v next allowed. refl;
-    ask_end = λ next is. refl;
-    ask_byte = λ byte rest next is some allowed. refl;
-    write = λ next allowed. refl;
-    exit = λ next. refl;
+  -- the parts stay in every step, and the count of instructions grows
+  step-keeps : (s : Processor) → ((step_over set s).processor.parts ≡ s.parts) × ((step_over set s).processor.executed ≡ s.executed + counted (step_over set s).ending)
+  step-keeps s = step-by set (λ after. (after.processor.parts ≡ s.parts) × (after.processor.executed ≡ s.executed + counted after.ending)) s record {
+    trap = λ cause word. (refl, sym (add-zero s.executed));
+    nothing = λ next. (refl, refl);
+    set = λ rd v next. (refl, refl);
+    store = λ at width v next allowed. (refl, refl);
+    ask_end = λ next is. (refl, refl);
+    ask_byte = λ byte rest next is some allowed. (refl, refl);
+    write = λ next allowed. (refl, refl);
+    exit = λ next. (refl, refl);
   }
 
+  pub step-parts : (s : Processor) → (step_over set s).processor.parts ≡ s.parts
+  step-parts s = (step-keeps s).0
+
   pub step-executed : (s : Processor) → (step_over set s).processor.executed ≡ s.executed + counted (step_over set s).ending
-  step-executed s = step-by set (λ after. after.processor.executed ≡ s.executed + counted after.ending) s record {
-    trap = λ cause word. sym (add-zero s.executed);
-    nothing = λ next. refl;
-    set = λ rd v next. refl;
-    store = λ at width v next allowed. refl;
-    ask_end = λ next is. refl;
-    ask_byte = λ byte rest next is some allowed. refl;
-    write = λ next allowed. refl;
-    exit = λ next. refl;
-  }
+  step-executed s = (step-keeps s).1
 
   pub step-trace : (s : Processor) → IsPrefix s.trace (step_over set s).processor.trace
   step-trace s = step-by set (λ after. IsPrefix s.trace after.processor.trace) s record {

@@ -7,7 +7,8 @@ use Rattle.rv_isa.specs.declared.instr.Instr.{Instr}
 use Rattle.rv_isa.specs.declared.instr.Instr.TheVariants.{Bne, Addi, Add, Ecall}
 use Rattle.rv_isa.specs.Processor.{Processor, going, exited, value, put}
 use Rattle.rv_isa.specs.Execution.{run, Leads}
-use Rattle.rv_isa.proofs.Examples.{x0, x5, x6, x7, minus_one, back_four}
+use Rattle.rv_isa.proofs.Registers.{x0, x5, x6, x7}
+use Rattle.rv_isa.proofs.Examples.{minus_one, back_four}
 use Rattle.rv_isa.proofs.Runs.{Leads-none, Leads-then, Leads-ended}
 use Rattle.rv_isa.specs.Standing.{Code, Has, Stands}
 use Rattle.rv_isa.proofs.Standing.{Stands-leads, next-is}

@@ -1,7 +1,6 @@
 -- The definitions on worked words and at the edges of the arithmetic, by computation.
 use Rattle.std.proofs.Common.{◌≡◌, ℕ, ◌-◌, ◌^◌, [], ◌∷◌, refl, lit<, Some, true, false, nat_eq, if◌then◌else◌}
 use Rattle.std.specs.Int.{w64}
-use Rattle.rv_isa.specs.declared.register.Register.{Register}
 use Rattle.rv_isa.specs.declared.immediate.Immediate.{Immediate}
 use Rattle.rv_isa.specs.declared.immediate.BranchOffset.{BranchOffset}
 use Rattle.rv_isa.specs.declared.immediate.JumpOffset.{JumpOffset}
@@ -16,36 +15,7 @@ use Rattle.rv_isa.specs.Processor.{Processor}
 use Rattle.rv_isa.specs.FreeCells.{free_list}
 use Rattle.rv_isa.specs.Read.{read}
 use Rattle.rv_isa.specs.Table.{IsWord}
-
-abbrev pub x0 : Register
-x0 = record { number = 0; in_range = lit< tt }
-
-abbrev pub x1 : Register
-x1 = record { number = 1; in_range = lit< tt }
-
-abbrev pub x2 : Register
-x2 = record { number = 2; in_range = lit< tt }
-
-abbrev pub x3 : Register
-x3 = record { number = 3; in_range = lit< tt }
-
-abbrev pub x5 : Register
-x5 = record { number = 5; in_range = lit< tt }
-
-abbrev pub x6 : Register
-x6 = record { number = 6; in_range = lit< tt }
-
-abbrev pub x7 : Register
-x7 = record { number = 7; in_range = lit< tt }
-
-abbrev pub x10 : Register
-x10 = record { number = 10; in_range = lit< tt }
-
-abbrev pub x11 : Register
-x11 = record { number = 11; in_range = lit< tt }
-
-abbrev pub x12 : Register
-x12 = record { number = 12; in_range = lit< tt }
+use Rattle.rv_isa.proofs.Registers.{x0, x1, x2, x3, x5, x6, x7, x10, x11, x12}
 
 abbrev five : Immediate
 five = record { word = 5; in_range = (lit< tt, lit< tt) }

@@ -13,6 +13,7 @@ pub mod ImageAgreements
 pub mod ProcessorMachines
 pub mod Products
 pub mod Reading
+pub mod Registers
 pub mod Runs
 pub mod Same
 pub mod Standing

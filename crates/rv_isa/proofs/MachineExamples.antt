@@ -1,25 +1,22 @@
 -- The machines of the assembler form and of its placed form, tried on a program: main passes 5 to a function that adds 1 to it
 -- unless it is zero, and prints what comes back.
-use Rattle.std.proofs.Common.{◌≡◌, ◌==◌, ℕ, ◌+◌, List, [], ◌∷◌, ◌++◌, Option, Some, None, Bool, true, false, not, refl, lit<}
-use Rattle.kk_base.specs.Machines.{trace, ending_after, weight_of}
-use Rattle.rv_isa.specs.declared.register.Register.{Register}
+use Rattle.std.proofs.Common.{◌≡◌, ◌==◌, ℕ, ◌+◌, List, [], ◌∷◌, ◌++◌, Option, Some, None, Bool, false, refl, lit<}
+use Rattle.kk_base.specs.Machines.{trace, ending_after}
 use Rattle.rv_isa.specs.declared.asm.Action.{Action}
-use Rattle.rv_isa.specs.declared.asm.Action.TheVariants.{Compute, Label, Jump, Branch, Call, TailCall, Return, Routine, Hold, Unhold}
+use Rattle.rv_isa.specs.declared.asm.Action.TheVariants.{Compute, Label, Branch, Call, Return, Routine}
 use Rattle.rv_isa.specs.declared.asm.Operation.{Operation}
 use Rattle.rv_isa.specs.declared.asm.Operation.TheVariants.{Li, Mv}
 use Rattle.rv_isa.specs.declared.asm.Condition.{Condition}
 use Rattle.rv_isa.specs.declared.asm.Condition.TheVariants.{Equal}
 use Rattle.rv_isa.specs.declared.routine.Routine.{Routine as RoutineName}
-use Rattle.rv_isa.specs.declared.routine.Routine.TheVariants as RoutineName
 use Rattle.rv_isa.specs.declared.placed.Place.{Place}
-use Rattle.rv_isa.specs.declared.placed.Place.TheVariants.{Register as register, Slot as slot}
+use Rattle.rv_isa.specs.declared.placed.Place.TheVariants.{Register as register}
 use Rattle.rv_isa.specs.declared.placed.Operand.{Operand}
 use Rattle.rv_isa.specs.declared.placed.Listed.{Listed}
-use Rattle.rv_isa.specs.declared.placed.Way.{Way}
-use Rattle.rv_isa.specs.declared.placed.Way.TheVariants.{Copy, Load, Store}
+use Rattle.rv_isa.specs.declared.placed.Way.TheVariants.{Copy}
 use Rattle.rv_isa.specs.AsmCode.{Line, Lines}
 use Rattle.rv_isa.specs.PlacedCode.{PlacedLine, does, moves, PlacedLines}
-use Rattle.rv_isa.specs.Primitives.{Reply, answers, ends, fails, Primitives}
+use Rattle.rv_isa.specs.Primitives.{Reply, answers, fails, Primitives}
 use Rattle.rv_isa.specs.AsmMachine.{asm_machine, asm_start}
 use Rattle.rv_isa.specs.PlacedMachine.{placed_machine, placed_start}
 
