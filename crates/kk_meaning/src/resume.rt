@@ -1,4 +1,4 @@
-ghost use Rattle.std.specs.Prelude.{◌≡◌, None, ◌≤◌, ◌-◌, ◌∷◌, ◌++◌, [], map, reverse, take, vec_len, IfOk};
+ghost use Rattle.std.specs.Prelude.{◌≡◌, None, ◌∷◌, ◌++◌, [], IfOk};
 ghost use Rattle.kk_source.specs.State.{value as at, ended, end_at};
 ghost use Rattle.kk_source.specs.Sound.{IsOlder};
 ghost use Rattle.kk_source.specs.Step.{goes, at_end, value_step};
