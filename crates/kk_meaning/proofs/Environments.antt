@@ -5,6 +5,7 @@ use Rattle.std.proofs.lemmas.Option.{slice_get-get_or}
 use Rattle.std.specs.Prelude.{slice_get}
 use Rattle.kk_source.specs.State as source
 use Rattle.kk_source.specs.Live.{value_of}
+use Rattle.kk_source.specs.Step.{bind_parameters}
 use Rattle.kk_meaning.specs.declared.binding.Bound.{Bound}
 use Rattle.kk_meaning.specs.declared.binding.Link.{Link}
 use Rattle.kk_meaning.specs.View.{bound_view, linked, environment_within, environment_of, pushed}
@@ -126,6 +127,11 @@ take_longer xs ys zs k le same = ap (take k) same ∙ front xs zs k le
     front [] zs (suc k) le = absurd (omega arith)
     front (x ∷ xs) zs zero le = refl
     front {X = X} (x ∷ xs) zs (suc k) le = ap (λ (l : List X). x ∷ l) (front xs zs k (omega arith))
+
+-- the parameters of a function bound to the arguments, and nothing else
+pub parameters_bound : (links : List Link) (n : ℕ) (given bound : List Bound) (values : List source.Value) → environment_of links n ≡ pushed (map bound_view given) [] → given ≡ bound → ((environment : source.Environment) → pushed (map bound_view bound) environment ≡ bind_parameters 0 values environment) → environment_of links n ≡ bind_parameters 0 values []
+parameters_bound links n given bound values is same all =
+    is ∙ (ap (λ bs. pushed (map bound_view bs) []) same ∙ all [])
 
 -- one more of several bindings
 pub pushed_one : (links longer : List Link) (bs : List Bound) (i n m newest : ℕ) (d : Bound) (link : Link) (whole : source.Environment) → i < length bs → newest ≤ length links → n ≡ length links → m ≡ n + 1 → longer ≡ links ++ link ∷ [] → link.bound ≡ get_or bs i d → link.skips ≡ n - newest → pushed (map bound_view (drop i bs)) (environment_of links newest) ≡ whole → pushed (map bound_view (drop (i + 1) bs)) (environment_of longer m) ≡ whole

@@ -5,6 +5,7 @@ pub mod FreeVariables
 pub mod Listed
 pub mod Marks
 pub mod Patterns
+pub mod Popped
 pub mod Results
 pub mod Stepped
 pub mod Views

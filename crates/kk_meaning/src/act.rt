@@ -1,4 +1,4 @@
-ghost use Rattle.std.specs.Prelude.{◌≡◌, ◌≤◌, ◌++◌, None, map, reverse, take, vec_len, nat_le, slice_get, option_map, IfSome, IfNone, IfOk, OnErr};
+ghost use Rattle.std.specs.Prelude.{◌≡◌, ◌≤◌, ◌++◌, None, map, reverse, take, vec_len, nat_le, slice_get, option_map, IfSome, IfNone, IfOk};
 ghost use Rattle.kk_syntax.specs.Programs.{function_tree, program_tree};
 ghost use Rattle.kk_source.specs.State.{end_at};
 ghost use Rattle.kk_source.specs.Live.{held_by_all, live as live_of};
@@ -7,6 +7,7 @@ ghost use Rattle.kk_source.specs.Step.{goes, at_value, in_body, form_step, const
 ghost use Rattle.kk_meaning.specs.View.{value_view};
 ghost use Rattle.kk_meaning.specs.Machines.{setting_of, configuration_of, frames_below, Fits, IsBelow, IsCallBelow, HasNoCall};
 ghost use Rattle.kk_meaning.specs.Turns.{turn_of};
+ghost use Rattle.kk_meaning.specs.Performs.{Performs};
 
 use crate::arithmetic::{binary, unary};
 use crate::call::{lent, parameters};
@@ -28,13 +29,9 @@ impl<'a> Machine<'a> {
         requires store { IsOlder (configuration_of self.old).store }
         requires below { IsBelow older self.old.frames.items }
         requires going { end_at (configuration_of self.old).control ≡ None }
-        ensures setting { setting_of self.new ≡ setting_of self.old }
-        ensures fits { Fits self.new }
-        ensures ok { IfOk result (λ turn.
-            (turn, configuration_of self.new)
-            ≡ turn_of (configuration_of self.old) (form_step (setting_of self.old) form (map value_view values.items)
-            (frames_below older self.old) (configuration_of self.old))) }
-        ensures err { OnErr result (configuration_of self.new ≡ configuration_of self.old) }
+        ensures { Performs (form_step (setting_of self.old) form (map value_view values.items)
+            (frames_below older self.old) (configuration_of self.old))
+            self.old self.new result }
     {
         match form {
             Form::Unary(operator) => {
@@ -82,13 +79,9 @@ impl<'a> Machine<'a> {
         requires fits { Fits self.old }
         requires store { IsOlder (configuration_of self.old).store }
         requires below { IsBelow older self.old.frames.items }
-        ensures setting { setting_of self.new ≡ setting_of self.old }
-        ensures fits { Fits self.new }
-        ensures ok { IfOk result (λ turn.
-            (turn, configuration_of self.new)
-            ≡ turn_of (configuration_of self.old) (construct_step (setting_of self.old) constructor
-            (map value_view values.items) (frames_below older self.old) (configuration_of self.old))) }
-        ensures err { OnErr result (configuration_of self.new ≡ configuration_of self.old) }
+        ensures { Performs (construct_step (setting_of self.old) constructor
+            (map value_view values.items) (frames_below older self.old) (configuration_of self.old))
+            self.old self.new result }
     {
         if values.is_empty() {
             return Ok(self.give_back(Value::Constant(constructor), older));
@@ -127,14 +120,10 @@ impl<'a> Machine<'a> {
         requires fits { Fits self.old }
         requires below { IsBelow older self.old.frames.items }
         requires going { end_at (configuration_of self.old).control ≡ None }
-        ensures setting { setting_of self.new ≡ setting_of self.old }
-        ensures fits { Fits self.new }
-        ensures ok { IfOk result (λ turn.
-            (turn, configuration_of self.new)
-            ≡ turn_of (configuration_of self.old) (call_step (setting_of self.old) function
+        ensures { Performs (call_step (setting_of self.old) function
             (slice_get (setting_of self.old).program.functions function) (map value_view values.now)
-            (frames_below older self.old) (configuration_of self.old))) }
-        ensures err { OnErr result (configuration_of self.new ≡ configuration_of self.old) }
+            (frames_below older self.old) (configuration_of self.old))
+            self.old self.new result }
     {
         let Some(fun) = function_of(self.program, function) else {
             return Ok(Turn::Went);
@@ -168,13 +157,9 @@ impl<'a> Machine<'a> {
         requires fits { Fits self.old }
         requires below { IsBelow older self.old.frames.items }
         requires call { IsCallBelow before older self.old.frames.items }
-        ensures setting { setting_of self.new ≡ setting_of self.old }
-        ensures fits { Fits self.new }
-        ensures ok { IfOk result (λ turn.
-            (turn, configuration_of self.new)
-            ≡ turn_of (configuration_of self.old) (goes (in_body (function_tree fun.now) (map value_view values.now)
-            (record (configuration_of self.old) { frames = frames_below older self.old })))) }
-        ensures err { OnErr result (configuration_of self.new ≡ configuration_of self.old) }
+        ensures { Performs (goes (in_body (function_tree fun.now) (map value_view values.now)
+            (record (configuration_of self.old) { frames = frames_below older self.old })))
+            self.old self.new result }
     {
         let bound = parameters(self.alloc, values)?;
         let environment = self.bindings.bind(before, 0, bound.as_slice())?;
@@ -193,13 +178,9 @@ impl<'a> Machine<'a> {
     ) -> Result<Turn, NoMemory>
         requires fits { Fits self.old }
         requires below { IsBelow older self.old.frames.items }
-        ensures setting { setting_of self.new ≡ setting_of self.old }
-        ensures fits { Fits self.new }
-        ensures ok { IfOk result (λ turn.
-            (turn, configuration_of self.new)
-            ≡ turn_of (configuration_of self.old) (push_step (setting_of self.old) function (function_tree fun.now)
-            (map value_view values.now) (frames_below older self.old) (configuration_of self.old))) }
-        ensures err { OnErr result (configuration_of self.new ≡ configuration_of self.old) }
+        ensures { Performs (push_step (setting_of self.old) function (function_tree fun.now)
+            (map value_view values.now) (frames_below older self.old) (configuration_of self.old))
+            self.old self.new result }
     {
         if self.depth as usize <= self.calls {
             self.control = Control::Stopped(Stop::StackFull);

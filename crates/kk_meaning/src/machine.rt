@@ -1,4 +1,4 @@
-ghost use Rattle.std.specs.Prelude.{◌≡◌, ◌≤◌, None, map, vec_len, IfOk, OnErr};
+ghost use Rattle.std.specs.Prelude.{◌≡◌, ◌≤◌, None, map, vec_len};
 ghost use Rattle.kk_syntax.specs.Trees.{expr_tree, trees_of, apply as applied};
 ghost use Rattle.kk_source.specs.State.{end_at};
 ghost use Rattle.kk_source.specs.Sound.{IsOlder};
@@ -7,6 +7,7 @@ ghost use Rattle.kk_meaning.specs.View.{value_view, environment_of};
 ghost use Rattle.kk_meaning.specs.Frames.{block_tree, frame_view};
 ghost use Rattle.kk_meaning.specs.Machines.{setting_of, configuration_of, Fits, HasEnvironment};
 ghost use Rattle.kk_meaning.specs.Turns.{turn_of};
+ghost use Rattle.kk_meaning.specs.Performs.{Performs};
 
 use crate::binding::Bindings;
 use crate::cell::Cell;
@@ -57,12 +58,7 @@ impl<'a> Machine<'a> {
     pub fn step(&mut self) -> Result<Turn, NoMemory>
         requires fits { Fits self.old }
         requires older { IsOlder (configuration_of self.old).store }
-        ensures setting { setting_of self.new ≡ setting_of self.old }
-        ensures fits { Fits self.new }
-        ensures ok { IfOk result (λ turn.
-            (turn, configuration_of self.new)
-            ≡ turn_of (configuration_of self.old) (step_of (setting_of self.old) (configuration_of self.old))) }
-        ensures err { OnErr result (configuration_of self.new ≡ configuration_of self.old) }
+        ensures { Performs (step_of (setting_of self.old) (configuration_of self.old)) self.old self.new result }
     {
         match self.control {
             Control::Expression(expr, environment) => self.evaluate(expr, environment),
@@ -81,13 +77,9 @@ impl<'a> Machine<'a> {
         requires within { environment ≤ vec_len self.old.bindings.links }
         requires older { IsOlder (configuration_of self.old).store }
         requires going { end_at (configuration_of self.old).control ≡ None }
-        ensures setting { setting_of self.new ≡ setting_of self.old }
-        ensures fits { Fits self.new }
-        ensures ok { IfOk result (λ turn.
-            (turn, configuration_of self.new)
-            ≡ turn_of (configuration_of self.old) (expression_step (setting_of self.old) (expr_tree expr.now)
-            (environment_of self.old.bindings.links.items environment) (configuration_of self.old))) }
-        ensures err { OnErr result (configuration_of self.new ≡ configuration_of self.old) }
+        ensures { Performs (expression_step (setting_of self.old) (expr_tree expr.now)
+            (environment_of self.old.bindings.links.items environment) (configuration_of self.old))
+            self.old self.new result }
     {
         match expr {
             Expr::Number(number) => Ok(self.go_to(Value::Integer(*number))),
@@ -126,13 +118,9 @@ impl<'a> Machine<'a> {
         requires within { environment ≤ vec_len self.old.bindings.links }
         requires older { IsOlder (configuration_of self.old).store }
         requires going { end_at (configuration_of self.old).control ≡ None }
-        ensures setting { setting_of self.new ≡ setting_of self.old }
-        ensures fits { Fits self.new }
-        ensures ok { IfOk result (λ turn.
-            (turn, configuration_of self.new)
-            ≡ turn_of (configuration_of self.old) (expression_step (setting_of self.old) (block_tree rest.entry)
-            (environment_of self.old.bindings.links.items environment) (configuration_of self.old))) }
-        ensures err { OnErr result (configuration_of self.new ≡ configuration_of self.old) }
+        ensures { Performs (expression_step (setting_of self.old) (block_tree rest.entry)
+            (environment_of self.old.bindings.links.items environment) (configuration_of self.old))
+            self.old self.new result }
     {
         let Block { statements, value } = rest;
         match statements.split_first() {
@@ -159,14 +147,10 @@ impl<'a> Machine<'a> {
         requires within { environment ≤ vec_len self.old.bindings.links }
         requires older { IsOlder (configuration_of self.old).store }
         requires going { end_at (configuration_of self.old).control ≡ None }
-        ensures setting { setting_of self.new ≡ setting_of self.old }
-        ensures fits { Fits self.new }
-        ensures ok { IfOk result (λ turn.
-            (turn, configuration_of self.new)
-            ≡ turn_of (configuration_of self.old) (expression_step (setting_of self.old)
+        ensures { Performs (expression_step (setting_of self.old)
             (applied form (trees_of (map expr_tree arguments.now)))
-            (environment_of self.old.bindings.links.items environment) (configuration_of self.old))) }
-        ensures err { OnErr result (configuration_of self.new ≡ configuration_of self.old) }
+            (environment_of self.old.bindings.links.items environment) (configuration_of self.old))
+            self.old self.new result }
     {
         match arguments.split_first() {
             Some((first, left)) => {
@@ -195,14 +179,10 @@ impl<'a> Machine<'a> {
         requires fits { Fits self.old }
         requires within { environment ≤ vec_len self.old.bindings.links }
         requires frame { HasEnvironment environment frame }
-        ensures setting { setting_of self.new ≡ setting_of self.old }
-        ensures fits { Fits self.new }
-        ensures ok { IfOk result (λ turn.
-            (turn, configuration_of self.new)
-            ≡ turn_of (configuration_of self.old) (part_step (expr_tree first.now)
+        ensures { Performs (part_step (expr_tree first.now)
             (environment_of self.old.bindings.links.items environment)
-            (frame_view self.old.bindings.links.items frame.entry) (configuration_of self.old))) }
-        ensures err { OnErr result (configuration_of self.new ≡ configuration_of self.old) }
+            (frame_view self.old.bindings.links.items frame.entry) (configuration_of self.old))
+            self.old self.new result }
     {
         self.frames.push(frame)?;
         self.control = Control::Expression(first, environment);

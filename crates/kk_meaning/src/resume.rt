@@ -1,10 +1,11 @@
-ghost use Rattle.std.specs.Prelude.{◌≡◌, None, ◌≤◌, ◌-◌, ◌∷◌, ◌++◌, [], map, reverse, take, vec_len, IfOk, OnErr};
+ghost use Rattle.std.specs.Prelude.{◌≡◌, None, ◌∷◌, ◌++◌, [], IfOk};
 ghost use Rattle.kk_source.specs.State.{value as at, ended, end_at};
 ghost use Rattle.kk_source.specs.Sound.{IsOlder};
 ghost use Rattle.kk_source.specs.Step.{goes, at_end, value_step};
 ghost use Rattle.kk_meaning.specs.View.{value_view};
 ghost use Rattle.kk_meaning.specs.Machines.{setting_of, configuration_of, Fits, Awaits, IsNewest, IsCall};
 ghost use Rattle.kk_meaning.specs.Turns.{turn_of};
+ghost use Rattle.kk_meaning.specs.Performs.{Performs};
 ghost use Rattle.kk_meaning.specs.declared.frame.Frame.TheVariants as OfFrame;
 
 use crate::binding::Bound;
@@ -23,12 +24,8 @@ impl<'a> Machine<'a> {
         requires fits { Fits self.old }
         requires at { (configuration_of self.old).control ≡ at (value_view value) }
         requires older { IsOlder (configuration_of self.old).store }
-        ensures setting { setting_of self.new ≡ setting_of self.old }
-        ensures fits { Fits self.new }
-        ensures ok { let before = configuration_of self.old in IfOk result (λ turn.
-            (turn, configuration_of self.new)
-            ≡ turn_of before (value_step (setting_of self.old) (value_view value) before.frames before)) }
-        ensures err { OnErr result (configuration_of self.new ≡ configuration_of self.old) }
+        ensures { let before = configuration_of self.old in
+            Performs (value_step (setting_of self.old) (value_view value) before.frames before) self.old self.new result }
     {
         let Some(frame) = self.frames.last() else {
             return Ok(self.end());
@@ -94,12 +91,8 @@ impl<'a> Machine<'a> {
     ) -> Result<Turn, NoMemory>
         requires fits { Fits self.old }
         requires newest { Awaits next.now left.now environment self.old.frames.items }
-        ensures setting { setting_of self.new ≡ setting_of self.old }
-        ensures fits { Fits self.new }
-        ensures ok { let before = configuration_of self.old in IfOk result (λ turn.
-            (turn, configuration_of self.new)
-            ≡ turn_of before (value_step (setting_of self.old) (value_view value) before.frames before)) }
-        ensures err { OnErr result (configuration_of self.new ≡ configuration_of self.old) }
+        ensures { let before = configuration_of self.old in
+            Performs (value_step (setting_of self.old) (value_view value) before.frames before) self.old self.new result }
     {
         let Some(frame) = self.frames.last_mut() else {
             return Ok(Turn::Went);
@@ -129,12 +122,8 @@ impl<'a> Machine<'a> {
         requires fits { Fits self.old }
         requires newest { IsNewest (OfFrame.Rows rows environment) self.old.frames.items }
         requires going { end_at (configuration_of self.old).control ≡ None }
-        ensures setting { setting_of self.new ≡ setting_of self.old }
-        ensures fits { Fits self.new }
-        ensures ok { let before = configuration_of self.old in IfOk result (λ turn.
-            (turn, configuration_of self.new)
-            ≡ turn_of before (value_step (setting_of self.old) (value_view value) before.frames before)) }
-        ensures err { OnErr result (configuration_of self.new ≡ configuration_of self.old) }
+        ensures { let before = configuration_of self.old in
+            Performs (value_step (setting_of self.old) (value_view value) before.frames before) self.old self.new result }
     {
         let Some(chosen) = first_match(self.alloc, self.store.as_slice(), rows, value)? else {
             return Ok(Turn::Went);
@@ -158,12 +147,8 @@ impl<'a> Machine<'a> {
     ) -> Result<Turn, NoMemory>
         requires fits { Fits self.old }
         requires newest { IsNewest (OfFrame.Statement variable rest environment) self.old.frames.items }
-        ensures setting { setting_of self.new ≡ setting_of self.old }
-        ensures fits { Fits self.new }
-        ensures ok { let before = configuration_of self.old in IfOk result (λ turn.
-            (turn, configuration_of self.new)
-            ≡ turn_of before (value_step (setting_of self.old) (value_view value) before.frames before)) }
-        ensures err { OnErr result (configuration_of self.new ≡ configuration_of self.old) }
+        ensures { let before = configuration_of self.old in
+            Performs (value_step (setting_of self.old) (value_view value) before.frames before) self.old self.new result }
     {
         match variable {
             None => {

@@ -48,6 +48,27 @@ pub record AtTree (most idle : ℕ) (e : Tree) (environment : Environment) (fs :
   pub fresh : Fresh k joins (n + size e) top
   pub later : Waits most fs (goal_of k (atom names n e) joins) core n top frames
 
+-- it is there at the code of an expression for whose value the frames wait
+pub at_code : (most idle : ℕ) (k : Then) (names : Names) (e : Tree) (environment : Environment) (n top : ℕ) (core : Environment) (joins : List Join) (frames : List CallFrame) (fs : List Frame) (store : Store) (input : List ℕ)
+    → Stands names environment core n (free e) → NoCells e → nodes_of e ≤ most → nodes_of e ≤ idle → Fresh k joins (n + size e) top → Waits most fs (goal_of k (atom names n e) joins) core n top frames
+    → AtTree most idle e environment fs store input (core_at (code k names n e) core joins frames store input)
+at_code most idle k names e environment n top core joins frames fs store input stands plain small idles fresh waits = record {
+  k = k;
+  names = names;
+  n = n;
+  top = top;
+  core = core;
+  joins = joins;
+  frames = frames;
+  is = refl;
+  stands = stands;
+  plain = plain;
+  small = small;
+  idles = idles;
+  fresh = fresh;
+  later = waits;
+}
+
 -- the code where a value goes that is in variable a, the variable where it goes, and the blocks around
 abbrev pub goal_code : Goal → ℕ → Code
 goal_code nowhere a = give a
@@ -78,6 +99,25 @@ pub record AtValue (most idle : ℕ) (v : Value) (fs : List Frame) (store : Stor
   pub within : low ≤ top
   pub idles : due fs ≤ idle
   pub later : Waits most fs goal core low top frames
+
+-- it is there at the code where a value goes for which the frames wait
+pub at_goal : (most idle : ℕ) (goal : Goal) (a low top : ℕ) (core : Environment) (frames : List CallFrame) (v : Value) (fs : List Frame) (store : Store) (input : List ℕ)
+    → value_of core (goal_variable goal a) ≡ v → goal_variable goal a < top → low ≤ top → due fs ≤ idle → Waits most fs goal core low top frames
+    → AtValue most idle v fs store input (core_at (goal_code goal a) core (goal_joins goal) frames store input)
+at_goal most idle goal a low top core frames v fs store input has less within_top idles waits = record {
+  goal = goal;
+  a = a;
+  low = low;
+  top = top;
+  core = core;
+  frames = frames;
+  is = refl;
+  has = has;
+  below_top = less;
+  within = within_top;
+  idles = idles;
+  later = waits;
+}
 
 abbrev pub At : ℕ → ℕ → Control → List Frame → Store → List ℕ → CoreState → Type 0
 At most idle (expression e environment) fs store input t = AtTree most idle e environment fs store input t
@@ -142,40 +182,14 @@ module _ (setting : Setting) (most cost : ℕ) (weight : CoreState → ℕ) (lig
         steps = 0;
         few = omega arith;
         quiet = refl;
-        arrives = record {
-          goal = goes_on rest m joins;
-          a = m;
-          low = low;
-          top = top;
-          core = core;
-          frames = frames;
-          is = refl;
-          has = has;
-          below_top = omega (arith, fresh);
-          within = omega (arith, fresh);
-          idles = due_small most fs (goes_on rest m joins) core low top frames waits;
-          later = waits;
-        };
+        arrives = at_goal most most (goes_on rest m joins) m low top core frames v fs store input has (omega (arith, fresh)) (omega (arith, fresh)) (due_small most fs (goes_on rest m joins) core low top frames waits) waits;
       }
   deliver (final true) m low top core [] frames v fs store input has le fresh waits =
       record {
         steps = 0;
         few = omega arith;
         quiet = refl;
-        arrives = record {
-          goal = returns;
-          a = m;
-          low = low;
-          top = top;
-          core = core;
-          frames = frames;
-          is = refl;
-          has = has;
-          below_top = omega (arith, fresh);
-          within = omega (arith, fresh);
-          idles = due_small most fs returns core low top frames waits;
-          later = waits;
-        };
+        arrives = at_goal most most returns m low top core frames v fs store input has (omega (arith, fresh)) (omega (arith, fresh)) (due_small most fs returns core low top frames waits) waits;
       }
   deliver (final true) m low top core (join ∷ joins) frames v fs store input has le fresh waits =
       absurd (waits_nowhere most fs core low top frames waits)
@@ -189,20 +203,7 @@ module _ (setting : Setting) (most cost : ℕ) (weight : CoreState → ℕ) (lig
         steps = 1;
         few = omega arith;
         quiet = refl;
-        arrives = record {
-          goal = goes_on join.rest x joins;
-          a = x;
-          low = low;
-          top = top;
-          core = bound;
-          frames = frames;
-          is = refl;
-          has = value_here x (value_of core m) core ∙ has;
-          below_top = fresh.1;
-          within = omega (arith, fresh.0, fresh.1);
-          idles = due_small most fs (goes_on join.rest x joins) bound low top frames moved;
-          later = moved;
-        };
+        arrives = at_goal most most (goes_on join.rest x joins) x low top bound frames v fs store input (value_here x (value_of core m) core ∙ has) fresh.1 (omega (arith, fresh.0, fresh.1)) (due_small most fs (goes_on join.rest x joins) bound low top frames moved) moved;
       }
 
   -- a step that puts a value into variable m, and then more, is one of the source that comes to the value
@@ -222,36 +223,10 @@ module _ (setting : Setting) (most cost : ℕ) (weight : CoreState → ℕ) (lig
       → Follows credit idle [] (source_at (value v) fs store input) (core_at (after_use k y) core joins frames store input)
   uses (next rest) y n top core joins frames v fs store input credit idle has less some fresh waits =
       follows credit idle most 1 [] (source_at (value v) fs store input) (core_at (use_of y rest) core joins frames store input) (omega arith) (omega arith) refl
-      (record {
-        goal = goes_on rest y joins;
-        a = y;
-        low = n;
-        top = top;
-        core = core;
-        frames = frames;
-        is = refl;
-        has = has;
-        below_top = omega (arith, fresh);
-        within = fresh;
-        idles = due_small most fs (goes_on rest y joins) core n top frames waits;
-        later = waits;
-      })
+      (at_goal most most (goes_on rest y joins) y n top core frames v fs store input has (omega (arith, fresh)) fresh (due_small most fs (goes_on rest y joins) core n top frames waits) waits)
   uses (final true) y n top core [] frames v fs store input credit idle has less some fresh waits =
       follows credit idle 0 0 [] (source_at (value v) fs store input) (core_at (give y) core [] frames store input) (omega arith) (omega arith) refl
-      (record {
-        goal = returns;
-        a = y;
-        low = n;
-        top = top;
-        core = core;
-        frames = frames;
-        is = refl;
-        has = has;
-        below_top = omega (arith, fresh);
-        within = fresh;
-        idles = omega (arith, due_returns most fs core n top frames waits);
-        later = waits;
-      })
+      (at_goal most 0 returns y n top core frames v fs store input has (omega (arith, fresh)) fresh (omega (arith, due_returns most fs core n top frames waits)) waits)
   uses (final true) y n top core (join ∷ joins) frames v fs store input credit idle has less some fresh waits =
       absurd (waits_nowhere most fs core n top frames waits)
   uses (final false) y n top core [] frames v fs store input credit idle has less some fresh waits =
@@ -261,17 +236,4 @@ module _ (setting : Setting) (most cost : ℕ) (weight : CoreState → ℕ) (lig
       let bound : Environment = record { variable = x; value = value_of core y } ∷ core in
       let moved : Waits most fs (goes_on join.rest x joins) bound n top frames = waits_move most fs (goes_on join.rest x joins) core bound n n top top frames (same_below_bound n x (value_of core y) core fresh.0) (omega arith) (omega arith) waits in
       follows credit idle most 1 [] (source_at (value v) fs store input) (core_at (give y) core (join ∷ joins) frames store input) (omega arith) (omega arith) refl
-      (record {
-        goal = goes_on join.rest x joins;
-        a = x;
-        low = n;
-        top = top;
-        core = bound;
-        frames = frames;
-        is = refl;
-        has = value_here x (value_of core y) core ∙ has;
-        below_top = fresh.1;
-        within = omega (arith, fresh.0, fresh.1);
-        idles = due_small most fs (goes_on join.rest x joins) bound n top frames moved;
-        later = moved;
-      })
+      (at_goal most most (goes_on join.rest x joins) x n top bound frames v fs store input (value_here x (value_of core y) core ∙ has) fresh.1 (omega (arith, fresh.0, fresh.1)) (due_small most fs (goes_on join.rest x joins) bound n top frames moved) moved)

@@ -123,22 +123,8 @@ module _ (setting : Setting) (most cost : ℕ) (weight : CoreState → ℕ) (lig
   enters function is_plain small vs lent fs core low high frames store input waits =
       let n : ℕ = length function.parameters in
       let bound : Environment = bind_parameters 0 vs [] in
-      record {
-        k = final true;
-        names = [];
-        n = n;
-        top = n + size function.body;
-        core = bound;
-        joins = [];
-        frames = frames;
-        is = refl;
-        stands = λ x among. (refl, is_plain.closed x among);
-        plain = is_plain.no_cells;
-        small = small;
-        idles = small;
-        fresh = omega arith;
-        later = waits_call most lent fs core bound low high n (n + size function.body) frames waits;
-      }
+      Delivery.at_code most most (final true) [] function.body bound n (n + size function.body) bound [] frames (call lent ∷ fs) store input (λ x among. (refl, is_plain.closed x among)) is_plain.no_cells small small (omega arith)
+      (waits_call most lent fs core bound low high n (n + size function.body) frames waits)
 
   -- the function of the core form by the same number
   same_function : (f : ℕ) (found : Option FunctionTree) → slice_get setting.program.functions f ≡ found → slice_get (core_setting setting).code.functions f ≡ option_map normal_function found
@@ -264,40 +250,17 @@ module _ (setting : Setting) (most cost : ℕ) (weight : CoreState → ℕ) (lig
       → Fresh k joins (n + size positive + size negative) top → ((x : ℕ) → Waits most fs (goal_of k x joins) core low top frames)
       → AtTree most most (if test then positive else negative) environment fs store input (core_at (if test then code k names n positive else code k names (n + size positive) negative) core joins frames store input)
   in_branch true k positive negative names environment n low top core joins frames fs store input le stands plain_positive plain_negative small fresh waits =
-      record {
-        k = k;
-        names = names;
-        n = n;
-        top = top;
-        core = core;
-        joins = joins;
-        frames = frames;
-        is = refl;
-        stands = stands_left names environment core n (free positive) (free negative) (stands_later names environment core core low n (free positive ++ free negative) (λ z below. refl) le stands);
-        plain = plain_positive;
-        small = omega arith;
-        idles = omega arith;
-        fresh = fresh_less k joins (n + size positive) (n + size positive + size negative) top (omega arith) fresh;
-        later = waits_move most fs (goal_of k (atom names n positive) joins) core core low n top top frames (λ z below. refl) le (omega arith) (waits (atom names n positive));
-      }
+      Delivery.at_code most most k names positive environment n top core joins frames fs store input
+      (stands_left names environment core n (free positive) (free negative) (stands_later names environment core core low n (free positive ++ free negative) (λ z below. refl) le stands))
+      plain_positive (omega arith) (omega arith)
+      (fresh_less k joins (n + size positive) (n + size positive + size negative) top (omega arith) fresh)
+      (waits_move most fs (goal_of k (atom names n positive) joins) core core low n top top frames (λ z below. refl) le (omega arith) (waits (atom names n positive)))
   in_branch false k positive negative names environment n low top core joins frames fs store input le stands plain_positive plain_negative small fresh waits =
       let m : ℕ = n + size positive in
-      record {
-        k = k;
-        names = names;
-        n = m;
-        top = top;
-        core = core;
-        joins = joins;
-        frames = frames;
-        is = refl;
-        stands = stands_right names environment core m (free positive) (free negative) (stands_later names environment core core low m (free positive ++ free negative) (λ z below. refl) (omega arith) stands);
-        plain = plain_negative;
-        small = omega arith;
-        idles = omega arith;
-        fresh = fresh;
-        later = waits_move most fs (goal_of k (atom names m negative) joins) core core low m top top frames (λ z below. refl) (omega arith) (omega arith) (waits (atom names m negative));
-      }
+      Delivery.at_code most most k names negative environment m top core joins frames fs store input
+      (stands_right names environment core m (free positive) (free negative) (stands_later names environment core core low m (free positive ++ free negative) (λ z below. refl) (omega arith) stands))
+      plain_negative (omega arith) (omega arith) fresh
+      (waits_move most fs (goal_of k (atom names m negative) joins) core core low m top top frames (λ z below. refl) (omega arith) (omega arith) (waits (atom names m negative)))
 
   -- a condition decides which branch comes
   pub branch_goes : (test : Bool) (k : Then) (positive negative : Tree) (names : Names) (environment : Environment) (n low top : ℕ) (core : Environment) (joins : List Join) (x : ℕ) (frames : List CallFrame) (fs : List Frame) (store : Store) (input : List ℕ) (credit idle : ℕ)

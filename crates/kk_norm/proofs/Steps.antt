@@ -61,11 +61,8 @@ module _ (setting : Setting) (most cost : ℕ) (weight : CoreState → ℕ) (lig
       let rest : Code = code_all a.names (a.n + size e) es (finish a.k m form (atoms a.names a.n (tree e es))) in
       let waits : Waits most (arguments form [] es environment ∷ fs) (goes_on rest (atom a.names a.n e) a.joins) a.core a.n (a.n + size e) a.frames
       = record {
-        k = a.k;
-        names = a.names;
-        n = a.n + size e;
+        at = record { k = a.k; names = a.names; n = a.n + size e; top = a.top };
         m = m;
-        top = a.top;
         held = [];
         number_is = omega arith;
         values_are = refl;
@@ -80,22 +77,8 @@ module _ (setting : Setting) (most cost : ℕ) (weight : CoreState → ℕ) (lig
         later = a.later;
       } in
       Delivery.follows setting most cost weight light credit idle (nodes_of e) 0 [] (source_at (expression e environment) (arguments form [] es environment ∷ fs) store input) (core_at (code a.k a.names a.n (apply form (tree e es))) a.core a.joins a.frames store input) (omega arith) (omega (arith, a.idles)) refl
-      (record {
-        k = next rest;
-        names = a.names;
-        n = a.n;
-        top = a.n + size e;
-        core = a.core;
-        joins = a.joins;
-        frames = a.frames;
-        is = refl;
-        stands = stands_left a.names environment a.core a.n (free e) (free_all es) a.stands;
-        plain = a.plain.1.0;
-        small = omega (arith, a.small);
-        idles = omega arith;
-        fresh = omega arith;
-        later = waits;
-      })
+      (Delivery.at_code most (nodes_of e) (next rest) a.names e environment a.n (a.n + size e) a.core a.joins a.frames (arguments form [] es environment ∷ fs) store input
+      (stands_left a.names environment a.core a.n (free e) (free_all es) a.stands) a.plain.1.0 (omega (arith, a.small)) (omega arith) (omega arith) waits)
   tree_step (if_tree e positive negative) environment fs store input credit idle t a =
       let n : ℕ = a.n + size e in
       let m : ℕ = n + size positive + size negative in
@@ -103,10 +86,7 @@ module _ (setting : Setting) (most cost : ℕ) (weight : CoreState → ℕ) (lig
       let rest : Code = joined a.k m (branch x (code (within a.k) a.names n positive) (code (within a.k) a.names (n + size positive) negative)) in
       let waits : Waits most (branches positive negative environment ∷ fs) (goes_on rest x a.joins) a.core a.n n a.frames
       = record {
-        k = a.k;
-        names = a.names;
-        n = n;
-        top = a.top;
+        at = record { k = a.k; names = a.names; n = n; top = a.top };
         rest_is = refl;
         stands = stands_right a.names environment a.core a.n (free e) (free positive ++ free negative) a.stands;
         plain_positive = a.plain.1;
@@ -117,22 +97,8 @@ module _ (setting : Setting) (most cost : ℕ) (weight : CoreState → ℕ) (lig
         later = a.later;
       } in
       Delivery.follows setting most cost weight light credit idle (nodes_of e) 0 [] (source_at (expression e environment) (branches positive negative environment ∷ fs) store input) (core_at (code a.k a.names a.n (if_tree e positive negative)) a.core a.joins a.frames store input) (omega arith) (omega (arith, a.idles)) refl
-      (record {
-        k = next rest;
-        names = a.names;
-        n = a.n;
-        top = n;
-        core = a.core;
-        joins = a.joins;
-        frames = a.frames;
-        is = refl;
-        stands = stands_left a.names environment a.core a.n (free e) (free positive ++ free negative) a.stands;
-        plain = a.plain.0;
-        small = omega (arith, a.small);
-        idles = omega arith;
-        fresh = omega arith;
-        later = waits;
-      })
+      (Delivery.at_code most (nodes_of e) (next rest) a.names e environment a.n n a.core a.joins a.frames (branches positive negative environment ∷ fs) store input
+      (stands_left a.names environment a.core a.n (free e) (free positive ++ free negative) a.stands) a.plain.0 (omega (arith, a.small)) (omega arith) (omega arith) waits)
   tree_step (match e of) environment fs store input credit idle t a = absurd a.plain
   tree_step (sequence binder first e) environment fs store input credit idle t a =
       let n : ℕ = a.n + size first in
@@ -140,10 +106,7 @@ module _ (setting : Setting) (most cost : ℕ) (weight : CoreState → ℕ) (lig
       let rest : Code = code a.k (named (variable_of binder) x a.names) n e in
       let waits : Waits most (statement (variable_of binder) e environment ∷ fs) (goes_on rest x a.joins) a.core a.n n a.frames
       = record {
-        k = a.k;
-        names = a.names;
-        n = n;
-        top = a.top;
+        at = record { k = a.k; names = a.names; n = n; top = a.top };
         rest_is = refl;
         stands = Forms.stands_after binder a.names environment a.core a.n (free e) (stands_right a.names environment a.core a.n (free first) _ a.stands);
         plain = a.plain.1;
@@ -153,22 +116,8 @@ module _ (setting : Setting) (most cost : ℕ) (weight : CoreState → ℕ) (lig
         later = a.later;
       } in
       Delivery.follows setting most cost weight light credit idle (nodes_of first) 0 [] (source_at (expression first environment) (statement (variable_of binder) e environment ∷ fs) store input) (core_at (code a.k a.names a.n (sequence binder first e)) a.core a.joins a.frames store input) (omega arith) (omega (arith, a.idles, some_nodes e)) refl
-      (record {
-        k = next rest;
-        names = a.names;
-        n = a.n;
-        top = n;
-        core = a.core;
-        joins = a.joins;
-        frames = a.frames;
-        is = refl;
-        stands = stands_left a.names environment a.core a.n (free first) _ a.stands;
-        plain = a.plain.0;
-        small = omega (arith, a.small, some_nodes e);
-        idles = omega arith;
-        fresh = omega arith;
-        later = waits;
-      })
+      (Delivery.at_code most (nodes_of first) (next rest) a.names first environment a.n n a.core a.joins a.frames (statement (variable_of binder) e environment ∷ fs) store input
+      (stands_left a.names environment a.core a.n (free first) _ a.stands) a.plain.0 (omega (arith, a.small, some_nodes e)) (omega arith) (omega arith) waits)
 
   -- at the condition of an `if`, by what comes after it
   branch_step : (k : Then) (positive negative : Tree) (names : Names) (environment : Environment) (n low top : ℕ) (core : Environment) (joins : List Join) (x : ℕ) (v : Value) (frames : List CallFrame) (fs : List Frame) (store : Store) (input : List ℕ) (credit idle : ℕ)
@@ -184,90 +133,51 @@ module _ (setting : Setting) (most cost : ℕ) (weight : CoreState → ℕ) (lig
       → value_of core (goal_variable goal a) ≡ v → goal_variable goal a < top → low ≤ top → due fs ≤ idle → Waits most fs goal core low top frames
       → Steps credit idle (source_at (value v) fs store input) (core_at (goal_code goal a) core (goal_joins goal) frames store input)
   value_goes (arguments form vs (tree e es) environment ∷ fs) (goes_on rest x joins) a low top core frames v store input credit idle has less within_top idles waits =
-      let later : Code = code_all waits.names (waits.n + size e) es (finish waits.k waits.m form (waits.held ++ (x ∷ atoms waits.names waits.n (tree e es)))) in
-      let y : ℕ = atom waits.names waits.n e in
-      let more : List ℕ = atoms waits.names (waits.n + size e) es in
-      let stands : Stands waits.names environment core waits.n (free e ++ free_all es) = stands_later waits.names environment core core low waits.n (free e ++ free_all es) (λ z below. refl) (omega (arith, waits.from)) waits.stands in
-      let onward : Waits most (arguments form (vs ++ v ∷ []) es environment ∷ fs) (goes_on later y joins) core waits.n (waits.n + size e) frames
+      let later : Code = code_all waits.at.names (waits.at.n + size e) es (finish waits.at.k waits.m form (waits.held ++ (x ∷ atoms waits.at.names waits.at.n (tree e es)))) in
+      let y : ℕ = atom waits.at.names waits.at.n e in
+      let more : List ℕ = atoms waits.at.names (waits.at.n + size e) es in
+      let stands : Stands waits.at.names environment core waits.at.n (free e ++ free_all es) = stands_later waits.at.names environment core core low waits.at.n (free e ++ free_all es) (λ z below. refl) (omega (arith, waits.from)) waits.stands in
+      let onward : Waits most (arguments form (vs ++ v ∷ []) es environment ∷ fs) (goes_on later y joins) core waits.at.n (waits.at.n + size e) frames
       = record {
-        k = waits.k;
-        names = waits.names;
-        n = waits.n + size e;
+        at = record waits.at { n = waits.at.n + size e };
         m = waits.m;
-        top = waits.top;
         held = waits.held ++ x ∷ [];
         number_is = omega (arith, waits.number_is);
         values_are = values_one_more core x v waits.held vs waits.values_are has;
-        held_low = all_below_one_more waits.n x waits.held (all_below_more low waits.n waits.held (omega (arith, waits.from)) waits.held_low) (omega (arith, waits.from));
-        rest_is = ap (λ xs. code_all waits.names (waits.n + size e) es (finish waits.k waits.m form xs)) (one_list waits.held x (y ∷ more));
-        stands = stands_right waits.names environment core waits.n (free e) (free_all es) stands;
+        held_low = all_below_one_more waits.at.n x waits.held (all_below_more low waits.at.n waits.held (omega (arith, waits.from)) waits.held_low) (omega (arith, waits.from));
+        rest_is = ap (λ xs. code_all waits.at.names (waits.at.n + size e) es (finish waits.at.k waits.m form xs)) (one_list waits.held x (y ∷ more));
+        stands = stands_right waits.at.names environment core waits.at.n (free e) (free_all es) stands;
         plain = waits.plain.1;
         makes_nothing = waits.makes_nothing;
         small = omega (arith, waits.small);
         from = omega arith;
         fresh = waits.fresh;
-        later = waits_move most fs (goal_of waits.k waits.m joins) core core low waits.n waits.top waits.top frames (λ z below. refl) (omega (arith, waits.from)) (omega arith) waits.later;
+        later = waits_move most fs (goal_of waits.at.k waits.m joins) core core low waits.at.n waits.at.top waits.at.top frames (λ z below. refl) (omega (arith, waits.from)) (omega arith) waits.later;
       } in
       Delivery.follows setting most cost weight light credit idle (nodes_of e) 0 [] (source_at (expression e environment) (arguments form (vs ++ v ∷ []) es environment ∷ fs) store input) (core_at rest core joins frames store input) (omega arith) (omega arith) refl
-      (record {
-        k = next later;
-        names = waits.names;
-        n = waits.n;
-        top = waits.n + size e;
-        core = core;
-        joins = joins;
-        frames = frames;
-        is = ap (λ at. core_at at core joins frames store input) waits.rest_is;
-        stands = stands_left waits.names environment core waits.n (free e) (free_all es) stands;
-        plain = waits.plain.0;
-        small = omega (arith, waits.small);
-        idles = omega arith;
-        fresh = omega arith;
-        later = onward;
-      })
+      (subst (λ (at : Code). AtTree most (nodes_of e) e environment (arguments form (vs ++ v ∷ []) es environment ∷ fs) store input (core_at at core joins frames store input)) (sym waits.rest_is)
+      (Delivery.at_code most (nodes_of e) (next later) waits.at.names e environment waits.at.n (waits.at.n + size e) core joins frames (arguments form (vs ++ v ∷ []) es environment ∷ fs) store input
+      (stands_left waits.at.names environment core waits.at.n (free e) (free_all es) stands) waits.plain.0 (omega (arith, waits.small)) (omega arith) (omega arith) onward))
   value_goes (arguments form vs no_tree environment ∷ fs) (goes_on rest x joins) a low top core frames v store input credit idle has less within_top idles waits =
       let xs : List ℕ = waits.held ++ x ∷ [] in
       let older : List Frame = arguments form vs no_tree environment ∷ fs in
-      let at : Code = finish waits.k waits.m form xs in
+      let at : Code = finish waits.at.k waits.m form xs in
       let stay : AtValue most idle v older store input (core_at at core joins frames store input)
-      = record {
-        goal = goes_on rest x joins;
-        a = a;
-        low = low;
-        top = top;
-        core = core;
-        frames = frames;
-        is = ap (λ at. core_at at core joins frames store input) (sym waits.rest_is);
-        has = has;
-        below_top = less;
-        within = within_top;
-        idles = idles;
-        later = waits;
-      } in
+      = subst (λ (at : Code). AtValue most idle v older store input (core_at at core joins frames store input)) waits.rest_is
+      (Delivery.at_goal most idle (goes_on rest x joins) a low top core frames v older store input has less within_top idles waits) in
       subst (λ (at : Code). Steps credit idle (source_at (value v) older store input) (core_at at core joins frames store input)) (sym waits.rest_is)
       (subst (λ (ws : List Value). Follows credit idle (performed (form_step setting form ws fs (Forms.from_at setting most cost weight light plain (value v) older store)) input).0 (performed (form_step setting form ws fs (Forms.from_at setting most cost weight light plain (value v) older store)) input).1 (core_at at core joins frames store input)) (values_one_more core x v waits.held vs waits.values_are has)
-      (Forms.acts setting most cost weight light plain form xs (acts_nothing form xs waits.makes_nothing) waits.k waits.m low waits.top core joins frames fs store input credit idle (value v) older (omega (arith, waits.from, waits.number_is)) waits.fresh waits.later stay))
+      (Forms.acts setting most cost weight light plain form xs (acts_nothing form xs waits.makes_nothing) waits.at.k waits.m low waits.at.top core joins frames fs store input credit idle (value v) older (omega (arith, waits.from, waits.number_is)) waits.fresh waits.later stay))
   value_goes (branches positive negative environment ∷ fs) (goes_on rest x joins) a low top core frames v store input credit idle has less within_top idles waits =
       subst (λ (at : Code). Steps credit idle (source_at (value v) (branches positive negative environment ∷ fs) store input) (core_at at core joins frames store input)) (sym waits.rest_is)
-      (branch_step waits.k positive negative waits.names environment waits.n low waits.top core joins x v frames fs store input credit idle has (omega (arith, waits.from)) waits.stands waits.plain_positive waits.plain_negative waits.small waits.fresh waits.later)
+      (branch_step waits.at.k positive negative waits.at.names environment waits.at.n low waits.at.top core joins x v frames fs store input credit idle has (omega (arith, waits.from)) waits.stands waits.plain_positive waits.plain_negative waits.small waits.fresh waits.later)
   value_goes (statement w e environment ∷ fs) (goes_on rest x joins) a low top core frames v store input credit idle has less within_top idles waits =
       Delivery.follows setting most cost weight light credit idle (nodes_of e) 0 [] (source_at (expression e (bind w v environment)) fs store input) (core_at rest core joins frames store input) (omega arith) (omega arith) refl
-      (record {
-        k = waits.k;
-        names = named w x waits.names;
-        n = waits.n;
-        top = waits.top;
-        core = core;
-        joins = joins;
-        frames = frames;
-        is = ap (λ at. core_at at core joins frames store input) waits.rest_is;
-        stands = stands_bound w x v waits.names environment core low waits.n (free e) waits.stands (omega (arith, waits.from)) has (omega (arith, waits.from));
-        plain = waits.plain;
-        small = omega (arith, waits.small);
-        idles = omega arith;
-        fresh = waits.fresh;
-        later = waits_move most fs (goal_of waits.k (atom (named w x waits.names) waits.n e) joins) core core low waits.n waits.top waits.top frames (λ z below. refl) (omega (arith, waits.from)) (omega arith) waits.later;
-      })
+      (subst (λ (at : Code). AtTree most (nodes_of e) e (bind w v environment) fs store input (core_at at core joins frames store input)) (sym waits.rest_is)
+      (Delivery.at_code most (nodes_of e) waits.at.k (named w x waits.at.names) e (bind w v environment) waits.at.n waits.at.top core joins frames fs store input
+      (stands_bound w x v waits.at.names environment core low waits.at.n (free e) waits.stands (omega (arith, waits.from)) has (omega (arith, waits.from)))
+      waits.plain (omega (arith, waits.small)) (omega arith) waits.fresh
+      (waits_move most fs (goal_of waits.at.k (atom (named w x waits.at.names) waits.at.n e) joins) core core low waits.at.n waits.at.top waits.at.top frames (λ z below. refl) (omega (arith, waits.from)) (omega arith) waits.later)))
   value_goes (call lent ∷ []) returns a low top core [] v store input credit idle has less within_top idles waits =
       Delivery.follows setting most cost weight light credit idle 0 1 [] (source_at (stopped ended) [] store input) (core_at (give a) core [] [] store input) (omega arith) (omega arith) refl refl
   value_goes (call lent ∷ []) returns a low top core (frame ∷ frames) v store input credit idle has less within_top idles waits = absurd waits.later

@@ -58,53 +58,52 @@ MakesNothing (Binary operator) = Unit {0}
 MakesNothing (Print form) = Unit {0}
 MakesNothing (Call f) = Unit {0}
 
+-- Where an expression goes on behind its part: where its own value goes, the names, the number of its next variable, and
+-- that of what comes after the expression.
+pub record Place : Type 0 where
+  pub k : Then
+  pub names : Names
+  pub n : ℕ
+  pub top : ℕ
+
 -- In the records: the variables that are read are below `low`, those that are still written from `high` on; no expression
 -- has more nodes than `most`.
 pub record ArgumentsWait (most : ℕ) (form : Form) (vs : List Value) (es : Trees) (environment : Environment) (rest : Code) (a : ℕ) (joins : List Join) (core : Environment) (low high : ℕ) (Later : Goal → ℕ → Type 0) : Type 0 where
-  pub k : Then
-  pub names : Names
-  pub n : ℕ
+  pub at : Place
   pub m : ℕ
-  pub top : ℕ
   pub held : List ℕ
-  pub number_is : m ≡ n + size_all es
+  pub number_is : m ≡ at.n + size_all es
   pub values_are : map (value_of core) held ≡ vs
   pub held_low : AllBelow low held
-  pub rest_is : rest ≡ code_all names n es (finish k m form (held ++ (a ∷ atoms names n es)))
-  pub stands : Stands names environment core low (free_all es)
+  pub rest_is : rest ≡ code_all at.names at.n es (finish at.k m form (held ++ (a ∷ atoms at.names at.n es)))
+  pub stands : Stands at.names environment core low (free_all es)
   pub plain : NoCellsAll es
   pub makes_nothing : MakesNothing form
   pub small : nodes_of_all es + 1 ≤ most
-  pub from : high ≤ n
-  pub fresh : Fresh k joins (m + 1) top
-  pub later : Later (goal_of k m joins) top
+  pub from : high ≤ at.n
+  pub fresh : Fresh at.k joins (m + 1) at.top
+  pub later : Later (goal_of at.k m joins) at.top
 
 pub record BranchesWait (most : ℕ) (positive negative : Tree) (environment : Environment) (rest : Code) (a : ℕ) (joins : List Join) (core : Environment) (low high : ℕ) (Later : Goal → ℕ → Type 0) : Type 0 where
-  pub k : Then
-  pub names : Names
-  pub n : ℕ
-  pub top : ℕ
-  pub rest_is : rest ≡ joined k (n + size positive + size negative) (branch a (code (within k) names n positive) (code (within k) names (n + size positive) negative))
-  pub stands : Stands names environment core low (free positive ++ free negative)
+  pub at : Place
+  pub rest_is : rest ≡ joined at.k (at.n + size positive + size negative) (branch a (code (within at.k) at.names at.n positive) (code (within at.k) at.names (at.n + size positive) negative))
+  pub stands : Stands at.names environment core low (free positive ++ free negative)
   pub plain_positive : NoCells positive
   pub plain_negative : NoCells negative
   pub small : nodes_of positive + nodes_of negative ≤ most
-  pub from : high ≤ n
-  pub fresh : Fresh k joins (n + size positive + size negative + 1) top
-  pub later : Later (goal_of k (n + size positive + size negative) joins) top
+  pub from : high ≤ at.n
+  pub fresh : Fresh at.k joins (at.n + size positive + size negative + 1) at.top
+  pub later : Later (goal_of at.k (at.n + size positive + size negative) joins) at.top
 
 pub record StatementWait (most : ℕ) (w : Option ℕ) (e : Tree) (environment : Environment) (rest : Code) (a : ℕ) (joins : List Join) (core : Environment) (low high : ℕ) (Later : Goal → ℕ → Type 0) : Type 0 where
-  pub k : Then
-  pub names : Names
-  pub n : ℕ
-  pub top : ℕ
-  pub rest_is : rest ≡ code k (named w a names) n e
-  pub stands : Stands names environment core low (without (awaited w) (free e))
+  pub at : Place
+  pub rest_is : rest ≡ code at.k (named w a at.names) at.n e
+  pub stands : Stands at.names environment core low (without (awaited w) (free e))
   pub plain : NoCells e
   pub small : nodes_of e + 1 ≤ most
-  pub from : high ≤ n
-  pub fresh : Fresh k joins (n + size e) top
-  pub later : Later (goal_of k (atom (named w a names) n e) joins) top
+  pub from : high ≤ at.n
+  pub fresh : Fresh at.k joins (at.n + size e) at.top
+  pub later : Later (goal_of at.k (atom (named w a at.names) at.n e) joins) at.top
 
 pub record CallWait (lent : List Value) (frame : CallFrame) (Later : Goal → ℕ → ℕ → Type 0) : Type 0 where
   pub k : Then
@@ -135,52 +134,43 @@ pub waits_move : (most : ℕ) (fs : List Frame) (goal : Goal) (core after_it : E
     → Waits most fs goal core low high frames → Waits most fs goal after_it low_after high_after frames
 waits_move most (arguments form vs es environment ∷ fs) (goes_on rest a joins) core after_it low low_after high high_after frames same le ge waits =
     record {
-      k = waits.k;
-      names = waits.names;
-      n = waits.n;
+      at = waits.at;
       m = waits.m;
-      top = waits.top;
       held = waits.held;
       number_is = waits.number_is;
       values_are = values_later core after_it low waits.held same waits.held_low ∙ waits.values_are;
       held_low = all_below_more low low_after waits.held le waits.held_low;
       rest_is = waits.rest_is;
-      stands = stands_later waits.names environment core after_it low low_after (free_all es) same le waits.stands;
+      stands = stands_later waits.at.names environment core after_it low low_after (free_all es) same le waits.stands;
       plain = waits.plain;
       makes_nothing = waits.makes_nothing;
       small = waits.small;
       from = omega (arith, waits.from);
       fresh = waits.fresh;
-      later = waits_move most fs (goal_of waits.k waits.m joins) core after_it low low_after waits.top waits.top frames same le (omega arith) waits.later;
+      later = waits_move most fs (goal_of waits.at.k waits.m joins) core after_it low low_after waits.at.top waits.at.top frames same le (omega arith) waits.later;
     }
 waits_move most (branches positive negative environment ∷ fs) (goes_on rest a joins) core after_it low low_after high high_after frames same le ge waits =
     record {
-      k = waits.k;
-      names = waits.names;
-      n = waits.n;
-      top = waits.top;
+      at = waits.at;
       rest_is = waits.rest_is;
-      stands = stands_later waits.names environment core after_it low low_after (free positive ++ free negative) same le waits.stands;
+      stands = stands_later waits.at.names environment core after_it low low_after (free positive ++ free negative) same le waits.stands;
       plain_positive = waits.plain_positive;
       plain_negative = waits.plain_negative;
       small = waits.small;
       from = omega (arith, waits.from);
       fresh = waits.fresh;
-      later = waits_move most fs (goal_of waits.k (waits.n + size positive + size negative) joins) core after_it low low_after waits.top waits.top frames same le (omega arith) waits.later;
+      later = waits_move most fs (goal_of waits.at.k (waits.at.n + size positive + size negative) joins) core after_it low low_after waits.at.top waits.at.top frames same le (omega arith) waits.later;
     }
 waits_move most (statement w e environment ∷ fs) (goes_on rest a joins) core after_it low low_after high high_after frames same le ge waits =
     record {
-      k = waits.k;
-      names = waits.names;
-      n = waits.n;
-      top = waits.top;
+      at = waits.at;
       rest_is = waits.rest_is;
-      stands = stands_later waits.names environment core after_it low low_after (without (awaited w) (free e)) same le waits.stands;
+      stands = stands_later waits.at.names environment core after_it low low_after (without (awaited w) (free e)) same le waits.stands;
       plain = waits.plain;
       small = waits.small;
       from = omega (arith, waits.from);
       fresh = waits.fresh;
-      later = waits_move most fs (goal_of waits.k (atom (named w a waits.names) waits.n e) joins) core after_it low low_after waits.top waits.top frames same le (omega arith) waits.later;
+      later = waits_move most fs (goal_of waits.at.k (atom (named w a waits.at.names) waits.at.n e) joins) core after_it low low_after waits.at.top waits.at.top frames same le (omega arith) waits.later;
     }
 waits_move most (call lent ∷ fs) returns core after_it low low_after high high_after [] same le ge waits = waits
 waits_move most (call lent ∷ fs) returns core after_it low low_after high high_after (frame ∷ frames) same le ge waits = waits
@@ -207,9 +197,9 @@ waits_nowhere most (call lent ∷ fs) core low high frames waits = waits
 -- as many call frames stand: the running one, and those of the functions that wait
 pub calls_are : (most : ℕ) (fs : List Frame) (goal : Goal) (core : Environment) (low high : ℕ) (frames : List CallFrame) → Waits most fs goal core low high frames → call_frames fs ≡ suc (length frames)
 calls_are most [] goal core low high frames waits = absurd waits
-calls_are most (arguments form vs es environment ∷ fs) (goes_on rest a joins) core low high frames waits = calls_are most fs (goal_of waits.k waits.m joins) core low waits.top frames waits.later
-calls_are most (branches positive negative environment ∷ fs) (goes_on rest a joins) core low high frames waits = calls_are most fs (goal_of waits.k (waits.n + size positive + size negative) joins) core low waits.top frames waits.later
-calls_are most (statement w e environment ∷ fs) (goes_on rest a joins) core low high frames waits = calls_are most fs (goal_of waits.k (atom (named w a waits.names) waits.n e) joins) core low waits.top frames waits.later
+calls_are most (arguments form vs es environment ∷ fs) (goes_on rest a joins) core low high frames waits = calls_are most fs (goal_of waits.at.k waits.m joins) core low waits.at.top frames waits.later
+calls_are most (branches positive negative environment ∷ fs) (goes_on rest a joins) core low high frames waits = calls_are most fs (goal_of waits.at.k (waits.at.n + size positive + size negative) joins) core low waits.at.top frames waits.later
+calls_are most (statement w e environment ∷ fs) (goes_on rest a joins) core low high frames waits = calls_are most fs (goal_of waits.at.k (atom (named w a waits.at.names) waits.at.n e) joins) core low waits.at.top frames waits.later
 calls_are most (call lent ∷ fs) returns core low high [] waits = rw waits refl
 calls_are most (call lent ∷ fs) returns core low high (frame ∷ frames) waits = ap suc (calls_are most fs (goal_of waits.k frame.variable frame.joins) frame.environment waits.low waits.top frames waits.later)
 calls_are most (arguments form vs es environment ∷ fs) returns core low high frames waits = absurd waits

@@ -13,18 +13,18 @@ use std::alloc::Global;
 use std::test::Fail;
 
 /// The program of all functions, and `main` with this body.
-pub fn program(alloc: Global, main: &str) -> Result<Program, Fail> {
+pub fn program(alloc: Global, body: &str) -> Result<Program, Fail> {
     let mut functions = Vec::new(alloc);
     for function in &FUNCTIONS {
         functions.push(function_of(alloc, function.body)?)?;
     }
-    functions.push(function_of(alloc, main)?)?;
-    let main = u32::try_from(functions.len() - 1).unwrap_or(0);
+    let main = functions.len();
+    functions.push(function_of(alloc, body)?)?;
     Ok(Program {
         types: Vec::new(alloc),
         constructors: Vec::new(alloc),
         functions,
-        main,
+        main: u32::try_from(main).unwrap_or(0),
     })
 }
 
@@ -71,11 +71,8 @@ fn form(word: &str) -> Option<(Form, usize)> {
         "-" => (Form::Binary(BinaryOperator::Subtract), 2),
         "*" => (Form::Binary(BinaryOperator::Multiply), 2),
         "==" => (Form::Binary(BinaryOperator::Equal), 2),
-        ">" => (Form::Binary(BinaryOperator::Greater), 2),
         ">=" => (Form::Binary(BinaryOperator::GreaterEqual), 2),
         "println" => (Form::Print(PrintForm::PrintLine), 1),
-        "False" => (Form::Construct(Program::FALSE), 0),
-        "True" => (Form::Construct(Program::TRUE), 0),
         "Nil" => (Form::Construct(2), 0),
         "Cons" => (Form::Construct(3), 2),
         "Box" => (Form::Construct(4), 1),
@@ -145,10 +142,9 @@ impl Builder {
             let at = self.patterns.len().saturating_sub(count);
             let parts = self.patterns.split_off(at)?;
             self.patterns.push(Pat::Constructor(constructor, parts))?;
-        } else if let Some(variable) = word.strip_prefix("x") {
-            self.patterns.push(Pat::Variable(variable.parse()?))?;
         } else {
-            self.patterns.push(Pat::Number(word.parse()?))?;
+            let variable = word.strip_prefix("x").unwrap_or(word);
+            self.patterns.push(Pat::Variable(variable.parse()?))?;
         }
         Ok(())
     }

@@ -1,4 +1,4 @@
-//! The functions of the language's examples, by the words of `builder`.
+//! The functions of the programs, by the words of `builder`.
 
 use kk_syntax::Ownership;
 
@@ -15,11 +15,8 @@ const BOTH_OWNED: &[Ownership] = &[Ownership::Owned, Ownership::Owned];
 
 const LENT: &[Ownership] = &[Ownership::Lent];
 
-/// `match xs { Nil -> 0; Cons(x, _) -> sum(build(x)) }`
-const SUM_TO_THE_FIRST: &str = "x0 [ ?Nil 0 -> ?x1 _ ?Cons x1 build sum -> ]";
-
 /// The functions, each by its place as its number.
-pub static FUNCTIONS: [Function; 14] = [
+pub static FUNCTIONS: [Function; 9] = [
     // if n == 0 then Nil else Cons(n, build(n - 1))
     Function {
         name: "build",
@@ -31,12 +28,6 @@ pub static FUNCTIONS: [Function; 14] = [
         name: "len",
         parameters: LENT,
         body: "x0 [ ?Nil 0 -> _ ?x1 ?Cons 1 x1 len + -> ]",
-    },
-    // match xs { Cons(x, xx) -> rev(xx, Cons(x, acc)); Nil -> acc }
-    Function {
-        name: "rev",
-        parameters: BOTH_OWNED,
-        body: "x0 [ ?x2 ?x3 ?Cons x3 x2 x1 Cons rev -> ?Nil x1 -> ]",
     },
     // match xs { Nil -> Nil; Cons(x, xx) -> Cons(x + 1, inc(xx)) }
     Function {
@@ -50,15 +41,11 @@ pub static FUNCTIONS: [Function; 14] = [
         parameters: OWNED,
         body: "x0 [ ?Nil 0 -> ?x1 ?x2 ?Cons x1 x2 sum + -> ]",
     },
+    // match xs { Nil -> 0; Cons(x, _) -> sum(build(x)) }
     Function {
         name: "lent-to",
         parameters: LENT,
-        body: SUM_TO_THE_FIRST,
-    },
-    Function {
-        name: "owner",
-        parameters: OWNED,
-        body: SUM_TO_THE_FIRST,
+        body: "x0 [ ?Nil 0 -> ?x1 _ ?Cons x1 build sum -> ]",
     },
     // match Box(n + 1) { Box(m) -> m * 2 }
     Function {
@@ -72,29 +59,11 @@ pub static FUNCTIONS: [Function; 14] = [
         parameters: OWNED,
         body: "x0 [ ?x1 ?Box x1 twice Box -> ]",
     },
-    // loop(n + 1)
-    Function {
-        name: "loop",
-        parameters: OWNED,
-        body: "x0 1 + loop",
-    },
     // val b = read-byte(); println(b); if b >= 0 then echo()
     Function {
         name: "echo",
         parameters: &[],
         body: "{ read-byte val0 x0 println ; x0 0 >= echo () if }",
-    },
-    // println(n); n > 1
-    Function {
-        name: "say",
-        parameters: OWNED,
-        body: "{ x0 println ; x0 1 > }",
-    },
-    // if n == 0 then 1 else n * fact(n - 1)
-    Function {
-        name: "fact",
-        parameters: OWNED,
-        body: "x0 0 == 1 x0 x0 1 - fact * if",
     },
     // if n == 0 then acc else upto(n - 1, Cons(n, acc))
     Function {

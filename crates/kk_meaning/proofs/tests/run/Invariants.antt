@@ -7,4 +7,4 @@ abbrev pub invariant-loop-steps : goal.invariant-loop-steps
 invariant-loop-steps l = shadow (Utf8 l.end)
 
 abbrev pub decreases-loop-steps : goal.decreases-loop-steps
-decreases-loop-steps l = l.limit - l.steps
+decreases-loop-steps l = 2000000 - l.steps

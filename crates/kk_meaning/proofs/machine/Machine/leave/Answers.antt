@@ -8,8 +8,8 @@ use Rattle.kk_meaning.proofs.Listed.{frames_agree, fits_more, calls_alike, call_
 use Rattle.kk_meaning.proofs.Stepped.{call_turn}
 use Rattle.kk_meaning.proofs.machine.Machine.leave.Goals as goal
 
-pub returns-else-is_empty-clause-fits : goal.returns-else-is_empty-clause-fits
-returns-else-is_empty-clause-fits c =
+pub returns-else-is_empty : goal.returns-else-is_empty
+returns-else-is_empty c =
     let self = c.args.self.now in
     let items = self.frames.items in
     let links = self.bindings.links in
@@ -25,31 +25,24 @@ returns-else-is_empty-clause-fits c =
     ∙ (ap (λ fs. call_frames (map (frame_view links.items) fs)) c.requires.newest.newest
     ∙ call_counts links.items c.args.before frame older c.requires.newest.call) in
     let alike = calls_alike links.items kept.items older ∙ ap (λ fs. call_frames (map (frame_view kept.items) (reverse fs))) (sym popped) in
-    record {
-      control = tt;
-      frames = subst (λ fs. FramesFit (vec_len kept) (reverse fs)) (sym popped) (fits_more c.args.before (vec_len kept) older (omega arith) fit.1);
-      calls = omega (arith, counted, alike);
-    }
-
-pub returns-else-is_empty-clause-turn : goal.returns-else-is_empty-clause-turn
-returns-else-is_empty-clause-turn c =
-    let self = c.args.self.now in
-    let items = self.frames.items in
-    let links = self.bindings.links in
-    let kept = c.truncate.new.self.links in
-    let frame = c.requires.newest.frame in
-    let older = reverse (take (length items - 1) items) in
-    let popped : c.pop.new.self.items ≡ take (length items - 1) items = c.pop.ensures.rest ∙ ap (λ k. take (k - 1) items) self.frames.ok.0 in
-    let fit = call_fits (vec_len links) c.args.before frame older c.requires.newest.call (subst (FramesFit (vec_len links)) c.requires.newest.newest c.requires.fits.frames) in
     let seen = call_seen links.items c.args.before frame c.requires.newest.call in
-    call_turn (setting_of self) (value_view c.args.value) (control_view links.items self.control) _ (map (frame_view links.items) older) (map cell_view self.store.items) _ _ _
-    seen.0
-    (ap (map (frame_view links.items)) c.requires.newest.newest ∙ ap (λ f. f ∷ map (frame_view links.items) older) seen.1)
-    (λ none.
-    let zero : vec_len c.pop.new.self ≡ 0 = c.pop.new.self.ok.0 ∙ (ap length popped ∙ nothing_left (frame_view links.items) (take (length items - 1) items) none) in
-    let wrong : false ≡ true = sym c.if-is_empty.false ∙ (c.is_empty.ensures ∙ ap (λ n. n == 0) zero) in
-    cc)
-    refl
-    (ap (λ fs. map (frame_view kept.items) (reverse fs)) popped
-    ∙ frames_agree kept.items links.items c.args.before older (agree_on_front kept.items links.items c.args.before (take_again links.items kept.items c.args.before c.truncate.ensures)) fit.1)
-    refl
+    record {
+      setting = refl;
+      fits = record {
+        control = tt;
+        frames = subst (λ fs. FramesFit (vec_len kept) (reverse fs)) (sym popped) (fits_more c.args.before (vec_len kept) older (omega arith) fit.1);
+        calls = omega (arith, counted, alike);
+      };
+      turn =
+          call_turn (setting_of self) (value_view c.args.value) (control_view links.items self.control) _ (map (frame_view links.items) older) (map cell_view self.store.items) _ _ _
+          seen.0
+          (ap (map (frame_view links.items)) c.requires.newest.newest ∙ ap (λ f. f ∷ map (frame_view links.items) older) seen.1)
+          (λ none.
+          let zero : vec_len c.pop.new.self ≡ 0 = c.pop.new.self.ok.0 ∙ (ap length popped ∙ nothing_left (frame_view links.items) (take (length items - 1) items) none) in
+          let wrong : false ≡ true = sym c.if-is_empty.false ∙ (c.is_empty.ensures ∙ ap (λ n. n == 0) zero) in
+          cc)
+          refl
+          (ap (λ fs. map (frame_view kept.items) (reverse fs)) popped
+          ∙ frames_agree kept.items links.items c.args.before older (agree_on_front kept.items links.items c.args.before (take_again links.items kept.items c.args.before c.truncate.ensures)) fit.1)
+          refl;
+    }
