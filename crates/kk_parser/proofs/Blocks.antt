@@ -13,7 +13,7 @@ use Rattle.kk_parser.specs.Forms.{form_meaning, items, and_more, binding, bindin
 use Rattle.kk_parser.specs.Grammar.{semicolons, some_semicolons}
 use Rattle.kk_parser.specs.Kinds.{symbol}
 use Rattle.kk_parser.specs.Methods.{Read, ReadsPhrase, ReadsItems}
-use Rattle.kk_parser.specs.Phrases.{Phrase, PhraseValue, token, opener, optional, many, rule, ◌▸◌, block, expr}
+use Rattle.kk_parser.specs.Phrases.{Phrase, PhraseValue, token, opener, optional, rule, ◌▸◌, block, expr}
 use Rattle.kk_parser.specs.Reading.{first, finds_rule, finds_both, finds_none, finds_absence, finds_presence, fails_rule, fails_behind}
 use Rattle.kk_parser.proofs.Steps.{Continues, continues_as, continues_many_before, passed_on}
 use Rattle.kk_parser.proofs.Trees.{written-statement}

@@ -1,5 +1,5 @@
 -- The branches of an `if`, as they are read: behind an `elif` stand branches again.
-use Rattle.std.proofs.Common.{◌≡◌, ℕ, ◌<◌, List, ◌∷◌, Some, refl}
+use Rattle.std.proofs.Common.{◌≡◌, ℕ, List, ◌∷◌, Some, refl}
 use Rattle.kk_syntax.specs.declared.token.LocatedToken.{LocatedToken}
 use Rattle.kk_syntax.specs.declared.token.Keyword.TheVariants.{Then, Elif, Else}
 use Rattle.kk_syntax.specs.Surface.{Written, branch}
@@ -9,7 +9,7 @@ use Rattle.kk_parser.specs.Kinds.{Kind, Said, keyword}
 use Rattle.kk_parser.specs.Methods.{Read}
 use Rattle.kk_parser.specs.Phrases.{Phrase, PhraseValue, token, opener, rule, or, expr, if_, each, perhaps, ◌▸◌}
 use Rattle.kk_parser.specs.Reading.{Finds, finds_token, finds_opener, finds_both, finds_each, finds_something, Failure, ReadingFails, fails_front, fails_behind, fails_each, fails_each_more, fails_something}
-use Rattle.kk_parser.proofs.Steps.{Continues}
+use Rattle.kk_parser.proofs.Steps.{Continues, continues_start, front_read}
 
 -- a branch with its condition; and what stands behind the first
 abbrev pub one_branch : Phrase
@@ -39,11 +39,8 @@ pub turn-means : (condition positive : Written) (v : PhraseValue branches) → b
 turn-means condition positive (next, (then, (second, (more, last)))) = refl
 
 -- the first branch was read
-pub behind_first : (condition positive : Written) (start a b here : Parser) → Read (rule or) condition start a → Read (token (keyword Then)) tt a b → Read (rule expr) positive b here → Continues branches other_branches (λ v. (condition, (tt, (positive, v)))) start here
-behind_first condition positive start a b here r s t = record {
-  found = λ v m us u. finds_both r (finds_both s (finds_both t u));
-  failed = λ f u. fails_behind r (fails_behind s (fails_behind t u));
-}
+pub behind_first : {condition positive : Written} (start a b here : Parser) → Read (rule or) condition start a → Read (token (keyword Then)) tt a b → Read (rule expr) positive b here → Continues branches other_branches (λ v. (condition, (tt, (positive, v)))) start here
+behind_first start a b here r s t = front_read here (front_read b (front_read a (continues_start branches start) r) s) t
 
 -- behind a token that is next a phrase was read
 pub perhaps_found : {k : Kind} {a : Phrase} {n i m : ℕ} {w : Said k} {v : PhraseValue a} {ts us ws : List LocatedToken} → Finds 200 (token k) n ts w i us → Finds 200 a i us v m ws → Finds 200 (perhaps k a) n ts (Some v) m ws

@@ -13,6 +13,7 @@ pub mod Lists
 pub mod Local
 pub mod Lookahead
 pub mod OneOutcome
+pub mod Operators
 pub mod Passing
 pub mod ReadAtoms
 pub mod Samples

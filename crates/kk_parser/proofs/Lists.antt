@@ -1,7 +1,6 @@
 -- Phrases with commas between them, as they are read one by one.
-use Rattle.std.proofs.Common.{◌≡◌, ℕ, true, false, List, [], ◌∷◌, ◌++◌, map, Some, None, refl, sym, ◌∙◌, append_assoc}
+use Rattle.std.proofs.Common.{◌≡◌, true, false, List, [], ◌∷◌, ◌++◌, map, Some, None, refl, sym, ◌∙◌, append_assoc}
 use Rattle.std.proofs.lemmas.List.{append-nil}
-use Rattle.kk_syntax.specs.declared.token.LocatedToken.{LocatedToken}
 use Rattle.kk_syntax.specs.declared.token.Symbol.TheVariants.{Comma}
 use Rattle.kk_parser.specs.declared.parser.Parser.{Parser}
 use Rattle.kk_parser.specs.Classes.{is_at}
@@ -9,7 +8,7 @@ use Rattle.kk_parser.specs.Grammar.{listed, listed_of}
 use Rattle.kk_parser.specs.Kinds.{symbol, classes_of}
 use Rattle.kk_parser.specs.Methods.{Read}
 use Rattle.kk_parser.specs.Phrases.{Phrase, PhraseValue, token, ◌▸◌, many}
-use Rattle.kk_parser.specs.Reading.{first, Finds, Failure, ReadingFails, finds_both, finds_more, finds_absence, finds_presence, fails_front, fails_behind, fails_one, fails_presence}
+use Rattle.kk_parser.specs.Reading.{first, Failure, ReadingFails, finds_both, finds_absence, finds_presence, fails_front, fails_behind, fails_one, fails_presence}
 use Rattle.kk_parser.proofs.Steps.{Continues, continues_many, ends_many}
 
 -- a comma, and one more
@@ -45,7 +44,7 @@ lists_more a given u start here mid next l h r s = record {
 
 pub lists_end : (a : Phrase) (given : List (PhraseValue a)) (start here : Parser) → Lists a given start here → is_at (classes_of (symbol Comma)) here.rest.now ≡ false → ReadsList a given start here
 lists_end a given start here l h =
-    (l.says [], l.meant [] ∙ append-nil given, ends_many (listed a) (next_listed a) l.says start here l.read h)
+    (l.says [], l.meant [] ∙ append-nil given, ends_many l.read h)
 
 -- the first failed, or one behind a comma
 pub lists_fails_first : (a : Phrase) (start : Parser) (f : Failure) → is_at (first (a ▸ many (next_listed a))) start.rest.now ≡ true → ReadingFails 200 a start.depth start.rest.now f → ReadingFails 200 (listed a) start.depth start.rest.now f

@@ -1,13 +1,13 @@
 -- How an atom is read that is no number.
-use Rattle.std.proofs.Common.{◌≡◌, false, Some, None, refl, inl, inr}
+use Rattle.std.proofs.Common.{◌≡◌, false, refl, inl, inr}
 use Rattle.kk_parser.specs.declared.parser.Parser.{Parser}
 use Rattle.kk_parser.specs.Classes.{is_at}
-use Rattle.kk_parser.specs.Forms.{form, form_meaning, in_brackets, spoken, spoken_of, printed}
+use Rattle.kk_parser.specs.Forms.{form_meaning, in_brackets, spoken, spoken_of, printed}
 use Rattle.kk_parser.specs.Grammar.{named_of, bracketed}
 use Rattle.kk_parser.specs.Kinds.{constructor, number, name_but_print}
 use Rattle.kk_parser.specs.Phrases.{Phrase, PhraseValue, token, either, optional, rule, ◌▸◌, expr, atom, args}
 use Rattle.kk_parser.specs.Reading.{first}
-use Rattle.kk_parser.proofs.Steps.{Continues, continues_to, continues_on, continues_rule, continues_second}
+use Rattle.kk_parser.proofs.Steps.{Continues, continues_to, continues_rule, first_absent}
 
 abbrev pub brackets : Phrase
 brackets = in_brackets (rule expr)
@@ -21,8 +21,7 @@ other_atom = either spoken (either printed other_name)
 
 pub atom_but_number : (start here : Parser) → is_at (first (token number)) start.rest.now ≡ false → here.depth ≡ start.depth → here.rest.now ≡ start.rest.now → Continues (rule atom) (either (token constructor) (either brackets other_atom)) (λ v. form_meaning atom (inr v)) start here
 atom_but_number start here h d e =
-    continues_to (rule atom) (either (token constructor) (either brackets other_atom)) (λ v. form_meaning atom (inr v)) start start here d e
-    (continues_on (rule atom) (form atom) (either (token constructor) (either brackets other_atom)) (form_meaning atom) (λ v. inr v) start start start (continues_rule atom start) (continues_second (token number) (either (token constructor) (either brackets other_atom)) start h))
+    continues_to (rule atom) (either (token constructor) (either brackets other_atom)) (λ v. form_meaning atom (inr v)) start start here d e (first_absent (continues_rule atom start) h)
 
 pub spoken-means : (v : PhraseValue spoken) → form_meaning atom (inr (inr (inr (inl v)))) ≡ spoken_of v
 spoken-means (text, (dot, (word, end))) = refl

@@ -1,5 +1,5 @@
 -- The steps of the parser's methods: what a reading of a phrase comes to, from what its parts come to.
-use Rattle.std.proofs.Common.{◌≡◌, ℕ, ◌+◌, ◌<◌, ◌≤◌, Bool, true, false, List, [], ◌∷◌, ◌++◌, Option, Some, None, option_copied, slice_get, Result, Ok, Err, IfOk, OnOk, IfErr, IsErrAnd, is_some, refl, sym, ap, ◌∙◌, subst, inl, inr}
+use Rattle.std.proofs.Common.{◌≡◌, ℕ, ◌+◌, ◌<◌, ◌≤◌, Bool, true, false, List, [], ◌∷◌, Option, Some, None, option_copied, slice_get, Result, Ok, Err, IfOk, OnOk, IfErr, IsErrAnd, is_some, refl, sym, ap, ◌∙◌, subst, inl, inr}
 use Rattle.std.specs.Borrow.{Bor}
 use Rattle.kk_syntax.specs.declared.token.LocatedToken.{LocatedToken}
 use Rattle.kk_syntax.specs.declared.token.Keyword.{Keyword}
@@ -14,11 +14,10 @@ use Rattle.kk_parser.specs.declared.fault.Fault.TheVariants.{Unexpected, TooDeep
 use Rattle.kk_parser.specs.declared.parser.Parser.{Parser}
 use Rattle.kk_parser.specs.Classes.{NameClass, name_class, Class, class_of, is_one_of, is_at}
 use Rattle.kk_parser.specs.Kinds.{Kind, keyword, symbol, name_in, is_name_in, Said, said_at, says, next_says, classes_of}
-use Rattle.kk_parser.specs.Phrases.{Nonterminal, Phrase, token, opener, ◌▸◌, either, many, optional, rule, PhraseValue}
+use Rattle.kk_parser.specs.Phrases.{Nonterminal, Phrase, token, opener, ◌▸◌, either, many, rule, PhraseValue}
 use Rattle.kk_parser.specs.Forms.{form, form_meaning, items}
 use Rattle.kk_parser.specs.Reading.{first, Finds, finds_token, finds_opener, Failure, unexpected, too_deep, ReadingFails, fails_deep, finds_first, finds_second, finds_none, finds_more, finds_both, finds_rule, fails_rule, fails_front, fails_behind, fails_first, fails_second, fails_more}
 use Rattle.kk_parser.proofs.Apart.{next_says_class}
-use Rattle.kk_parser.proofs.Begins.{is_at-front, is_at-back}
 use Rattle.kk_parser.specs.Methods.{behind, Read, FailedBy, ReadsPhrase, ReadsFor, ReadsAs, ReadsItems, ReadsIfNext, Deepens}
 
 finds_next : (k : Kind) (n : ℕ) (ts : List LocatedToken) (v : Said k) → next_says k ts ≡ Some v → Finds 200 (token k) n ts v n (behind ts)
@@ -105,41 +104,6 @@ gives_up_for_in p q means r e old mid new t i h = gives_up_for p means r e old n
 
 pub gives_up_as_in : {A B : Type 0} (p q : Phrase) (means : PhraseValue p → B) (view : A → B) (r : Result A Fault) (e : Fault) (old mid new : Parser) → ((f : Failure) → ReadingFails 200 q mid.depth mid.rest.now f → ReadingFails 200 p old.depth old.rest.now f) → IsErrAnd r (λ y. y ≡ e) → FailedBy e q mid new → ReadsAs p means view r old new
 gives_up_as_in p q means view r e old mid new t i h = gives_up_as p means view r e old new i (passed_on p q old mid new t e h)
-
--- of the phrases that another may be, one is chosen by the next token
-pub record Chooses (p one : Phrase) (words : PhraseValue one) (ts : List LocatedToken) : Type 0 where
-  pub whole : PhraseValue p
-  pub next : is_at (first p) ts ≡ true
-  pub found : (n m : ℕ) (us : List LocatedToken) → Finds 200 one n ts words m us → Finds 200 p n ts whole m us
-  pub failed : (n : ℕ) (f : Failure) → ReadingFails 200 one n ts f → ReadingFails 200 p n ts f
-
-abbrev pub chooses_only : (one : Phrase) (words : PhraseValue one) (ts : List LocatedToken) → is_at (first one) ts ≡ true → Chooses one one words ts
-chooses_only one words ts h = record { whole = words; next = h; found = λ n m us r. r; failed = λ n f r. r }
-
-abbrev pub chooses_first : (one b : Phrase) (words : PhraseValue one) (ts : List LocatedToken) → is_at (first one) ts ≡ true → Chooses (either one b) one words ts
-chooses_first one b words ts h = record {
-  whole = inl words;
-  next = is_at-front (first one) (first b) ts h;
-  found = λ n m us r. finds_first h r;
-  failed = λ n f r. fails_first h r;
-}
-
-abbrev pub chooses_second : (one a b : Phrase) (words : PhraseValue one) (ts : List LocatedToken) → is_at (first a) ts ≡ false → Chooses b one words ts → Chooses (either a b) one words ts
-chooses_second one a b words ts h c = record {
-  whole = inr c.whole;
-  next = is_at-back (first a) (first b) ts c.next;
-  found = λ n m us r. finds_second h (c.found n m us r);
-  failed = λ n f r. fails_second h (c.failed n f r);
-}
-
--- an operator is next: it opens a level, or one too many
-pub operator_found : {A : Type 0} (p : Phrase) (s : Symbol) (means : PhraseValue p → A) (x : A) (old new : Parser) (c : Chooses p (opener (symbol s)) tt old.rest.now) → is_at (classes_of (symbol s)) old.rest.now ≡ true → means c.whole ≡ x → Deepens (Ok tt) old new → ReadsIfNext p means (Ok (Some x)) old new
-operator_found p s means x old new c h e d =
-    (c.next, c.whole, e, c.found old.depth new.depth new.rest.now (opener_read (symbol s) old new tt ((said_next (symbol s) old.rest.now h).1) d.0 d.2 d.1))
-
-pub operator_failed : {A : Type 0} (p : Phrase) (s : Symbol) (means : PhraseValue p → A) (r : Result (Option A) Fault) (e : Fault) (old new : Parser) → Chooses p (opener (symbol s)) tt old.rest.now → is_at (classes_of (symbol s)) old.rest.now ≡ true → Deepens (Err e) old new → IsErrAnd r (λ y. y ≡ e) → ReadsIfNext p means r old new
-operator_failed p s means r e old new c h d i =
-    gives_up_if_next p means r e old new i c.next (passed_on p (opener (symbol s)) old old new (λ f. c.failed old.depth f) e (deepen_failed (symbol s) old new e h d))
 
 -- what the next token says, where one is next
 pub next_says-first : (k : Kind) (ts : List LocatedToken) (o : Option (Bor LocatedToken)) (b : Bor LocatedToken) → option_copied o ≡ slice_get ts 0 → o ≡ Some b → next_says k ts ≡ says k b.now
@@ -231,24 +195,22 @@ continues_as p q says other start here e c = record {
 }
 
 -- there are no more
-pub ends_many : (p a : Phrase) (says : List (PhraseValue a) → PhraseValue p) (start here : Parser) → Continues p (many a) says start here → is_at (first a) here.rest.now ≡ false → Read p (says []) start here
-ends_many p a says start here c h = c.found [] here.depth here.rest.now (finds_none h)
+pub ends_many : {p a : Phrase} {says : List (PhraseValue a) → PhraseValue p} {start here : Parser} → Continues p (many a) says start here → is_at (first a) here.rest.now ≡ false → Read p (says []) start here
+ends_many {here = here} c h = c.found [] here.depth here.rest.now (finds_none h)
 
 pub continues_rule : (x : Nonterminal) (start : Parser) → Continues (rule x) (form x) (form_meaning x) start start
 continues_rule x start = record { found = λ v m us r. finds_rule r; failed = λ f r. fails_rule r }
 
 -- the first of two phrases was read
-pub continues_both : (a b : Phrase) (u : PhraseValue a) (start here : Parser) → Read a u start here → Continues (a ▸ b) b (λ v. (u, v)) start here
-continues_both a b u start here r = record { found = λ v m us s. finds_both r s; failed = λ f s. fails_behind r s }
+pub front_read : {p a b : Phrase} {says : PhraseValue (a ▸ b) → PhraseValue p} {u : PhraseValue a} {start here : Parser} (next : Parser) → Continues p (a ▸ b) says start here → Read a u here next → Continues p b (λ v. says (u, v)) start next
+front_read next c r = record { found = λ v m us s. c.found _ m us (finds_both r s); failed = λ f s. c.failed f (fails_behind r s) }
 
-pub continues_on : (p q r : Phrase) (says : PhraseValue q → PhraseValue p) (more : PhraseValue r → PhraseValue q) (start here next : Parser) → Continues p q says start here → Continues q r more here next → Continues p r (λ v. says (more v)) start next
-continues_on p q r says more start here next c d = record { found = λ v m us s. c.found (more v) m us (d.found v m us s); failed = λ f s. c.failed f (d.failed f s) }
+-- of two phrases one is read, as the next token tells
+pub first_next : {p a b : Phrase} {says : PhraseValue (either a b) → PhraseValue p} {start here : Parser} → Continues p (either a b) says start here → is_at (first a) here.rest.now ≡ true → Continues p a (λ v. says (inl v)) start here
+first_next c h = record { found = λ v m us r. c.found (inl v) m us (finds_first h r); failed = λ f r. c.failed f (fails_first h r) }
 
-pub continues_second : (a b : Phrase) (start : Parser) → is_at (first a) start.rest.now ≡ false → Continues (either a b) b (λ v. inr v) start start
-continues_second a b start h = record { found = λ v m us r. finds_second h r; failed = λ f r. fails_second h r }
-
-pub continues_first : (a b : Phrase) (start : Parser) → is_at (first a) start.rest.now ≡ true → Continues (either a b) a (λ v. inl v) start start
-continues_first a b start h = record { found = λ v m us r. finds_first h r; failed = λ f r. fails_first h r }
+pub first_absent : {p a b : Phrase} {says : PhraseValue (either a b) → PhraseValue p} {start here : Parser} → Continues p (either a b) says start here → is_at (first a) here.rest.now ≡ false → Continues p b (λ v. says (inr v)) start here
+first_absent c h = record { found = λ v m us r. c.found (inr v) m us (finds_second h r); failed = λ f r. c.failed f (fails_second h r) }
 
 -- what was read from the start to a state was read to one with the same tokens and levels
 pub read_to : (p : Phrase) (v : PhraseValue p) (start here next : Parser) → next.depth ≡ here.depth → next.rest.now ≡ here.rest.now → Read p v start here → Read p v start next
@@ -270,9 +232,9 @@ reads_on p q view part says (Ok x) start here next c e r = subst (λ v. Read p v
 reads_on p q view part says (Err e) start here next c d r = passed_on p q start here next c.failed e r
 
 -- one more operator and its operand on the right
-pub continues_left : (p a b : Phrase) (says : Written → List (PhraseValue (a ▸ b)) → PhraseValue p) (left : Written) (u : PhraseValue a) (v : PhraseValue b) (next_left : Written) (start here mid next : Parser) → Continues p (many (a ▸ b)) (says left) start here → is_at (first (a ▸ b)) here.rest.now ≡ true → Read a u here mid → Read b v mid next → ((vs : List (PhraseValue (a ▸ b))) → says left ((u, v) ∷ vs) ≡ says next_left vs) → Continues p (many (a ▸ b)) (says next_left) start next
-continues_left p a b says left u v next_left start here mid next c h r s e = record {
-  found = λ vs m us t. subst (λ w. Finds 200 p start.depth start.rest.now w m us) (e vs) (c.found ((u, v) ∷ vs) m us (finds_more h (finds_both r s) t));
+pub continues_left : {p a b : Phrase} {u : PhraseValue a} {v : PhraseValue b} (says : Written → List (PhraseValue (a ▸ b)) → PhraseValue p) (left next_left : Written) (start here mid next : Parser) → Continues p (many (a ▸ b)) (says left) start here → is_at (first (a ▸ b)) here.rest.now ≡ true → Read a u here mid → Read b v mid next → ((vs : List (PhraseValue (a ▸ b))) → says left ((u, v) ∷ vs) ≡ says next_left vs) → Continues p (many (a ▸ b)) (says next_left) start next
+continues_left {p} says left next_left start here mid next c h r s e = record {
+  found = λ vs m us t. subst (λ w. Finds 200 p start.depth start.rest.now w m us) (e vs) (c.found _ m us (finds_more h (finds_both r s) t));
   failed = λ f t. c.failed f (fails_more h (finds_both r s) t);
 }
 
@@ -284,6 +246,6 @@ continues_to p q says start here next d e c = record {
 }
 
 -- the last part of a phrase was read for what it means, or failed
-pub reads_as_on : {A : Type 0} (p q : Phrase) (view : A → PhraseValue p) (means says : PhraseValue q → PhraseValue p) (r : Result A Fault) (start here next : Parser) → Continues p q says start here → ((v : PhraseValue q) → says v ≡ means v) → ReadsAs q means view r here next → ReadsPhrase p view r start next
-reads_as_on p q view means says (Ok x) start here next c e r = subst (λ v. Read p v start next) (e r.0 ∙ r.1) (c.found r.0 next.depth next.rest.now r.2)
-reads_as_on p q view means says (Err e) start here next c d r = passed_on p q start here next c.failed e r
+pub reads_as_on : {A : Type 0} {p q : Phrase} {says : PhraseValue q → PhraseValue p} {start here : Parser} → Continues p q says start here → (view : A → PhraseValue p) (means : PhraseValue q → PhraseValue p) (r : Result A Fault) (next : Parser) → ((v : PhraseValue q) → says v ≡ means v) → ReadsAs q means view r here next → ReadsPhrase p view r start next
+reads_as_on {p = p} {start = start} c view means (Ok x) next e r = subst (λ v. Read p v start next) (e r.0 ∙ r.1) (c.found r.0 next.depth next.rest.now r.2)
+reads_as_on {p = p} {q = q} {start = start} {here = here} c view means (Err e) next d r = passed_on p q start here next c.failed e r

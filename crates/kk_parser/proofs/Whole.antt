@@ -115,41 +115,33 @@ stuck_finds before t us {declarations} {m} r g =
     let s : Finds 200 (rule program) 0 (tokens_of c.marked) declarations m c.rest = subst (λ x. Finds 200 (rule program) 0 x declarations m c.rest) (turned_tokens before (t ∷ us) c.rest a.before a.turns ∙ sym c.tokens) a.finds in
     elim (program_read c.program 200).1 [ inl w ↦ no_rest t us c.rest c.next ((same_finds 200 w.finds s).rest) | inr q ↦ never_both 200 s q.fails ]
 
+-- where tokens of a program are cut, and no program goes on behind the cut, the token there is unexpected
+cut_unexpected : {xs zs : List Marked} {ts us : List LocatedToken} (declarations : List WrittenDeclaration) (m : ℕ) → Cut 200 xs zs ts us → Spells program_grammar (rule program) 0 declarations m xs [] → ((before : List LocatedToken) → ts ≡ before ++ us → GoesOn before us → ⊥) → (before : List LocatedToken) × (before ++ us ≡ ts) × IsUnexpected before us
+cut_unexpected {xs} {zs} {ts} {us} declarations m c p stuck =
+    let before = tokens_of c.front in (
+      before,
+      sym c.tokens,
+      record {
+        front = c.front;
+        tokens_are = refl;
+        shallow = c.shallow;
+        begins = (declarations, zs, (m, subst (λ ys. Spells program_grammar (rule program) 0 declarations m ys []) c.marked p));
+        stuck = stuck before c.tokens;
+      },
+    )
+
 -- where the reading of a program fails since a token is unexpected, it is the first such token
 pub fails_unexpected : {ts us : List LocatedToken} → ReadingFails 200 (rule program) 0 ts (unexpected us) → (before : List LocatedToken) × (before ++ us ≡ ts) × IsUnexpected before us
 fails_unexpected {ts} {us} r =
     let b = begun 200 r (omega arith) refl in
     let x = b.text [] refl in
-    let s = reached x.2 in
-    let c = s.cut in
-    let before = tokens_of c.front in (
-      before,
-      sym c.tokens,
-      record {
-        front = c.front;
-        tokens_are = refl;
-        shallow = c.shallow;
-        begins = (b.value, s.rest, (b.levels, subst (λ xs. Spells program_grammar (rule program) 0 b.value b.levels xs []) c.marked (unformed x.1)));
-        stuck = stuck_fails before us (unmoved c.tokens r);
-      },
-    )
+    cut_unexpected b.value b.levels (reached x.2).cut (unformed x.1) (λ before e. stuck_fails before us (unmoved e r))
 
 -- where the reading of a program leaves tokens, the first of them is unexpected
 pub finds_unexpected : {declarations : List WrittenDeclaration} {m : ℕ} {ts : List LocatedToken} {t : LocatedToken} {us : List LocatedToken} → Finds 200 (rule program) 0 ts declarations m (t ∷ us) → (before : List LocatedToken) × (before ++ t ∷ us ≡ ts) × IsUnexpected before (t ∷ us)
 finds_unexpected {declarations} {m} {ts} {t} {us} r =
     let s = spelled 200 r (omega arith) refl [] (onward_calm refl) in
-    let c = cut_front s.2 in
-    let before = tokens_of c.front in (
-      before,
-      sym c.tokens,
-      record {
-        front = c.front;
-        tokens_are = refl;
-        shallow = c.shallow;
-        begins = (declarations, [], (m, subst (λ xs. Spells program_grammar (rule program) 0 declarations m xs []) c.marked (unformed s.1)));
-        stuck = stuck_finds before t us (subst (λ x. Finds 200 (rule program) 0 x declarations m (t ∷ us)) c.tokens r);
-      },
-    )
+    cut_unexpected declarations m (cut_front s.2) (unformed s.1) (λ before e. stuck_finds before t us (subst (λ x. Finds 200 (rule program) 0 x declarations m (t ∷ us)) e r))
 
 -- where the reading of a program fails for depth, the token there opens the first level too many
 pub fails_too_deep : {ts us : List LocatedToken} → ReadingFails 200 (rule program) 0 ts (too_deep us) → (before : List LocatedToken) × (before ++ us ≡ ts) × IsTooDeep before us

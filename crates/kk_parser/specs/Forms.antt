@@ -1,13 +1,11 @@
 -- The grammar in the form in which it is read with one token of lookahead. It spells what the grammar of programs
 -- spells, with the same levels and the same meaning; four productions have other right sides, in which what two
 -- alternatives begin with stands before the choice.
-use Rattle.std.specs.Prelude.{ℕ, List, [], ◌∷◌, ◌++◌, map, Option, Some, None, ◌⊎◌}
+use Rattle.std.specs.Prelude.{List, [], ◌∷◌, ◌++◌, Option, Some, None, ◌⊎◌}
 use Rattle.std.proofs.Common.{inl, inr}
-use Rattle.kk_syntax.specs.Surface.{Written, number as number_written, unit, construct, no_written, print_text, block_of, WrittenStatement, WrittenType, unit_type, named, no_type, WrittenDeclaration, WrittenParameter}
+use Rattle.kk_syntax.specs.Surface.{Written, number as number_written, unit, construct, no_written, print_text, block_of, WrittenStatement, WrittenType, unit_type, named, no_type, WrittenParameter}
 use Rattle.kk_syntax.specs.declared.token.Keyword.TheVariants.{Val, Then, Elif, Else}
 use Rattle.kk_syntax.specs.declared.token.Symbol.TheVariants.{CloseParenthesis, OpenBrace, CloseBrace, Semicolon, Dot, Equals}
-use Rattle.kk_syntax.specs.declared.operator.PrintForm.{PrintForm}
-use Rattle.kk_syntax.specs.declared.operator.PrintForm.TheVariants.{Print, PrintLine}
 use Rattle.kk_syntax.specs.declared.tree.Effect.{Effect}
 use Rattle.kk_syntax.specs.declared.tree.Identifier.{Identifier}
 use Rattle.kk_parser.specs.Classes.{word as a_word, main as main_name}

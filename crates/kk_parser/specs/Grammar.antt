@@ -1,7 +1,7 @@
 -- The grammar of programs: the right side of each production, and what a text of it means.
 use Rattle.std.specs.Prelude.{ℕ, List, [], ◌∷◌, Option, Some, None}
 use Rattle.std.proofs.Common.{inl, inr}
-use Rattle.kk_syntax.specs.Surface.{Written, number as number_written, unit, variable, call, dot_call, construct, unary, binary, both, either as either_written, print_text, branch, branch_alone, sequence, no_written, writtens_of, block_of, WrittenStatement, WrittenType, unit_type, named, no_type, WrittenParameter, WrittenDeclaration, function_declaration}
+use Rattle.kk_syntax.specs.Surface.{Written, number as number_written, unit, variable, call, dot_call, construct, unary, binary, both, either as either_written, print_text, branch, branch_alone, no_written, writtens_of, block_of, WrittenType, unit_type, named, no_type, WrittenDeclaration, function_declaration}
 use Rattle.kk_syntax.specs.declared.token.Keyword.TheVariants.{Fun, Val, If, Then, Elif, Else}
 use Rattle.kk_syntax.specs.declared.token.Symbol.TheVariants.{OpenParenthesis, CloseParenthesis, OpenBrace, CloseBrace, Comma, Semicolon, Colon, Dot, Equals, Plus, Minus, Star, Slash, Percent, EqualEqual, NotEqual, Less, LessEqual, Greater, GreaterEqual, AndAnd, OrOr, Exclamation, Tilde}
 use Rattle.kk_syntax.specs.declared.operator.BinaryOperator.{BinaryOperator}
@@ -16,7 +16,7 @@ use Rattle.kk_syntax.specs.declared.tree.Effect.TheVariants.{Total, Div, Exn, Co
 use Rattle.kk_syntax.specs.declared.tree.SurfaceBinder.{SurfaceBinder}
 use Rattle.kk_syntax.specs.declared.tree.SurfaceBinder.TheVariants as Binder
 use Rattle.kk_parser.specs.Classes.{word, print as print_name, println as println_name, main as main_name, total as total_name, div as div_name, exn as exn_name, console as console_name}
-use Rattle.kk_parser.specs.Kinds.{Kind, keyword, symbol, name_in, name, name_but_main, type_name, type_name_but_effect, constructor, wildcard, number, string}
+use Rattle.kk_parser.specs.Kinds.{keyword, symbol, name_in, name, name_but_main, type_name, type_name_but_effect, constructor, wildcard, number, string}
 use Rattle.kk_parser.specs.Phrases.{Nonterminal, program, decl, param, effect, eff, type, result_type, expr, block, stmt, if_, or, and, cmp, add, mul, un, post, atom, say, args, Meant, Phrase, token, opener, ◌▸◌, either, many, optional, level, rule, each, perhaps, PhraseValue, Grammar}
 
 -- ";"* and ";"+

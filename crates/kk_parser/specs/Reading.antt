@@ -7,7 +7,7 @@ use Rattle.kk_syntax.specs.declared.token.Keyword.TheVariants.{Fun, Val, If}
 use Rattle.kk_syntax.specs.declared.token.Symbol.TheVariants.{OpenParenthesis, CloseParenthesis, OpenBrace, Semicolon, Dot, Less, Exclamation, Tilde}
 use Rattle.kk_parser.specs.Classes.{Class, keyword as keyword_class, symbol as symbol_class, number as number_class, string as string_class, constructor as constructor_class, is_at}
 use Rattle.kk_parser.specs.Kinds.{Kind, Said, says, classes_of, symbol, name, type_name, type_name_but_effect, string, effect_words, print_words, name_in}
-use Rattle.kk_parser.specs.Phrases.{Nonterminal, program, decl, param, effect, eff, type, result_type, expr, block, stmt, if_, or, and, cmp, add, mul, un, post, atom, say, args, Phrase, token, opener, ◌▸◌, either, many, optional, level, rule, each, perhaps, quoted_or, PhraseValue}
+use Rattle.kk_parser.specs.Phrases.{Nonterminal, program, decl, param, effect, eff, type, result_type, expr, block, stmt, if_, post, atom, say, args, Phrase, token, opener, ◌▸◌, either, many, optional, level, rule, each, perhaps, quoted_or, PhraseValue}
 use Rattle.kk_parser.specs.Forms.{form, form_meaning}
 
 -- the tokens behind the next one

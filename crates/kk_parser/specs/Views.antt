@@ -3,10 +3,9 @@ use Rattle.std.specs.Prelude.{List, [], ◌∷◌, map, Option, Some, None}
 use Rattle.std.specs.Global.{Vec}
 use Rattle.kk_syntax.specs.declared.tree.Effect.{Effect}
 use Rattle.kk_syntax.specs.declared.tree.Effect.TheVariants.{Total, Div, Exn, Console}
-use Rattle.kk_syntax.specs.declared.tree.Identifier.{Identifier}
 use Rattle.kk_syntax.specs.declared.tree.SurfaceExpr.{SurfaceExpr}
 use Rattle.kk_syntax.specs.declared.tree.SurfaceType.{SurfaceType}
-use Rattle.kk_syntax.specs.Surface.{Written, WrittenDeclaration, function_declaration, WrittenType, WrittenParameter, written_expr, written_parameter, written_result, written_type}
+use Rattle.kk_syntax.specs.Surface.{Written, WrittenDeclaration, function_declaration, WrittenType, written_expr, written_parameter, written_result, written_type}
 use Rattle.kk_parser.specs.declared.name.Names.{Names}
 use Rattle.kk_parser.specs.declared.name.Names.TheVariants as OfNames
 use Rattle.kk_parser.specs.declared.name.NameClass.{NameClass as CodeClass}

@@ -1,4 +1,4 @@
-use Rattle.std.proofs.Common.{◌≡◌, suc, ◌-◌, [], ◌∷◌, List, Bool, true, false, length, refl, sym, ap, ◌∙◌, subst, map, eqb, arith}
+use Rattle.std.proofs.Common.{◌≡◌, suc, [], ◌∷◌, List, Bool, true, false, length, refl, sym, ap, ◌∙◌, subst, map, eqb, arith}
 use Rattle.std.proofs.lemmas.Bool.{eqb-true, eqb-false}
 use Rattle.kk_syntax.specs.declared.token.LocatedToken.{LocatedToken}
 use Rattle.kk_syntax.specs.Surface.{written_declaration}

@@ -6,19 +6,19 @@ use mir.Val.{SFits, to_z, of_z}
 use Rattle.kk_syntax.specs.Surface.{written_expr, written_statement, construct, unary, binary, branch, variable, call, print_text, unit, writtens_of, number as OfNumber}
 use Rattle.kk_syntax.specs.declared.token.Keyword.TheVariants.{If, Then, Elif, Else, Val}
 use Rattle.kk_syntax.specs.declared.token.Symbol.TheVariants.{OpenParenthesis, CloseParenthesis, OpenBrace, CloseBrace, Semicolon, Comma, Dot, Equals, OrOr, AndAnd}
-use Rattle.kk_parser.specs.Forms.{form, form_meaning, branches, branches_of, inside, spoken, spoken_of, printed, printed_of, binding, binding_of, bindings_of, items}
-use Rattle.kk_parser.specs.Grammar.{print_word, comparison, sum_operator, sum_operator_of, product_operator, product_operator_of, unary_operator, to_left, dotted, bracketed, arguments_of, arguments_given, named_of, binder, some_semicolons}
-use Rattle.kk_parser.specs.Kinds.{keyword, symbol, constructor, name, name_but_print}
+use Rattle.kk_parser.specs.Forms.{branches, branches_of, inside, spoken_of, printed, printed_of, binding, binding_of, bindings_of, items}
+use Rattle.kk_parser.specs.Grammar.{print_word, comparison, sum_operator, sum_operator_of, product_operator, product_operator_of, unary_operator, to_left, bracketed, arguments_of, arguments_given, named_of, binder, some_semicolons}
+use Rattle.kk_parser.specs.Kinds.{keyword, symbol, name, name_but_print}
 use Rattle.kk_parser.specs.Methods.{Read}
-use Rattle.kk_parser.specs.Phrases.{token, opener, either, many, optional, rule, ◌▸◌, expr, block, if_, or, and, cmp, add, mul, un, post, atom, args}
+use Rattle.kk_parser.specs.Phrases.{token, opener, optional, rule, ◌▸◌, expr, block, if_, or, and, cmp, add, mul, un, post, atom, args}
 use Rattle.kk_parser.specs.Reading.{fails_rule, fails_level, fails_front, fails_behind, fails_first, fails_second, fails_one, fails_presence, fails_quoted, fails_unquoted, fails_each_deep, finds_rule, finds_level, finds_both, finds_first, finds_second, finds_none, finds_absence, finds_presence, finds_no_more, finds_nothing, finds_quoted, finds_unquoted}
 use Rattle.kk_parser.specs.Views.{arguments_view}
 use Rattle.kk_parser.proofs.Arguments.{given-view-some, given-view-none, named-some, named-none, continues_dot, more_args, one_more}
-use Rattle.kk_parser.proofs.ReadAtoms.{brackets, other_atom, other_name, atom_but_number, spoken-means, named-means}
+use Rattle.kk_parser.proofs.ReadAtoms.{brackets, other_name, atom_but_number, spoken-means, named-means}
 use Rattle.kk_parser.proofs.Blocks.{block_begins, block_goes_on, block_passes, stated, bound, items_go_on, items_end}
 use Rattle.kk_parser.proofs.Branches.{other_branches, behind_first, continues_elif, turn, turn-means, perhaps_found, perhaps_failed, if-means}
 use Rattle.kk_parser.proofs.Trees.{written-Number, written-Unit, written-Variable, written-PrintText, written-Call, written-Construct, written-statement}
-use Rattle.kk_parser.proofs.Steps.{gives_up_in, gives_up_as, gives_up_as_in, gives_up_items, passed_on, too_deep_failed, deepen_reads_keyword, symbol_read, keyword_read, continues_rule, continues_both, continues_on, continues_first, continues_second, continues_left, continues_to, continues_many, continues_as, ends_many, read_to, reads_on, reads_as_on}
+use Rattle.kk_parser.proofs.Steps.{gives_up_in, gives_up_as, gives_up_as_in, gives_up_items, passed_on, too_deep_failed, deepen_reads_keyword, symbol_read, keyword_read, continues_rule, continues_left, continues_to, continues_many, continues_as, ends_many, first_next, first_absent, front_read, read_to, reads_on, reads_as_on}
 use Rattle.kk_parser.proofs.parser.Parser.+expr.Goals as goal
 use Rattle.kk_parser.proofs.parser.Parser.+expr.Goals.{post-in-Some, post-in-None}
 
@@ -62,11 +62,7 @@ if_-returns-in_err-open_keyword-clause-reads t c =
 
 pub if_-returns-clause-reads : goal.if_-returns-clause-reads
 if_-returns-clause-reads t c =
-    let self = c.args.self.now in
-    let mid = c.open_keyword.new.self in
-    reads_as_on (rule if_) branches written_expr branches_of (λ v. form_meaning if_ (tt, v)) c.branches.result self mid c.branches.new.self
-    (continues_on (rule if_) (form if_) branches (form_meaning if_) (λ v. (tt, v)) self self mid (continues_rule if_ self) (continues_both (opener (keyword If)) branches tt self mid c.in_ok-open_keyword.ensures.reads))
-    if-means c.branches.ensures.reads
+    reads_as_on (front_read c.open_keyword.new.self (continues_rule if_ c.args.self.now) c.in_ok-open_keyword.ensures.reads) written_expr branches_of c.branches.result c.branches.new.self if-means c.branches.ensures.reads
 
 pub branches-returns-in_err-condition-clause-reads : goal.branches-returns-in_err-condition-clause-reads
 branches-returns-in_err-condition-clause-reads t c =
@@ -84,40 +80,26 @@ branches-returns-in_err-positive-clause-reads t c =
 
 pub branches-returns-in_err-deepen-clause-reads : goal.branches-returns-in_err-deepen-clause-reads
 branches-returns-in_err-deepen-clause-reads t c =
-    let self = c.args.self.now in
-    let here = c.expr.new.self in
-    let condition = written_expr c.in_ok-condition.condition in
-    let positive = written_expr c.in_ok-positive.positive in
-    let front = behind_first condition positive self c.or.new.self c.expect_keyword.new.self here c.in_ok-condition.ensures.reads c.in_ok-expect_keyword.ensures.reads c.in_ok-positive.ensures.reads in
+    let front = behind_first c.args.self.now c.or.new.self c.expect_keyword.new.self c.expr.new.self c.in_ok-condition.ensures.reads c.in_ok-expect_keyword.ensures.reads c.in_ok-positive.ensures.reads in
     let h = sym c.is_at_keyword.ensures.value ∙ c.if-is_at_keyword.true in
-    gives_up_as branches branches_of written_expr c.from_residual-in_err-deepen.result c.in_err-deepen.field-0.0 self c.deepen.new.self c.from_residual-in_err-deepen.ensures.1
-    (passed_on branches other_branches self here c.deepen.new.self front.failed c.in_err-deepen.field-0.0
-    (too_deep_failed other_branches here c.deepen.new.self c.in_err-deepen.field-0.0 (λ d. fails_front (fails_each_deep h d)) c.in_err-deepen.ensures.deepens))
+    gives_up_as branches branches_of written_expr c.from_residual-in_err-deepen.result c.in_err-deepen.field-0.0 c.args.self.now c.deepen.new.self c.from_residual-in_err-deepen.ensures.1
+    (passed_on branches other_branches c.args.self.now c.expr.new.self c.deepen.new.self front.failed c.in_err-deepen.field-0.0
+    (too_deep_failed other_branches c.expr.new.self c.deepen.new.self c.in_err-deepen.field-0.0 (λ d. fails_front (fails_each_deep h d)) c.in_err-deepen.ensures.deepens))
 
 pub branches-returns-in_err-negative-clause-reads : goal.branches-returns-in_err-negative-clause-reads
 branches-returns-in_err-negative-clause-reads t c =
-    let self = c.args.self.now in
-    let here = c.expr.new.self in
-    let condition = written_expr c.in_ok-condition.condition in
-    let positive = written_expr c.in_ok-positive.positive in
-    let front = behind_first condition positive self c.or.new.self c.expect_keyword.new.self here c.in_ok-condition.ensures.reads c.in_ok-expect_keyword.ensures.reads c.in_ok-positive.ensures.reads in
+    let front = behind_first c.args.self.now c.or.new.self c.expect_keyword.new.self c.expr.new.self c.in_ok-condition.ensures.reads c.in_ok-expect_keyword.ensures.reads c.in_ok-positive.ensures.reads in
     let h = sym c.is_at_keyword.ensures.value ∙ c.if-is_at_keyword.true in
-    let opened = deepen_reads_keyword Elif here c.deepen.new.self (Ok tt) h c.in_ok-deepen.ensures.deepens in
-    let next = c.deepen.new.self in
-    let elif = continues_elif here next opened in
-    gives_up_as_in branches branches branches_of written_expr c.from_residual-in_err-negative.result c.in_err-negative.field-0.0 self next c.branches.new.self (λ f r. front.failed f (elif.failed f r)) c.from_residual-in_err-negative.ensures.1 c.in_err-negative.ensures.reads
+    let elif = continues_elif c.expr.new.self c.deepen.new.self (deepen_reads_keyword Elif c.expr.new.self c.deepen.new.self (Ok tt) h c.in_ok-deepen.ensures.deepens) in
+    gives_up_as_in branches branches branches_of written_expr c.from_residual-in_err-negative.result c.in_err-negative.field-0.0 c.args.self.now c.deepen.new.self c.branches.new.self (λ f r. front.failed f (elif.failed f r)) c.from_residual-in_err-negative.ensures.1 c.in_err-negative.ensures.reads
 
 pub branches-returns-then-is_at_keyword-clause-reads : goal.branches-returns-then-is_at_keyword-clause-reads
 branches-returns-then-is_at_keyword-clause-reads t c =
-    let self = c.args.self.now in
-    let here = c.expr.new.self in
+    let front = behind_first c.args.self.now c.or.new.self c.expect_keyword.new.self c.expr.new.self c.in_ok-condition.ensures.reads c.in_ok-expect_keyword.ensures.reads c.in_ok-positive.ensures.reads in
+    let h = sym c.is_at_keyword.ensures.value ∙ c.if-is_at_keyword.true in
+    let elif = continues_elif c.expr.new.self c.deepen.new.self (deepen_reads_keyword Elif c.expr.new.self c.deepen.new.self (Ok tt) h c.in_ok-deepen.ensures.deepens) in
     let condition = written_expr c.in_ok-condition.condition in
     let positive = written_expr c.in_ok-positive.positive in
-    let front = behind_first condition positive self c.or.new.self c.expect_keyword.new.self here c.in_ok-condition.ensures.reads c.in_ok-expect_keyword.ensures.reads c.in_ok-positive.ensures.reads in
-    let h = sym c.is_at_keyword.ensures.value ∙ c.if-is_at_keyword.true in
-    let opened = deepen_reads_keyword Elif here c.deepen.new.self (Ok tt) h c.in_ok-deepen.ensures.deepens in
-    let next = c.deepen.new.self in
-    let elif = continues_elif here next opened in
     let n = c.in_ok-negative.ensures.reads in
     let new = c.branches.new.self in (
       (condition, (tt, (positive, turn n.0))),
@@ -127,44 +109,33 @@ branches-returns-then-is_at_keyword-clause-reads t c =
 
 pub branches-returns-in_err-negative-2-clause-reads : goal.branches-returns-in_err-negative-2-clause-reads
 branches-returns-in_err-negative-2-clause-reads t c =
-    let self = c.args.self.now in
-    let here = c.expr.new.self in
-    let condition = written_expr c.in_ok-condition.condition in
-    let positive = written_expr c.in_ok-positive.positive in
-    let front = behind_first condition positive self c.or.new.self c.expect_keyword.new.self here c.in_ok-condition.ensures.reads c.in_ok-expect_keyword.ensures.reads c.in_ok-positive.ensures.reads in
+    let front = behind_first c.args.self.now c.or.new.self c.expect_keyword.new.self c.expr.new.self c.in_ok-condition.ensures.reads c.in_ok-expect_keyword.ensures.reads c.in_ok-positive.ensures.reads in
     let h1 = sym c.is_at_keyword.ensures.value ∙ c.if-is_at_keyword.false in
     let h = sym c.is_at_keyword-2.ensures.value ∙ c.if-is_at_keyword-2.true in
-    let else = keyword_read Else here c.advance.new.self h c.advance.ensures.rest c.advance.ensures.depth in
-    gives_up_as_in branches (rule expr) branches_of written_expr c.from_residual-in_err-negative-2.result c.in_err-negative-2.field-0.0 self c.advance.new.self c.expr-then-is_at_keyword-2.new.self
+    let else = keyword_read Else c.expr.new.self c.advance.new.self h c.advance.ensures.rest c.advance.ensures.depth in
+    gives_up_as_in branches (rule expr) branches_of written_expr c.from_residual-in_err-negative-2.result c.in_err-negative-2.field-0.0 c.args.self.now c.advance.new.self c.expr-then-is_at_keyword-2.new.self
     (λ f r. front.failed f (fails_behind (finds_no_more h1) (perhaps_failed else r))) c.from_residual-in_err-negative-2.ensures.1 c.in_err-negative-2.ensures.reads
 
 pub branches-returns-then-is_at_keyword-2-clause-reads : goal.branches-returns-then-is_at_keyword-2-clause-reads
 branches-returns-then-is_at_keyword-2-clause-reads t c =
-    let self = c.args.self.now in
-    let here = c.expr.new.self in
-    let condition = written_expr c.in_ok-condition.condition in
-    let positive = written_expr c.in_ok-positive.positive in
-    let front = behind_first condition positive self c.or.new.self c.expect_keyword.new.self here c.in_ok-condition.ensures.reads c.in_ok-expect_keyword.ensures.reads c.in_ok-positive.ensures.reads in
+    let front = behind_first c.args.self.now c.or.new.self c.expect_keyword.new.self c.expr.new.self c.in_ok-condition.ensures.reads c.in_ok-expect_keyword.ensures.reads c.in_ok-positive.ensures.reads in
     let h1 = sym c.is_at_keyword.ensures.value ∙ c.if-is_at_keyword.false in
     let h = sym c.is_at_keyword-2.ensures.value ∙ c.if-is_at_keyword-2.true in
-    let else = keyword_read Else here c.advance.new.self h c.advance.ensures.rest c.advance.ensures.depth in
+    let else = keyword_read Else c.expr.new.self c.advance.new.self h c.advance.ensures.rest c.advance.ensures.depth in
     let negative = written_expr c.in_ok-negative-2.negative in
     let new = c.expr-then-is_at_keyword-2.new.self in (
-      (condition, (tt, (positive, ([], Some negative)))),
+      (written_expr c.in_ok-condition.condition, (tt, (written_expr c.in_ok-positive.positive, ([], Some negative)))),
       sym c.in_ok-branch-2.ensures,
       front.found ([], Some negative) new.depth new.rest.now (finds_both (finds_no_more h1) (perhaps_found else c.in_ok-negative-2.ensures.reads)),
     )
 
 pub branches-returns-clause-reads : goal.branches-returns-clause-reads
 branches-returns-clause-reads t c =
-    let self = c.args.self.now in
+    let front = behind_first c.args.self.now c.or.new.self c.expect_keyword.new.self c.expr.new.self c.in_ok-condition.ensures.reads c.in_ok-expect_keyword.ensures.reads c.in_ok-positive.ensures.reads in
     let here = c.expr.new.self in
-    let condition = written_expr c.in_ok-condition.condition in
-    let positive = written_expr c.in_ok-positive.positive in
-    let front = behind_first condition positive self c.or.new.self c.expect_keyword.new.self here c.in_ok-condition.ensures.reads c.in_ok-expect_keyword.ensures.reads c.in_ok-positive.ensures.reads in
     let h1 = sym c.is_at_keyword.ensures.value ∙ c.if-is_at_keyword.false in
     let h2 = sym c.is_at_keyword-2.ensures.value ∙ c.if-is_at_keyword-2.false in (
-      (condition, (tt, (positive, ([], None)))),
+      (written_expr c.in_ok-condition.condition, (tt, (written_expr c.in_ok-positive.positive, ([], None)))),
       sym c.in_ok-branch_alone.ensures,
       front.found ([], None) here.depth here.rest.now (finds_both (finds_no_more h1) (finds_nothing h2)),
     )
@@ -247,14 +218,10 @@ add-returns-in_err-left-clause-reads t c =
 
 pub add-loop-left-init : goal.add-loop-left-init
 add-loop-left-init t c =
-    let more = many (sum_operator ▸ rule mul) in
-    let old = c.args.self.now in
-    let new = c.mul.new.self in
-    let left = written_expr c.in_ok-left.left in
     record {
       left = omega (arith, c.in_ok-left.ensures.left);
       depth = omega (arith, c.in_ok-left.ensures.depth);
-      read = continues_on (rule add) (form add) more (form_meaning add) (λ v. (left, v)) old old new (continues_rule add old) (continues_both (rule mul) more left old new c.in_ok-left.ensures.reads);
+      read = front_read c.mul.new.self (continues_rule add c.args.self.now) c.in_ok-left.ensures.reads;
     }
 
 pub add-returns-in_err-operator-clause-reads : goal.add-returns-in_err-operator-clause-reads
@@ -270,20 +237,17 @@ add-returns-in_err-right-clause-reads t c =
 pub add-loop-left-preserved : goal.add-loop-left-preserved
 add-loop-left-preserved t c =
     let o = rw c.in-Some.is at c.in_ok-operator.ensures.reads in
-    let l = written_expr c.loop-left.left in
-    let r = written_expr c.in_ok-right.right in
     record {
       left = omega (arith, c.in_ok-right.ensures.left, c.in_ok-operator.ensures.left);
       depth = omega (arith, c.in_ok-right.ensures.depth, c.in_ok-operator.ensures.depth);
-      read = continues_left (rule add) sum_operator (rule mul) (to_left sum_operator_of) l o.1 r (written_expr c.in_ok-left-2.left) c.args.self.now c.loop-left.self c.sum_operator.new.self c.mul-in-Some.new.self c.loop-left.invariant.read o.0 o.3 c.in_ok-right.ensures.reads
-          (λ vs. ap (λ left. to_left sum_operator_of left vs) (ap (λ operator. binary operator l r) o.2 ∙ sym c.in_ok-left-2.ensures));
+      read = continues_left (to_left sum_operator_of) (written_expr c.loop-left.left) (written_expr c.in_ok-left-2.left) c.args.self.now c.loop-left.self c.sum_operator.new.self c.mul-in-Some.new.self c.loop-left.invariant.read o.0 o.3 c.in_ok-right.ensures.reads
+          (λ vs. ap (λ left. to_left sum_operator_of left vs) (ap (λ operator. binary operator (written_expr c.loop-left.left) (written_expr c.in_ok-right.right)) o.2 ∙ sym c.in_ok-left-2.ensures));
     }
 
 pub add-returns-clause-reads : goal.add-returns-clause-reads
 add-returns-clause-reads t c =
     let n = rw c.in_default.is at c.in_ok-operator.ensures.reads in
-    let left = written_expr c.loop-left.left in
-    read_to (rule add) left c.args.self.now c.loop-left.self c.sum_operator.new.self n.1 n.2 (ends_many (rule add) (sum_operator ▸ rule mul) (to_left sum_operator_of left) c.args.self.now c.loop-left.self c.loop-left.invariant.read n.0)
+    read_to (rule add) (written_expr c.loop-left.left) c.args.self.now c.loop-left.self c.sum_operator.new.self n.1 n.2 (ends_many c.loop-left.invariant.read n.0)
 
 pub mul-returns-in_err-left-clause-reads : goal.mul-returns-in_err-left-clause-reads
 mul-returns-in_err-left-clause-reads t c =
@@ -291,14 +255,10 @@ mul-returns-in_err-left-clause-reads t c =
 
 pub mul-loop-left-init : goal.mul-loop-left-init
 mul-loop-left-init t c =
-    let more = many (product_operator ▸ rule un) in
-    let old = c.args.self.now in
-    let new = c.un.new.self in
-    let left = written_expr c.in_ok-left.left in
     record {
       left = omega (arith, c.in_ok-left.ensures.left);
       depth = omega (arith, c.in_ok-left.ensures.depth);
-      read = continues_on (rule mul) (form mul) more (form_meaning mul) (λ v. (left, v)) old old new (continues_rule mul old) (continues_both (rule un) more left old new c.in_ok-left.ensures.reads);
+      read = front_read c.un.new.self (continues_rule mul c.args.self.now) c.in_ok-left.ensures.reads;
     }
 
 pub mul-returns-in_err-operator-clause-reads : goal.mul-returns-in_err-operator-clause-reads
@@ -314,20 +274,17 @@ mul-returns-in_err-right-clause-reads t c =
 pub mul-loop-left-preserved : goal.mul-loop-left-preserved
 mul-loop-left-preserved t c =
     let o = rw c.in-Some.is at c.in_ok-operator.ensures.reads in
-    let l = written_expr c.loop-left.left in
-    let r = written_expr c.in_ok-right.right in
     record {
       left = omega (arith, c.in_ok-right.ensures.left, c.in_ok-operator.ensures.left);
       depth = omega (arith, c.in_ok-right.ensures.depth, c.in_ok-operator.ensures.depth);
-      read = continues_left (rule mul) product_operator (rule un) (to_left product_operator_of) l o.1 r (written_expr c.in_ok-left-2.left) c.args.self.now c.loop-left.self c.product_operator.new.self c.un-in-Some.new.self c.loop-left.invariant.read o.0 o.3 c.in_ok-right.ensures.reads
-          (λ vs. ap (λ left. to_left product_operator_of left vs) (ap (λ operator. binary operator l r) o.2 ∙ sym c.in_ok-left-2.ensures));
+      read = continues_left (to_left product_operator_of) (written_expr c.loop-left.left) (written_expr c.in_ok-left-2.left) c.args.self.now c.loop-left.self c.product_operator.new.self c.un-in-Some.new.self c.loop-left.invariant.read o.0 o.3 c.in_ok-right.ensures.reads
+          (λ vs. ap (λ left. to_left product_operator_of left vs) (ap (λ operator. binary operator (written_expr c.loop-left.left) (written_expr c.in_ok-right.right)) o.2 ∙ sym c.in_ok-left-2.ensures));
     }
 
 pub mul-returns-clause-reads : goal.mul-returns-clause-reads
 mul-returns-clause-reads t c =
     let n = rw c.in_default.is at c.in_ok-operator.ensures.reads in
-    let left = written_expr c.loop-left.left in
-    read_to (rule mul) left c.args.self.now c.loop-left.self c.product_operator.new.self n.1 n.2 (ends_many (rule mul) (product_operator ▸ rule un) (to_left product_operator_of left) c.args.self.now c.loop-left.self c.loop-left.invariant.read n.0)
+    read_to (rule mul) (written_expr c.loop-left.left) c.args.self.now c.loop-left.self c.product_operator.new.self n.1 n.2 (ends_many c.loop-left.invariant.read n.0)
 
 pub un-returns-in_err-operator-clause-reads : goal.un-returns-in_err-operator-clause-reads
 un-returns-in_err-operator-clause-reads t c =
@@ -339,9 +296,7 @@ un-returns-in_default-clause-reads t c =
     let here = c.unary_operator.new.self in
     let n = rw c.in_default.is at c.in_ok-operator.ensures.reads in
     reads_on (rule un) (rule post) written_expr written_expr (λ v. v) c.post.result self here c.post.new.self
-    (continues_to (rule un) (rule post) (λ v. v) self self here n.1 n.2
-    (continues_on (rule un) (form un) (rule post) (form_meaning un) (λ v. inr v) self self self (continues_rule un self) (continues_second (unary_operator ▸ rule un) (rule post) self n.0)))
-    (λ x. refl) c.post.ensures.reads
+    (continues_to (rule un) (rule post) (λ v. v) self self here n.1 n.2 (first_absent (continues_rule un self) n.0)) (λ x. refl) c.post.ensures.reads
 
 pub un-returns-in_err-operand-clause-reads : goal.un-returns-in_err-operand-clause-reads
 un-returns-in_err-operand-clause-reads t c =
@@ -360,14 +315,10 @@ post-returns-in_err-first-clause-reads t c =
 
 pub post-loop-self-init : goal.post-loop-self-init
 post-loop-self-init t c =
-    let more = many (opener (symbol Dot) ▸ token name ▸ optional (bracketed (rule args))) in
-    let old = c.args.self.now in
-    let new = c.atom.new.self in
-    let first = written_expr c.in_ok-first.first in
     record {
       left = omega (arith, c.in_ok-first.ensures.left);
       depth = omega (arith, c.in_ok-first.ensures.depth);
-      read = continues_on (rule post) (form post) more (form_meaning post) (λ v. (first, v)) old old new (continues_rule post old) (continues_both (rule atom) more first old new c.in_ok-first.ensures.reads);
+      read = front_read c.atom.new.self (continues_rule post c.args.self.now) c.in_ok-first.ensures.reads;
     }
 
 pub post-returns-in_err-open-clause-reads : goal.post-returns-in_err-open-clause-reads
@@ -404,7 +355,7 @@ post-loop-self-preserved t c =
     }
 
 pub post-returns-clause-reads : goal.post-returns-clause-reads
-post-returns-clause-reads t c = ends_many (rule post) (opener (symbol Dot) ▸ token name ▸ optional (bracketed (rule args))) (dotted (written_expr c.loop-self.first)) c.args.self.now c.loop-self.self c.loop-self.invariant.read (sym c.is_at.ensures.value ∙ c.loop-self-test.false)
+post-returns-clause-reads t c = ends_many c.loop-self.invariant.read (sym c.is_at.ensures.value ∙ c.loop-self-test.false)
 
 pub atom-returns-in-Some-clause-reads : goal.atom-returns-in-Some-clause-reads
 atom-returns-in-Some-clause-reads t c =
@@ -417,66 +368,30 @@ atom-returns-in-Some-clause-reads t c =
 pub atom-returns-then-is_at_constructor-clause-reads : goal.atom-returns-then-is_at_constructor-clause-reads
 atom-returns-then-is_at_constructor-clause-reads t c =
     let n = rw c.in_default.is at c.number.ensures.takes in
-    let self = c.args.self.now in
-    let here = c.number.new.self in
-    let a0 = atom_but_number self here n.0 n.1 n.2 in
-    let h = sym c.is_at_constructor.ensures ∙ c.if-is_at_constructor.true in
     let new = c.constructor.new.self in
-    subst (λ tree. Read (rule atom) tree self new) (sym (written-Construct c.in_ok-name.name c.new.result ∙ ap (λ es. construct c.in_ok-name.name (writtens_of (map written_expr es))) c.new.ensures.items))
-    (a0.found (inl c.in_ok-name.name) new.depth new.rest.now (finds_first h c.in_ok-name.ensures.reads))
+    let atom-is = first_next (atom_but_number c.args.self.now c.number.new.self n.0 n.1 n.2) (sym c.is_at_constructor.ensures ∙ c.if-is_at_constructor.true) in
+    subst (λ tree. Read (rule atom) tree c.args.self.now new) (sym (written-Construct c.in_ok-name.name c.new.result ∙ ap (λ es. construct c.in_ok-name.name (writtens_of (map written_expr es))) c.new.ensures.items))
+    (atom-is.found c.in_ok-name.name new.depth new.rest.now c.in_ok-name.ensures.reads)
 
 pub atom-returns-then-is_at-clause-reads : goal.atom-returns-then-is_at-clause-reads
 atom-returns-then-is_at-clause-reads t c =
     let n = rw c.in_default.is at c.number.ensures.takes in
-    let self = c.args.self.now in
-    let here = c.number.new.self in
-    let a0 = atom_but_number self here n.0 n.1 n.2 in
-    let a1 = continues_on (rule atom) (either (token constructor) (either brackets other_atom)) (either brackets other_atom) (λ v. form_meaning atom (inr v)) (λ v. inr v) self here here a0 (continues_second (token constructor) (either brackets other_atom) here (sym c.is_at_constructor.ensures ∙ c.if-is_at_constructor.false)) in
-    let h = sym c.is_at.ensures.value ∙ c.if-is_at.true in
-    reads_as_on (rule atom) brackets written_expr (inside unit (λ e. e)) (λ v. form_meaning atom (inr (inr (inl v)))) c.in_brackets.result self here c.in_brackets.new.self
-    (continues_on (rule atom) (either brackets other_atom) brackets (λ v. form_meaning atom (inr (inr v))) (λ v. inl v) self here here a1 (continues_first brackets other_atom here h))
-    (λ v. refl) c.in_brackets.ensures.reads
+    reads_as_on (first_next (first_absent (atom_but_number c.args.self.now c.number.new.self n.0 n.1 n.2) (sym c.is_at_constructor.ensures ∙ c.if-is_at_constructor.false)) (sym c.is_at.ensures.value ∙ c.if-is_at.true)) written_expr (inside unit (λ e. e)) c.in_brackets.result c.in_brackets.new.self (λ v. refl) c.in_brackets.ensures.reads
 
 pub atom-returns-then-is_at_string-clause-reads : goal.atom-returns-then-is_at_string-clause-reads
 atom-returns-then-is_at_string-clause-reads t c =
     let n = rw c.in_default.is at c.number.ensures.takes in
-    let self = c.args.self.now in
-    let here = c.number.new.self in
-    let a0 = atom_but_number self here n.0 n.1 n.2 in
-    let a1 = continues_on (rule atom) (either (token constructor) (either brackets other_atom)) (either brackets other_atom) (λ v. form_meaning atom (inr v)) (λ v. inr v) self here here a0 (continues_second (token constructor) (either brackets other_atom) here (sym c.is_at_constructor.ensures ∙ c.if-is_at_constructor.false)) in
-    let a2 = continues_on (rule atom) (either brackets other_atom) other_atom (λ v. form_meaning atom (inr (inr v))) (λ v. inr v) self here here a1 (continues_second brackets other_atom here (sym c.is_at.ensures.value ∙ c.if-is_at.false)) in
-    let h = sym c.is_at_string.ensures ∙ c.if-is_at_string.true in
-    reads_as_on (rule atom) spoken written_expr spoken_of (λ v. form_meaning atom (inr (inr (inr (inl v))))) c.spoken.result self here c.spoken.new.self
-    (continues_on (rule atom) other_atom spoken (λ v. form_meaning atom (inr (inr (inr v)))) (λ v. inl v) self here here a2 (continues_first spoken (either printed other_name) here h))
-    spoken-means c.spoken.ensures.reads
+    reads_as_on (first_next (first_absent (first_absent (atom_but_number c.args.self.now c.number.new.self n.0 n.1 n.2) (sym c.is_at_constructor.ensures ∙ c.if-is_at_constructor.false)) (sym c.is_at.ensures.value ∙ c.if-is_at.false)) (sym c.is_at_string.ensures ∙ c.if-is_at_string.true)) written_expr spoken_of c.spoken.result c.spoken.new.self spoken-means c.spoken.ensures.reads
 
 pub atom-returns-then-is_at_name-clause-reads : goal.atom-returns-then-is_at_name-clause-reads
 atom-returns-then-is_at_name-clause-reads t c =
     let n = rw c.in_default.is at c.number.ensures.takes in
-    let self = c.args.self.now in
-    let here = c.number.new.self in
-    let a0 = atom_but_number self here n.0 n.1 n.2 in
-    let a1 = continues_on (rule atom) (either (token constructor) (either brackets other_atom)) (either brackets other_atom) (λ v. form_meaning atom (inr v)) (λ v. inr v) self here here a0 (continues_second (token constructor) (either brackets other_atom) here (sym c.is_at_constructor.ensures ∙ c.if-is_at_constructor.false)) in
-    let a2 = continues_on (rule atom) (either brackets other_atom) other_atom (λ v. form_meaning atom (inr (inr v))) (λ v. inr v) self here here a1 (continues_second brackets other_atom here (sym c.is_at.ensures.value ∙ c.if-is_at.false)) in
-    let a3 = continues_on (rule atom) other_atom (either printed other_name) (λ v. form_meaning atom (inr (inr (inr v)))) (λ v. inr v) self here here a2 (continues_second spoken (either printed other_name) here (sym c.is_at_string.ensures ∙ c.if-is_at_string.false)) in
-    let h = sym c.is_at_name.ensures.value ∙ c.if-is_at_name.true in
-    reads_as_on (rule atom) printed written_expr printed_of (λ v. form_meaning atom (inr (inr (inr (inr (inl v)))))) c.printed.result self here c.printed.new.self
-    (continues_on (rule atom) (either printed other_name) printed (λ v. form_meaning atom (inr (inr (inr (inr v))))) (λ v. inl v) self here here a3 (continues_first printed other_name here h))
-    (λ v. refl) c.printed.ensures.reads
+    reads_as_on (first_next (first_absent (first_absent (first_absent (atom_but_number c.args.self.now c.number.new.self n.0 n.1 n.2) (sym c.is_at_constructor.ensures ∙ c.if-is_at_constructor.false)) (sym c.is_at.ensures.value ∙ c.if-is_at.false)) (sym c.is_at_string.ensures ∙ c.if-is_at_string.false)) (sym c.is_at_name.ensures.value ∙ c.if-is_at_name.true)) written_expr printed_of c.printed.result c.printed.new.self (λ v. refl) c.printed.ensures.reads
 
 pub atom-returns-clause-reads : goal.atom-returns-clause-reads
 atom-returns-clause-reads t c =
     let n = rw c.in_default.is at c.number.ensures.takes in
-    let self = c.args.self.now in
-    let here = c.number.new.self in
-    let a0 = atom_but_number self here n.0 n.1 n.2 in
-    let a1 = continues_on (rule atom) (either (token constructor) (either brackets other_atom)) (either brackets other_atom) (λ v. form_meaning atom (inr v)) (λ v. inr v) self here here a0 (continues_second (token constructor) (either brackets other_atom) here (sym c.is_at_constructor.ensures ∙ c.if-is_at_constructor.false)) in
-    let a2 = continues_on (rule atom) (either brackets other_atom) other_atom (λ v. form_meaning atom (inr (inr v))) (λ v. inr v) self here here a1 (continues_second brackets other_atom here (sym c.is_at.ensures.value ∙ c.if-is_at.false)) in
-    let a3 = continues_on (rule atom) other_atom (either printed other_name) (λ v. form_meaning atom (inr (inr (inr v)))) (λ v. inr v) self here here a2 (continues_second spoken (either printed other_name) here (sym c.is_at_string.ensures ∙ c.if-is_at_string.false)) in
-    let h = sym c.is_at_name.ensures.value ∙ c.if-is_at_name.false in
-    reads_as_on (rule atom) other_name written_expr (λ v. named_of v.0 v.1) (λ v. form_meaning atom (inr (inr (inr (inr (inr v)))))) c.named.result self here c.named.new.self
-    (continues_on (rule atom) (either printed other_name) other_name (λ v. form_meaning atom (inr (inr (inr (inr v))))) (λ v. inr v) self here here a3 (continues_second printed other_name here h))
-    named-means c.named.ensures.reads
+    reads_as_on (first_absent (first_absent (first_absent (first_absent (atom_but_number c.args.self.now c.number.new.self n.0 n.1 n.2) (sym c.is_at_constructor.ensures ∙ c.if-is_at_constructor.false)) (sym c.is_at.ensures.value ∙ c.if-is_at.false)) (sym c.is_at_string.ensures ∙ c.if-is_at_string.false)) (sym c.is_at_name.ensures.value ∙ c.if-is_at_name.false)) written_expr (λ v. named_of v.0 v.1) c.named.result c.named.new.self named-means c.named.ensures.reads
 
 pub in_brackets-returns-in_err-open-clause-reads : goal.in_brackets-returns-in_err-open-clause-reads
 in_brackets-returns-in_err-open-clause-reads t c =
@@ -662,7 +577,7 @@ pub args-returns-clause-reads : goal.args-returns-clause-reads
 args-returns-clause-reads t c =
     let items = map written_expr c.loop-self.arguments.items in
     subst (λ es. Read (rule args) es c.args.self.now c.loop-self.self) (append-nil items)
-    (ends_many (rule args) (token (symbol Comma) ▸ rule expr) (λ vs. items ++ map (λ m. m.1) vs) c.args.self.now c.loop-self.self c.loop-self.invariant.read (sym c.is_at.ensures.value ∙ c.loop-self-test.false))
+    (ends_many c.loop-self.invariant.read (sym c.is_at.ensures.value ∙ c.loop-self-test.false))
 
 pub binding-returns-in_err-expect_keyword-clause-reads : goal.binding-returns-in_err-expect_keyword-clause-reads
 binding-returns-in_err-expect_keyword-clause-reads t c =

@@ -1,43 +1,23 @@
 use Rattle.std.proofs.Common.{sym, ◌∙◌, refl}
 use Rattle.kk_syntax.specs.declared.token.Symbol.TheVariants.{Star, Slash, Percent}
 use Rattle.kk_parser.specs.Grammar.{product_operator, product_operator_of}
-use Rattle.kk_parser.specs.Kinds.{symbol}
-use Rattle.kk_parser.specs.Phrases.{opener}
-use Rattle.kk_parser.proofs.Steps.{chooses_only, chooses_first, chooses_second, operator_found, operator_failed}
+use Rattle.kk_parser.proofs.Operators.{alone, sooner, later, operator_found, operator_failed}
 use Rattle.kk_parser.proofs.parser.Parser.product_operator.Goals as goal
 
 pub returns-in_err-deepen-clause-reads : goal.returns-in_err-deepen-clause-reads
-returns-in_err-deepen-clause-reads c =
-    let h = sym c.is_at.ensures.value ∙ c.if-is_at.true in
-    operator_failed product_operator Star product_operator_of _ _ c.args.self.now c.deepen.new.self (chooses_first (opener (symbol Star)) _ tt _ h) h c.in_err-deepen.ensures.deepens c.from_residual.ensures.1
+returns-in_err-deepen-clause-reads c = operator_failed product_operator product_operator_of Star _ _ c.args.self.now c.deepen.new.self (sooner alone) (sym c.is_at.ensures.value ∙ c.if-is_at.true) c.in_err-deepen.ensures.deepens c.from_residual.ensures.1
 
 pub returns-then-is_at-clause-reads : goal.returns-then-is_at-clause-reads
-returns-then-is_at-clause-reads c =
-    let h = sym c.is_at.ensures.value ∙ c.if-is_at.true in
-    operator_found product_operator Star product_operator_of _ c.args.self.now c.deepen.new.self (chooses_first (opener (symbol Star)) _ tt _ h) h refl c.in_ok-deepen.ensures.deepens
+returns-then-is_at-clause-reads c = operator_found product_operator product_operator_of Star _ c.args.self.now c.deepen.new.self (sooner alone) (sym c.is_at.ensures.value ∙ c.if-is_at.true) refl c.in_ok-deepen.ensures.deepens
 
 pub returns-in_err-deepen-2-clause-reads : goal.returns-in_err-deepen-2-clause-reads
-returns-in_err-deepen-2-clause-reads c =
-    let h0 = sym c.is_at.ensures.value ∙ c.if-is_at.false in
-    let h = sym c.is_at-2.ensures.value ∙ c.if-is_at-2.true in
-    operator_failed product_operator Slash product_operator_of _ _ c.args.self.now c.deepen-then-is_at-2.new.self (chooses_second _ (opener (symbol Star)) _ tt _ h0 (chooses_first (opener (symbol Slash)) _ tt _ h)) h c.in_err-deepen-2.ensures.deepens c.from_residual-in_err-deepen-2.ensures.1
+returns-in_err-deepen-2-clause-reads c = operator_failed product_operator product_operator_of Slash _ _ c.args.self.now c.deepen-then-is_at-2.new.self (later refl (sooner alone)) (sym c.is_at-2.ensures.value ∙ c.if-is_at-2.true) c.in_err-deepen-2.ensures.deepens c.from_residual-in_err-deepen-2.ensures.1
 
 pub returns-then-is_at-2-clause-reads : goal.returns-then-is_at-2-clause-reads
-returns-then-is_at-2-clause-reads c =
-    let h0 = sym c.is_at.ensures.value ∙ c.if-is_at.false in
-    let h = sym c.is_at-2.ensures.value ∙ c.if-is_at-2.true in
-    operator_found product_operator Slash product_operator_of _ c.args.self.now c.deepen-then-is_at-2.new.self (chooses_second _ (opener (symbol Star)) _ tt _ h0 (chooses_first (opener (symbol Slash)) _ tt _ h)) h refl c.in_ok-deepen-2.ensures.deepens
+returns-then-is_at-2-clause-reads c = operator_found product_operator product_operator_of Slash _ c.args.self.now c.deepen-then-is_at-2.new.self (later refl (sooner alone)) (sym c.is_at-2.ensures.value ∙ c.if-is_at-2.true) refl c.in_ok-deepen-2.ensures.deepens
 
 pub returns-in_err-deepen-3-clause-reads : goal.returns-in_err-deepen-3-clause-reads
-returns-in_err-deepen-3-clause-reads c =
-    let h0 = sym c.is_at.ensures.value ∙ c.if-is_at.false in
-    let h1 = sym c.is_at-2.ensures.value ∙ c.if-is_at-2.false in
-    let h = sym c.is_at-3.ensures.value ∙ c.if-is_at-3.true in
-    operator_failed product_operator Percent product_operator_of _ _ c.args.self.now c.deepen-then-is_at-3.new.self (chooses_second _ (opener (symbol Star)) _ tt _ h0 (chooses_second _ (opener (symbol Slash)) _ tt _ h1 (chooses_only (opener (symbol Percent)) tt _ h))) h c.in_err-deepen-3.ensures.deepens c.from_residual-in_err-deepen-3.ensures.1
+returns-in_err-deepen-3-clause-reads c = operator_failed product_operator product_operator_of Percent _ _ c.args.self.now c.deepen-then-is_at-3.new.self (later refl (later refl alone)) (sym c.is_at-3.ensures.value ∙ c.if-is_at-3.true) c.in_err-deepen-3.ensures.deepens c.from_residual-in_err-deepen-3.ensures.1
 
 pub returns-then-is_at-3-clause-reads : goal.returns-then-is_at-3-clause-reads
-returns-then-is_at-3-clause-reads c =
-    let h0 = sym c.is_at.ensures.value ∙ c.if-is_at.false in
-    let h1 = sym c.is_at-2.ensures.value ∙ c.if-is_at-2.false in
-    let h = sym c.is_at-3.ensures.value ∙ c.if-is_at-3.true in
-    operator_found product_operator Percent product_operator_of _ c.args.self.now c.deepen-then-is_at-3.new.self (chooses_second _ (opener (symbol Star)) _ tt _ h0 (chooses_second _ (opener (symbol Slash)) _ tt _ h1 (chooses_only (opener (symbol Percent)) tt _ h))) h refl c.in_ok-deepen-3.ensures.deepens
+returns-then-is_at-3-clause-reads c = operator_found product_operator product_operator_of Percent _ c.args.self.now c.deepen-then-is_at-3.new.self (later refl (later refl alone)) (sym c.is_at-3.ensures.value ∙ c.if-is_at-3.true) refl c.in_ok-deepen-3.ensures.deepens

@@ -78,4 +78,4 @@ returns-clause-reads c =
     let h = sym c.is_at.ensures.value ∙ c.loop-self-test.false in
     let ds = map written_declaration c.loop-self.declarations.items in
     subst (λ v. Read (rule program) v c.args.self.now c.loop-self.self) (append-nil ds)
-    (ends_many (rule program) (token (symbol Semicolon) ▸ optional (rule decl)) (λ more. ds ++ those_given more) c.args.self.now c.loop-self.self c.loop-self.invariant.read h)
+    (ends_many c.loop-self.invariant.read h)

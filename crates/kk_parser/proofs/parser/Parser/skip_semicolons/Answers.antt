@@ -22,4 +22,4 @@ loop-self-preserved c =
 pub returns-clause-reads : goal.returns-clause-reads
 returns-clause-reads c =
     let r = c.loop-self.invariant.read in
-    (r.0 [], ends_many semicolons (token (symbol Semicolon)) r.0 c.args.self.now c.loop-self.self r.1 (sym c.is_at.ensures.value ∙ c.loop-self-test.false))
+    (r.0 [], ends_many r.1 (sym c.is_at.ensures.value ∙ c.loop-self-test.false))

@@ -1,0 +1,44 @@
+-- The operators of one level of precedence: one of some symbols, each of which opens a level.
+use Rattle.std.proofs.Common.{◌≡◌, ℕ, true, List, [], ◌∷◌, Option, Some, Result, Ok, Err, IsErrAnd, inl, inr}
+use Rattle.kk_syntax.specs.declared.token.LocatedToken.{LocatedToken}
+use Rattle.kk_syntax.specs.declared.token.Symbol.{Symbol}
+use Rattle.kk_parser.specs.declared.fault.Fault.{Fault}
+use Rattle.kk_parser.specs.declared.parser.Parser.{Parser}
+use Rattle.kk_parser.specs.Classes.{symbol as symbol_class, is_at}
+use Rattle.kk_parser.specs.Kinds.{symbol}
+use Rattle.kk_parser.specs.Phrases.{Phrase, PhraseValue, opener, either}
+use Rattle.kk_parser.specs.Reading.{first, Finds, finds_first, finds_second, Failure, ReadingFails, fails_first, fails_second}
+use Rattle.kk_parser.specs.Methods.{ReadsIfNext, Deepens}
+use Rattle.kk_parser.proofs.Apart.{apart, apart-is_at}
+use Rattle.kk_parser.proofs.Begins.{is_at-front, is_at-back}
+use Rattle.kk_parser.proofs.Steps.{said_next, opener_read, deepen_failed, passed_on, gives_up_if_next}
+
+-- Placed s p v: of the phrases that p may be, the opener of the symbol s is one, with these words of p
+pub data Placed (s : Symbol) : (p : Phrase) → PhraseValue p → Type 0 where
+  alone : Placed s (opener (symbol s)) tt
+  sooner : {a b : Phrase} {v : PhraseValue a} → Placed s a v → Placed s (either a b) (inl v)
+  later : {a b : Phrase} {v : PhraseValue b} → apart (symbol_class s ∷ []) (first a) ≡ true → Placed s b v → Placed s (either a b) (inr v)
+
+placed_next : {s : Symbol} {p : Phrase} {v : PhraseValue p} (ts : List LocatedToken) → Placed s p v → is_at (symbol_class s ∷ []) ts ≡ true → is_at (first p) ts ≡ true
+placed_next ts alone h = h
+placed_next ts (sooner {a = a} {b = b} l) h = is_at-front (first a) (first b) ts (placed_next ts l h)
+placed_next ts (later {a = a} {b = b} e l) h = is_at-back (first a) (first b) ts (placed_next ts l h)
+
+placed_found : {s : Symbol} {p : Phrase} {v : PhraseValue p} {n m : ℕ} {us : List LocatedToken} (ts : List LocatedToken) → Placed s p v → is_at (symbol_class s ∷ []) ts ≡ true → Finds 200 (opener (symbol s)) n ts tt m us → Finds 200 p n ts v m us
+placed_found ts alone h r = r
+placed_found ts (sooner l) h r = finds_first (placed_next ts l h) (placed_found ts l h r)
+placed_found {s} ts (later {a = a} e l) h r = finds_second (apart-is_at (symbol_class s ∷ []) (first a) ts e h) (placed_found ts l h r)
+
+placed_failed : {s : Symbol} {p : Phrase} {v : PhraseValue p} {n : ℕ} (ts : List LocatedToken) (f : Failure) → Placed s p v → is_at (symbol_class s ∷ []) ts ≡ true → ReadingFails 200 (opener (symbol s)) n ts f → ReadingFails 200 p n ts f
+placed_failed ts f alone h r = r
+placed_failed ts f (sooner l) h r = fails_first (placed_next ts l h) (placed_failed ts f l h r)
+placed_failed {s} ts f (later {a = a} e l) h r = fails_second (apart-is_at (symbol_class s ∷ []) (first a) ts e h) (placed_failed ts f l h r)
+
+-- an operator is next: it opens a level, or one too many
+pub operator_found : {A : Type 0} (p : Phrase) (means : PhraseValue p → A) (s : Symbol) {v : PhraseValue p} (x : A) (old new : Parser) → Placed s p v → is_at (symbol_class s ∷ []) old.rest.now ≡ true → means v ≡ x → Deepens (Ok tt) old new → ReadsIfNext p means (Ok (Some x)) old new
+operator_found p means s {v} x old new l h e d =
+    (placed_next old.rest.now l h, v, e, placed_found old.rest.now l h (opener_read (symbol s) old new tt ((said_next (symbol s) old.rest.now h).1) d.0 d.2 d.1))
+
+pub operator_failed : {A : Type 0} (p : Phrase) (means : PhraseValue p → A) (s : Symbol) {v : PhraseValue p} (r : Result (Option A) Fault) (e : Fault) (old new : Parser) → Placed s p v → is_at (symbol_class s ∷ []) old.rest.now ≡ true → Deepens (Err e) old new → IsErrAnd r (λ y. y ≡ e) → ReadsIfNext p means r old new
+operator_failed p means s r e old new l h d i =
+    gives_up_if_next p means r e old new i (placed_next old.rest.now l h) (passed_on p (opener (symbol s)) old old new (λ f. placed_failed old.rest.now f l h) e (deepen_failed (symbol s) old new e h d))

@@ -1,0 +1,1 @@
+fun f(x: int32, y: (())): int32 x ;; fun g(): <> int32 2; fun main(): console () { println(f(1, ())); println(g()) }
