@@ -7,8 +7,7 @@ use Rattle.std.proofs.lemmas.Bool.{cond-true}
 use Rattle.kk_base.specs.Machines.{trace, state, weight_of}
 use Rattle.kk_base.specs.Simulations.{Reaches, Simulates}
 use Rattle.kk_base.specs.Agreements.{Agree}
-use Rattle.kk_base.proofs.Machines.{state_ended}
-use Rattle.kk_base.proofs.Simulations.{simulates_agree, simulates_passing}
+use Rattle.kk_base.proofs.Simulations.{ended_reaches, simulates_agree, simulates_passing}
 use Rattle.rv_isa.specs.declared.asm.Action.{Action}
 use Rattle.rv_isa.specs.declared.placed.Operand.{Operand}
 use Rattle.rv_isa.specs.declared.placed.Listed.{Listed}
@@ -236,16 +235,8 @@ module _ {H E W : Type 0} (m : Primitives H E W) (depth : ℕ) (asm : List Lines
   steps_by most credit idle (go s) stuck all_few related = absurd related.1.0
   steps_by most credit idle (ended how shared) (go t) all_few related = absurd related.1.0
   steps_by most credit idle (ended how shared) (ended how' shared') all_few related =
-      record {
-        steps = 1;
-        credit_after = credit;
-        idle_after = idle;
-        paid = omega arith;
-        moves = omega arith;
-        events_are = refl;
-        passes = λ k lt e. ended_not_stuck how' shared' (sym (state_ended (placed_machine m depth placed) k (ended how' shared') how' refl) ∙ e);
-        related = ((λ n. related.0 (suc n)), (related.1.0, tt));
-      }
+      ended_reaches (asm_machine m most depth asm) (placed_machine m depth placed) (Related m most depth asm) IsNotStuck 1 credit idle (ended how shared) (ended how' shared') how
+      (omega arith) related refl (ap (λ (w : W). Some w) (sym related.1.0.0)) (ended_not_stuck how' shared')
   steps_by most credit idle (ended how shared) stuck all_few related = absurd related.1.0
   steps_by most credit idle stuck t all_few related = absurd (related.0 0 refl)
 

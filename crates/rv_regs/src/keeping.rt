@@ -93,7 +93,7 @@ fn is_kept(
 }
 
 /// Whether the line keeps all that is listed at a point where it goes on.
-fn keeps_all(
+pub fn keeps_all(
     alive: &[Listed],
     reads: &[Operand],
     write: Option<Operand>,
@@ -104,19 +104,4 @@ fn keeps_all(
 {
     next.iter()
         .all(|listed| is_kept(alive, reads, write, action, *listed))
-}
-
-/// Whether the line keeps what is listed at each of the two points, where they are there.
-pub fn keeps(
-    alive: &[Listed],
-    reads: &[Operand],
-    write: Option<Operand>,
-    action: Option<Action>,
-    behind: Option<&[Listed]>,
-    at_label: Option<&[Listed]>,
-) -> bool
-    ensures { IsTrue result ↔ AllByRecursion (All (IsKept alive.now (marks action reads.now) write (spoils_by action))) (both_of (point_of behind.entry) (point_of at_label.entry)) }
-{
-    behind.is_none_or(|next| keeps_all(alive, reads, write, action, next))
-        && at_label.is_none_or(|next| keeps_all(alive, reads, write, action, next))
 }

@@ -9,7 +9,7 @@ ghost use Rattle.rv_regs.specs.Conditions.{Fits, LineFits, AllFit};
 ghost use Rattle.rv_regs.specs.Views.{point_of};
 
 use crate::conventions::stand_as_taken;
-use crate::keeping::keeps;
+use crate::keeping::keeps_all;
 use crate::needs::{all_allowed, all_needed, all_stay_held, write_allowed};
 use crate::places::{all_apart, all_at_place};
 use rv_isa::{Action, Item, Listed, Operand, Place, Way};
@@ -106,7 +106,8 @@ fn fits(
     all_needed(alive, reads, write, behind, at_label)
         && all_apart(alive)
         && all_at_place(alive, reads)
-        && keeps(alive, reads, write, action, behind, at_label)
+        && behind.is_none_or(|next| keeps_all(alive, reads, write, action, next))
+        && at_label.is_none_or(|next| keeps_all(alive, reads, write, action, next))
         && all_allowed(alive)
         && write_allowed(write)
         && all_stay_held(alive, reads, action, behind, at_label)
