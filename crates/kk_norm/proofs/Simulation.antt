@@ -20,14 +20,14 @@ use Rattle.kk_source.specs.SourceAfter.{performed}
 use Rattle.kk_core.specs.Codes.{Code, give, tail_call, branch, FunctionCode}
 use Rattle.kk_core.specs.CoreStates.{Join, CallFrame, CoreConfiguration, CoreState}
 use Rattle.kk_core.specs.CoreMachine as Core
-use Rattle.kk_core.specs.CoreMachine.{core_performed, core_ending_of}
+use Rattle.kk_core.specs.CoreMachine.{core_performed}
 use Rattle.kk_norm.specs.Names.{Names}
 use Rattle.kk_norm.specs.Normalized.{Then, final, next, size, atom, after, within, joined, finish, finish_call, code, normal_function}
 use Rattle.kk_norm.specs.NoCells.{NoCells, MakesNoCell, IsPlain}
 use Rattle.kk_norm.specs.Meaning.{core_setting}
 use Rattle.kk_norm.proofs.Variables.{same_number, Stands, stands_left, stands_right, stands_later}
 use Rattle.kk_norm.proofs.Waits.{ArePlainWithin, Goal, returns, goes_on, goal_of, Fresh, fresh_less, MakesNothing, Waits, waits_move, waits_nowhere, calls_are}
-use Rattle.kk_norm.proofs.Delivery.{source_at, core_at, AtTree, AtValue, At, Related, Passing, goal_code, goal_variable, goal_joins}
+use Rattle.kk_norm.proofs.Delivery.{source_at, core_at, AtTree, Related}
 use Rattle.kk_norm.proofs.Delivery as Delivery
 
 -- each expression has a node
