@@ -13,7 +13,7 @@ use Rattle.kk_parser.proofs.Apart.{apart, apart-is_at}
 use Rattle.kk_parser.proofs.Begins.{is_at-front, is_at-back}
 use Rattle.kk_parser.proofs.Steps.{said_next, opener_read, deepen_failed, passed_on, gives_up_if_next}
 
--- Placed s p v: of the phrases that p may be, the opener of the symbol s is one, with these words of p
+-- Placed s p v: a phrase p that is one of some phrases may be the opener of the symbol s, and it then says v
 pub data Placed (s : Symbol) : (p : Phrase) → PhraseValue p → Type 0 where
   alone : Placed s (opener (symbol s)) tt
   sooner : {a b : Phrase} {v : PhraseValue a} → Placed s a v → Placed s (either a b) (inl v)
