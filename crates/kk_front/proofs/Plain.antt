@@ -1,5 +1,5 @@
 -- A program without type variables, matches and cells that is typed is so by the rules of such programs.
-use Rattle.std.proofs.Common.{◌≡◌, ◌≤◌, ℕ, List, [], ◌∷◌, ◌++◌, length, map, Option, Some, None, option_map, refl, sym, ap, subst, ◌∙◌}
+use Rattle.std.proofs.Common.{◌≡◌, ◌≤◌, ℕ, List, [], ◌∷◌, map, Option, Some, None, option_map, refl, sym, ap, subst, ◌∙◌}
 use Rattle.std.specs.Prelude.{MatchOption, Ok, slice_get}
 use Rattle.std.proofs.lemmas.Option.{slice_get-map}
 use Rattle.kk_syntax.specs.declared.operator.UnaryOperator.{UnaryOperator}
@@ -8,11 +8,11 @@ use Rattle.kk_syntax.specs.declared.operator.BinaryOperator.{BinaryOperator}
 use Rattle.kk_syntax.specs.declared.operator.BinaryOperator.TheVariants.{Add, Subtract, Multiply, Divide, Remainder, Equal, NotEqual, Less, LessEqual, Greater, GreaterEqual}
 use Rattle.kk_syntax.specs.declared.program.Form.{Form}
 use Rattle.kk_syntax.specs.declared.program.Form.TheVariants.{Unary, Binary, Print, Construct, Call}
-use Rattle.kk_syntax.specs.PlainTyping.{Signature, signature_of, unary_type, binary_type, IsClosed, HasClosedTypes, IsFormTyped, HasType, HaveTypes, IsFunctionTyped, IsPlainForm, IsPlainTree, ArePlainTrees, IsPlainProgram}
-use Rattle.kk_syntax.specs.Programs.{ConstructorTree, FunctionTree, ProgramTree}
+use Rattle.kk_syntax.specs.PlainTyping.{Signature, signature_of, unary_type, binary_type, IsClosed, IsFormTyped, HasType, HaveTypes, IsFunctionTyped, IsPlainForm, IsPlainTree, ArePlainTrees, IsPlainProgram}
+use Rattle.kk_syntax.specs.Programs.{FunctionTree, ProgramTree}
 use Rattle.kk_syntax.specs.Trees.{Tree, number, unit, variable, read_byte, print_text, apply, branch, match, sequence, Trees, no_tree, tree}
-use Rattle.kk_syntax.specs.Types.{TypeTree, int32, named, no_type, types_of, put, type_at, variables_below}
-use Rattle.kk_syntax.specs.Typing.{bool, Scope, Scheme, variables_of_type, with_parameters, with_binder, Choice, Uses, form_scheme, chosen_at, function_scheme, constructor_scheme, scheme_in, IsTypedBy, AreTypedBy, IsTypable, TypesAs}
+use Rattle.kk_syntax.specs.Types.{TypeTree, named, no_type, types_of, put, type_at, variables_below}
+use Rattle.kk_syntax.specs.Typing.{bool, Scope, Scheme, variables_of_type, with_parameters, with_binder, Choice, form_scheme, function_scheme, constructor_scheme, scheme_in, IsTypedBy, AreTypedBy, IsTypable, TypesAs}
 use Rattle.kk_syntax.proofs.Closed.{put_closed, put_all_closed}
 
 unary_closed : (operator : UnaryOperator) → IsClosed (unary_type operator)
