@@ -1,5 +1,5 @@
 -- The instances of a typed program are typed, and mean what it means.
-use Rattle.std.proofs.Common.{◌≡◌, ℕ, zero, suc, List, [], ◌∷◌, Option, Some, None, map, length, refl, sym, ap, ◌∙◌, subst, arith}
+use Rattle.std.proofs.Common.{◌≡◌, ℕ, List, [], ◌∷◌, Option, Some, None, map, refl, sym, ap, ◌∙◌, subst}
 use Rattle.std.specs.Prelude.{option_map, slice_get, slice_index_or}
 use Rattle.std.proofs.lemmas.Option.{slice_get-map, get_or_from_slice_get}
 use Rattle.kk_base.specs.Machines.{trace, state, ending_after}
@@ -15,7 +15,7 @@ use Rattle.kk_source.specs.SourceAfter.{ending_of, store_machine, first_state}
 use Rattle.kk_mono.specs.Instances.{InstanceTree, main_instance, called_at, calls, renamed, origin_in, IsAtTypes, IsInstanceProgram}
 use Rattle.kk_instances.specs.Meaning.{positions_in, setting_of, MeansTheSame}
 use Rattle.kk_instances.proofs.Renamed.{TreeCalls}
-use Rattle.kk_instances.proofs.Called.{IsThere, each_found, tree_calls}
+use Rattle.kk_instances.proofs.Called.{IsThere, there_too, each_found, tree_calls}
 use Rattle.kk_instances.proofs.Typed.{tree_typed}
 use Rattle.kk_instances.proofs.Runs.{renamed_state, same_ending, IsAlike, MachineCalls, SameRun, same_run}
 
@@ -26,13 +26,6 @@ behind {A} {B} made xs k y is = by_option (slice_get xs k) refl (sym (slice_get-
     by_option : (o : Option A) → slice_get xs k ≡ o → option_map made o ≡ Some y → (x : A) × (slice_get xs k ≡ Some x) × (made x ≡ y)
     by_option None at made_is = absurd (cc)
     by_option (Some x) at made_is = (x, at, cc)
-
--- what is in a list has a place in each that is as long
-there_too : {A B : Type 0} (xs : List A) (ys : List B) (k : ℕ) (x : A) → length xs ≡ length ys → slice_get xs k ≡ Some x → IsThere ys k
-there_too [] ys k x long is = absurd (cc)
-there_too (x ∷ xs) [] k y long is = absurd (omega arith)
-there_too (x ∷ xs) (y ∷ ys) zero z long is = (y, refl)
-there_too (x ∷ xs) (y ∷ ys) (suc k) z long is = there_too xs ys k z (omega arith) is
 
 module _ (program made : ProgramTree) (typings : List (List Choice)) (instances : List InstanceTree) (typed : IsTyped program) (is : IsInstanceProgram program typings instances made) where
   abbrev origin : ℕ → ℕ
