@@ -13,7 +13,7 @@ use kk_mono::each_program_is_counted;
 use kk_names::{each_tree_is_resolved, resolve};
 use kk_parser::{each_list_is_parsed, parse};
 use kk_syntax::Accepted;
-use kk_types::{each_program_is_checked, each_typed_program_has_principal_types};
+use kk_types::each_program_is_checked;
 use std::alloc::Global;
 
 /// The program of a text with its types and its instances, or why the text is not accepted: its first failure.
@@ -54,7 +54,6 @@ pub fn each_text_is_judged()
     each_list_is_parsed();
     each_tree_is_resolved();
     each_program_is_checked();
-    each_typed_program_has_principal_types();
     each_program_is_counted();
 }
 
