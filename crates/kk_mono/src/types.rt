@@ -21,7 +21,7 @@ impl Types {
         ensures { IfOk result (λ n. n < length self.new.nodes.keys) }
     {
         let (index, is_new) = self.nodes.insert_full(node)?;
-        prove!(!is_new);
+
         u32::try_from(index).map_err(|_| NoMemory)
     }
 }
