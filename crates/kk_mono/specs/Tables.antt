@@ -30,6 +30,10 @@ AreOnce nodes = AllPairs (λ one other. one ≢ other) (ground_types nodes)
 abbrev pub Grows : {X : Type 0} → List X → List X → Type 0
 Grows {X} before after = (more : List X) × (after ≡ before ++ more)
 
+-- the number at a place; that of `()` where there is none
+abbrev pub number_in : List ℕ → ℕ → ℕ
+number_in numbers k = slice_index_or numbers k 0
+
 -- numbers of types in a table
 pub record AreNumbers (types : List TypeTree) (numbers : List ℕ) (are : List TypeTree) : Type 0 where
   pub within : All (λ n. n < length types) numbers

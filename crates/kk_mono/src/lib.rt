@@ -4,6 +4,7 @@
 mod copy;
 mod error;
 mod limits;
+mod numbers;
 mod types;
 
 pub use error::MonoError;
