@@ -8,7 +8,8 @@ use Rattle.kk_syntax.specs.Types.{TypeTree, TypeTrees, int32, unit_type, type_va
 use Rattle.kk_syntax.specs.Typing.{Choice}
 use Rattle.kk_mono.specs.Counts.{AreTooMany}
 use Rattle.kk_mono.specs.Instances.{InstanceTree, main_instance, called_in, FirstSights, none_left, again, new_one, AreInstances}
-use Rattle.kk_mono.proofs.Searched.{Searched, search_starts, search_steps, search_ends, search_passes}
+use Rattle.kk_mono.specs.Searching.{Searched}
+use Rattle.kk_mono.proofs.Searched.{search_starts, search_steps, search_ends, search_passes}
 use Rattle.kk_mono.proofs.Sights.{only_one}
 
 abbrev Decided : {A : Type 0} → A → A → Type 0

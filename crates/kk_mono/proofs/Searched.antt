@@ -8,16 +8,9 @@ use Rattle.std.proofs.lemmas.List.Kept.{AllPairs-cons}
 use Rattle.kk_syntax.specs.Typing.{Choice}
 use Rattle.kk_mono.specs.Counts.{AreTooMany}
 use Rattle.kk_mono.specs.Instances.{InstanceTree, main_instance, called_in, IsInstance, main_is, called_is, FirstSights, none_left, AreInstances}
+use Rattle.kk_mono.specs.Searching.{Searched}
 use Rattle.kk_mono.proofs.Distinct.{none_behind}
 use Rattle.kk_mono.proofs.Sights.{Parted, sights_append, sights_part, sights_only, sights_all, sights_each, sights_once}
-
--- the instances that are known where the first so many of them have been looked at
-pub record Searched (main : ℕ) (typings : List (List Choice)) (known : List InstanceTree) (looked : ℕ) : Type 0 where
-  pub others : List InstanceTree
-  pub begins : known ≡ main_instance main ∷ others
-  pub in_order : FirstSights (main_instance main ∷ []) (flat_map (called_in typings) (take looked known)) others
-  pub each : All (IsInstance main typings) known
-  pub within : looked ≤ length known
 
 front_taken : {X : Type 0} (xs ys : List X) (n : ℕ) → length xs ≤ n → take n (xs ++ ys) ≡ xs ++ take (n - length xs) ys
 front_taken [] ys n few = ap (λ k. take k ys) (omega arith)

@@ -3,8 +3,10 @@
 
 mod copy;
 mod error;
+mod keys;
 mod limits;
 mod numbers;
+mod search;
 mod types;
 
 pub use error::MonoError;
