@@ -1,8 +1,8 @@
-ghost use Rattle.std.specs.Prelude.{◌≡◌, ◌<◌, List, length, map, All, IfOk, OnOk, slice_index_or};
-ghost use Rattle.kk_syntax.specs.Programs.{program_tree, function_tree};
-ghost use Rattle.kk_syntax.specs.TypedPrograms.{typing_of, typings_of};
+ghost use Rattle.std.specs.Prelude.{◌≡◌, ◌+◌, ◌<◌, length, All, IfOk, OnOk};
+ghost use Rattle.kk_syntax.specs.Programs.{program_tree};
+ghost use Rattle.kk_syntax.specs.TypedPrograms.{typings_of};
 ghost use Rattle.kk_syntax.specs.Typing.{ArePrincipal};
-ghost use Rattle.kk_mono.specs.KeyTrees.{KeyTree, keys_in};
+ghost use Rattle.kk_mono.specs.KeyTrees.{keys_in};
 ghost use Rattle.kk_mono.specs.Looking.{Looks};
 ghost use Rattle.kk_mono.specs.Searching.{known_in, IsSearching, HasSearched};
 ghost use Rattle.kk_mono.specs.Views.{types_in};
