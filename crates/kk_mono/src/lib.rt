@@ -1,9 +1,11 @@
 //! The instances of a typed program, and its limits: on parameters, on nodes, and on instances.
 #![tactic(auto)]
 
+mod body;
 mod copy;
 mod error;
 mod keys;
+mod labels;
 mod limits;
 mod numbers;
 mod search;
