@@ -2,6 +2,7 @@
 #![tactic(auto)]
 
 mod body;
+mod build;
 mod copy;
 mod error;
 mod keys;

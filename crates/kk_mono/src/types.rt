@@ -44,4 +44,12 @@ impl Types {
             Err(_) => Err(NoMemory),
         }
     }
+
+    /// The types, by their numbers.
+    pub fn into_nodes(self, alloc: Global) -> Result<Vec<GroundType>, NoMemory>
+        ensures { IfOk result (λ nodes. nodes.items ≡ self.nodes.keys) }
+    {
+        let Types { nodes } = self;
+        Ok(nodes.into_iter().collect(alloc)?)
+    }
 }

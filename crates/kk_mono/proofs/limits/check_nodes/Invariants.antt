@@ -1,0 +1,8 @@
+use Rattle.std.proofs.Common.{◌≡◌, drop, map}
+use Rattle.kk_syntax.specs.Programs.{function_tree}
+use Rattle.kk_mono.specs.Counts.{too_many_nodes}
+use Rattle.kk_mono.proofs.limits.check_nodes.Given as goal
+
+-- no function so far has too many
+abbrev pub invariant-loop-function : goal.invariant-loop-function
+invariant-loop-function l = too_many_nodes (map function_tree l.functions) ≡ too_many_nodes (map function_tree (drop l.function-index l.functions))
