@@ -1,13 +1,13 @@
 -- The instances that are built are those that the search has found.
-use Rattle.std.proofs.Common.{◌≡◌, ◌≢◌, ◌⊎◌, ℕ, ◌+◌, ◌<◌, ◌≤◌, List, [], ◌∷◌, ◌++◌, length, map, get_or, take, All, AllPairs, Option, Some, None, option_map, refl, ap, sym, ◌∙◌, subst, inl, inr, arith}
-use Rattle.std.specs.Prelude.{slice_get, slice_index_or, Ok, Err}
+use Rattle.std.proofs.Common.{◌≡◌, ℕ, ◌<◌, List, [], ◌∷◌, ◌++◌, length, get_or, All, Some, ap, sym, ◌∙◌, subst, inl, inr, arith}
+use Rattle.std.specs.Prelude.{slice_get}
 use Rattle.std.proofs.lemmas.Bool.{cases_lt}
-use Rattle.std.proofs.lemmas.List.{length-map, length_push, get_or-map, get_or_append_left, get_or_push, get_or_default, same_lists}
-use Rattle.std.proofs.lemmas.Option.{slice_get_within, get_or_from_slice_get, slice_get-get_or, slice_get-map}
+use Rattle.std.proofs.lemmas.List.{length_push, get_or-map, get_or_append_left, get_or_push}
+use Rattle.std.proofs.lemmas.Option.{slice_get_within, get_or_from_slice_get}
 use Rattle.kk_syntax.specs.declared.ground.Instance.{Instance}
 use Rattle.kk_syntax.specs.declared.program.Fun.{Fun}
 use Rattle.kk_syntax.specs.declared.program.Program.{Program}
-use Rattle.kk_syntax.specs.Programs.{FunctionTree, ProgramTree, function_tree, program_tree, no_function}
+use Rattle.kk_syntax.specs.Programs.{function_tree, program_tree, no_function}
 use Rattle.kk_mono.specs.declared.search.Looked.{Looked}
 use Rattle.kk_mono.specs.Building.{IsBuiltOf, AreBuilt}
 use Rattle.kk_mono.specs.KeyTrees.{KeyTree}

@@ -1,11 +1,11 @@
 -- A program comes to one thing by its nodes and instances.
-use Rattle.std.proofs.Common.{◌≡◌, ◌⊎◌, ℕ, ◌<◌, ◌≤◌, List, length, All, Contains, Option, Some, None, refl, sym, ap, ◌∙◌, subst, inl, inr, arith}
+use Rattle.std.proofs.Common.{◌≡◌, ℕ, ◌≤◌, List, length, Option, Some, None, refl, sym, ap, ◌∙◌, inl, inr, arith}
 use Rattle.std.specs.Prelude.{Result, Ok, Err}
 use Rattle.std.proofs.lemmas.Bool.{cases_lt}
 use Rattle.std.proofs.lemmas.List.Elements.{All-contains}
 use Rattle.kk_base.specs.Exactly.{IsOnly, ExactlyOne}
 use Rattle.kk_base.specs.declared.limit.Limit.{Limit}
-use Rattle.kk_base.specs.declared.limit.LimitKind.TheVariants.{FunctionNodes, Instances, ProgramNodes}
+use Rattle.kk_base.specs.declared.limit.LimitKind.TheVariants.{FunctionNodes, ProgramNodes}
 use Rattle.kk_syntax.specs.Programs.{ProgramTree}
 use Rattle.kk_syntax.specs.Typing.{Choice, ArePrincipal}
 use Rattle.kk_mono.specs.Counts.{too_many_nodes, summed_nodes, AreTooMany, KeepsCounts, PassesFirst, of_function, of_instances, of_program, CountsAs, EachProgramIsCounted}

@@ -1,7 +1,7 @@
 -- Things of which no two are equal, all in another list, are at most as many as that list has.
-use Rattle.std.proofs.Common.{◌≡◌, ◌≢◌, ◌⊎◌, ℕ, zero, suc, ◌+◌, ◌<◌, ◌≤◌, List, [], ◌∷◌, ◌++◌, length, get_or, take, drop, All, AllPairs, Contains, refl, sym, ap, ◌∙◌, subst, inl, inr, arith}
+use Rattle.std.proofs.Common.{◌≡◌, ◌≢◌, suc, ◌+◌, ◌≤◌, List, [], ◌∷◌, ◌++◌, length, take, drop, AllPairs, Contains, refl, sym, ap, ◌∙◌, subst, inl, inr, arith}
 use Rattle.std.proofs.lemmas.List.{length-append, drop_more, take-append-drop, get_or_append_left, get_or_at}
-use Rattle.std.proofs.lemmas.List.Elements.{All-contains, Contains-get_or, Contains-append_left, Contains-append_right, Contains-append_cases}
+use Rattle.std.proofs.lemmas.List.Elements.{Contains-get_or, Contains-append_left, Contains-append_right, Contains-append_cases}
 use Rattle.kk_mono.proofs.Sights.{only_one}
 
 module _ {X : Type 0} where
@@ -38,7 +38,7 @@ module _ {X : Type 0} where
   as_many (x ∷ xs) all once each =
       let at = around all x (each x (Contains-append_left (x ∷ []) xs x (Contains-get_or (x ∷ []) 0 x (omega arith)))) in
       let rest = as_many xs (at.before ++ at.behind) (rest_once x xs once) (λ y there.
-        other_stays at.before at.behind x y (first_once x xs once y there) (subst (λ ys. Contains ys y) at.whole (each y (Contains-append_right (x ∷ []) xs y there)))) in
+      other_stays at.before at.behind x y (first_once x xs once y there) (subst (λ ys. Contains ys y) at.whole (each y (Contains-append_right (x ∷ []) xs y there)))) in
       let long = ap length at.whole in
       let first = length-append at.before (x ∷ at.behind) in
       let second = length-append at.before at.behind in

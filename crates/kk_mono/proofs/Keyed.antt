@@ -1,10 +1,10 @@
 -- The instances that are known, by the numbers of their types: first sights of numbers are first sights of instances.
-use Rattle.std.proofs.Common.{◌≡◌, ◌≢◌, ◌⊎◌, ℕ, zero, suc, ◌+◌, ◌<◌, ◌≤◌, Bool, true, false, nat_eq, ◌||◌, option_map, List, [], ◌∷◌, ◌++◌, length, map, get_or, take, All, AllPairs, Contains, Vec, Global, Option, Some, None, refl, sym, ap, ◌∙◌, subst, inl, inr, arith, append_assoc}
+use Rattle.std.proofs.Common.{◌≡◌, ◌≢◌, ℕ, zero, suc, ◌+◌, ◌<◌, Bool, true, false, nat_eq, ◌||◌, option_map, List, [], ◌∷◌, ◌++◌, length, map, get_or, take, All, AllPairs, Contains, Vec, Global, Some, refl, sym, ap, ◌∙◌, subst, inl, inr, arith, append_assoc}
 use Rattle.std.specs.Prelude.{slice_get, if◌then◌else◌}
 use Rattle.std.specs.List.{list_any}
 use Rattle.std.proofs.lemmas.Bool.{eqb-true, eq-eqb, cases_Bool, both_ways}
-use Rattle.std.proofs.lemmas.List.{append-nil, length-append, length-map, get_or-map, map_push, map-append, take_more, get_or_append_left}
-use Rattle.std.proofs.lemmas.List.Elements.{All-nil, All-cons, All-head, All-tail, All-contains, All-push, Contains-get_or, Contains-append_left, Contains-append_right}
+use Rattle.std.proofs.lemmas.List.{append-nil, length-append, length-map, get_or-map, map_push, take_more, get_or_append_left}
+use Rattle.std.proofs.lemmas.List.Elements.{All-nil, All-cons, All-head, All-tail, All-contains, All-push, Contains-get_or, Contains-append_right}
 use Rattle.std.proofs.lemmas.Option.{slice_get-get_or, slice_get_within, slice_get-map}
 use Rattle.kk_syntax.specs.declared.typed.Taken.{Taken}
 use Rattle.kk_syntax.specs.declared.typed.Taken.TheVariants.{Construct, Call, Value}
@@ -15,7 +15,6 @@ use Rattle.kk_mono.specs.declared.keys.Key.{Key}
 use Rattle.kk_mono.specs.contracts.keys.KeyPartialEq.TheImpl.{eq-value}
 use Rattle.kk_mono.specs.Instances.{InstanceTree, called_at, FirstSights, none_left, again, new_one}
 use Rattle.kk_mono.specs.KeyTrees.{KeyTree, key_tree, viewed, keys_called, AreTakenWithin}
-use Rattle.kk_mono.specs.Tables.{Grows}
 use Rattle.kk_mono.proofs.Sights.{sights_append, sights_each}
 use Rattle.kk_mono.proofs.Tables.{numbers_only, and_both, and_true, or_none}
 use lib.Pointwise.{bytes_decides}

@@ -1,6 +1,6 @@
 -- A body whose calls are labelled with the instances that it calls is the body, where each instance is its function.
-use Rattle.std.proofs.Common.{◌≡◌, ℕ, ◌+◌, ◌<◌, List, [], ◌∷◌, ◌++◌, length, map, get_or, take, drop, refl, sym, ap, ◌∙◌, subst, append_assoc, arith}
-use Rattle.std.proofs.lemmas.List.{append-nil, length-append, length-map, take-append-drop, take-map, drop-map, take_at, drop_at}
+use Rattle.std.proofs.Common.{◌≡◌, ℕ, List, [], ◌∷◌, ◌++◌, length, map, take, drop, refl, sym, ap, ◌∙◌, subst, append_assoc, arith}
+use Rattle.std.proofs.lemmas.List.{length-map, take-append-drop, take-map, drop-map, take_at, drop_at}
 use Rattle.kk_syntax.specs.declared.program.Form.{Form}
 use Rattle.kk_syntax.specs.declared.program.Form.TheVariants.{Unary, Binary, Print, Construct, Call}
 use Rattle.kk_syntax.specs.Shapes.{nodes_of, nodes_of_all, nodes_of_rows}
@@ -39,10 +39,13 @@ module _ (origin : ℕ → ℕ) where
     both_are labels more are =
         let parts = split labels first second are in
         let front : labels ++ more ≡ parts.one ++ (parts.two ++ more) = ap (λ ls. ls ++ more) parts.whole ∙ append_assoc parts.one parts.two more in
-        let back : behind (labels ++ more) first ≡ parts.two ++ more = ap (λ ls. behind (ls ++ more) first) parts.whole ∙ left_behind parts.one parts.two more first parts.of_one in
-        (parts.one, parts.two, parts.whole,
+        let back : behind (labels ++ more) first ≡ parts.two ++ more = ap (λ ls. behind (ls ++ more) first) parts.whole ∙ left_behind parts.one parts.two more first parts.of_one in (
+          parts.one,
+          parts.two,
+          parts.whole,
           subst (λ ls. IsOne parts.one (put_one ls)) (sym front) (one_is parts.one (parts.two ++ more) parts.of_one),
-          subst (λ ls. IsTwo parts.two (put_two ls)) (sym back) (two_is parts.two more parts.of_two))
+          subst (λ ls. IsTwo parts.two (put_two ls)) (sym back) (two_is parts.two more parts.of_two),
+        )
 
   -- the copy names these labels, and is the original where each label is its function
   abbrev pub IsCopy : Tree → List ℕ → Tree → Type 0

@@ -1,11 +1,11 @@
 -- What is seen in an instance stays while other types and instances become known, and the search goes on by it.
-use Rattle.std.proofs.Common.{◌≡◌, ◌≢◌, ◌⊎◌, ℕ, zero, suc, ◌+◌, ◌<◌, ◌≤◌, List, [], ◌∷◌, ◌++◌, length, map, get_or, take, All, AllPairs, Contains, Option, Some, None, option_map, Vec, Global, refl, sym, ap, ◌∙◌, subst, inl, inr, arith}
+use Rattle.std.proofs.Common.{◌≡◌, ℕ, ◌<◌, List, [], ◌∷◌, ◌++◌, length, map, get_or, All, Some, option_map, Vec, Global, refl, sym, ap, ◌∙◌, subst, inl, inr, arith}
 use Rattle.std.specs.Prelude.{slice_get, slice_index_or}
 use Rattle.std.specs.List.{AllZip}
 use Rattle.std.proofs.lemmas.Bool.{cases_lt}
-use Rattle.std.proofs.lemmas.List.{append-nil, length-append, length-map, length_push, get_or-map, get_or_default, get_or_append_left, get_or_push, map-append}
-use Rattle.std.proofs.lemmas.List.Elements.{All-nil, All-cons, All-head, All-tail, All-append, All-weaker, All-get_or}
-use Rattle.std.proofs.lemmas.Option.{slice_get-get_or, slice_get-map, get_or_from_slice_get}
+use Rattle.std.proofs.lemmas.List.{length-map, length_push, get_or-map, get_or_default, get_or_append_left, get_or_push, map-append}
+use Rattle.std.proofs.lemmas.List.Elements.{All-nil, All-cons, All-head, All-tail, All-append, All-weaker}
+use Rattle.std.proofs.lemmas.Option.{slice_get-map, get_or_from_slice_get}
 use Rattle.kk_syntax.specs.declared.program.Fun.{Fun}
 use Rattle.kk_syntax.specs.declared.program.Program.{Program}
 use Rattle.kk_syntax.specs.declared.typed.BodyTypes.{BodyTypes}
@@ -20,7 +20,7 @@ use Rattle.kk_syntax.specs.Types.{TypeTree, unit_type, type_tree, put, type_at}
 use Rattle.kk_syntax.specs.Typing.{Choice, constructing, calling, holding, put_choice, ArePrincipal}
 use Rattle.kk_mono.specs.declared.search.Looked.{Looked}
 use Rattle.kk_mono.specs.declared.search.Found.{Found}
-use Rattle.kk_mono.specs.Instances.{InstanceTree, main_instance, called_at, called_in, IsInstance, main_is, called_is, FirstSights}
+use Rattle.kk_mono.specs.Instances.{InstanceTree, main_instance, called_in, FirstSights}
 use Rattle.kk_mono.specs.KeyTrees.{KeyTree, keys_in, viewed, keys_called, AreTakenWithin}
 use Rattle.kk_mono.specs.Looking.{Looks}
 use Rattle.kk_mono.specs.Places.{Renumbers}
@@ -28,10 +28,9 @@ use Rattle.kk_mono.specs.Searching.{Searched, function_in, IsLooked, AreLooked, 
 use Rattle.kk_mono.specs.Tables.{Grows, number_in, AreNumbers}
 use Rattle.kk_mono.specs.Views.{types_in}
 use Rattle.kk_mono.specs.declared.types.Types.{Types}
-use Rattle.kk_mono.proofs.Callees.{IsCall, CallsAre, typing_calls}
 use Rattle.kk_mono.proofs.Keyed.{IsKeyWithin, all_stay, called_within, new_within, sights_viewed, called_viewed}
 use Rattle.kk_mono.proofs.Numbered.{grows_on, unit_of, some_of, within_grown, type_stays, types_stay, numbers_grown, longer, place_within, place_type, places_within, places_types, put_at, put_each_at}
-use Rattle.kk_mono.proofs.Renamings.{typing_at, no_calls, instance_below}
+use Rattle.kk_mono.proofs.Renamings.{instance_below}
 use Rattle.kk_mono.proofs.Searched.{search_starts, search_steps}
 
 -- a choice by other numbers
@@ -40,21 +39,24 @@ module _ (types earlier : List TypeTree) (ns : List ℕ) (s : ℕ → TypeTree) 
   places_put ks = places_types types ns ks first ∙ (ap (λ ts. map (type_at ts) ks) are.types_are ∙ sym (put_each_at s earlier ks))
 
   choice_put : (choice made : Taken) → Renumbers ns choice made → AreTakenWithin types made × (choice_of types made ≡ put_choice s (choice_of earlier choice))
-  choice_put (Construct by at) (Construct made_by made_at) (by_is, at_is) =
-      (subst (λ ks. All (λ n. n < length types) ks) (sym at_is) (places_within types ns at.items some are.within),
-        ap (λ b. constructing b (map (type_at types) made_at.items)) by_is ∙ ap (λ ts. constructing by ts) (ap (map (type_at types)) at_is ∙ places_put at.items))
+  choice_put (Construct by at) (Construct made_by made_at) (by_is, at_is) = (
+    subst (λ ks. All (λ n. n < length types) ks) (sym at_is) (places_within types ns at.items some are.within),
+    ap (λ b. constructing b (map (type_at types) made_at.items)) by_is ∙ ap (λ ts. constructing by ts) (ap (map (type_at types)) at_is ∙ places_put at.items),
+  )
   choice_put (Construct by at) (Call function made_at) wrong = absurd wrong
   choice_put (Construct by at) (Value made_of) wrong = absurd wrong
   choice_put (Call function at) (Construct made_by made_at) wrong = absurd wrong
-  choice_put (Call function at) (Call made_function made_at) (function_is, at_is) =
-      (subst (λ ks. All (λ n. n < length types) ks) (sym at_is) (places_within types ns at.items some are.within),
-        ap (λ f. calling f (map (type_at types) made_at.items)) function_is ∙ ap (λ ts. calling function ts) (ap (map (type_at types)) at_is ∙ places_put at.items))
+  choice_put (Call function at) (Call made_function made_at) (function_is, at_is) = (
+    subst (λ ks. All (λ n. n < length types) ks) (sym at_is) (places_within types ns at.items some are.within),
+    ap (λ f. calling f (map (type_at types) made_at.items)) function_is ∙ ap (λ ts. calling function ts) (ap (map (type_at types)) at_is ∙ places_put at.items),
+  )
   choice_put (Call function at) (Value made_of) wrong = absurd wrong
   choice_put (Value of) (Construct made_by made_at) wrong = absurd wrong
   choice_put (Value of) (Call function made_at) wrong = absurd wrong
-  choice_put (Value of) (Value made_of) is =
-      (subst (λ n. n < length types) (sym is) (place_within types ns of some are.within),
-        ap holding (ap (type_at types) is ∙ (place_type types ns of first ∙ (ap (λ ts. type_at ts of) are.types_are ∙ sym (put_at s earlier of)))))
+  choice_put (Value of) (Value made_of) is = (
+    subst (λ n. n < length types) (sym is) (place_within types ns of some are.within),
+    ap holding (ap (type_at types) is ∙ (place_type types ns of first ∙ (ap (λ ts. type_at ts of) are.types_are ∙ sym (put_at s earlier of)))),
+  )
 
   pub taken_put : (taken made : List Taken) → AllZip (Renumbers ns) taken made → All (AreTakenWithin types) made × (map (choice_of types) made ≡ map (put_choice s) (map (choice_of earlier) taken))
   taken_put [] [] zip = (All-nil (AreTakenWithin types), refl)
@@ -186,7 +188,7 @@ module _ (typed : Typed) (principal : ArePrincipal (program_tree typed.program) 
     sights = subst (λ xs. FirstSights xs (called_in (typings_of typed) (viewed (types_in found.types) key)) (map (viewed (types_in after.types)) looks.sights.0)) same_known
         (subst (λ ys. FirstSights (map (viewed (types_in after.types)) (keys_in found.keys)) ys (map (viewed (types_in after.types)) looks.sights.0)) called_is_viewed
         (sights_viewed (types_in after.types) after.types.once
-          (All-weaker (IsKeyWithin (types_in found.types)) (IsKeyWithin (types_in after.types)) (λ k within. within_grown (types_in found.types) (types_in after.types) k.at within looks.grows) (keys_in found.keys) searching.within) keys_called_in looks.sights.1))
+        (All-weaker (IsKeyWithin (types_in found.types)) (IsKeyWithin (types_in after.types)) (λ k within. within_grown (types_in found.types) (types_in after.types) k.at within looks.grows) (keys_in found.keys) searching.within) keys_called_in looks.sights.1))
 
     read_at : get_or (known_in found) (length found.looked.items) (viewed (types_in found.types) key) ≡ viewed (types_in found.types) key
     read_at = get_or_from_slice_get (known_in found) (length found.looked.items) (viewed (types_in found.types) key) (viewed (types_in found.types) key)
@@ -226,8 +228,8 @@ module _ (typed : Typed) (principal : ArePrincipal (program_tree typed.program) 
     looked_more = record {
       within = subst (λ ks. All (IsKeyWithin (types_in after.types)) ks) (sym looks.sights.2)
           (All-append (IsKeyWithin (types_in after.types)) (keys_in found.keys) looks.sights.0
-            (All-weaker (IsKeyWithin (types_in found.types)) (IsKeyWithin (types_in after.types)) (λ k within. within_grown (types_in found.types) (types_in after.types) k.at within looks.grows) (keys_in found.keys) searching.within)
-            (new_within (types_in after.types) keys_called_in looks.sights.1));
+          (All-weaker (IsKeyWithin (types_in found.types)) (IsKeyWithin (types_in after.types)) (λ k within. within_grown (types_in found.types) (types_in after.types) k.at within looks.grows) (keys_in found.keys) searching.within)
+          (new_within (types_in after.types) keys_called_in looks.sights.1));
       searched = subst (λ xs. Searched typed.program.main (typings_of typed) xs (length after.looked.items)) (sym known_after)
           (subst (λ n. Searched typed.program.main (typings_of typed) (known_in found ++ map (viewed (types_in after.types)) looks.sights.0) n) (sym (ap length pushed ∙ length_push found.looked.items looked))
           (search_steps typed.program.main (typings_of typed) (known_in found) (map (viewed (types_in after.types)) looks.sights.0) (length found.looked.items) (viewed (types_in found.types) key) searching.searched left read_at sights));

@@ -2,7 +2,7 @@
 use Rattle.std.proofs.Common.{◌≡◌, ℕ, zero, suc, ◌+◌, ◌<◌, ◌≤◌, List, [], ◌∷◌, ◌++◌, length, map, get_or, take, All, Vec, Global, refl, sym, ap, ◌∙◌, subst, inl, inr, arith, append_assoc}
 use Rattle.std.proofs.lemmas.Bool.{cases_lt}
 use Rattle.std.proofs.lemmas.List.{append-nil, length-append, length-map, get_or_append_left, get_or-map, get_or_past, map_push, map_more, take_more}
-use Rattle.std.proofs.lemmas.List.Elements.{All-nil, All-cons, All-head, All-tail, All-get_or, All-push, All-append}
+use Rattle.std.proofs.lemmas.List.Elements.{All-nil, All-cons, All-head, All-tail, All-get_or, All-push}
 use Rattle.kk_syntax.specs.declared.typed.TypeNode.{TypeNode}
 use Rattle.kk_syntax.specs.declared.typed.TypeNode.TheVariants.{Int32, Unit as Nothing, Variable, Named}
 use Rattle.kk_syntax.specs.declared.ground.GroundType.TheVariants as OfGround
@@ -11,7 +11,7 @@ use Rattle.kk_syntax.specs.declared.program.Ty.TheVariants as OfWritten
 use Rattle.kk_syntax.specs.declared.program.Ty.TheFolds.{fold-roll-Ty}
 use Rattle.kk_syntax.specs.GroundPrograms.{ground_type}
 use Rattle.kk_syntax.specs.TypedPrograms.{type_of_node, types_behind, node_types}
-use Rattle.kk_syntax.specs.Types.{TypeTree, TypeTrees, int32, unit_type, type_variable, named, no_type, type, types_of, type_step, type_tree, put, put_each, type_at}
+use Rattle.kk_syntax.specs.Types.{TypeTree, unit_type, type_variable, named, type, types_of, type_step, type_tree, put, put_each, type_at}
 use Rattle.kk_mono.specs.Places.{node_at}
 use Rattle.kk_mono.specs.Tables.{Grows, number_in, AreNumbers}
 use Rattle.kk_mono.specs.Views.{types_in}

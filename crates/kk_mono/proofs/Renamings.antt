@@ -1,17 +1,17 @@
 -- Two principal typings of a function are renamings of each other. So, with `()` in place of what remains open, they call the
 -- same instances; and the instances of a program are the same by each.
-use Rattle.std.proofs.Common.{◌≡◌, ℕ, zero, suc, ◌+◌, ◌<◌, ◌≤◌, List, [], ◌∷◌, ◌++◌, length, map, get_or, take, drop, All, Contains, Option, Some, None, refl, sym, ap, ◌∙◌, subst, inl, inr, arith}
+use Rattle.std.proofs.Common.{◌≡◌, ℕ, ◌<◌, ◌≤◌, List, [], ◌∷◌, ◌++◌, length, map, get_or, All, Contains, Some, refl, sym, ap, ◌∙◌, subst, inl, inr, arith}
 use Rattle.std.specs.Prelude.{slice_get, slice_index_or, flat_map}
 use Rattle.std.proofs.lemmas.Bool.{cases_lt}
 use Rattle.std.proofs.lemmas.List.{length-map, get_or_past}
-use Rattle.std.proofs.lemmas.List.Elements.{All-weaker, All-head, All-tail, Contains-append_cases, Contains-get_or}
-use Rattle.std.proofs.lemmas.Option.{slice_get_within, slice_get-get_or, get_or_from_slice_get, same_Some}
+use Rattle.std.proofs.lemmas.List.Elements.{All-weaker, All-head, All-tail, Contains-append_cases}
+use Rattle.std.proofs.lemmas.Option.{slice_get_within, slice_get-get_or, same_Some}
 use Rattle.kk_syntax.specs.Programs.{FunctionTree, ProgramTree, no_function}
 use Rattle.kk_syntax.specs.Types.{TypeTree, TypeTrees, int32, unit_type, type_variable, named, no_type, type, put, put_each, type_at}
 use Rattle.kk_syntax.specs.Typing.{Choice, constructing, calling, holding, put_choice, Fixes, IsPrincipal, ArePrincipal}
 use Rattle.kk_mono.specs.Counts.{AreTooMany}
 use Rattle.kk_mono.specs.Instances.{InstanceTree, main_instance, called_at, called_in, calls, IsInstance, main_is, called_is, FirstSights, AreInstances}
-use Rattle.kk_mono.proofs.Callees.{IsCall, CallsAre, typing_calls}
+use Rattle.kk_mono.proofs.Callees.{CallsAre, typing_calls}
 use Rattle.kk_mono.proofs.Sights.{only_one}
 
 -- types that are renamed and back are the same, with `()` in place of what remains open

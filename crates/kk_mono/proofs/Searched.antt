@@ -1,9 +1,9 @@
 -- The search for the instances: those that are known, of which the first so many have been looked at.
-use Rattle.std.proofs.Common.{◌≡◌, ◌≢◌, ◌⊎◌, ℕ, zero, suc, ◌+◌, ◌-◌, ◌<◌, ◌≤◌, List, [], ◌∷◌, ◌++◌, length, get_or, take, drop, map, All, AllPairs, Contains, refl, sym, ap, ◌∙◌, subst, inl, inr, arith, append_assoc}
+use Rattle.std.proofs.Common.{◌≡◌, ◌≢◌, ℕ, zero, suc, ◌+◌, ◌-◌, ◌<◌, ◌≤◌, List, [], ◌∷◌, ◌++◌, length, get_or, take, drop, AllPairs, Contains, refl, sym, ap, ◌∙◌, subst, inl, inr, arith, append_assoc}
 use Rattle.std.specs.Prelude.{flat_map}
 use Rattle.std.proofs.lemmas.Bool.{cases_lt}
 use Rattle.std.proofs.lemmas.List.{length-append, take_all, take_more, take-append-le, take-append-drop, append-nil, flat_map_more}
-use Rattle.std.proofs.lemmas.List.Elements.{All-nil, All-cons, All-append, All-contains, All-contains_itself, All-from_get_or, Contains-get_or, Contains-append_left, Contains-append_right, Contains-append_cases}
+use Rattle.std.proofs.lemmas.List.Elements.{All-nil, All-cons, All-append, All-contains, All-from_get_or, Contains-get_or, Contains-append_left, Contains-append_right}
 use Rattle.std.proofs.lemmas.List.Kept.{AllPairs-cons}
 use Rattle.kk_syntax.specs.Typing.{Choice}
 use Rattle.kk_mono.specs.Counts.{AreTooMany}
@@ -31,10 +31,10 @@ module _ (main : ℕ) (typings : List (List Choice)) where
     others = so_far.others ++ new;
     begins = ap (λ xs. xs ++ new) so_far.begins;
     in_order = subst (λ xs. FirstSights (main_instance main ∷ []) (flat_map (called_in typings) xs) (so_far.others ++ new)) (sym taken)
-    (subst (λ ys. FirstSights (main_instance main ∷ []) ys (so_far.others ++ new)) (flat_at (take looked known) next)
-    (sights_append so_far.in_order (subst (λ xs. FirstSights xs (called_in typings next) new) so_far.begins sights)));
+        (subst (λ ys. FirstSights (main_instance main ∷ []) ys (so_far.others ++ new)) (flat_at (take looked known) next)
+        (sights_append so_far.in_order (subst (λ xs. FirstSights xs (called_in typings next) new) so_far.begins sights)));
     each = All-append (IsInstance main typings) known new so_far.each (All-from_get_or (IsInstance main typings) new next (λ i below.
-      called_is (subst (λ x. IsInstance main typings x) is (so_far.each looked next lt)) (sights_each sights (get_or new i next) (Contains-get_or new i next below))));
+        called_is (subst (λ x. IsInstance main typings x) is (so_far.each looked next lt)) (sights_each sights (get_or new i next) (Contains-get_or new i next below))));
     within = let long = length-append known new in omega (arith, long, lt);
   }
     where
@@ -106,7 +106,7 @@ module _ (main : ℕ) (typings : List (List Choice)) where
       last : length (main_instance main ∷ parts.first) ≤ looked → parts.rest ≡ []
       last few = none_behind (main_instance main ∷ parts.first) parts.rest (subst (λ xs. AllPairs (λ one other. one ≢ other) xs) whole once)
           (λ x there. closed (main_instance main ∷ parts.first) (take looked all) parts.first refl (looked_at few) parts.of_first x
-            (All-contains (IsInstance main typings) all x are.each (subst (λ xs. Contains xs x) (sym whole) (Contains-append_right (main_instance main ∷ parts.first) parts.rest x there))))
+          (All-contains (IsInstance main typings) all x are.each (subst (λ xs. Contains xs x) (sym whole) (Contains-append_right (main_instance main ∷ parts.first) parts.rest x there))))
 
   -- one more member of both
   same_more : (some others : List InstanceTree) (n : ℕ) → AreInstances main typings some → AreInstances main typings others → take n some ≡ take n others → take (n + 1) some ≡ take (n + 1) others

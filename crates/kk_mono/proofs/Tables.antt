@@ -1,17 +1,17 @@
 -- A table of types: a node more is a type more, and distinct numbers have distinct types.
-use Rattle.std.proofs.Common.{◌≡◌, ◌≢◌, ◌⊎◌, ℕ, zero, suc, ◌+◌, ◌<◌, ◌≤◌, Bool, true, false, ◌&&◌, ◌||◌, nat_eq, List, [], ◌∷◌, ◌++◌, length, map, get_or, take, drop, All, AllPairs, Contains, Vec, Global, Some, refl, sym, ap, ◌∙◌, subst, inl, inr, arith, append_assoc}
+use Rattle.std.proofs.Common.{◌≡◌, ◌≢◌, ℕ, zero, suc, ◌+◌, ◌<◌, Bool, true, false, ◌&&◌, ◌||◌, nat_eq, List, [], ◌∷◌, ◌++◌, length, map, get_or, All, AllPairs, Some, refl, sym, ap, ◌∙◌, subst, inl, inr, arith, append_assoc}
 use Rattle.std.specs.Prelude.{slice_get, IsTrue, if◌then◌else◌}
 use Rattle.std.specs.List.{list_any}
 use Rattle.std.proofs.lemmas.Bool.{eqb-true, eq-eqb, cases_lt, cases_Bool, both_ways}
-use Rattle.std.proofs.lemmas.List.{append-nil, length-append, length-map, length_push, take_all, take-append-le, get_or_append_left, get_or_push, get_or_at, get_or-map, get_or_default, get_or_past, same_lists}
-use Rattle.std.proofs.lemmas.List.Elements.{All-nil, All-cons, All-head, All-tail, All-get_or, All-weaker}
+use Rattle.std.proofs.lemmas.List.{append-nil, length_push, get_or_append_left, get_or_push, get_or_at, get_or_default}
+use Rattle.std.proofs.lemmas.List.Elements.{All-head, All-tail}
 use Rattle.std.proofs.lemmas.List.Quantifiers.{all_pairs_push}
-use Rattle.std.proofs.lemmas.Option.{slice_get-get_or, slice_get_within, get_or_from_slice_get}
+use Rattle.std.proofs.lemmas.Option.{slice_get_within, get_or_from_slice_get}
 use Rattle.kk_syntax.specs.declared.ground.GroundType.{GroundType}
 use Rattle.kk_syntax.specs.declared.ground.GroundType.TheVariants.{Int32, Unit as Nothing, Named}
 use Rattle.kk_syntax.specs.contracts.ground.GroundTypePartialEq.TheImpl.{eq-value}
 use Rattle.kk_syntax.specs.GroundPrograms.{ground_type, ground_types_behind, ground_types}
-use Rattle.kk_syntax.specs.Types.{TypeTree, TypeTrees, int32, unit_type, type_variable, named, no_type, type, types_of, type_at}
+use Rattle.kk_syntax.specs.Types.{TypeTree, unit_type, named, types_of, type_at}
 use Rattle.kk_mono.specs.Tables.{arguments_of, AreInOrder, begin_with_unit, AreOnce, Grows}
 use lib.Pointwise.{bytes_decides}
 
@@ -188,11 +188,11 @@ once_push : (nodes : List GroundType) (node : GroundType) → AreInOrder nodes �
 once_push nodes node in_order once within none =
     subst (λ ts. AllPairs (λ one other. one ≢ other) ts) (sym (types_push nodes node))
     (all_pairs_push (λ one other. one ≢ other) (ground_types nodes) (ground_type (ground_types nodes) node) once (λ j d lt same.
-        let below : j < length nodes = (let long = types_length nodes in omega (arith, long, lt)) in
-        other_nodes (ground_types nodes) node (get_or nodes j node) once within
-        (subst (λ k. All (λ n. n < k) (arguments_of (get_or nodes j node))) (sym (types_length nodes)) (λ k e inside. let least = in_order j node below k e inside in omega (arith, least, below)))
-        (some_alike nodes node none j node below)
-        (sym same ∙ (get_or_default (ground_types nodes) j d unit_type lt ∙ type_of_number nodes j node in_order below))))
+    let below : j < length nodes = (let long = types_length nodes in omega (arith, long, lt)) in
+    other_nodes (ground_types nodes) node (get_or nodes j node) once within
+    (subst (λ k. All (λ n. n < k) (arguments_of (get_or nodes j node))) (sym (types_length nodes)) (λ k e inside. let least = in_order j node below k e inside in omega (arith, least, below)))
+    (some_alike nodes node none j node below)
+    (sym same ∙ (get_or_default (ground_types nodes) j d unit_type lt ∙ type_of_number nodes j node in_order below))))
 
 -- the table where a node was asked for
 pub record Asked (nodes : List GroundType) (node : GroundType) (after : List GroundType) : Type 0 where
@@ -222,9 +222,10 @@ pub asked_number : (nodes : List GroundType) (node key : GroundType) (after : Li
 asked_number nodes node key after n have within found alike =
     let lt = slice_get_within after n key found in
     let long = types_length after in
-    let more = have.grows in
-    (omega (arith, lt, long),
+    let more = have.grows in (
+      omega (arith, lt, long),
       type_of_number after n key have.in_order lt
-      ∙ (ap (ground_type (ground_types after)) (get_or_from_slice_get after n key key found)
-      ∙ (sym (alike_nodes (ground_types after) node key alike)
-      ∙ (ap (λ ts. ground_type ts node) more.1 ∙ node_front (ground_types nodes) more.0 node within))))
+          ∙ (ap (ground_type (ground_types after)) (get_or_from_slice_get after n key key found)
+          ∙ (sym (alike_nodes (ground_types after) node key alike)
+          ∙ (ap (λ ts. ground_type ts node) more.1 ∙ node_front (ground_types nodes) more.0 node within))),
+    )

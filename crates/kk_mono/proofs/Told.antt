@@ -1,6 +1,6 @@
 -- What the code answers is what the program comes to.
-use Rattle.std.proofs.Common.{◌≡◌, ◌⊎◌, ℕ, ◌+◌, ◌-◌, ◌^◌, ◌<◌, ◌≤◌, min, List, [], ◌∷◌, length, map, get_or, drop, All, Option, Some, None, option_map, refl, ap, sym, ◌∙◌, subst, inl, inr, arith}
-use Rattle.std.specs.Prelude.{Result, Ok, Err, slice_get, sum}
+use Rattle.std.proofs.Common.{◌≡◌, ◌⊎◌, ℕ, ◌+◌, ◌<◌, ◌≤◌, List, [], ◌∷◌, length, map, get_or, drop, All, Option, Some, None, option_map, refl, ap, sym, ◌∙◌, subst, inl, inr, arith}
+use Rattle.std.specs.Prelude.{Ok, Err, slice_get, sum}
 use Rattle.std.proofs.lemmas.List.{length-map, get_or-map}
 use Rattle.std.proofs.lemmas.List.Sums.{sum-map, sum_by-drop_more}
 use Rattle.std.proofs.lemmas.Option.{slice_get_within, get_or_from_slice_get}
@@ -13,7 +13,7 @@ use Rattle.kk_syntax.specs.Shapes.{nodes_of}
 use Rattle.kk_syntax.specs.Trees.{expr_tree}
 use Rattle.kk_syntax.specs.Types.{TypeTree}
 use Rattle.kk_syntax.specs.Typing.{Choice, ArePrincipal}
-use Rattle.kk_mono.specs.Counts.{too_many_nodes, summed_nodes, KeepsCounts, of_function, of_instances, of_program, CountsAs, AnswersCounts}
+use Rattle.kk_mono.specs.Counts.{too_many_nodes, summed_nodes, of_function, of_instances, of_program, CountsAs, AnswersCounts}
 use Rattle.kk_mono.specs.Instances.{InstanceTree, AreInstances}
 use Rattle.kk_mono.specs.KeyTrees.{KeyTree, viewed}
 use Rattle.kk_mono.specs.Searching.{Searched}
@@ -87,12 +87,14 @@ module _ (program : ProgramTree) (typings : List (List Choice)) (principal : Are
   kept_answered few = only_counts program (Ok tt) (kept few)
 
   pub passed_answered : (limit : Limit) → PassedBy program keys limit → AnswersCounts program (Err limit)
-  passed_answered limit (inl (many, is)) =
-      (record { kind = Instances; count = 1025 },
-        only_counts program (Err _) (of_instances none principal (search_passes program.main typings (map (viewed types) keys) looked searched (let same = long in omega (arith, same, many))) refl),
-        is)
+  passed_answered limit (inl (many, is)) = (
+    record { kind = Instances; count = 1025 },
+    only_counts program (Err _) (of_instances none principal (search_passes program.main typings (map (viewed types) keys) looked searched (let same = long in omega (arith, same, many))) refl),
+    is,
+  )
   passed_answered limit (inr (few, large, is)) =
-      let same = summed_viewed program types keys in
-      (record { kind = ProgramNodes; count = summed_nodes program (map (viewed types) keys) },
+      let same = summed_viewed program types keys in (
+        record { kind = ProgramNodes; count = summed_nodes program (map (viewed types) keys) },
         only_counts program (Err _) (of_program none principal (ended few).1 (let count = long in omega (arith, count, few)) (omega (arith, same, large)) refl),
-        is ∙ ap (told ProgramNodes) (sym same))
+        is ∙ ap (told ProgramNodes) (sym same),
+      )

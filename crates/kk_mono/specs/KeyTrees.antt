@@ -1,5 +1,5 @@
 -- Instances by the numbers of their types.
-use Rattle.std.specs.Prelude.{◌≡◌, ℕ, ◌<◌, List, [], ◌∷◌, length, map, All}
+use Rattle.std.specs.Prelude.{ℕ, ◌<◌, List, [], ◌∷◌, length, map, All}
 use Rattle.kk_syntax.specs.declared.typed.Taken.{Taken}
 use Rattle.kk_syntax.specs.declared.typed.Taken.TheVariants.{Construct, Call, Value}
 use Rattle.kk_syntax.specs.Types.{TypeTree, type_at}

@@ -3,7 +3,7 @@ use Rattle.std.specs.Prelude.{◌≡◌, ◌⊎◌, ℕ, ◌+◌, ◌<◌, ◌�
 use Rattle.kk_base.specs.Limits.{greatest_of}
 use Rattle.kk_base.specs.declared.limit.Limit.{Limit}
 use Rattle.kk_base.specs.declared.limit.LimitKind.{LimitKind}
-use Rattle.kk_base.specs.declared.limit.LimitKind.TheVariants.{FunctionNodes, Instances, ProgramNodes}
+use Rattle.kk_base.specs.declared.limit.LimitKind.TheVariants.{Instances, ProgramNodes}
 use Rattle.kk_syntax.specs.Programs.{ProgramTree, body_of}
 use Rattle.kk_syntax.specs.Shapes.{nodes_of}
 use Rattle.kk_mono.specs.Counts.{in_u64}

@@ -79,7 +79,10 @@ pub fn numbers_of_called(
         };
         let arguments = Vec::from_slice(alloc, at)?;
         let function = *function;
-        numbers.push(keys.number(Key { function, arguments })?)?;
+        numbers.push(keys.number(Key {
+            function,
+            arguments,
+        })?)?;
     }
     Ok(numbers)
 }

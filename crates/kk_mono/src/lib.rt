@@ -9,8 +9,10 @@ mod keys;
 mod labels;
 mod limits;
 mod numbers;
+mod program;
 mod search;
 mod types;
 
 pub use error::MonoError;
 pub use limits::{check_parameters, each_program_is_counted};
+pub use program::instances;

@@ -1,5 +1,5 @@
-use Rattle.std.proofs.Common.{◌≡◌, ℕ, ◌<◌, List, length, map, All, sym, ap, ◌∙◌, subst}
-use Rattle.kk_syntax.specs.Types.{TypeTree, put, type_at}
+use Rattle.std.proofs.Common.{◌≡◌, map, ap, ◌∙◌}
+use Rattle.kk_syntax.specs.Types.{type_at}
 use Rattle.kk_mono.specs.Places.{node_at}
 use Rattle.kk_mono.specs.Views.{types_in}
 use Rattle.kk_mono.proofs.Numbered.{grows_on, types_stay, node_more}

@@ -1,5 +1,3 @@
-use Rattle.std.proofs.Common.{◌≡◌, ℕ, List, length, map, sym, ap, ◌∙◌, subst}
-use Rattle.kk_syntax.specs.Types.{TypeTree, type_tree, put, type_at}
 use Rattle.kk_mono.specs.KeyTrees.{keys_in}
 use Rattle.kk_mono.specs.Views.{types_in}
 use Rattle.kk_mono.proofs.Looks.{looks_from}

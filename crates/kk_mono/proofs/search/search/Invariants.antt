@@ -1,4 +1,4 @@
-use Rattle.std.proofs.Common.{◌≡◌, ◌-◌, length}
+use Rattle.std.proofs.Common.{◌-◌, length}
 use Rattle.kk_mono.specs.Searching.{IsSearching}
 use Rattle.kk_mono.proofs.search.search.Given as goal
 

@@ -1,8 +1,7 @@
-use Rattle.std.proofs.Common.{◌≡◌, ℕ, ◌<◌, List, length, All, Some, sym, ap, ◌∙◌, subst, arith}
+use Rattle.std.proofs.Common.{◌≡◌, ℕ, ◌<◌, List, length, All, Some, sym, ◌∙◌, subst, arith}
 use Rattle.std.specs.Prelude.{slice_get}
 use Rattle.kk_mono.specs.Looking.{Looks}
 use Rattle.kk_mono.specs.KeyTrees.{key_tree, keys_in}
-use Rattle.kk_mono.specs.Searching.{known_in}
 use Rattle.kk_mono.specs.Views.{types_in}
 use Rattle.kk_mono.proofs.Looks.{function_within, body_within, key_types, function_read, typing_read, looked_more}
 use Rattle.kk_mono.proofs.search.Found.look.Goals as goal

@@ -1,4 +1,4 @@
-use Rattle.std.proofs.Common.{ℕ, Bool, true, Some, ◌≡◌, ◌∷◌, ◌++◌, List, [], sym, ap, ◌∙◌, subst, ◌<◌, length, All}
+use Rattle.std.proofs.Common.{ℕ, Bool, true, Some, ◌≡◌, ◌∷◌, ◌++◌, List, [], sym, subst, ◌<◌, length, All}
 use Rattle.std.specs.Prelude.{slice_get, IfOk, Result, Ok, Err, OnOk, OnErr, IsTrue, if◌then◌else◌}
 use Rattle.std.specs.List.{list_any}
 use Rattle.kk_syntax.specs.declared.ground.GroundType.{GroundType}

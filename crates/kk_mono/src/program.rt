@@ -1,0 +1,31 @@
+ghost use Rattle.kk_syntax.specs.Programs.{program_tree};
+ghost use Rattle.kk_syntax.specs.TypedPrograms.{typings_of};
+ghost use Rattle.kk_syntax.specs.Typing.{ArePrincipal};
+ghost use Rattle.kk_mono.specs.Grounds.{AnswersInstances};
+
+use crate::build::ground;
+use crate::error::MonoError;
+use crate::limits::{check_instances, check_nodes};
+use crate::search::search;
+use kk_syntax::{Ground, Typed};
+use std::alloc::Global;
+
+/// The instances of a program: `main`, and each function that is called in one, at the types that stand for its type
+/// variables there, in the order of first sight. Or the limit that the program passes first: on the nodes of a function,
+/// on the number of the instances, or on their nodes in all.
+///
+/// At each instance the time is linear in its function's body and types, however large the types are where they are written
+/// out. The recursion is as deep as an expression or a written type.
+pub fn instances(alloc: Global, typed: &Typed) -> Result<Ground, MonoError>
+    requires { ArePrincipal (program_tree typed.now.program) (typings_of typed.now) }
+    ensures { AnswersInstances typed.now result }
+{
+    if let Err(limit) = check_nodes(&typed.program.functions) {
+        return Err(MonoError::Over(limit));
+    }
+    let found = search(alloc, typed)?;
+    match check_instances(&typed.program, &found.keys) {
+        Ok(()) => Ok(ground(alloc, &typed.program, found)?),
+        Err(limit) => Err(MonoError::Over(limit)),
+    }
+}
