@@ -1,4 +1,1 @@
-pub mod Checking
-pub mod Inferring
-pub mod Sameness
-pub mod Scopes
+pub mod Refining
