@@ -26,7 +26,7 @@ module _ (a b : Walk) (Whole Left : Claim) (goes : Goes a b Whole Left) where
   pub refused_after : Refused (nodes_of b) Left → Refused (nodes_of a) Whole
   refused_after refused = refused_behind (nodes_of a) (nodes_of b) goes.taken Whole Left goes.leads refused
 
-takes_then : (a b c : Walk) (xs ys : List Taking) → Takes a b xs → Takes b c ys → Takes a c (xs ++ ys)
+pub takes_then : (a b c : Walk) (xs ys : List Taking) → Takes a b xs → Takes b c ys → Takes a c (xs ++ ys)
 takes_then a b c xs ys first next = next ∙ (ap (λ l. l ++ ys) first ∙ append_assoc (takings_of a.taken.items) xs ys)
 
 module _ (a b c : Walk) (Whole Left Rest : Claim) where

@@ -5,3 +5,9 @@ pub mod Basics
 pub mod Scopes
 pub mod Building
 pub mod Instances
+pub mod Locals
+pub mod Using
+pub mod Forms
+pub mod Views
+pub mod Listing
+pub mod Stating

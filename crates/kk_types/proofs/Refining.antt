@@ -98,6 +98,17 @@ module _ (a b : List NodeTree) (xs : List Taking) (Whole Left : Claim) where
         next.none one.0 one.3.0 one.1 one.3.2;
   }
 
+-- what is left in other words
+pub left_reworded : (a b : List NodeTree) (xs : List Taking) (Whole Left Other : Claim) → ((r : Assignment) (choices : List Choice) → Left r choices → Other r choices) → ((r : Assignment) (choices : List Choice) → Other r choices → Left r choices) → Leads a b xs Whole Left → Leads a b xs Whole Other
+left_reworded a b xs Whole Left Other into back leads = record {
+  longer = leads.longer;
+  below = leads.below;
+  sound = λ r choices obeys other. leads.sound r choices obeys (back r choices other);
+  complete = λ r choices obeys whole.
+      let one = leads.complete r choices obeys whole in
+      (one.0, one.1, one.2, (one.3.0, one.3.1, into one.0 one.3.0 one.3.2));
+}
+
 -- the same in other words
 pub reworded : (graph : List NodeTree) (Whole Left : Claim) → ((r : Assignment) (choices : List Choice) → Obeys graph r → Whole r choices → Left r choices) → ((r : Assignment) (choices : List Choice) → Obeys graph r → Left r choices → Whole r choices) → Leads graph graph [] Whole Left
 reworded graph Whole Left into back = record {
@@ -121,9 +132,9 @@ module _ (a b : List NodeTree) (xs : List Taking) (First Rest : Claim) where
         (one.0, one.1, one.2, (whole.1, whole.2 ∙ ap (λ l. l ++ whole.1) (one.3.1 ∙ (ap (λ l. choices_at one.0 xs ++ l) one.3.2 ∙ append-nil (choices_at one.0 xs))), of.follows r one.0 whole.1 one.2 whole.4));
   }
 
-  -- the first of two parts is refused
-  pub first_refused : Refused a First → Refused a (both First Rest)
-  first_refused first = record { none = λ r choices obeys whole. first.none r whole.0 obeys whole.3 }
+-- the first of two parts is refused
+pub first_refused : (a : List NodeTree) (First Rest : Claim) → Refused a First → Refused a (both First Rest)
+first_refused a First Rest first = record { none = λ r choices obeys whole. first.none r whole.0 obeys whole.3 }
 
 module _ (a b : List NodeTree) (number : ℕ) (type : Assignment → TypeTree) (V : Assignment → TypeTree → List Choice → Type 0) where
   -- a node stands for a type
@@ -170,7 +181,7 @@ module _ (a b : List NodeTree) (numbers : List ℕ) (count : ℕ) (xs : List Tak
         subst (λ ts. V one.0 ts whole.rest) (sym one.3) ((of whole.at).follows r one.0 whole.rest one.2 whole.inside)));
   }
 
-module _ (a b : List NodeTree) (node : ℕ) (xs : List Taking) (V : Assignment → TypeTree → List Choice → Type 0) where
+module _ (a b : List NodeTree) (node : ℕ) (V : Assignment → TypeTree → List Choice → Type 0) where
   -- a node stands for a type that is chosen
   pub holds_leads : Opens a b (node ∷ []) 1 → ((t : TypeTree) → IsOf (length a) (λ r. V r t)) → Leads a b (holding_at node ∷ []) (λ r. Holds (V r)) (λ r. V r (r node))
   holds_leads opens of = record {

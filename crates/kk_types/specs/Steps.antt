@@ -43,19 +43,20 @@ pub record Made (old new : Walk) (node : ℕ) (type : Assignment → TypeTree) :
   pub same_scope : new.scope.items ≡ old.scope.items
   pub same_variables : variables_of new.graph ≡ variables_of old.graph
 
--- A walk over statements, into the scope that they leave: what is to be shown of them and any block behind them is shown of
--- that block there.
-pub record GoesInto (program : ProgramTree) (old new : Walk) (statements : List StatementTree) : Type 0 where
+-- A walk over the first statements of a block, into the scope that they leave: what is to be shown of the block, whatever is
+-- behind the statements, is shown of what is left of it there.
+pub record GoesInto (program : ProgramTree) (old new : Walk) (all left : List StatementTree) : Type 0 where
   pub taken : List Taking
   pub takes : Takes old new taken
   pub outer : take (length old.scope.items) new.scope.items ≡ old.scope.items
   pub bound_inside : AreBoundBelow (size_of new) new.scope.items
   pub same_variables : variables_of new.graph ≡ variables_of old.graph
   pub longer : size_of old ≤ size_of new
-  pub leads : (last : Tree) (want : ℕ) → want < size_of old → Leads (nodes_of old) (nodes_of new) taken (expression_at program old.scope.items (block_of statements last) want) (expression_at program new.scope.items last want)
+  pub leads : (last : Tree) (want : ℕ) → want < size_of old → Leads (nodes_of old) (nodes_of new) taken (expression_at program old.scope.items (block_of all last) want) (expression_at program new.scope.items (block_of left last) want)
 
+-- what a walk over statements answers
 abbrev pub WalkedInto : ProgramTree → Walk → Walk → List StatementTree → Result Bool NoMemory → Type 0
-WalkedInto program old new statements (Ok true) = GoesInto program old new statements
+WalkedInto program old new statements (Ok true) = GoesInto program old new statements []
 WalkedInto program old new statements (Ok false) = (last : Tree) (want : ℕ) → want < size_of old → Refused (nodes_of old) (expression_at program old.scope.items (block_of statements last) want)
 WalkedInto program old new statements (Err _) = Unit {0}
 

@@ -27,11 +27,7 @@ impl Walk {
                 if !ok {
                     return Ok(false);
                 }
-                let ok = self.rows(program, rows, node, want)?;
-                if !ok {
-                    return Ok(false);
-                }
-                Ok(ok)
+                self.rows(program, rows, node, want)
             }
             Expr::Number(_) | Expr::ReadByte => self.is(want, TypeNode::Int32),
             Expr::Unit | Expr::PrintText(_, _) => self.is(want, TypeNode::Unit),
@@ -45,11 +41,7 @@ impl Walk {
                 if !ok {
                     return Ok(false);
                 }
-                let ok = self.arguments(program, arguments, &instance.parameters)?;
-                if !ok {
-                    return Ok(false);
-                }
-                Ok(ok)
+                self.arguments(program, arguments, &instance.parameters)
             }
             Expr::If(condition, positive, negative) => {
                 let truth = self.truth()?;
@@ -61,11 +53,7 @@ impl Walk {
                 if !ok {
                     return Ok(false);
                 }
-                let ok = self.expression(program, negative, want)?;
-                if !ok {
-                    return Ok(false);
-                }
-                Ok(ok)
+                self.expression(program, negative, want)
             }
             Expr::Block(statements, value) => {
                 let outer = self.scope.len();
