@@ -42,7 +42,7 @@ module _ (program : ProgramTree) (arguments : List Expr) (wants : List ℕ) wher
   pub none_yet : (a : Walk) → Goes a a (left_of a.scope.items 0) (left_of a.scope.items 0)
   none_yet a = goes_reworded a (left_of a.scope.items 0) (left_of a.scope.items 0) (λ r choices obeys whole. whole) (λ r choices obeys left. left)
 
-  module _ (a b : Walk) (bounds : List Bound) (i : ℕ) (argument : Expr) (want : ℕ) (bound : AreBoundBelow (size_of b) bounds) (inside : AreBelow (size_of b) wants) (lt : i < length arguments) (as_long : length arguments ≡ length wants) (here : argument ≡ get_or arguments i argument) (there : want ≡ get_or wants i want) where
+  module _ (a b : Walk) (bounds : List Bound) (i : ℕ) (argument : Expr) (want : ℕ) (lt : i < length arguments) (as_long : length arguments ≡ length wants) (here : argument ≡ get_or arguments i argument) (there : want ≡ get_or wants i want) where
     abbrev first_typed : Claim
     first_typed = expression_at program bounds (expr_tree argument) want
 
@@ -53,8 +53,8 @@ module _ (program : ProgramTree) (arguments : List Expr) (wants : List ℕ) wher
         ∙ ap (λ ws. expressions_at program bounds (trees_of (map expr_tree (argument ∷ drop (i + 1) arguments))) ws) (drop_more wants i want (omega (arith, as_long)) ∙ ap (λ w. w ∷ drop (i + 1) wants) (sym there))
 
     -- one argument more
-    pub argument_walked : (c : Walk) → Goes a b (left_of bounds 0) (left_of bounds i) → Walked b c first_typed (Ok true) → Goes a c (left_of bounds 0) (left_of bounds (i + 1))
-    argument_walked c goes walked =
+    pub argument_walked : AreBoundBelow (size_of b) bounds → AreBelow (size_of b) wants → (c : Walk) → Goes a b (left_of bounds 0) (left_of bounds i) → Walked b c first_typed (Ok true) → Goes a c (left_of bounds 0) (left_of bounds (i + 1))
+    argument_walked bound inside c goes walked =
         goes_on a b c (left_of bounds 0) (left_of bounds i) (left_of bounds (i + 1)) goes
         (subst (λ whole. Goes b c whole (left_of bounds (i + 1))) (sym parted)
         (goes_first b c first_typed (left_of bounds (i + 1)) (expressions_of (size_of b) program bounds bound (trees_of (map expr_tree (drop (i + 1) arguments))) (drop (i + 1) wants) (All-drop (λ w. w < size_of b) (i + 1) wants inside)) walked))

@@ -1,20 +1,21 @@
 -- A walk over the statements of a block.
-use Rattle.std.proofs.Common.{◌≡◌, ◌<◌, ◌≤◌, ◌+◌, ℕ, Bool, true, false, List, [], ◌∷◌, ◌++◌, length, map, take, refl, ap, sym, ◌∙◌, subst, arith}
+use Rattle.std.proofs.Common.{◌≡◌, ◌<◌, ◌≤◌, ◌+◌, ℕ, Bool, true, false, List, [], ◌∷◌, ◌++◌, length, map, get_or, drop, take, refl, ap, sym, ◌∙◌, subst, arith}
 use Rattle.std.specs.Prelude.{Result, Ok, Err}
-use Rattle.std.proofs.lemmas.List.{append-nil, length-take, take-append-le, take_all}
+use Rattle.std.proofs.lemmas.List.{append-nil, drop_more, length-take, take-append-le, take_all}
 use Rattle.std.proofs.lemmas.List.Elements.{All-append, All-nil, All-cons}
 use Rattle.kk_base.specs.declared.error.NoMemory.{NoMemory}
 use Rattle.kk_syntax.specs.declared.program.Binder.{Binder}
 use Rattle.kk_syntax.specs.declared.program.Binder.TheVariants as OfBinder
+use Rattle.kk_syntax.specs.declared.program.Statement.{Statement}
 use Rattle.kk_syntax.specs.Programs.{ProgramTree}
-use Rattle.kk_syntax.specs.Trees.{Tree, sequence, StatementTree, block_of}
+use Rattle.kk_syntax.specs.Trees.{Tree, sequence, StatementTree, block_of, expr_tree, statement_tree}
 use Rattle.kk_syntax.specs.Types.{TypeTree}
 use Rattle.kk_syntax.specs.Typing.{Choice, Scope, with_binder, InTurn, Holds, IsTypedBy}
 use Rattle.kk_unify.specs.Graphs.{NodeTree, Assignment, Obeys}
 use Rattle.kk_unify.specs.GraphOf.{variables_of}
 use Rattle.kk_types.specs.declared.scope.Bound.{Bound}
 use Rattle.kk_types.specs.declared.walk.Walk.{Walk}
-use Rattle.kk_types.specs.Claims.{both, expression_at}
+use Rattle.kk_types.specs.Claims.{both, expression_at, bounds_by}
 use Rattle.kk_types.specs.Steps.{nodes_of, size_of, Goes, GoesInto, Walked, Opened}
 use Rattle.kk_types.specs.Walks.{Taking, holding_at, takings_of, AreBoundBelow, scope_at, Claim, Leads, Done, Refused, IsOf}
 use Rattle.kk_types.proofs.Forms.{in_scope}
@@ -22,12 +23,7 @@ use Rattle.kk_types.proofs.Going.{takes_then}
 use Rattle.kk_types.proofs.Locals.{scoped_of, node_of, both_of}
 use Rattle.kk_types.proofs.Refining.{bound_more, first_leads, first_refused, holds_leads, left_reworded, refused_behind, reworded, then_leads}
 use Rattle.kk_types.proofs.Scopes.{scope_more}
-
--- what a statement binds to a node
-abbrev pub bounds_by : Binder → ℕ → List Bound
-bounds_by OfBinder.Nothing node = []
-bounds_by OfBinder.Wildcard node = []
-bounds_by (OfBinder.Variable x) node = record { variable = x; node = node } ∷ []
+use Rattle.kk_types.proofs.Views.{statement_tree_is}
 
 binder_scope : (binder : Binder) (r : Assignment) (bounds : List Bound) (node : ℕ) → with_binder binder (r node) (scope_at r bounds) ≡ scope_at r (bounds ++ bounds_by binder node)
 binder_scope OfBinder.Nothing r bounds node = ap (scope_at r) (sym (append-nil bounds))
@@ -59,6 +55,11 @@ module _ (program : ProgramTree) (a : Walk) (all : List StatementTree) where
         let claim = expression_at program a.scope.items (block_of all last) want in
         reworded (nodes_of a) claim claim (λ r choices obeys whole. whole) (λ r choices obeys left. left);
   }
+
+  -- what is left begins with a statement
+  pub into_first : (b : Walk) (statements : List Statement) (i : ℕ) (s : Statement) → i < length statements → s ≡ get_or statements i s → GoesInto program a b all (map statement_tree (drop i statements)) → GoesInto program a b all (record { binder = s.binder; value = expr_tree s.value } ∷ map statement_tree (drop (i + 1) statements))
+  into_first b statements i s lt here goes =
+      subst (GoesInto program a b all) (ap (map statement_tree) (drop_more statements i s lt ∙ ap (λ u. u ∷ drop (i + 1) statements) (sym here)) ∙ ap (λ u. u ∷ map statement_tree (drop (i + 1) statements)) (statement_tree_is s)) goes
 
   module _ (b c d : Walk) (binder : Binder) (value : Tree) (rest : List StatementTree) (node : ℕ) (goes : GoesInto program a b all (record { binder = binder; value = value } ∷ rest)) (opened : Opened b c node) where
     module _ (last : Tree) (want : ℕ) (lt : want < size_of a) where

@@ -1,5 +1,7 @@
 -- What a walk is to show of the parts of a body, in a scope of nodes and at nodes for their types.
-use Rattle.std.specs.Prelude.{◌≡◌, ℕ, Some, List, [], map}
+use Rattle.std.specs.Prelude.{◌≡◌, ℕ, Some, List, [], ◌∷◌, map}
+use Rattle.kk_syntax.specs.declared.program.Binder.{Binder}
+use Rattle.kk_syntax.specs.declared.program.Binder.TheVariants as OfBinder
 use Rattle.kk_syntax.specs.Patterns.{Pattern, Patterns}
 use Rattle.kk_syntax.specs.Programs.{ProgramTree}
 use Rattle.kk_syntax.specs.Trees.{Tree, Trees, Rows}
@@ -35,3 +37,9 @@ bound_as bounds x want r choices = (type_in (scope_at r bounds) x ≡ Some (r wa
 -- one claim is met, and then another one, by the choices behind
 abbrev pub both : Claim → Claim → Claim
 both First Rest r = InTurn (First r) (Rest r)
+
+-- what a statement binds to a node
+abbrev pub bounds_by : Binder → ℕ → List Bound
+bounds_by OfBinder.Nothing node = []
+bounds_by OfBinder.Wildcard node = []
+bounds_by (OfBinder.Variable x) node = record { variable = x; node = node } ∷ []

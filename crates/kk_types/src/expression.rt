@@ -3,10 +3,9 @@ ghost use Rattle.kk_syntax.specs.Programs.{program_tree};
 ghost use Rattle.kk_syntax.specs.Trees.{expr_tree, statement_tree, trees_of};
 ghost use Rattle.kk_types.specs.Walks.{AreBelow, AreBoundBelow};
 
-use crate::scope::Bound;
 use crate::walk::Walk;
 use kk_base::NoMemory;
-use kk_syntax::{Binder, Expr, Program, Statement, TypeNode};
+use kk_syntax::{Expr, Program, Statement, TypeNode};
 
 impl Walk {
     ghost use Rattle.kk_types.specs.Claims.{expression_at, expressions_at};
@@ -62,9 +61,6 @@ impl Walk {
                     return Ok(false);
                 }
                 let ok = self.expression(program, value, want)?;
-                if !ok {
-                    return Ok(false);
-                }
                 self.scope.truncate(outer);
                 Ok(ok)
             }
@@ -103,9 +99,7 @@ impl Walk {
             if !ok {
                 return Ok(false);
             }
-            if let Binder::Variable(variable) = statement.binder {
-                self.scope.push(Bound { variable, node })?;
-            }
+            self.enter(statement.binder, node)?;
         }
         Ok(true)
     }

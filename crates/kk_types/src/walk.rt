@@ -1,10 +1,10 @@
-ghost use Rattle.std.specs.Prelude.{◌<◌, IfOk};
+ghost use Rattle.std.specs.Prelude.{◌≡◌, ◌<◌, ◌++◌, IfOk, OnOk};
 ghost use Rattle.kk_syntax.specs.Typing.{bool};
 ghost use Rattle.kk_types.specs.Walks.{AreBoundBelow};
 
 use crate::scope::{Bound, newest};
 use kk_base::NoMemory;
-use kk_syntax::{Program, Taken, TypeNode};
+use kk_syntax::{Binder, Program, Taken, TypeNode};
 use kk_unify::Graph;
 use std::alloc::Global;
 
@@ -22,7 +22,7 @@ pub struct Walk {
 
 impl Walk {
     ghost use Rattle.kk_unify.specs.GraphOf.{type_by, IsAddable, variables_of};
-    ghost use Rattle.kk_types.specs.Claims.{typed_as, bound_as};
+    ghost use Rattle.kk_types.specs.Claims.{typed_as, bound_as, bounds_by};
     ghost use Rattle.kk_types.specs.Steps.{size_of, Walked, Made, Opened};
 
     /// Asks that the type of a node is this one.
@@ -53,6 +53,21 @@ impl Walk {
         match newest(&self.scope, variable) {
             Some(bound) => self.same(bound.node, want),
             None => Ok(false),
+        }
+    }
+
+    /// Binds what a statement binds to the node of its value.
+    pub fn enter(&mut self, binder: Binder, node: u32) -> Result<(), NoMemory>
+        ensures scope { OnOk result (self.new.scope.items ≡ self.old.scope.items ++ bounds_by binder node) }
+        ensures graph { self.new.graph ≡ self.old.graph }
+        ensures taken { self.new.taken ≡ self.old.taken }
+    {
+        match binder {
+            Binder::Nothing | Binder::Wildcard => Ok(()),
+            Binder::Variable(variable) => {
+                self.scope.push(Bound { variable, node })?;
+                Ok(())
+            }
         }
     }
 
