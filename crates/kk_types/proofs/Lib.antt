@@ -11,3 +11,8 @@ pub mod Forms
 pub mod Views
 pub mod Listing
 pub mod Stating
+pub mod Patterns
+pub mod Parts
+pub mod Functions
+pub mod Numbering
+pub mod RowsOf

@@ -5,7 +5,9 @@
 mod build;
 mod error;
 mod expression;
+mod function;
 mod instance;
+mod number;
 mod pattern;
 mod rows;
 mod scope;
