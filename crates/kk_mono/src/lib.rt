@@ -1,7 +1,6 @@
 //! The instances of a program, and its limits: on parameters, on nodes, and on instances.
 #![tactic(auto)]
 
-mod copy;
 mod error;
 mod limits;
 mod program;

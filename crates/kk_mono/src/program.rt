@@ -6,13 +6,12 @@ ghost use Rattle.kk_mono.specs.Counts.{AnswersInstances};
 ghost use Rattle.kk_mono.specs.Instances.{IsInstanceProgram};
 ghost use Rattle.kk_mono.specs.Reaching.{AreNumbered};
 
-use crate::copy::{copied_constructors, copied_declarations};
 use crate::error::MonoError;
 use crate::limits::check_counts;
 use crate::reach::instances_in_order;
 use crate::renaming::{Renaming, renamed_function};
 use kk_base::NoMemory;
-use kk_syntax::Program;
+use kk_syntax::{Program, copied_constructors, copied_declarations};
 use std::alloc::Global;
 
 /// The instances of a program as a program: `main`, and then each other function that `main` comes to, in the order of

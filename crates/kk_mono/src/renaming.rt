@@ -4,9 +4,10 @@ ghost use Rattle.kk_syntax.specs.Trees.{expr_tree, row_tree, statement_tree};
 ghost use Rattle.kk_mono.specs.Instances.{place_in, renamed, renamed_form, instance_of};
 ghost use Rattle.kk_mono.specs.Renaming.{new_number, renamed_row, renamed_statement};
 
-use crate::copy::{copied_pattern, copied_type, copied_types};
 use kk_base::NoMemory;
-use kk_syntax::{Expr, Form, Fun, Row, Statement};
+use kk_syntax::{
+    Expr, Form, Fun, Row, Statement, copied_pattern, copied_type, copied_types,
+};
 use std::alloc::Global;
 
 /// The new number of each function.
