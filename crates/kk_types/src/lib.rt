@@ -9,8 +9,10 @@ mod function;
 mod instance;
 mod number;
 mod pattern;
+mod program;
 mod rows;
 mod scope;
 mod walk;
 
 pub use error::TypeError;
+pub use program::{check, each_program_is_checked};
