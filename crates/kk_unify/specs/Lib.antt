@@ -1,0 +1,5 @@
+pub mod GraphOf
+pub mod Graphs
+pub mod Locality
+pub mod NodesOf
+pub mod Solutions
