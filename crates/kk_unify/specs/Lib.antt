@@ -1,5 +1,6 @@
 pub mod GraphOf
 pub mod Graphs
+pub mod Joining
 pub mod Locality
 pub mod NodesOf
 pub mod Solutions

@@ -2,6 +2,8 @@
 use Rattle.std.specs.Prelude.{ℕ, List, length, map}
 use Rattle.std.specs.Coded.{Unit-prop, le_prop}
 use Rattle.std.proofs.Props.{props}
+use Rattle.kk_syntax.specs.declared.typed.TypeNode.{TypeNode}
+use Rattle.kk_syntax.specs.declared.typed.TypeNode.TheVariants as Added
 use Rattle.kk_unify.specs.declared.node.Node.{Node}
 use Rattle.kk_unify.specs.declared.node.Node.TheVariants.{Any, Same, Int32, Unit as Nothing, Variable, Named}
 use Rattle.kk_unify.specs.Graphs.{NodeTree, any_node, same_node, int32_node, unit_node, variable_node, named_node, IsNodeFormed, IsFormed}
@@ -16,6 +18,13 @@ node_tree (Named by arguments) = named_node by arguments.items
 
 abbrev pub node_trees : List Node → List NodeTree
 node_trees nodes = map node_tree nodes
+
+-- a node that is added
+abbrev pub added_node : TypeNode → NodeTree
+added_node Added.Int32 = int32_node
+added_node Added.Unit = unit_node
+added_node (Added.Variable of) = variable_node of
+added_node (Added.Named by arguments) = named_node by arguments.items
 
 -- what a node names is there in one way
 pub IsNodeFormed-prop : (variables size i : ℕ) (node : NodeTree) → IsProp (IsNodeFormed variables size i node)

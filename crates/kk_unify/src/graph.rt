@@ -1,7 +1,7 @@
 ghost use Rattle.std.specs.Prelude.{◌≡◌, ◌+◌, ◌^◌, ◌≤◌, ◌<◌, ℕ, [], ◌∷◌, ◌++◌, length, IfOk, MatchBool, MatchOption};
 ghost use Rattle.std.proofs.Props.{props};
 ghost use Rattle.kk_unify.specs.Graphs.{IsFormed, IsNodeFormed};
-ghost use Rattle.kk_unify.specs.NodesOf.{node_tree, node_trees, IsNodeFormed-prop};
+ghost use Rattle.kk_unify.specs.NodesOf.{node_tree, node_trees, added_node, IsNodeFormed-prop};
 
 use crate::join::join;
 use crate::node::Node;
@@ -59,12 +59,7 @@ impl Graph {
         ensures variables { variables_of self.new ≡ variables_of self.old }
         ensures added { IfOk result (λ number. Adds (graph_of self.old) (graph_of self.new) number (λ r. r number ≡ type_by r node)) }
     {
-        self.put(match node {
-            TypeNode::Int32 => Node::Int32,
-            TypeNode::Unit => Node::Unit,
-            TypeNode::Variable(of) => Node::Variable(of),
-            TypeNode::Named(by, arguments) => Node::Named(by, arguments),
-        })
+        self.put(node_of(node))
     }
 
     /// Makes two nodes one type; `false` where no types of the nodes do.
@@ -100,5 +95,17 @@ impl Graph {
         }
         self.nodes.push(node)?;
         Ok(number)
+    }
+}
+
+// A node that is added, as a node of the graph.
+fn node_of(node: TypeNode) -> Node
+    ensures { node_tree result ≡ added_node node }
+{
+    match node {
+        TypeNode::Int32 => Node::Int32,
+        TypeNode::Unit => Node::Unit,
+        TypeNode::Variable(of) => Node::Variable(of),
+        TypeNode::Named(by, arguments) => Node::Named(by, arguments),
     }
 }
