@@ -5,3 +5,9 @@ pub mod Linking
 pub mod Obeying
 pub mod Pairing
 pub mod Adding
+pub mod Rooting
+pub mod Sizes
+pub mod Walking
+pub mod Advancing
+pub mod Stepping
+pub mod Turning

@@ -4,3 +4,5 @@ pub mod Joining
 pub mod Locality
 pub mod NodesOf
 pub mod Solutions
+pub mod WalkOf
+pub mod Walking

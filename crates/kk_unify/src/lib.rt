@@ -6,7 +6,9 @@ mod graph;
 mod join;
 mod law;
 mod node;
+mod roots;
 mod solve;
+mod walk;
 
 pub use graph::Graph;
 pub use law::{graphs_are_decided, obeying_is_local};
