@@ -21,18 +21,18 @@ use Rattle.kk_unify.proofs.Sizes.{arguments_formed}
 ready_more : (graph : List NodeTree) (roots : List ℕ) (marks : List Mark) (frame more : Frame) (number : ℕ) → IsReady graph roots marks frame → more.node ≡ frame.node → more.numbers.items ≡ frame.numbers.items ++ (number ∷ []) → length frame.numbers.items < length (arguments_of (node_at graph frame.node)) → mark_at marks (root_at roots (get_or (arguments_of (node_at graph frame.node)) (length frame.numbers.items) 0)) ≡ Numbered number → IsReady graph roots marks more
 ready_more graph roots marks frame more number ready node_is numbers_is lt is = record {
   count =
-    let same : length (arguments_of (node_at graph more.node)) ≡ length (arguments_of (node_at graph frame.node)) = ap (λ n. length (arguments_of (node_at graph n))) node_is in
-    omega (arith, same, lt, ap length numbers_is, length_push frame.numbers.items number);
+      let same : length (arguments_of (node_at graph more.node)) ≡ length (arguments_of (node_at graph frame.node)) = ap (λ n. length (arguments_of (node_at graph n))) node_is in
+      omega (arith, same, lt, ap length numbers_is, length_push frame.numbers.items number);
   each = λ k h.
-    let within : k < length frame.numbers.items + 1 = omega (arith, h, ap length numbers_is, length_push frame.numbers.items number) in
-    let there : get_or more.numbers.items k 0 ≡ get_or (frame.numbers.items ++ (number ∷ [])) k 0 = ap (λ ns. get_or ns k 0) numbers_is in
-    let marked : mark_at marks (root_at roots (get_or (arguments_of (node_at graph more.node)) k 0)) ≡ mark_at marks (root_at roots (get_or (arguments_of (node_at graph frame.node)) k 0)) = ap (λ n. mark_at marks (root_at roots (get_or (arguments_of (node_at graph n)) k 0))) node_is in
-    elim (cases_lt k (length frame.numbers.items)) [
-      inl before ↦ marked ∙ ready.each k before ∙ ap Numbered (sym (there ∙ get_or_append_left frame.numbers.items (number ∷ []) 0 k before))
-    | inr past ↦
-        let last : length frame.numbers.items ≡ k = omega (arith, past, within) in
-        marked ∙ ap (λ n. mark_at marks (root_at roots (get_or (arguments_of (node_at graph frame.node)) n 0))) (sym last) ∙ is ∙ ap Numbered (sym (there ∙ get_or_push frame.numbers.items number 0 k last))
-    ];
+      let within : k < length frame.numbers.items + 1 = omega (arith, h, ap length numbers_is, length_push frame.numbers.items number) in
+      let there : get_or more.numbers.items k 0 ≡ get_or (frame.numbers.items ++ (number ∷ [])) k 0 = ap (λ ns. get_or ns k 0) numbers_is in
+      let marked : mark_at marks (root_at roots (get_or (arguments_of (node_at graph more.node)) k 0)) ≡ mark_at marks (root_at roots (get_or (arguments_of (node_at graph frame.node)) k 0)) = ap (λ n. mark_at marks (root_at roots (get_or (arguments_of (node_at graph n)) k 0))) node_is in
+      elim (cases_lt k (length frame.numbers.items)) [
+        | inl before ↦ marked ∙ ready.each k before ∙ ap Numbered (sym (there ∙ get_or_append_left frame.numbers.items (number ∷ []) 0 k before))
+        | inr past ↦
+            let last : length frame.numbers.items ≡ k = omega (arith, past, within) in
+            marked ∙ ap (λ n. mark_at marks (root_at roots (get_or (arguments_of (node_at graph frame.node)) n 0))) (sym last) ∙ is ∙ ap Numbered (sym (there ∙ get_or_push frame.numbers.items number 0 k last))
+      ];
 }
 
 module _ (rooted : Rooted) (marks : List Mark) (start now : Frame) (count index : ℕ) (arguments : List ℕ) (d : Node) (is_rooted : IsRootedIn rooted) (long : length marks ≡ length rooted.nodes.now) (lt : start.node < length rooted.nodes.now) (arguments_are : arguments ≡ arguments_of (node_tree (get_or rooted.nodes.now start.node d))) (count_is : count ≡ length start.numbers.items) (so_far : (now.node ≡ start.node) × IsReadyIn rooted marks now × (length now.numbers.items ≡ length start.numbers.items + index)) where
@@ -76,13 +76,14 @@ module _ (rooted : Rooted) (marks : List Mark) (start now : Frame) (count index 
         ready = so_far.1;
         place = (length now.numbers.items, place, sym next_is);
         unnumbered = λ number numbered. elim is [
-          inl new ↦ (let both : Numbered number ≡ New = sym numbered ∙ new in cc)
-        | inr entered ↦ (let both : Numbered number ≡ Entered = sym numbered ∙ entered in cc)
+          | inl new ↦ (let both : Numbered number ≡ New = sym numbered ∙ new in cc)
+          | inr entered ↦ (let both : Numbered number ≡ Entered = sym numbered ∙ entered in cc)
         ];
       }
 
       pub advanced : (number : ℕ) (next : Frame) → mark_at marks root ≡ Numbered number → next.node ≡ now.node → next.numbers.items ≡ now.numbers.items ++ (number ∷ []) → (next.node ≡ start.node) × IsReadyIn rooted marks next × (length next.numbers.items ≡ length start.numbers.items + (index + 1))
       advanced number next is node_is numbers_is = (
-          node_is ∙ so_far.0,
-          ready_more (graph_in rooted) rooted.roots.items marks now next number so_far.1 node_is numbers_is place (ap (λ n. mark_at marks n) (sym next_is) ∙ is),
-          omega (arith, ap length numbers_is, length_push now.numbers.items number, so_far.2))
+        node_is ∙ so_far.0,
+        ready_more (graph_in rooted) rooted.roots.items marks now next number so_far.1 node_is numbers_is place (ap (λ n. mark_at marks n) (sym next_is) ∙ is),
+        omega (arith, ap length numbers_is, length_push now.numbers.items number, so_far.2),
+      )

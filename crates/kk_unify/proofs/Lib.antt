@@ -11,3 +11,5 @@ pub mod Walking
 pub mod Advancing
 pub mod Stepping
 pub mod Turning
+pub mod Visiting
+pub mod Solving

@@ -50,11 +50,11 @@ earlier_push made node each here = λ number known is.
     let at : get_or (made ++ (node ∷ [])) number known ≡ known = get_or_from_slice_get (made ++ (node ∷ [])) number known known is in
     let P : TypeNode → Type 0 = NamesEarlier number in
     elim (cases_lt number (length made)) [
-      inl before ↦ each number known (slice_get-get_or made number known before ∙ ap Some (sym (get_or_append_left made (node ∷ []) known number before) ∙ at))
-    | inr past ↦
-        let last : length made ≡ number = omega (arith, past, within) in
-        let Q : ℕ → Type 0 = λ n. NamesEarlier n node in
-        subst P (sym (get_or_push made node known number last) ∙ at) (subst Q last here)
+      | inl before ↦ each number known (slice_get-get_or made number known before ∙ ap Some (sym (get_or_append_left made (node ∷ []) known number before) ∙ at))
+      | inr past ↦
+          let last : length made ≡ number = omega (arith, past, within) in
+          let Q : ℕ → Type 0 = λ n. NamesEarlier n node in
+          subst P (sym (get_or_push made node known number last) ∙ at) (subst Q last here)
     ]
 
 ready_kept : (graph : List NodeTree) (roots : List ℕ) (marks more : List Mark) (frame : Frame) → KeepsNumbers marks more → IsReady graph roots marks frame → IsReady graph roots more frame
@@ -64,7 +64,6 @@ ready_kept graph roots marks more frame keeps ready = record {
 }
 
 module _ (variables : ℕ) (graph : List NodeTree) (roots : List ℕ) (rooted : IsRooted variables graph roots) (marks : List Mark) (frames : List Frame) (frame next : Frame) (made : List TypeNode) (stands : IsOn variables graph roots marks (frames ++ (frame ∷ [])) made) (same_node : next.node ≡ frame.node) where
-
   walks : Walks variables graph roots marks (map node_on frames ++ (next.node ∷ [])) (node_types made)
   walks =
       let P : List ℕ → Type 0 = λ t. Walks variables graph roots marks t (node_types made) in
@@ -138,7 +137,7 @@ module _ (variables : ℕ) (graph : List NodeTree) (roots : List ℕ) (rooted : 
         let Q : List TypeNode → Type 0 = IsOn variables graph roots (set marks next.node (Numbered (length made))) frames in
         let t = made_type variables next.node (map (types_so_far roots marks (node_types made)) (arguments_of (node_at graph next.node))) (node_at graph next.node) in
         let types_are : node_types (made ++ (node ∷ [])) ≡ node_types made ++ (t ∷ []) =
-          types_push [] made node ∙ ap (λ u. node_types made ++ (u ∷ [])) (made_is ∙ ap (λ ts. made_type variables next.node ts (node_at graph next.node)) same_arguments) in
+        types_push [] made node ∙ ap (λ u. node_types made ++ (u ∷ [])) (made_is ∙ ap (λ ts. made_type variables next.node ts (node_at graph next.node)) same_arguments) in
         let W : List TypeTree → Type 0 = Walks variables graph roots (set marks next.node (Numbered (length made))) (map node_on frames) in
         let V : ℕ → Type 0 = λ n. Walks variables graph roots (set marks next.node (Numbered n)) (map node_on frames) (node_types made ++ (t ∷ [])) in
         subst P (sym after_is) (subst Q (sym new_is) record {
@@ -187,11 +186,11 @@ module _ (variables : ℕ) (graph : List NodeTree) (roots : List ℕ) (rooted : 
           let P : List Mark → Type 0 = λ m. IsOn variables graph roots m all made in
           let Q : List Frame → Type 0 = λ f. IsOn variables graph roots (set marks child Entered) f made in
           let trail_is : map node_on (frames ++ (next ∷ []) ++ (newest ∷ [])) ≡ map node_on frames ++ (next.node ∷ []) ++ (child ∷ []) =
-            map_push node_on (frames ++ (next ∷ [])) newest ∙ ap (λ t. t ++ (newest.node ∷ [])) (map_push node_on frames next) ∙ ap (λ n. map node_on frames ++ (next.node ∷ []) ++ (n ∷ [])) newest_is in
+          map_push node_on (frames ++ (next ∷ [])) newest ∙ ap (λ t. t ++ (newest.node ∷ [])) (map_push node_on frames next) ∙ ap (λ n. map node_on frames ++ (next.node ∷ []) ++ (n ∷ [])) newest_is in
           let W : List ℕ → Type 0 = λ t. Walks variables graph roots (set marks child Entered) t (node_types made) in
           let R = IsReady graph roots (set marks child Entered) in
           let kept : (f : Frame) → IsReady graph roots marks f → R f = λ f. ready_kept graph roots marks (set marks child Entered) f entered_keeps in
-          let fresh : R newest = record { count = omega (arith, ap length empty); each = λ k h. absurd (omega (arith, h, ap length empty)); } in
+          let fresh : R newest = record { count = omega (arith, ap length empty); each = λ k h. absurd (omega (arith, h, ap length empty)) } in
           subst P (sym after_is) (subst Q (sym all_is) record {
             walks = subst W (sym trail_is) (walks_entered variables graph roots rooted marks (map node_on frames ++ (next.node ∷ [])) (node_types made) child walks child_within.0 child_root new smaller);
             ready = All-push R (frames ++ (next ∷ [])) newest (All-push R frames next (All-weaker (IsReady graph roots marks) R kept frames older) (kept next ready)) fresh;

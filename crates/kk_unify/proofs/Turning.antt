@@ -85,10 +85,10 @@ pub set_knows : (marks after : List Mark) (i : ℕ) (mark : Mark) → (mark ≡ 
 set_knows marks after i mark known is j new =
     let new_there : mark_at (set marks i mark) j ≡ New = ap (λ m. mark_at m j) (sym is) ∙ new in
     elim (cases_eq j i) [
-      inl same ↦
-        elim (cases_lt i (length marks)) [
-          inl within ↦ absurd (known (sym (mark_set marks i mark within) ∙ ap (λ n. mark_at (set marks i mark) n) (sym same) ∙ new_there))
-        | inr past ↦ get_or_past marks j New (omega (arith, past, same))
-        ]
-    | inr other ↦ sym (mark_other marks i j mark other) ∙ new_there
+      | inl same ↦
+          elim (cases_lt i (length marks)) [
+            | inl within ↦ absurd (known (sym (mark_set marks i mark within) ∙ ap (λ n. mark_at (set marks i mark) n) (sym same) ∙ new_there))
+            | inr past ↦ get_or_past marks j New (omega (arith, past, same))
+          ]
+      | inr other ↦ sym (mark_other marks i j mark other) ∙ new_there
     ]

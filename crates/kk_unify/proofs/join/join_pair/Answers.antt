@@ -1,4 +1,3 @@
-use Rattle.std.proofs.Common.{sym, ◌∙◌}
 use Rattle.kk_unify.specs.NodesOf.{node_trees}
 use Rattle.kk_unify.proofs.Pairing.{steps_found, pair_joined}
 use Rattle.kk_unify.proofs.join.join_pair.Goals as goal

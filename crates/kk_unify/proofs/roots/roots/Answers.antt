@@ -1,4 +1,4 @@
-use Rattle.std.proofs.Common.{◌≡◌, ◌<◌, ◌+◌, ◌++◌, ◌∷◌, [], ℕ, List, sym, subst, length, arith}
+use Rattle.std.proofs.Common.{◌≡◌, ◌<◌, ◌+◌, ℕ, List, sym, subst, length, arith}
 use Rattle.kk_unify.specs.NodesOf.{node_trees}
 use Rattle.kk_unify.proofs.Rooting.{RootsSoFar, same_within, more_same, more_own}
 use Rattle.kk_unify.proofs.roots.roots.Goals as goal

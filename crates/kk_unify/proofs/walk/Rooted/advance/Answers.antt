@@ -1,11 +1,11 @@
-use Rattle.std.proofs.Common.{◌≡◌, ◌<◌, ◌-◌, length, get_or, take, drop, refl, arith}
+use Rattle.std.proofs.Common.{◌<◌, ◌-◌, length, get_or, take, drop, refl, arith}
 use Rattle.kk_unify.proofs.Advancing.{argument_within, root_within, wanted, advanced}
 use Rattle.kk_unify.proofs.walk.Rooted.advance.Goals as goal
 
 pub index-root-requires : goal.index-root-requires
 index-root-requires c =
     let within : get_or (take (length c.arguments-arguments.result.now - c.len.result) (drop c.len.result c.arguments-arguments.result.now)) c.loop-argument.argument-index 0 < length c.args.self.now.roots.items =
-      argument_within c.args.self.now c.args.marks.now c.args.frame.now c.loop-argument.frame c.len.result c.loop-argument.argument-index c.arguments-arguments.result.now _ c.requires.rooted c.requires.marks c.requires.node c.arguments-arguments.ensures (omega arith) c.loop-argument.invariant c.loop-argument-test.true in
+    argument_within c.args.self.now c.args.marks.now c.args.frame.now c.loop-argument.frame c.len.result c.loop-argument.argument-index c.arguments-arguments.result.now _ c.requires.rooted c.requires.marks c.requires.node c.arguments-arguments.ensures (omega arith) c.loop-argument.invariant c.loop-argument-test.true in
     omega arith
 
 pub bounds : goal.bounds

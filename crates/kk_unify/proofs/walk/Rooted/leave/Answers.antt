@@ -1,9 +1,7 @@
-use Rattle.std.proofs.Common.{rules, ◌≡◌, ◌<◌, ◌∙◌, ap, sym, map, refl, length, set}
+use Rattle.std.proofs.Common.{rules, ◌≡◌, ◌∙◌, ap, sym, map, refl, length, set}
 use Rattle.kk_unify.specs.declared.walk.Mark.TheVariants.{Numbered}
 use Rattle.kk_syntax.specs.Types.{type_at}
 use Rattle.kk_syntax.specs.TypedPrograms.{node_types}
-use Rattle.kk_unify.specs.Joining.{node_at}
-use Rattle.kk_unify.specs.NodesOf.{node_tree, node_trees}
 use Rattle.kk_unify.specs.Walking.{made_type}
 use Rattle.kk_unify.proofs.InMemory.{read}
 use Rattle.kk_unify.proofs.walk.Rooted.leave.Goals as goal
