@@ -13,3 +13,5 @@ pub mod Stepping
 pub mod Turning
 pub mod Visiting
 pub mod Solving
+pub mod DecidedJoins
+pub mod DecidedGraphs

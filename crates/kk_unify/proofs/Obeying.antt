@@ -38,7 +38,7 @@ map_agree f g (x ∷ xs) all =
     cc
 
 -- a node of one type is obeyed by what agrees at it and at those that it names
-pub holds_agree : (variables size i : ℕ) (node : NodeTree) (r q : Assignment) → IsNodeFormed variables size i node → i < size → ((j : ℕ) → j < size → r j ≡ q j) → Holds r i node → Holds q i node
+holds_agree : (variables size i : ℕ) (node : NodeTree) (r q : Assignment) → IsNodeFormed variables size i node → i < size → ((j : ℕ) → j < size → r j ≡ q j) → Holds r i node → Holds q i node
 holds_agree variables size i any_node r q formed lt agree holds = tt
 holds_agree variables size i (same_node to) r q formed lt agree holds =
     sym (agree i lt) ∙ holds ∙ agree to (omega (arith, formed, lt))

@@ -16,9 +16,9 @@ use Rattle.kk_unify.specs.declared.solve.Solution.{Solution}
 use Rattle.kk_unify.specs.Graphs.{NodeTree, any_node, same_node, int32_node, unit_node, variable_node, named_node, Assignment, Holds, Obeys, IsNodeFormed, IsFormed, filled, IsPrincipalOf}
 use Rattle.kk_unify.specs.Joining.{node_at, IsHead}
 use Rattle.kk_unify.specs.Solutions.{types_in, Solves}
-use Rattle.kk_unify.specs.Walking.{root_at, HasRoot, IsRooted, mark_at, number_of, types_so_far, IsReady, IsNumbered, IsOn, EachNamesEarlier, KeepsNumbers}
+use Rattle.kk_unify.specs.Walking.{root_at, HasRoot, IsRooted, mark_at, number_of, types_so_far, IsReady, IsNumbered, Walks, IsOn, EachNamesEarlier, KeepsNumbers}
 use Rattle.kk_unify.specs.WalkOf.{graph_in, IsRootedIn, Stands}
-use Rattle.kk_unify.proofs.Obeying.{obeys_from, formed_at, holds_agree}
+use Rattle.kk_unify.proofs.Obeying.{obeys_from, obeying_is_local}
 use Rattle.kk_unify.proofs.Rooting.{root_is, root_of_root}
 use Rattle.kk_unify.proofs.InMemory.{as_long}
 use Rattle.kk_unify.proofs.Stepping.{made_long}
@@ -38,21 +38,24 @@ length_new : (count : ℕ) → length (replicate count New) ≡ count
 length_new zero = refl
 length_new (suc count) = ap suc (length_new count)
 
+pub begins_walk : (variables : ℕ) (graph : List NodeTree) (roots : List ℕ) → Walks variables graph roots (replicate (length graph) New) [] []
+begins_walk variables graph roots = record {
+  as_long = length_new (length graph);
+  roots_only = λ p h. absurd (omega (arith, h));
+  entered = λ p h. absurd (omega (arith, h));
+  apart = λ p q order h. absurd (omega (arith, h));
+  held = λ i is. (let both : New ≡ Entered = sym (new_mark (length graph) i) ∙ is in cc);
+  falls = λ r obeys p q order h. absurd (omega (arith, h));
+  numbered = λ i number is. (let both : New ≡ Numbered number = sym (new_mark (length graph) i) ∙ is in cc);
+}
+
 pub begins : (variables : ℕ) (graph : List NodeTree) (roots : List ℕ) (marks : List Mark) (frames : List Frame) (made : List TypeNode) → marks ≡ replicate (length graph) New → frames ≡ [] → made ≡ [] → IsOn variables graph roots marks (frames ++ []) made
 begins variables graph roots marks frames made marks_are none nothing =
     let P : List Mark → Type 0 = λ m. IsOn variables graph roots m (frames ++ []) made in
     let Q : List Frame → Type 0 = λ f. IsOn variables graph roots (replicate (length graph) New) f made in
     let R : List TypeNode → Type 0 = IsOn variables graph roots (replicate (length graph) New) [] in
     subst P (sym marks_are) (subst Q (sym (append-nil frames ∙ none)) (subst R (sym nothing) record {
-      walks = record {
-        as_long = length_new (length graph);
-        roots_only = λ p h. absurd (omega (arith, h));
-        entered = λ p h. absurd (omega (arith, h));
-        apart = λ p q order h. absurd (omega (arith, h));
-        held = λ i is. (let both : New ≡ Entered = sym (new_mark (length graph) i) ∙ is in cc);
-        falls = λ r obeys p q order h. absurd (omega (arith, h));
-        numbered = λ i number is. (let both : New ≡ Numbered number = sym (new_mark (length graph) i) ∙ is in cc);
-      };
+      walks = begins_walk variables graph roots;
       ready = All-nil (IsReady graph roots (replicate (length graph) New));
       earlier = λ number node is. absurd (omega (arith, slice_get_within [] number node is));
     }))
@@ -71,46 +74,54 @@ numbers_more rooted walk new numbers count number so_far keeps here = record {
       ];
 }
 
+-- the types that are made are principal once each root has a number
+module _ (variables : ℕ) (graph : List NodeTree) (roots : List ℕ) (rooted : IsRooted variables graph roots) (marks : List Mark) (types : List TypeTree) (numbered : (i number : ℕ) → mark_at marks i ≡ Numbered number → IsNumbered variables graph roots marks types i number) (each : (i : ℕ) → i < length graph → (number : ℕ) × (mark_at marks (root_at roots i) ≡ Numbered number)) where
+  own : (i : ℕ) → i < length graph → root_at roots i ≡ i → Holds (types_so_far roots marks types) i (node_at graph i)
+  own i lt root =
+      let P : ℕ → Type 0 = λ n. Holds (types_so_far roots marks types) n (node_at graph n) in
+      subst P root (numbered (root_at roots i) (each i lt).0 (each i lt).1).holds
+
+  obeyed : (i : ℕ) → i < length graph → (node : NodeTree) → node_at graph i ≡ node → HasRoot roots i (node_at graph i) → Holds (types_so_far roots marks types) i (node_at graph i)
+  obeyed i lt any_node is has = own i lt (let P : NodeTree → Type 0 = HasRoot roots i in subst P is has)
+  obeyed i lt (same_node to) is has =
+      let P : NodeTree → Type 0 = HasRoot roots i in
+      let R : NodeTree → Type 0 = Holds (types_so_far roots marks types) i in
+      let same : root_at roots i ≡ root_at roots to = subst P is has in
+      subst R (sym is) (ap (λ n. type_at types (number_of (mark_at marks n))) same)
+  obeyed i lt int32_node is has = own i lt (let P : NodeTree → Type 0 = HasRoot roots i in subst P is has)
+  obeyed i lt unit_node is has = own i lt (let P : NodeTree → Type 0 = HasRoot roots i in subst P is has)
+  obeyed i lt (variable_node of) is has = own i lt (let P : NodeTree → Type 0 = HasRoot roots i in subst P is has)
+  obeyed i lt (named_node by arguments) is has = own i lt (let P : NodeTree → Type 0 = HasRoot roots i in subst P is has)
+
+  pub made_principal : IsPrincipalOf variables graph (types_so_far roots marks types)
+  made_principal = record {
+    obeys = obeys_from graph (types_so_far roots marks types) (λ i lt. obeyed i lt (node_at graph i) refl (rooted.rooted.each i lt));
+    each = λ r obeys i lt.
+        let number = (each i lt).0 in
+        let is = (each i lt).1 in
+        (root_is variables graph roots rooted.formed rooted.rooted i lt).same r obeys ∙ (numbered (root_at roots i) number is).principal r obeys ∙ ap (put (filled variables r)) (ap (λ (m : Mark). type_at types (number_of m)) (sym is));
+  }
+
+-- so are those that agree with them
+principal_agrees : (variables : ℕ) (graph : List NodeTree) (a b : Assignment) → IsFormed variables graph → ((i : ℕ) → i < length graph → a i ≡ b i) → IsPrincipalOf variables graph a → IsPrincipalOf variables graph b
+principal_agrees variables graph a b formed agree principal = record {
+  obeys = obeying_is_local variables graph a b formed agree principal.obeys;
+  each = λ r obeys i lt. principal.each r obeys i lt ∙ ap (put (filled variables r)) (agree i lt);
+}
+
 -- the solution
 pub solved : (variables : ℕ) (graph : List NodeTree) (roots : List ℕ) → IsRooted variables graph roots → (marks : List Mark) (solution : Solution) → IsOn variables graph roots marks [] solution.nodes.items → length solution.numbers.items ≡ length graph → ((k : ℕ) → k < length graph → mark_at marks (root_at roots k) ≡ Numbered (get_or solution.numbers.items k 0)) → Solves variables graph solution
 solved variables graph roots rooted marks solution stands long each = record {
   as_long = long;
   within = All-from_get_or (λ number. number < length solution.nodes.items) solution.numbers.items 0 (λ i h.
       let lt : i < length graph = omega (arith, h, long) in
-      let within = (numbered i lt).within in
+      let within = (stands.walks.numbered (root_at roots i) (get_or solution.numbers.items i 0) (each i lt)).within in
       omega (arith, within, made_long solution.nodes.items));
   earlier = stands.earlier;
-  principal = record {
-    obeys = obeys_from graph (types_in solution) (λ i lt. obeyed i lt (node_at graph i) refl (formed_at variables graph rooted.formed i lt) (rooted.rooted.each i lt));
-    each = λ r obeys i lt. (root_is variables graph roots rooted.formed rooted.rooted i lt).same r obeys ∙ (numbered i lt).principal r obeys;
-  };
+  principal = principal_agrees variables graph (types_so_far roots marks (node_types solution.nodes.items)) (types_in solution) rooted.formed
+      (λ i lt. ap (λ (m : Mark). type_at (node_types solution.nodes.items) (number_of m)) (each i lt))
+      (made_principal variables graph roots rooted marks (node_types solution.nodes.items) stands.walks.numbered (λ i lt. (get_or solution.numbers.items i 0, each i lt)));
 }
-  where
-    numbered : (i : ℕ) → i < length graph → IsNumbered variables graph roots marks (node_types solution.nodes.items) (root_at roots i) (get_or solution.numbers.items i 0)
-    numbered i lt = stands.walks.numbered (root_at roots i) (get_or solution.numbers.items i 0) (each i lt)
-
-    agrees : (i : ℕ) → i < length graph → types_so_far roots marks (node_types solution.nodes.items) i ≡ types_in solution i
-    agrees i lt = ap (λ (m : Mark). type_at (node_types solution.nodes.items) (number_of m)) (each i lt)
-
-    -- a node that is its own root
-    own : (i : ℕ) → i < length graph → root_at roots i ≡ i → Holds (types_in solution) i (node_at graph i)
-    own i lt root =
-        let P : ℕ → Type 0 = λ n. Holds (types_so_far roots marks (node_types solution.nodes.items)) n (node_at graph n) in
-        holds_agree variables (length graph) i (node_at graph i) (types_so_far roots marks (node_types solution.nodes.items)) (types_in solution) (formed_at variables graph rooted.formed i lt) lt agrees (subst P root (numbered i lt).holds)
-
-    obeyed : (i : ℕ) → i < length graph → (node : NodeTree) → node_at graph i ≡ node → IsNodeFormed variables (length graph) i (node_at graph i) → HasRoot roots i (node_at graph i) → Holds (types_in solution) i (node_at graph i)
-    obeyed i lt any_node is formed has = own i lt (let P : NodeTree → Type 0 = HasRoot roots i in subst P is has)
-    obeyed i lt (same_node to) is formed has =
-        let P : NodeTree → Type 0 = HasRoot roots i in
-        let Q : NodeTree → Type 0 = IsNodeFormed variables (length graph) i in
-        let R : NodeTree → Type 0 = Holds (types_in solution) i in
-        let earlier : to < i = subst Q is formed in
-        let same : root_at roots i ≡ root_at roots to = subst P is has in
-        subst R (sym is) (sym (agrees i lt) ∙ ap (λ n. type_at (node_types solution.nodes.items) (number_of (mark_at marks n))) same ∙ agrees to (omega (arith, earlier, lt)))
-    obeyed i lt int32_node is formed has = own i lt (let P : NodeTree → Type 0 = HasRoot roots i in subst P is has)
-    obeyed i lt unit_node is formed has = own i lt (let P : NodeTree → Type 0 = HasRoot roots i in subst P is has)
-    obeyed i lt (variable_node of) is formed has = own i lt (let P : NodeTree → Type 0 = HasRoot roots i in subst P is has)
-    obeyed i lt (named_node by arguments) is formed has = own i lt (let P : NodeTree → Type 0 = HasRoot roots i in subst P is has)
 
 -- the root of a node is a node, and its own root
 pub root_place : (rooted : Rooted) (roots : List ℕ) (k : ℕ) → IsRootedIn rooted → roots ≡ rooted.roots.items → k < length roots → (get_or roots k 0 < length rooted.nodes.now) × (root_at rooted.roots.items (get_or roots k 0) ≡ get_or roots k 0)

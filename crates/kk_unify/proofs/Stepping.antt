@@ -19,7 +19,8 @@ use Rattle.kk_unify.specs.Walking.{root_at, IsRooted, size, arguments_of, mark_a
 use Rattle.kk_unify.proofs.Obeying.{formed_at}
 use Rattle.kk_unify.proofs.Rooting.{root_is, root_of_root}
 use Rattle.kk_unify.proofs.Sizes.{arguments_formed}
-use Rattle.kk_unify.proofs.Walking.{done_from, mark_set, mark_other, keeps_set, walks_entered, walks_left, walks_again, falls_on}
+use Rattle.kk_unify.proofs.Walking.{done_from}
+use Rattle.kk_unify.proofs.Walking as on
 
 -- one type more
 types_push : (earlier : List TypeTree) (nodes : List TypeNode) (node : TypeNode) → types_behind earlier (nodes ++ (node ∷ [])) ≡ types_behind earlier nodes ++ (type_of_node (types_behind earlier nodes) node ∷ [])
@@ -74,34 +75,8 @@ module _ (variables : ℕ) (graph : List NodeTree) (roots : List ℕ) (rooted : 
       let P : Frame → Type 0 = IsReady graph roots marks in
       subst P (get_or_append_left frames (frame ∷ []) d k h) (stands.ready k d (omega (arith, h, length_push frames frame)))
 
-  last : length (map node_on frames) < length (map node_on frames ++ (next.node ∷ []))
-  last = omega (arith, length_push (map node_on frames) next.node)
-
-  end : get_or (map node_on frames ++ (next.node ∷ [])) (length (map node_on frames)) 0 ≡ next.node
-  end = get_or_push (map node_on frames) next.node 0 (length (map node_on frames)) refl
-
-  pub node_within : next.node < length graph
-  node_within =
-      let P : ℕ → Type 0 = λ n. n < length graph in
-      subst P end (walks.roots_only (length (map node_on frames)) last).0
-
-  node_root : root_at roots next.node ≡ next.node
-  node_root =
-      let P : ℕ → Type 0 = λ n. root_at roots n ≡ n in
-      subst P end (walks.roots_only (length (map node_on frames)) last).1
-
   pub node_head : IsHead (node_at graph next.node)
-  node_head =
-      let P : ℕ → Type 0 = λ n. IsHead (node_at graph n) in
-      subst P node_root (root_is variables graph roots rooted.formed rooted.rooted next.node node_within).head
-
-  node_entered : mark_at marks next.node ≡ Entered
-  node_entered = ap (λ n. mark_at marks n) (sym end) ∙ walks.entered (length (map node_on frames)) last
-
-  marked_within : next.node < length marks
-  marked_within =
-      let within = node_within in
-      omega (arith, walks.as_long, within)
+  node_head = on.last_head variables graph roots rooted marks (map node_on frames) (node_types made) next.node walks
 
   -- the numbers of the arguments are those of types
   pub numbers_within : IsReady graph roots marks next → All (λ number. number < length made) next.numbers.items
@@ -112,7 +87,7 @@ module _ (variables : ℕ) (graph : List NodeTree) (roots : List ℕ) (rooted : 
       omega (arith, within, made_long made, get_or_default next.numbers.items k d 0 h)
 
   pub left_keeps : KeepsNumbers marks (set marks next.node (Numbered (length made)))
-  left_keeps = keeps_set marks next.node (Numbered (length made)) (λ number is. let both : Numbered number ≡ Entered = sym is ∙ node_entered in cc)
+  left_keeps = on.left_keeps variables graph roots rooted marks (map node_on frames) (node_types made) next.node walks (length made)
 
   module _ (ready : IsReady graph roots marks next) (all : length next.numbers.items ≡ length (arguments_of (node_at graph next.node))) where
     marked : (k : ℕ) (d e : ℕ) → k < length next.numbers.items → mark_at marks (root_at roots (get_or (arguments_of (node_at graph next.node)) k e)) ≡ Numbered (get_or next.numbers.items k d)
@@ -141,44 +116,39 @@ module _ (variables : ℕ) (graph : List NodeTree) (roots : List ℕ) (rooted : 
         let W : List TypeTree → Type 0 = Walks variables graph roots (set marks next.node (Numbered (length made))) (map node_on frames) in
         let V : ℕ → Type 0 = λ n. Walks variables graph roots (set marks next.node (Numbered n)) (map node_on frames) (node_types made ++ (t ∷ [])) in
         subst P (sym after_is) (subst Q (sym new_is) record {
-          walks = subst W (sym types_are) (subst V (made_long made) (walks_left variables graph roots rooted marks (map node_on frames) (node_types made) next.node walks done));
+          walks = subst W (sym types_are) (subst V (made_long made) (on.walks_left variables graph roots rooted marks (map node_on frames) (node_types made) next.node walks done));
           ready = All-weaker (IsReady graph roots marks) (IsReady graph roots (set marks next.node (Numbered (length made)))) (λ f. ready_kept graph roots marks (set marks next.node (Numbered (length made))) f left_keeps) frames older;
           earlier = earlier_push made node stands.earlier earlier;
         })
 
   -- there is less to do
   pub left_less : (after : List Mark) → after ≡ set marks next.node (Numbered (length made)) → sum_by work_of after < sum_by work_of marks
-  left_less after is =
-      let was : work_of (mark_at marks next.node) ≡ 1 = ap work_of node_entered in
-      let within = marked_within in
-      omega (arith, sum_by-set work_of marks next.node (Numbered (length made)) New within, was, ap (sum_by work_of) is)
+  left_less after is = omega (arith, on.left_less variables graph roots rooted marks (map node_on frames) (node_types made) next.node walks (length made), ap (sum_by work_of) is)
 
   module _ (k : ℕ) (child : ℕ) (within : k < length (arguments_of (node_at graph next.node))) (child_is : root_at roots (get_or (arguments_of (node_at graph next.node)) k 0) ≡ child) where
-    pub child_within : (child < length graph) × (child < length marks)
+    child_there : child < length graph
+    child_there = omega (arith, on.child_within variables graph roots rooted marks (map node_on frames) (node_types made) next.node walks k within, child_is)
+
+    pub child_within : child < length marks
     child_within =
-        let there : get_or (arguments_of (node_at graph next.node)) k 0 < length graph = arguments_formed variables (length graph) next.node (node_at graph next.node) (formed_at variables graph rooted.formed next.node node_within) k 0 within in
-        let below = (root_is variables graph roots rooted.formed rooted.rooted (get_or (arguments_of (node_at graph next.node)) k 0) there).below in
-        (omega (arith, there, below, child_is), omega (arith, there, below, child_is, walks.as_long))
+        let there = child_there in
+        omega (arith, there, walks.as_long)
 
     child_root : root_at roots child ≡ child
     child_root =
-        let there : get_or (arguments_of (node_at graph next.node)) k 0 < length graph = arguments_formed variables (length graph) next.node (node_at graph next.node) (formed_at variables graph rooted.formed next.node node_within) k 0 within in
         let P : ℕ → Type 0 = λ n. root_at roots n ≡ n in
-        subst P child_is (root_of_root variables graph roots rooted.formed rooted.rooted (get_or (arguments_of (node_at graph next.node)) k 0) there)
+        subst P child_is (on.child_root variables graph roots rooted marks (map node_on frames) (node_types made) next.node walks k within)
 
     -- an argument that is on the way
     pub stands_again : mark_at marks child ≡ Entered → NoneObeys graph
-    stands_again is = walks_again variables graph roots rooted marks (map node_on frames) (node_types made) next.node k walks within (ap (λ n. mark_at marks n) child_is ∙ is)
+    stands_again is = on.walks_again variables graph roots rooted marks (map node_on frames) (node_types made) next.node k walks within (ap (λ n. mark_at marks n) child_is ∙ is)
 
     module _ (new : mark_at marks child ≡ New) where
       pub entered_keeps : KeepsNumbers marks (set marks child Entered)
-      entered_keeps = keeps_set marks child Entered (λ number is. let both : Numbered number ≡ New = sym is ∙ new in cc)
+      entered_keeps = on.entered_keeps variables graph roots rooted marks child new
 
       pub entered_less : (after : List Mark) → after ≡ set marks child Entered → sum_by work_of after < sum_by work_of marks
-      entered_less after is =
-          let was : work_of (mark_at marks child) ≡ 2 = ap work_of new in
-          let there = child_within.1 in
-          omega (arith, sum_by-set work_of marks child Entered New there, was, ap (sum_by work_of) is)
+      entered_less after is = omega (arith, on.entered_less variables graph roots rooted marks child new child_within, ap (sum_by work_of) is)
 
       -- an argument is entered
       pub stands_entered : (after : List Mark) (all : List Frame) (newest : Frame) → IsReady graph roots marks next → after ≡ set marks child Entered → all ≡ frames ++ (next ∷ []) ++ (newest ∷ []) → newest.node ≡ child → newest.numbers.items ≡ [] → IsOn variables graph roots after all made
@@ -192,7 +162,7 @@ module _ (variables : ℕ) (graph : List NodeTree) (roots : List ℕ) (rooted : 
           let kept : (f : Frame) → IsReady graph roots marks f → R f = λ f. ready_kept graph roots marks (set marks child Entered) f entered_keeps in
           let fresh : R newest = record { count = omega (arith, ap length empty); each = λ k h. absurd (omega (arith, h, ap length empty)) } in
           subst P (sym after_is) (subst Q (sym all_is) record {
-            walks = subst W (sym trail_is) (walks_entered variables graph roots rooted marks (map node_on frames ++ (next.node ∷ [])) (node_types made) child walks child_within.0 child_root new smaller);
+            walks = subst W (sym trail_is) (on.walks_entered variables graph roots rooted marks (map node_on frames ++ (next.node ∷ [])) (node_types made) child walks child_there child_root new smaller);
             ready = All-push R (frames ++ (next ∷ [])) newest (All-push R frames next (All-weaker (IsReady graph roots marks) R kept frames older) (kept next ready)) fresh;
             earlier = stands.earlier;
           })
@@ -200,7 +170,7 @@ module _ (variables : ℕ) (graph : List NodeTree) (roots : List ℕ) (rooted : 
           smaller : (r : Assignment) → Obeys graph r → (p : ℕ) → p < length (map node_on frames ++ (next.node ∷ [])) → size (r child) < size (r (get_or (map node_on frames ++ (next.node ∷ [])) p 0))
           smaller r obeys p h =
               let P : ℕ → Type 0 = λ n. size (r n) < size (r (get_or (map node_on frames ++ (next.node ∷ [])) p 0)) in
-              subst P child_is (falls_on variables graph roots rooted marks (map node_on frames) (node_types made) next.node k walks within r obeys p h)
+              subst P child_is (on.falls_on variables graph roots rooted marks (map node_on frames) (node_types made) next.node k walks within r obeys p h)
 
 -- a mark that is neither a number nor entered is new
 pub is_new : (mark : Mark) → ((number : ℕ) → mark ≢ Numbered number) → mark ≢ Entered → mark ≡ New

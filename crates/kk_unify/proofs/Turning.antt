@@ -51,7 +51,7 @@ module _ (rooted : Rooted) (walk : Walk) (marks : List Mark) (frame next : Frame
         subst Q marks_are (subst P some tells)
 
     pub wanted_within : child < length walk.marks.items
-    wanted_within = (child_within rooted.variables (graph_in rooted) rooted.roots.items is_rooted walk.marks.items walk.frames.items frame next walk.made.items stands same_node wanted.place.0 child wanted.place.1 wanted.place.2).1
+    wanted_within = child_within rooted.variables (graph_in rooted) rooted.roots.items is_rooted walk.marks.items walk.frames.items frame next walk.made.items stands same_node wanted.place.0 child wanted.place.1 wanted.place.2
 
     module _ (mark : Mark) (read : mark ≡ get_or walk.marks.items child mark) where
       marked : mark_at walk.marks.items child ≡ mark

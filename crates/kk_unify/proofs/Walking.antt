@@ -1,13 +1,14 @@
 -- The walk through a graph, over lists: a node is entered, a node is numbered, a node is met again.
-use Rattle.std.proofs.Common.{◌≡◌, ◌≢◌, ◌<◌, ◌≤◌, ◌+◌, ◌++◌, ◌⊎◌, ℕ, zero, suc, List, [], ◌∷◌, length, map, get_or, set, All, Contains, inl, inr, refl, sym, ◌∙◌, ap, subst, arith}
+use Rattle.std.proofs.Common.{◌≡◌, ◌≢◌, ◌<◌, ◌≤◌, ◌+◌, ◌++◌, ◌⊎◌, ℕ, zero, suc, List, [], ◌∷◌, length, map, get_or, set, sum_by, All, inl, inr, refl, sym, ◌∙◌, ap, subst, arith}
 use Rattle.std.proofs.lemmas.Bool.{cases_eq, cases_lt}
 use Rattle.std.proofs.lemmas.List.{get_or-set_other, get_or-set_same, get_or_append_left, get_or_push, get_or_past, get_or_default, length_push, length-set}
+use Rattle.std.proofs.lemmas.List.Sums.{sum_by-set}
 use Rattle.kk_syntax.specs.Types.{TypeTree, unit_type, put, type_at}
 use Rattle.kk_unify.specs.declared.walk.Mark.{Mark}
 use Rattle.kk_unify.specs.declared.walk.Mark.TheVariants.{New, Entered, Numbered}
 use Rattle.kk_unify.specs.Graphs.{NodeTree, Assignment, Holds, Obeys, IsFormed, filled, NoneObeys}
 use Rattle.kk_unify.specs.Joining.{node_at, IsHead}
-use Rattle.kk_unify.specs.Walking.{root_at, AreRoots, IsRooted, size, arguments_of, mark_at, IsDone, number_of, types_so_far, made_type, IsNumbered, Walks, KeepsNumbers}
+use Rattle.kk_unify.specs.Walking.{root_at, AreRoots, IsRooted, size, arguments_of, mark_at, IsDone, number_of, work_of, types_so_far, made_type, IsNumbered, Walks, KeepsNumbers}
 use Rattle.kk_unify.proofs.Obeying.{obeyed_at, formed_at}
 use Rattle.kk_unify.proofs.Rooting.{IsRootOf, root_is, root_of_root, head_is_root}
 use Rattle.kk_unify.proofs.Sizes.{argument_smaller, arguments_formed, made_instance, made_holds, holds_kept}
@@ -72,13 +73,6 @@ mark_set marks i mark lt = get_or-set_same marks i mark New lt
 
 pub mark_other : (marks : List Mark) (i j : ℕ) (mark : Mark) → j ≢ i → mark_at (set marks i mark) j ≡ mark_at marks j
 mark_other marks i j mark other = get_or-set_other marks i j mark New other
-
-pub marked_within : (marks : List Mark) (i : ℕ) (mark : Mark) → mark ≢ New → mark_at marks i ≡ mark → i < length marks
-marked_within marks i mark known is =
-    elim (cases_lt i (length marks)) [
-      | inl lt ↦ lt
-      | inr past ↦ absurd (known (sym is ∙ get_or_past marks i New past))
-    ]
 
 -- numbers are kept where a mark that is none is set
 pub keeps_set : (marks : List Mark) (i : ℕ) (mark : Mark) → ((number : ℕ) → mark_at marks i ≢ Numbered number) → KeepsNumbers marks (set marks i mark)
@@ -158,6 +152,66 @@ module _ (variables : ℕ) (graph : List NodeTree) (roots : List ℕ) (rooted : 
             ];
       }
 
+  -- the last node on the way, and its arguments
+  module _ (marks : List Mark) (trail : List ℕ) (types : List TypeTree) (i : ℕ) (walks : Walks variables graph roots marks (trail ++ (i ∷ [])) types) where
+    last : length trail < length (trail ++ (i ∷ []))
+    last = omega (arith, length_push trail i)
+
+    end : at (trail ++ (i ∷ [])) (length trail) ≡ i
+    end = at_last trail i (length trail) refl
+
+    pub last_within : i < length graph
+    last_within = (let P : ℕ → Type 0 = λ x. x < length graph in subst P end (walks.roots_only (length trail) last).0)
+
+    pub last_root : root_at roots i ≡ i
+    last_root = (let P : ℕ → Type 0 = λ x. root_at roots x ≡ x in subst P end (walks.roots_only (length trail) last).1)
+
+    pub last_head : IsHead (node_at graph i)
+    last_head =
+        let P : ℕ → Type 0 = λ x. IsHead (node_at graph x) in
+        subst P last_root (root_is variables graph roots rooted.formed rooted.rooted i last_within).head
+
+    pub last_entered : mark_at marks i ≡ Entered
+    last_entered = ap (λ n. mark_at marks n) (sym end) ∙ walks.entered (length trail) last
+
+    pub marked_within : i < length marks
+    marked_within =
+        let there = last_within in
+        omega (arith, walks.as_long, there)
+
+    pub left_keeps : (number : ℕ) → KeepsNumbers marks (set marks i (Numbered number))
+    left_keeps number = keeps_set marks i (Numbered number) (λ n is. let both : Numbered n ≡ Entered = sym is ∙ last_entered in cc)
+
+    -- there is less to do once it has a number
+    pub left_less : (number : ℕ) → sum_by work_of (set marks i (Numbered number)) < sum_by work_of marks
+    left_less number =
+        let was : work_of (mark_at marks i) ≡ 1 = ap work_of last_entered in
+        let within = marked_within in
+        omega (arith, sum_by-set work_of marks i (Numbered number) New within, was)
+
+    module _ (k : ℕ) (within : k < length (arguments_of (node_at graph i))) where
+      argument_within : at (arguments_of (node_at graph i)) k < length graph
+      argument_within = arguments_formed variables (length graph) i (node_at graph i) (formed_at variables graph rooted.formed i last_within) k 0 within
+
+      pub child_within : root_at roots (at (arguments_of (node_at graph i)) k) < length graph
+      child_within =
+          let there = argument_within in
+          let below = (root_is variables graph roots rooted.formed rooted.rooted (at (arguments_of (node_at graph i)) k) there).below in
+          omega (arith, there, below)
+
+      pub child_root : root_at roots (root_at roots (at (arguments_of (node_at graph i)) k)) ≡ root_at roots (at (arguments_of (node_at graph i)) k)
+      child_root = root_of_root variables graph roots rooted.formed rooted.rooted (at (arguments_of (node_at graph i)) k) argument_within
+
+  -- a node is entered
+  module _ (marks : List Mark) (i : ℕ) (new : mark_at marks i ≡ New) where
+    pub entered_keeps : KeepsNumbers marks (set marks i Entered)
+    entered_keeps = keeps_set marks i Entered (λ number is. let both : Numbered number ≡ New = sym is ∙ new in cc)
+
+    pub entered_less : i < length marks → sum_by work_of (set marks i Entered) < sum_by work_of marks
+    entered_less within =
+        let was : work_of (mark_at marks i) ≡ 2 = ap work_of new in
+        omega (arith, sum_by-set work_of marks i Entered New within, was)
+
   -- the last node on the way is numbered, if its arguments are
   pub walks_left : (marks : List Mark) (trail : List ℕ) (types : List TypeTree) (i : ℕ) → Walks variables graph roots marks (trail ++ (i ∷ [])) types → All (λ argument. IsDone (length types) (mark_at marks (root_at roots argument))) (arguments_of (node_at graph i)) → Walks variables graph roots (set marks i (Numbered (length types))) trail (types ++ (made_type variables i (map (types_so_far roots marks types) (arguments_of (node_at graph i))) (node_at graph i) ∷ []))
   walks_left marks trail types i walks done =
@@ -169,18 +223,15 @@ module _ (variables : ℕ) (graph : List NodeTree) (roots : List ℕ) (rooted : 
       let longer : length (types ++ (t ∷ [])) ≡ length types + 1 = length_push types t in
       let last : length trail < length (trail ++ (i ∷ [])) = omega (arith, length_push trail i) in
       let end : at (trail ++ (i ∷ [])) (length trail) ≡ i = at_last trail i (length trail) refl in
-      let place = walks.roots_only (length trail) last in
-      let lt : i < length graph = (let P : ℕ → Type 0 = λ x. x < length graph in subst P end place.0) in
-      let root : root_at roots i ≡ i = (let P : ℕ → Type 0 = λ x. root_at roots x ≡ x in subst P end place.1) in
-      let was : mark_at marks i ≡ Entered = ap (λ n. mark_at marks n) (sym end) ∙ walks.entered (length trail) last in
-      let within : i < length marks = omega (arith, walks.as_long, lt) in
+      let lt : i < length graph = last_within marks trail types i walks in
+      let root : root_at roots i ≡ i = last_root marks trail types i walks in
+      let within : i < length marks = marked_within marks trail types i walks in
       let never : (p : ℕ) → p < length trail → at trail p ≢ i = λ p h same.
       walks.apart p (length trail) h last (at_before trail i p h ∙ same ∙ sym end) in
-      let keeps : KeepsNumbers marks after = keeps_set marks i mark (λ number is. let both : Numbered number ≡ Entered = sym is ∙ was in cc) in
+      let keeps : KeepsNumbers marks after = left_keeps marks trail types i walks (length types) in
       let extends = extends_push types t in
       let sub : (p : ℕ) → p < length trail → p < length (trail ++ (i ∷ [])) = λ p h. omega (arith, h, length_push trail i) in
-      let is_root = root_is variables graph roots rooted.formed rooted.rooted i lt in
-      let head : IsHead node = (let P : ℕ → Type 0 = λ x. IsHead (node_at graph x) in subst P root is_root.head) in
+      let head : IsHead node = last_head marks trail types i walks in
       let b = types_so_far roots after (types ++ (t ∷ [])) in
       let here : b i ≡ t =
       ap (λ n. type_at (types ++ (t ∷ [])) (number_of (mark_at after n))) root ∙ ap (λ m. type_at (types ++ (t ∷ [])) (number_of m)) (mark_set marks i mark within) ∙ get_or_push types t unit_type (length types) refl in
@@ -239,8 +290,7 @@ module _ (variables : ℕ) (graph : List NodeTree) (roots : List ℕ) (rooted : 
   falls_on marks trail types i k walks within r obeys p h =
       let last : length trail < length (trail ++ (i ∷ [])) = omega (arith, length_push trail i) in
       let end : at (trail ++ (i ∷ [])) (length trail) ≡ i = at_last trail i (length trail) refl in
-      let place = walks.roots_only (length trail) last in
-      let lt : i < length graph = (let P : ℕ → Type 0 = λ x. x < length graph in subst P end place.0) in
+      let lt : i < length graph = last_within marks trail types i walks in
       let next : size (r (root_at roots (at (arguments_of (node_at graph i)) k))) < size (r i) = next_smaller variables graph roots i k r rooted lt within obeys in
       let whole : size (r (at (trail ++ (i ∷ [])) (length trail))) ≡ size (r i) = ap (λ n. size (r n)) end in
       elim (cases_lt p (length trail)) [

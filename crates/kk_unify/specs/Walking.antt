@@ -27,11 +27,10 @@ pub record AreRoots (graph : List NodeTree) (roots : List ℕ) : Type 0 where
   pub as_long : length roots ≡ length graph
   pub each : (i : ℕ) → i < length graph → HasRoot roots i (node_at graph i)
 
--- a graph is formed, each of its nodes has its root, and each can be a variable of its own
+-- a graph is formed, and each of its nodes has its root
 pub record IsRooted (variables : ℕ) (graph : List NodeTree) (roots : List ℕ) : Type 0 where
   pub formed : IsFormed variables graph
   pub rooted : AreRoots graph roots
-  pub numbered : variables + length graph ≤ 2 ^ 32
 
 -- how large a type is
 abbrev mutual

@@ -44,6 +44,7 @@ pub struct Rooted<'a> {
     pub variables: u32,
     pub nodes: &'a [Node],
     pub roots: Vec<u32>,
+    ghost numbered: { variables + length nodes.now ≤ 2 ^ 32 },
 }
 
 impl Walk {
