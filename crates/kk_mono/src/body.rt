@@ -3,10 +3,9 @@ ghost use Rattle.kk_syntax.specs.Trees.{expr_tree, row_tree, statement_tree};
 ghost use Rattle.kk_mono.specs.Instances.{calls};
 ghost use Rattle.kk_mono.specs.Labels.{left_in, behind, labelled, labelled_each, row_calls, labelled_row, statement_calls, labelled_statement};
 
-use crate::copy::copied_pattern;
 use crate::labels::Labels;
 use kk_base::NoMemory;
-use kk_syntax::{Expr, Row, Statement};
+use kk_syntax::{Expr, Row, Statement, copied_pattern};
 use std::alloc::Global;
 
 /// A copy of an expression whose calls name the instances that they call. The recursion is as deep as the expression.

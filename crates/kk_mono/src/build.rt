@@ -4,12 +4,11 @@ ghost use Rattle.kk_mono.specs.Building.{IsBuiltOf, IsBuilt};
 ghost use Rattle.kk_mono.specs.KeyTrees.{KeyTree, key_tree, keys_in};
 
 use crate::body::labelled;
-use crate::copy::{copied_constructors, copied_declarations};
 use crate::keys::Key;
 use crate::labels::Labels;
 use crate::search::{Found, Looked};
 use kk_base::NoMemory;
-use kk_syntax::{Fun, Ground, Instance, Program};
+use kk_syntax::{Fun, Ground, Instance, Program, copied_constructors, copied_declarations};
 use std::alloc::Global;
 
 /// The instances that have been found, as a program.

@@ -3,7 +3,6 @@
 
 mod body;
 mod build;
-mod copy;
 mod error;
 mod keys;
 mod labels;
