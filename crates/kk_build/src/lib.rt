@@ -4,7 +4,7 @@
 ghost use Rattle.std.specs.Prelude.{IfOk, IfErr};
 ghost use Rattle.kk_base.specs.Sizes.{AreSizes};
 ghost use Rattle.kk_syntax.specs.PositionsOf.{PositionTable};
-ghost use Rattle.kk_syntax.specs.Programs.{program_tree};
+ghost use Rattle.kk_syntax.specs.GroundPrograms.{ground_program};
 ghost use Rattle.kk_syntax.specs.PlainTyping.{IsTyped};
 ghost use Rattle.kk_front.specs.Judgement.{Refuses};
 ghost use Rattle.kk_norm.specs.Normal.{IsWithin};
@@ -18,7 +18,7 @@ use kk_base::{Bytes, NoMemory, Refusal};
 use kk_front::{accepted_programs_are_typed, read};
 use kk_instances::instances_mean_the_program;
 use kk_norm::normal;
-use kk_syntax::Program;
+use kk_syntax::Ground;
 use std::alloc::Global;
 
 /// The bytes of the image of a text, or why the text is not accepted: its first failure.
@@ -41,15 +41,15 @@ pub fn build(alloc: Global, text: &[u8], cells: u32, depth: u32) -> Result<Bytes
 }
 
 /// The file of the image of a program of instances.
-fn file_of(alloc: Global, program: &Program, cells: u32, depth: u32) -> Result<Bytes, NoMemory>
-    requires typed { IsTyped (program_tree program.now) }
-    requires small { IsWithin (program_tree program.now) }
+fn file_of(alloc: Global, given: &Ground, cells: u32, depth: u32) -> Result<Bytes, NoMemory>
+    requires typed { IsTyped (ground_program given.now) }
+    requires small { IsWithin (ground_program given.now) }
     requires sizes { AreSizes cells depth }
     ensures image { IfOk result IsImageFile }
-    ensures agrees { IfOk result (λ file. (positions : PositionTable) → Agrees file (as_run (program_tree program.now) positions cells depth)) }
-    ensures bounded { IfOk result (λ file. (positions : PositionTable) → IsBounded file (as_run (program_tree program.now) positions cells depth)) }
+    ensures agrees { IfOk result (λ file. (positions : PositionTable) → Agrees file (as_run (ground_program given.now) positions cells depth)) }
+    ensures bounded { IfOk result (λ file. (positions : PositionTable) → IsBounded file (as_run (ground_program given.now) positions cells depth)) }
 {
-    let core = normal(alloc, program)?;
+    let core = normal(alloc, given)?;
     let image = image(alloc, &core, cells, depth)?;
     let file = write(alloc, &image)?;
     Ok(file)

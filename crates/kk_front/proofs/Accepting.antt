@@ -7,11 +7,12 @@ use Rattle.kk_syntax.specs.Programs.{ProgramTree}
 use Rattle.kk_syntax.specs.Surface.{WrittenTree}
 use Rattle.kk_syntax.specs.Types.{unit_type}
 use Rattle.kk_syntax.specs.PlainTyping.{signature_of, IsTyped}
-use Rattle.kk_names.specs.Names.{ResolvesAs, HasMain, ResolvedProgramsHaveMain}
-use Rattle.kk_types.specs.Checks.{TypesAs}
+use Rattle.kk_syntax.specs.Typing.{TypesAs}
+use Rattle.kk_names.specs.Names.{ResolvesAs, HasMain, ResolvedProgramsHaveMain, ResolvedProgramsArePlain}
 use Rattle.kk_mono.specs.Counts.{ParametersAs, CountsAs}
 use Rattle.kk_front.specs.Judgement.{ChecksTypes, ChecksProgram, IsProgramOf}
 use Rattle.kk_front.proofs.Chains.{came_through, through_check, through_told_check}
+use Rattle.kk_front.proofs.Plain.{plainly_typed}
 use Rattle.kk_front.proofs.Judging.{OfLength, OfLexemes, OfGrammar, OfNames, OfCounts, FromLexemes, FromGrammar, FromNames, FromTypes}
 
 -- what each judgement found of an accepted program
@@ -38,7 +39,8 @@ main_typed : (program : ProgramTree) → HasMain program → slice_get (map sign
 main_typed program main =
     slice_get-map signature_of program.functions program.main ∙ (ap (option_map signature_of) main.there ∙ ap Some cc)
 
-pub typed : ResolvedProgramsHaveMain → (text : List ℕ) (program : ProgramTree) → IsProgramOf text program → IsTyped program
-typed mains text program h =
+pub typed : ResolvedProgramsHaveMain → ResolvedProgramsArePlain → (text : List ℕ) (program : ProgramTree) → IsProgramOf text program → IsTyped program
+typed mains plain text program h =
     let facts = found text program h in
-    record { functions = facts.types; main = main_typed program (mains facts.tree program facts.resolved) }
+    let is_plain = plain facts.tree program facts.resolved in
+    record { functions = plainly_typed program is_plain facts.types; closed = is_plain.closed; main = main_typed program (mains facts.tree program facts.resolved) }

@@ -11,6 +11,7 @@ use Rattle.kk_syntax.specs.Programs.{FunctionTree, ProgramTree, body_of, no_func
 use Rattle.kk_syntax.specs.Shapes.{nodes_of}
 use Rattle.kk_syntax.specs.TokenList.{TokenList}
 use Rattle.kk_mono.specs.Counts.{too_many_nodes, summed_nodes, PassesFirst, of_function, of_instances, of_program, CountsAs, in_u64}
+use Rattle.kk_mono.specs.Instances.{InstanceTree}
 use Rattle.kk_parser.specs.Parses.{RefusesTokens, in_u32}
 
 front_few : {A : Type 0} (before rest all : List A) → before ++ rest ≡ all → length before ≤ length all
@@ -59,13 +60,14 @@ none_large (g ∷ gs) e f = by (nat_lt 480 (nodes_of g.body)) refl (none_large g
     by false is rest e zero = not_above (nodes_of g.body) is
     by false is rest e (suc k) = rest e k
 
--- the nodes of some of them
-summed_few : (program : ProgramTree) (numbers : List ℕ) → too_many_nodes program.functions ≡ None → summed_nodes program numbers ≤ 480 * length numbers
+-- the nodes of instances
+summed_few : (program : ProgramTree) (instances : List InstanceTree) → too_many_nodes program.functions ≡ None → summed_nodes program instances ≤ 480 * length instances
 summed_few program [] none = omega arith
-summed_few program (f ∷ fs) none =
-    let first : nodes_of (body_of program f) ≤ 480 = none_large program.functions none f in
-    let rest : summed_nodes program fs ≤ 480 * length fs = summed_few program fs none in
-    let sum_is : summed_nodes program (f ∷ fs) ≡ nodes_of (body_of program f) + summed_nodes program fs = sum_by-cons (λ (n : ℕ). n) (nodes_of (body_of program f)) (map (λ (g : ℕ). nodes_of (body_of program g)) fs) in
+summed_few program (instance ∷ instances) none =
+    let nodes : InstanceTree → ℕ = λ one. nodes_of (body_of program one.function) in
+    let first : nodes instance ≤ 480 = none_large program.functions none instance.function in
+    let rest : summed_nodes program instances ≤ 480 * length instances = summed_few program instances none in
+    let sum_is : summed_nodes program (instance ∷ instances) ≡ nodes instance + summed_nodes program instances = sum_by-cons (λ (n : ℕ). n) (nodes instance) (map nodes instances) in
     omega (arith, first, rest, sum_is)
 
 same_limit : (limit passed : Limit) → limit ≡ passed → passed.count < 2 ^ 64 → in_u64 limit ≡ limit
@@ -79,5 +81,5 @@ limit_told program limit few h = by h
   where
     by : PassesFirst program limit → in_u64 limit ≡ limit
     by (of_function {count = count} some is) = same_limit limit _ is (found_few program.functions count few some)
-    by (of_instances {numbers = numbers} none are many is) = same_limit limit _ is (omega arith)
-    by (of_program {numbers = numbers} none are short large is) = same_limit limit _ is (omega (arith, summed_few program numbers none))
+    by (of_instances none principal many is) = same_limit limit _ is (omega arith)
+    by (of_program {instances = instances} none principal are short large is) = same_limit limit _ is (omega (arith, summed_few program instances none))

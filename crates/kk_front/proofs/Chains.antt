@@ -42,8 +42,8 @@ module _ {A B C E : Type 0} (J : A → Result B E → Type 0) (K : B → Result 
       by (stops e x) same = absurd (apart (sym same))
       by (goes_on b outcome x y) same = (b, x, subst (K b) same y)
 
-  pub exactly_then : ExactlyOne (J a) → ((b : B) → ExactlyOne (K b)) → ExactlyOne (Then J K a)
-  exactly_then (Ok b, h) each = let k = each b in (k.0, only_goes_on b k.0 h k.1)
+  pub exactly_then : ExactlyOne (J a) → ((b : B) → J a (Ok b) → ExactlyOne (K b)) → ExactlyOne (Then J K a)
+  exactly_then (Ok b, h) each = let k = each b h.holds in (k.0, only_goes_on b k.0 h k.1)
   exactly_then (Err e, h) each = (Err e, only_stops e h)
 
 module _ {A B E : Type 0} (refusal_of : E → Refusal) (J : A → Result B E → Type 0) (a : A) where
@@ -95,23 +95,25 @@ module _ {A C : Type 0} (K : A → Result C Refusal → Type 0) (a : A) (c : C) 
 -- ---- judgements that come to one thing, and are no want of memory
 
 module _ (wants : Refusal → Bool) where
-  pub record IsSound {A B : Type 0} (J : A → Result B Refusal → Type 0) : Type 0 where
-    pub exactly : (a : A) → ExactlyOne (J a)
-    pub caused : (a : A) (refusal : Refusal) → J a (Err refusal) → wants refusal ≡ false
+  -- `a` comes to one thing
+  pub record IsSound {A B : Type 0} (J : A → Result B Refusal → Type 0) (a : A) : Type 0 where
+    pub exactly : ExactlyOne (J a)
+    pub caused : (refusal : Refusal) → J a (Err refusal) → wants refusal ≡ false
 
-  pub sound_then : {A B C : Type 0} (J : A → Result B Refusal → Type 0) (K : B → Result C Refusal → Type 0) → IsSound J → IsSound K → IsSound (Then J K)
-  sound_then {A} {B} {C} J K first second =
-      record { exactly = λ a. exactly_then J K a (first.exactly a) second.exactly; caused = λ a refusal h. by a h refl }
+  -- the second one needs to come to one thing where the first one passes something on
+  pub sound_then : {A B C : Type 0} (J : A → Result B Refusal → Type 0) (K : B → Result C Refusal → Type 0) (a : A) → IsSound J a → ((b : B) → J a (Ok b) → IsSound K b) → IsSound (Then J K) a
+  sound_then {A} {B} {C} J K a first second =
+      record { exactly = exactly_then J K a first.exactly (λ b h. (second b h).exactly); caused = λ refusal h. by h refl }
     where
-      by : (a : A) {outcome : Result C Refusal} {refusal : Refusal} → Then J K a outcome → outcome ≡ Err refusal → wants refusal ≡ false
-      by a {refusal = refusal} (stops e h) same = ap wants (err_same (sym same)) ∙ first.caused a e h
-      by a {refusal = refusal} (goes_on b outcome x y) same = second.caused b refusal (subst (K b) same y)
+      by : {outcome : Result C Refusal} {refusal : Refusal} → Then J K a outcome → outcome ≡ Err refusal → wants refusal ≡ false
+      by {refusal = refusal} (stops e h) same = ap wants (err_same (sym same)) ∙ first.caused e h
+      by {refusal = refusal} (goes_on b outcome x y) same = (second b x).caused refusal (subst (K b) same y)
 
-  pub sound_told : {A B E : Type 0} (refusal_of : E → Refusal) (J : A → Result B E → Type 0) → ((a : A) → ExactlyOne (J a)) → ((a : A) (error : E) → J a (Err error) → wants (refusal_of error) ≡ false) → IsSound (ToldAs refusal_of J)
-  sound_told refusal_of J exactly caused = record { exactly = λ a. exactly_told refusal_of J a (exactly a); caused = λ a refusal h. ap wants h.1 ∙ caused a h.0 h.2 }
+  pub sound_told : {A B E : Type 0} (refusal_of : E → Refusal) (J : A → Result B E → Type 0) (a : A) → ExactlyOne (J a) → ((error : E) → J a (Err error) → wants (refusal_of error) ≡ false) → IsSound (ToldAs refusal_of J) a
+  sound_told refusal_of J a exactly caused = record { exactly = exactly_told refusal_of J a exactly; caused = λ refusal h. ap wants h.1 ∙ caused h.0 h.2 }
 
-  pub sound_checking : {A : Type 0} (J : A → Result (Unit {0}) Refusal → Type 0) → ((a : A) → ExactlyOne (J a)) → ((a : A) (refusal : Refusal) → J a (Err refusal) → wants refusal ≡ false) → IsSound (Checking J)
-  sound_checking J exactly caused = record { exactly = λ a. exactly_checking J a (exactly a); caused = caused }
+  pub sound_checking : {A : Type 0} (J : A → Result (Unit {0}) Refusal → Type 0) (a : A) → ExactlyOne (J a) → ((refusal : Refusal) → J a (Err refusal) → wants refusal ≡ false) → IsSound (Checking J) a
+  sound_checking J a exactly caused = record { exactly = exactly_checking J a exactly; caused = caused }
 
 -- ---- how far the judgements of a whole have come
 

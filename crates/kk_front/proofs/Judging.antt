@@ -13,11 +13,13 @@ use Rattle.kk_base.specs.declared.limit.Limit.{Limit}
 use Rattle.kk_base.specs.declared.limit.LimitKind.TheVariants.{Source}
 use Rattle.kk_base.specs.declared.refusal.Refusal.{Refusal}
 use Rattle.kk_base.specs.declared.refusal.Refusal.TheVariants as OfText
+use Rattle.kk_syntax.specs.declared.accepted.Accepted.{Accepted}
 use Rattle.kk_syntax.specs.declared.program.Program.{Program}
 use Rattle.kk_syntax.specs.declared.tree.Tree.{Tree}
 use Rattle.kk_syntax.specs.Programs.{FunctionTree, ProgramTree, program_tree}
 use Rattle.kk_syntax.specs.Shapes.{nodes_of}
 use Rattle.kk_syntax.specs.Surface.{WrittenTree, written_declaration, written_tree}
+use Rattle.kk_syntax.specs.Typing.{TypesAs}
 use Rattle.kk_syntax.specs.WrittenNodes.{nodes_in}
 use Rattle.kk_syntax.specs.TokenList.{TokenList}
 use Rattle.kk_lexer.specs.Readings.{IsReadAs, IsReading, UnlessNoMemory, EachTextIsRead}
@@ -27,11 +29,10 @@ use Rattle.kk_names.specs.declared.fault.FaultKind.{FaultKind}
 use Rattle.kk_names.specs.declared.fault.FaultKind.TheVariants.{Twice, Unknown, Arity}
 use Rattle.kk_names.specs.Faults.{error_for}
 use Rattle.kk_names.specs.Names.{ResolvesAs, IsRefusedFor, first_fault, no_main, main_shape, AnswersNames, KeepsNodes, EachTreeIsResolved}
-use Rattle.kk_types.specs.Checks.{TypesAs, EachProgramIsChecked}
+use Rattle.kk_types.specs.Checks.{EachProgramIsChecked, EachTypedProgramHasPrincipalTypes}
 use Rattle.kk_mono.specs.Counts.{ParametersAs, CountsAs, AnswersCounts, EachProgramIsCounted}
 use Rattle.kk_front.specs.Chain.{Then, ToldAs, Checking}
 use Rattle.kk_front.specs.Judgement.{ChecksLength, ChecksTypes, ChecksProgram, JudgedAs, IsProgramOf, Refuses, IsRefusalOf, RefusesProgram, wants_memory, EachTextIsJudged}
-use Rattle.kk_front.specs.declared.accept.AcceptedProgram.{AcceptedProgram}
 use Rattle.kk_front.proofs.Bounds.{fewer, parse_told, limit_told}
 use Rattle.kk_front.proofs.Chains.{err_same, apart, only_told_ok, only_told_err, only_checking_ok, only_checking_err, exactly_checking, IsSound, sound_then, sound_told, sound_checking, LeadsTo, fails_at, passes_to}
 
@@ -145,33 +146,43 @@ no_lexer_wants lexemes t (OfLex.OpenString at) h = refl
 no_lexer_wants lexemes t (OfLex.NumberTooLarge at) h = refl
 no_lexer_wants lexemes t (OfLex.StringTooLong at) h = refl
 
+-- a program whose names are resolved comes to one thing: where it is typed, it has principal types, so its instances count
+module _ (types : EachProgramIsChecked) (principal : EachTypedProgramHasPrincipalTypes) (counts : EachProgramIsCounted) (program : ProgramTree) where
+  sound_counts : TypesAs program (Ok tt) → IsSound wants_memory OfCounts program
+  sound_counts typed =
+      let typings = principal program typed in
+      sound_told wants_memory OfText.Over (Checking CountsAs) program (exactly_checking CountsAs program ((counts program).1 typings.0 typings.1)) (λ limit h. refl)
+
+  sound_types : IsSound wants_memory FromTypes program
+  sound_types =
+      sound_then wants_memory OfTypes OfCounts program
+      (sound_checking wants_memory ChecksTypes program (exactly_typed program (types program)) (λ refusal h. ap wants_memory h.refusal_is))
+      (λ passed h. subst (IsSound wants_memory OfCounts) (sym h.0) (sound_counts h.1))
+
+  sound_program : IsSound wants_memory ChecksProgram program
+  sound_program =
+      sound_then wants_memory OfParameters FromTypes program
+      (sound_told wants_memory OfText.Over (Checking ParametersAs) program (exactly_checking ParametersAs program (counts program).0) (λ limit h. refl))
+      (λ passed h. subst (IsSound wants_memory FromTypes) (sym h.0) sound_types)
+
 -- each text comes to one thing
-pub each_text_is_judged : EachTextIsRead → EachListIsParsed → EachTreeIsResolved → EachProgramIsChecked → EachProgramIsCounted → EachTextIsJudged
-each_text_is_judged lexemes grammar names types counts text = (whole.exactly text, λ refusal h. whole.caused text refusal h)
+pub each_text_is_judged : EachTextIsRead → EachListIsParsed → EachTreeIsResolved → EachProgramIsChecked → EachTypedProgramHasPrincipalTypes → EachProgramIsCounted → EachTextIsJudged
+each_text_is_judged lexemes grammar names types principal counts text = (whole.exactly, whole.caused)
   where
-    parameters : IsSound wants_memory OfParameters
-    parameters = sound_told wants_memory OfText.Over (Checking ParametersAs) (λ program. exactly_checking ParametersAs program (counts program).0) (λ program limit h. refl)
+    named : (tree : WrittenTree) → IsSound wants_memory FromNames tree
+    named tree =
+        sound_then wants_memory OfNames ChecksProgram tree (sound_told wants_memory OfText.Name ResolvesAs tree (names tree) (no_name_wants tree)) (λ program h. sound_program types principal counts program)
 
-    typed : IsSound wants_memory OfTypes
-    typed = sound_checking wants_memory ChecksTypes (λ program. exactly_typed program (types program)) (λ program refusal h. ap wants_memory h.refusal_is)
+    parsed : (tokens : TokenList) → IsSound wants_memory FromGrammar tokens
+    parsed tokens =
+        sound_then wants_memory OfGrammar FromNames tokens (sound_told wants_memory OfText.Parse LaidOutParses tokens (grammar (laid_out_list tokens)) (no_parse_wants (laid_out_list tokens))) (λ tree h. named tree)
 
-    counted : IsSound wants_memory OfCounts
-    counted = sound_told wants_memory OfText.Over (Checking CountsAs) (λ program. exactly_checking CountsAs program (counts program).1) (λ program limit h. refl)
+    lexed : (t : List ℕ) → IsSound wants_memory FromLexemes t
+    lexed t = sound_then wants_memory OfLexemes FromGrammar t (sound_told wants_memory OfText.Lex IsReadAs t (lexemes t).0 (no_lexer_wants lexemes t)) (λ tokens h. parsed tokens)
 
-    checked : IsSound wants_memory ChecksProgram
-    checked = sound_then wants_memory OfParameters FromTypes parameters (sound_then wants_memory OfTypes OfCounts typed counted)
-
-    named : IsSound wants_memory FromNames
-    named = sound_then wants_memory OfNames ChecksProgram (sound_told wants_memory OfText.Name ResolvesAs names no_name_wants) checked
-
-    parsed : IsSound wants_memory FromGrammar
-    parsed = sound_then wants_memory OfGrammar FromNames (sound_told wants_memory OfText.Parse LaidOutParses (λ tokens. grammar (laid_out_list tokens)) (λ tokens. no_parse_wants (laid_out_list tokens))) named
-
-    lexed : IsSound wants_memory FromLexemes
-    lexed = sound_then wants_memory OfLexemes FromGrammar (sound_told wants_memory OfText.Lex IsReadAs (λ t. (lexemes t).0) (no_lexer_wants lexemes)) parsed
-
-    whole : IsSound wants_memory JudgedAs
-    whole = sound_then wants_memory OfLength FromLexemes (sound_told wants_memory OfText.Over (Checking ChecksLength) (λ t. exactly_checking ChecksLength t (exactly_length t)) (λ t limit h. refl)) lexed
+    whole : IsSound wants_memory JudgedAs text
+    whole =
+        sound_then wants_memory OfLength FromLexemes text (sound_told wants_memory OfText.Over (Checking ChecksLength) text (exactly_checking ChecksLength text (exactly_length text)) (λ limit h. refl)) (λ t h. lexed t)
 
 -- ---- a program whose names are resolved
 
@@ -208,13 +219,13 @@ module _ (program : ProgramTree) where
       limit_judged limit h = at_counts.comes (Err (OfText.Over limit)) (passes CountsAs program limit h)
 
 -- a limit as it is answered is the one that the program passes
-pub count_judged : (program : Program) → All (λ function. nodes_of function.body < 2 ^ 64) (program_tree program).functions
-    → IsOnly (ParametersAs (program_tree program)) (Ok tt) → IsOnly (ChecksTypes (program_tree program)) (Ok tt) → (limit : Limit) → AnswersCounts program (Err limit)
-    → IsOnly (ChecksProgram (program_tree program)) (Err (OfText.Over limit))
+pub count_judged : (program : ProgramTree) → All (λ function. nodes_of function.body < 2 ^ 64) program.functions
+    → IsOnly (ParametersAs program) (Ok tt) → IsOnly (ChecksTypes program) (Ok tt) → (limit : Limit) → AnswersCounts program (Err limit)
+    → IsOnly (ChecksProgram program) (Err (OfText.Over limit))
 count_judged program few parameters typed limit h =
-    let P : Limit → Type 0 = λ x. IsOnly (ChecksProgram (program_tree program)) (Err (OfText.Over x)) in
-    let told : h.0 ≡ limit = sym (h.2 ∙ limit_told (program_tree program) h.0 few h.1.holds) in
-    subst P told (limit_judged (program_tree program) parameters typed h.0 h.1)
+    let P : Limit → Type 0 = λ x. IsOnly (ChecksProgram program) (Err (OfText.Over x)) in
+    let told : h.0 ≡ limit = sym (h.2 ∙ limit_told program h.0 few h.1.holds) in
+    subst P told (limit_judged program parameters typed h.0 h.1)
 
 -- ---- a text
 
@@ -280,13 +291,13 @@ module _ (text : List ℕ) where
           at_checks : LeadsTo (JudgedAs text) ChecksProgram (program_tree program)
           at_checks = passes_to at_names (program_tree program) (only_told_ok OfText.Name ResolvesAs (written_tree tree) (program_tree program) resolved)
 
-          pub accepted_judged : (answer : Result AcceptedProgram Refusal) → IfOk answer (λ accepted. accepted.program ≡ program) → OnOk answer (IsOnly (ChecksProgram (program_tree program)) (Ok (program_tree program)))
-              → IfOk answer (λ accepted. IsProgramOf text (program_tree accepted.program))
+          pub accepted_judged : (answer : Result Accepted Refusal) → IfOk answer (λ accepted. program_tree accepted.typed.program ≡ program_tree program) → OnOk answer (IsOnly (ChecksProgram (program_tree program)) (Ok (program_tree program)))
+              → IfOk answer (λ accepted. IsProgramOf text (program_tree accepted.typed.program))
           accepted_judged (Ok accepted) same h =
-              subst (λ (p : Program). IsProgramOf text (program_tree p)) (sym same) (at_checks.comes (Ok (program_tree program)) h)
+              subst (IsProgramOf text) (sym same) (at_checks.comes (Ok (program_tree program)) h)
           accepted_judged (Err refusal) same h = tt
 
-          pub unchecked_judged : (answer : Result AcceptedProgram Refusal) → IfErr answer (RefusesProgram (program_tree program)) → IfErr answer (Refuses text)
+          pub unchecked_judged : (answer : Result Accepted Refusal) → IfErr answer (RefusesProgram (program_tree program)) → IfErr answer (Refuses text)
           unchecked_judged (Ok accepted) h = tt
           unchecked_judged (Err refusal) h = λ e. at_checks.comes (Err refusal) (h e)
 

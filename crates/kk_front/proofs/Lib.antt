@@ -2,3 +2,4 @@ pub mod Accepting
 pub mod Bounds
 pub mod Chains
 pub mod Judging
+pub mod Plain

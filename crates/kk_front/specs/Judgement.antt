@@ -10,11 +10,11 @@ use Rattle.kk_base.specs.declared.limit.LimitKind.TheVariants.{Source}
 use Rattle.kk_base.specs.declared.refusal.Refusal.{Refusal}
 use Rattle.kk_base.specs.declared.refusal.Refusal.TheVariants as OfText
 use Rattle.kk_syntax.specs.Programs.{FunctionTree, ProgramTree}
+use Rattle.kk_syntax.specs.Typing.{TypesAs}
 use Rattle.kk_lexer.specs.Readings.{IsReadAs}
 use Rattle.kk_layout.specs.Layouts.{laid_out_list}
 use Rattle.kk_parser.specs.Parses.{ParsesAs}
 use Rattle.kk_names.specs.Names.{ResolvesAs}
-use Rattle.kk_types.specs.Checks.{TypesAs}
 use Rattle.kk_mono.specs.Counts.{ParametersAs, CountsAs}
 use Rattle.kk_front.specs.Chain.{Then, ToldAs, Checking}
 

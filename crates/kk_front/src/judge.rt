@@ -1,25 +1,27 @@
 ghost use Rattle.std.specs.Prelude.{IfOk, IfErr};
 ghost use Rattle.kk_syntax.specs.Programs.{program_tree};
-ghost use Rattle.kk_mono.specs.Counts.{IsSmall};
-ghost use Rattle.kk_mono.specs.Instances.{IsInstanceProgram};
+ghost use Rattle.kk_syntax.specs.Typing.{ArePrincipal};
+ghost use Rattle.kk_syntax.specs.TypedPrograms.{typings_of};
+ghost use Rattle.kk_mono.specs.Grounds.{AreGiven};
 ghost use Rattle.kk_front.specs.Judgement.{ChecksLength, IsProgramOf, Refuses, EachTextIsJudged};
 
-use crate::accept::{AcceptedProgram, accept};
+use crate::accept::accept;
 use kk_base::{Limit, LimitKind, NoMemory, Refusal};
 use kk_layout::laid_out;
 use kk_lexer::{each_text_is_read, tokens};
 use kk_mono::each_program_is_counted;
 use kk_names::{each_tree_is_resolved, resolve};
 use kk_parser::{each_list_is_parsed, parse};
+use kk_syntax::Accepted;
 use kk_types::each_program_is_checked;
 use std::alloc::Global;
 
-/// The program of a text with its instances, or why the text is not accepted: its first failure.
-pub fn read(alloc: Global, text: &[u8]) -> Result<AcceptedProgram, Refusal>
-    ensures program { IfOk result (λ accepted. IsProgramOf text.now (program_tree accepted.program)) }
-    ensures instances { IfOk result (λ accepted.
-        IsInstanceProgram (program_tree accepted.program) (program_tree accepted.instances)) }
-    ensures small { IfOk result (λ accepted. IsSmall (program_tree accepted.instances)) }
+/// The program of a text with its types and its instances, or why the text is not accepted: its first failure.
+pub fn read(alloc: Global, text: &[u8]) -> Result<Accepted, Refusal>
+    ensures program { IfOk result (λ accepted. IsProgramOf text.now (program_tree accepted.typed.program)) }
+    ensures principal { IfOk result (λ accepted.
+        ArePrincipal (program_tree accepted.typed.program) (typings_of accepted.typed)) }
+    ensures instances { IfOk result (λ accepted. AreGiven accepted.typed accepted.instances) }
     ensures err { IfErr result (Refuses text.now) }
 {
     if let Err(limit) = check_length(text) {

@@ -4,7 +4,7 @@ ghost use Rattle.kk_syntax.specs.PlainTyping.{IsTyped};
 ghost use Rattle.kk_mono.specs.Counts.{ParametersAs, KeepsCounts};
 ghost use Rattle.kk_front.specs.Judgement.{IsProgramOf};
 
-use kk_names::resolved_programs_have_main;
+use kk_names::{resolved_programs_are_plain, resolved_programs_have_main};
 
 /// An accepted program is typed, and keeps each limit: on the parameters and on the nodes of a function, on the number of
 /// its instances, and on their nodes in all. It is a law, and does nothing.
@@ -14,4 +14,5 @@ pub fn accepted_programs_are_typed()
     ensures small { (text : List ℕ) (program : ProgramTree) → IsProgramOf text program → KeepsCounts program }
 {
     resolved_programs_have_main();
+    resolved_programs_are_plain();
 }

@@ -5,6 +5,5 @@ mod accept;
 mod judge;
 mod law;
 
-pub use accept::AcceptedProgram;
 pub use judge::{each_text_is_judged, read};
 pub use law::accepted_programs_are_typed;

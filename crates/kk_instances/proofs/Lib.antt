@@ -1,5 +1,5 @@
+pub mod Called
 pub mod Meaning
-pub mod Numbered
 pub mod Renamed
 pub mod Runs
 pub mod Typed

@@ -1,23 +1,23 @@
 -- The instances of a typed program are typed, and mean what it means.
-use Rattle.std.proofs.Common.{◌≡◌, ℕ, List, [], ◌∷◌, Option, Some, None, map, refl, sym, ap, ◌∙◌, subst, ⊎_elim}
-use Rattle.std.specs.Prelude.{option_map, IsTrue, slice_get, slice_index_or}
-use Rattle.std.proofs.lemmas.Bool.{eq-eqb}
+use Rattle.std.proofs.Common.{◌≡◌, ℕ, List, [], ◌∷◌, Option, Some, None, map, refl, sym, ap, ◌∙◌, subst}
+use Rattle.std.specs.Prelude.{option_map, slice_get, slice_index_or}
 use Rattle.std.proofs.lemmas.Option.{slice_get-map, get_or_from_slice_get}
 use Rattle.kk_base.specs.Machines.{trace, state, ending_after}
 use Rattle.kk_syntax.specs.PositionsOf.{PositionTable}
 use Rattle.kk_syntax.specs.Trees.{Tree}
-use Rattle.kk_syntax.specs.Types.{unit_type}
+use Rattle.kk_syntax.specs.Types.{TypeTree, types_of, type_at}
 use Rattle.kk_syntax.specs.Programs.{FunctionTree, ProgramTree, no_function, body_of}
-use Rattle.kk_syntax.specs.Shapes.{is_among}
-use Rattle.kk_syntax.specs.PlainTyping.{Signature, signature_of, with_parameters, IsFunctionTyped, IsTyped}
+use Rattle.kk_syntax.specs.PlainTyping.{Signature, signature_of, with_parameters, AreClosed, IsClosed, HasClosedTypes, HasType, IsFunctionTyped, IsTyped}
+use Rattle.kk_syntax.specs.Typing.{Choice}
+use Rattle.kk_syntax.proofs.Closed.{put_closed, put_all_closed}
 use Rattle.kk_source.specs.State.{State, call, expression}
 use Rattle.kk_source.specs.SourceAfter.{ending_of, store_machine, first_state}
-use Rattle.kk_mono.specs.Instances.{IsInstance, main_is, called_is, numbered, place_in, instance_of, renamed, IsInstanceProgram}
+use Rattle.kk_mono.specs.Instances.{InstanceTree, main_instance, called_at, calls, renamed, origin_in, IsAtTypes, IsInstanceProgram}
 use Rattle.kk_instances.specs.Meaning.{positions_in, setting_of, MeansTheSame}
 use Rattle.kk_instances.proofs.Renamed.{TreeCalls}
-use Rattle.kk_instances.proofs.Numbered.{placed, stands_among, in_order, from_order}
-use Rattle.kk_instances.proofs.Typed.{tree_calls, tree_typed}
-use Rattle.kk_instances.proofs.Runs.{renamed_state, same_ending, MachineCalls, SameRun, same_run}
+use Rattle.kk_instances.proofs.Called.{IsThere, there_too, each_found, tree_calls}
+use Rattle.kk_instances.proofs.Typed.{tree_typed}
+use Rattle.kk_instances.proofs.Runs.{renamed_state, same_ending, IsAlike, MachineCalls, SameRun, same_run}
 
 -- what is at a place of a list that is made of another
 behind : {A B : Type 0} (made : A → B) (xs : List A) (k : ℕ) (y : B) → slice_get (map made xs) k ≡ Some y → (x : A) × (slice_get xs k ≡ Some x) × (made x ≡ y)
@@ -27,122 +27,167 @@ behind {A} {B} made xs k y is = by_option (slice_get xs k) refl (sym (slice_get-
     by_option None at made_is = absurd (cc)
     by_option (Some x) at made_is = (x, at, cc)
 
--- an instance is a function of the program
-is_function : (program : ProgramTree) (f : ℕ) → IsInstance program f → (function : FunctionTree) × (slice_get program.functions f ≡ Some function)
-is_function program _ (main_is at) = (_, at)
-is_function program _ (called_is caller at among there) = (_, there)
+module _ (program made : ProgramTree) (typings : List (List Choice)) (instances : List InstanceTree) (typed : IsTyped program) (is : IsInstanceProgram program typings instances made) where
+  abbrev origin : ℕ → ℕ
+  origin = origin_in instances
 
-same_signature : (new : ℕ → ℕ) (o : Option FunctionTree) → option_map signature_of (option_map (instance_of new) o) ≡ option_map signature_of o
-same_signature new None = refl
-same_signature new (Some function) = refl
+  -- there is an instance of this number
+  abbrev Is : ℕ → Type 0
+  Is = IsThere instances
 
-module _ (program instances : ProgramTree) (typed : IsTyped program) (is : IsInstanceProgram program instances) where
-  abbrev order : List ℕ
-  order = numbered program is.numbers
+  abbrev signatures : List Signature
+  signatures = map signature_of program.functions
 
-  abbrev new : ℕ → ℕ
-  new = place_in order
+  abbrev made_signatures : List Signature
+  made_signatures = map signature_of made.functions
 
-  abbrev made : ℕ → FunctionTree
-  made f = instance_of new (slice_index_or program.functions f no_function)
+  -- what is known of an instance by its number
+  record IsFound (n : ℕ) (instance : InstanceTree) (found : FunctionTree) : Type 0 where
+    function : FunctionTree
+    there : slice_get program.functions (origin n) ≡ Some function
+    at_types : IsAtTypes instances instance.at (slice_index_or typings instance.function []) function found
+    closed : HasClosedTypes function
+    has : IsFunctionTyped signatures function
 
-  main_function : (function : FunctionTree) × (slice_get program.functions program.main ≡ Some function) × (signature_of function ≡ record { parameters = []; result = unit_type })
-  main_function = behind signature_of program.functions program.main _ typed.main
+  found_at : (n : ℕ) (instance : InstanceTree) (found : FunctionTree) → slice_get instances n ≡ Some instance → slice_get made.functions n ≡ Some found → IsFound n instance found
+  found_at n instance found instance_is found_is =
+      let each = is.each n instance found instance_is found_is in
+      let at : slice_get program.functions (origin n) ≡ Some each.0 =
+      ap (λ (i : InstanceTree). slice_get program.functions i.function) (get_or_from_slice_get instances n instance (main_instance 0) instance_is) ∙ each.1 in
+      record { function = each.0; there = at; at_types = each.2; closed = typed.closed (origin n) each.0 at; has = typed.functions (origin n) each.0 at }
 
-  main_instance : IsInstance program program.main
-  main_instance = main_is main_function.1
+  -- a number of an instance is one of a function, and the other way round
+  function_at : (n : ℕ) → Is n → IsThere made.functions n
+  function_at n instance = there_too instances made.functions n instance.0 (sym is.as_many) instance.1
 
-  in_its_place : (f : ℕ) → IsInstance program f → IsTrue (is_among order f)
-  in_its_place f instance = in_order program is.numbers f (is.are.all f instance)
+  instance_at : (n : ℕ) (found : FunctionTree) → slice_get made.functions n ≡ Some found → Is n
+  instance_at n found at = there_too made.functions instances n found is.as_many at
 
-  is_instance : (f : ℕ) → IsTrue (is_among order f) → IsInstance program f
-  is_instance f among =
-      ⊎_elim (λ (e : program.main ≡ f). subst (IsInstance program) e main_instance) (λ (e : IsTrue (is_among is.numbers f)). is.are.each f e) (from_order program is.numbers f among)
+  bodies : (n : ℕ) (found : FunctionTree) → Is n → slice_get made.functions n ≡ Some found → TreeCalls Is found.body
+  bodies n found instance at =
+      let known = found_at n instance.0 found instance.1 at in
+      tree_calls Is found.body (each_found instances (calls found.body) (called_at instance.0.at (slice_index_or typings instance.0.function [])) known.at_types.called)
 
-  there : (f : ℕ) → IsInstance program f → slice_get instances.functions (new f) ≡ option_map (instance_of new) (slice_get program.functions f)
-  there f instance =
-      let at = is_function program f instance in
-      ap (λ (l : List FunctionTree). slice_get l (new f)) is.functions
-      ∙ (placed made order f (in_its_place f instance)
-      ∙ (ap (λ (function : FunctionTree). Some (instance_of new function)) (get_or_from_slice_get program.functions f at.0 no_function at.1)
-      ∙ sym (ap (option_map (instance_of new)) at.1)))
+  there : (n : ℕ) → Is n → IsAlike program made origin n
+  there n instance =
+      let at = function_at n instance in
+      let known = found_at n instance.0 at.0 instance.1 at.1 in
+      record { function = at.0; is = at.1; other = known.function; other_is = known.there; body = sym known.at_types.body }
 
-  bodies : (f : ℕ) (function : FunctionTree) → IsInstance program f → slice_get program.functions f ≡ Some function → TreeCalls (IsInstance program) function.body
-  bodies f function instance at =
-      tree_calls (map signature_of program.functions) (IsInstance program) function.body (with_parameters 0 function.parameters []) function.result
-      (λ g s among signed. called_is instance at among (behind signature_of program.functions g s signed).1)
-      (typed.functions f function at)
+  -- ---- types
 
-  lent : (table : PositionTable) (f : ℕ) → IsInstance program f → slice_index_or (positions_in order table) (new f) [] ≡ slice_index_or table f []
-  lent table f instance =
-      get_or_from_slice_get (positions_in order table) (new f) (slice_index_or table f []) [] (placed (λ g. slice_index_or table g []) order f (in_its_place f instance))
+  same_parameters : (n : ℕ) (instance : InstanceTree) (found : FunctionTree) (known : IsFound n instance found) → found.parameters ≡ known.function.parameters
+  same_parameters n instance found known = known.at_types.parameters ∙ put_all_closed (type_at instance.at) known.function.parameters known.closed.parameters
 
-  signed : (f : ℕ) (s : Signature) → IsInstance program f → slice_get (map signature_of program.functions) f ≡ Some s → slice_get (map signature_of instances.functions) (new f) ≡ Some s
-  signed f s instance at =
-      slice_get-map signature_of instances.functions (new f)
-      ∙ (ap (option_map signature_of) (there f instance)
-      ∙ (same_signature new (slice_get program.functions f)
-      ∙ (sym (slice_get-map signature_of program.functions f) ∙ at)))
+  same_result : (n : ℕ) (instance : InstanceTree) (found : FunctionTree) (known : IsFound n instance found) → found.result ≡ known.function.result
+  same_result n instance found known = known.at_types.result ∙ put_closed (type_at instance.at) known.function.result known.closed.result
 
-  -- `main` is the first
-  main_first : instances.main ≡ new program.main
-  main_first = is.main ∙ rw (eq-eqb program.main program.main refl) refl
+  signed : (n : ℕ) (s : Signature) → Is n → slice_get signatures (origin n) ≡ Some s → slice_get made_signatures n ≡ Some s
+  signed n s instance at =
+      let there_is = function_at n instance in
+      let known = found_at n instance.0 there_is.0 instance.1 there_is.1 in
+      let parameters = same_parameters n instance.0 there_is.0 known in
+      let result = same_result n instance.0 there_is.0 known in
+      slice_get-map signature_of made.functions n
+      ∙ (ap (option_map signature_of) there_is.1
+      ∙ (ap (λ (ps : List TypeTree). Some (record { parameters = ps; result = there_is.0.result })) parameters
+      ∙ (ap (λ (r : TypeTree). Some (record { parameters = known.function.parameters; result = r })) result
+      ∙ (ap (option_map signature_of) (sym known.there)
+      ∙ (sym (slice_get-map signature_of program.functions (origin n)) ∙ at)))))
 
-  typed_instance : (f : ℕ) → IsInstance program f → IsFunctionTyped (map signature_of instances.functions) (made f)
-  typed_instance f instance =
-      let at = is_function program f instance in
-      rw (get_or_from_slice_get program.functions f at.0 no_function at.1)
-      (tree_typed (map signature_of program.functions) (map signature_of instances.functions) new (IsInstance program) signed at.0.body (with_parameters 0 at.0.parameters []) at.0.result (bodies f at.0 instance at.1) (typed.functions f at.0 at.1))
+  typed_as : (function found : FunctionTree) → found.parameters ≡ function.parameters → found.result ≡ function.result → HasType made_signatures (with_parameters 0 function.parameters []) found.body function.result → IsFunctionTyped made_signatures found
+  typed_as function found parameters result has =
+      subst (λ (ts : List TypeTree). HasType made_signatures (with_parameters 0 ts []) found.body found.result) (sym parameters)
+      (subst (HasType made_signatures (with_parameters 0 function.parameters []) found.body) (sym result) has)
 
-  typed_functions : (k : ℕ) (function : FunctionTree) → slice_get instances.functions k ≡ Some function → IsFunctionTyped (map signature_of instances.functions) function
-  typed_functions k function at =
-      let from = behind made order k function (ap (λ (l : List FunctionTree). slice_get l k) (sym is.functions) ∙ at) in
-      subst (IsFunctionTyped (map signature_of instances.functions)) from.2 (typed_instance from.0 (is_instance from.0 (stands_among order k from.0 from.1)))
+  typed_functions : (n : ℕ) (found : FunctionTree) → slice_get made.functions n ≡ Some found → IsFunctionTyped made_signatures found
+  typed_functions n found at =
+      let instance = instance_at n found at in
+      let known = found_at n instance.0 found instance.1 at in
+      typed_as known.function found (same_parameters n instance.0 found known) (same_result n instance.0 found known)
+      (tree_typed signatures made_signatures origin Is signed found.body (with_parameters 0 known.function.parameters []) known.function.result (bodies n found instance at)
+      (subst (λ (body : Tree). HasType signatures (with_parameters 0 known.function.parameters []) body known.function.result) (sym known.at_types.body) known.has))
 
-  same_body : body_of instances instances.main ≡ renamed new (body_of program program.main)
+  closed_functions : (n : ℕ) (found : FunctionTree) → slice_get made.functions n ≡ Some found → HasClosedTypes found
+  closed_functions n found at =
+      let instance = instance_at n found at in
+      let known = found_at n instance.0 found instance.1 at in
+      record {
+        variables = known.at_types.no_variables;
+        parameters = subst (λ (ts : List TypeTree). AreClosed (types_of ts)) (sym (same_parameters n instance.0 found known)) known.closed.parameters;
+        result = subst IsClosed (sym (same_result n instance.0 found known)) known.closed.result;
+      }
+
+  -- ---- `main`
+
+  main_is : slice_get instances made.main ≡ Some (main_instance program.main)
+  main_is = ap (slice_get instances) is.main ∙ ap (λ (l : List InstanceTree). slice_get l 0) is.are.begins
+
+  is_main : Is made.main
+  is_main = (main_instance program.main, main_is)
+
+  main_first : origin made.main ≡ program.main
+  main_first = ap (λ (i : InstanceTree). i.function) (get_or_from_slice_get instances made.main (main_instance program.main) (main_instance 0) main_is)
+
+  main_alike : IsAlike program made origin made.main
+  main_alike = there made.main is_main
+
+  same_body : body_of program program.main ≡ renamed origin (body_of made made.main)
   same_body =
-      let at = main_function in
-      let found : slice_get instances.functions instances.main ≡ Some (instance_of new at.0) = ap (slice_get instances.functions) main_first ∙ (there program.main main_instance ∙ ap (option_map (instance_of new)) at.1) in
-      ap (λ (function : FunctionTree). function.body) (get_or_from_slice_get instances.functions instances.main (instance_of new at.0) no_function found)
-      ∙ sym (ap (λ (function : FunctionTree). renamed new function.body) (get_or_from_slice_get program.functions program.main at.0 no_function at.1))
+      let alike = main_alike in
+      ap (λ (function : FunctionTree). function.body) (get_or_from_slice_get program.functions program.main alike.other no_function (ap (slice_get program.functions) (sym main_first) ∙ alike.other_is))
+      ∙ (alike.body ∙ sym (ap (λ (function : FunctionTree). renamed origin function.body) (get_or_from_slice_get made.functions made.main alike.function no_function alike.is)))
+
+  -- ---- runs
+
+  lent : (table : PositionTable) (n : ℕ) → Is n → slice_index_or table (origin n) [] ≡ slice_index_or (positions_in instances table) n []
+  lent table n instance =
+      let at : slice_get (positions_in instances table) n ≡ Some (slice_index_or table instance.0.function []) =
+      slice_get-map (λ (i : InstanceTree). slice_index_or table i.function []) instances n ∙ ap (option_map (λ (i : InstanceTree). slice_index_or table i.function [])) instance.1 in
+      ap (λ (i : InstanceTree). slice_index_or table i.function []) (get_or_from_slice_get instances n instance.0 (main_instance 0) instance.1)
+      ∙ sym (get_or_from_slice_get (positions_in instances table) n (slice_index_or table instance.0.function []) [] at)
 
   module _ (table : PositionTable) (cells depth : ℕ) (input : List ℕ) where
     abbrev begins : State
     begins = first_state (setting_of program table cells depth) input
 
     abbrev instances_begin : State
-    instances_begin = first_state (setting_of instances (positions_in order table) cells depth) input
+    instances_begin = first_state (setting_of made (positions_in instances table) cells depth) input
 
-    same_start : instances_begin ≡ renamed_state new begins
+    same_start : begins ≡ renamed_state origin instances_begin
     same_start = ap (λ (body : Tree). record { machine = record { control = expression body []; frames = call [] ∷ []; store = [] }; input = input }) same_body
 
-    start_calls : MachineCalls (IsInstance program) begins.machine
+    start_calls : MachineCalls Is instances_begin.machine
     start_calls = record {
       control =
-          let at = main_function in
-          subst (λ (function : FunctionTree). TreeCalls (IsInstance program) function.body) (sym (get_or_from_slice_get program.functions program.main at.0 no_function at.1)) (bodies program.main at.0 main_instance at.1);
+          let alike = main_alike in
+          subst (λ (function : FunctionTree). TreeCalls Is function.body) (sym (get_or_from_slice_get made.functions made.main alike.function no_function alike.is)) (bodies made.main alike.function is_main alike.is);
       frames = (tt, tt);
     }
 
-    both : (n : ℕ) → SameRun program instances table (positions_in order table) cells depth new (IsInstance program) there bodies (lent table) n begins
-    both n = same_run program instances table (positions_in order table) cells depth new (IsInstance program) there bodies (lent table) n begins start_calls
+    both : (n : ℕ) → SameRun program made (positions_in instances table) table cells depth origin Is there bodies (lent table) n instances_begin
+    both n = same_run program made (positions_in instances table) table cells depth origin Is there bodies (lent table) n instances_begin start_calls
 
-    same_trace : (n : ℕ) → trace (store_machine (setting_of instances (positions_in order table) cells depth)) n instances_begin ≡ trace (store_machine (setting_of program table cells depth)) n begins
-    same_trace n = ap (trace (store_machine (setting_of instances (positions_in order table) cells depth)) n) same_start ∙ (both n).trace_is
+    same_trace : (n : ℕ) → trace (store_machine (setting_of made (positions_in instances table) cells depth)) n instances_begin ≡ trace (store_machine (setting_of program table cells depth)) n begins
+    same_trace n = sym (ap (trace (store_machine (setting_of program table cells depth)) n) same_start ∙ (both n).trace_is)
 
-    same_end : (n : ℕ) → ending_after (store_machine (setting_of instances (positions_in order table) cells depth)) n instances_begin ≡ ending_after (store_machine (setting_of program table cells depth)) n begins
+    same_end : (n : ℕ) → ending_after (store_machine (setting_of made (positions_in instances table) cells depth)) n instances_begin ≡ ending_after (store_machine (setting_of program table cells depth)) n begins
     same_end n =
-        ap (ending_after (store_machine (setting_of instances (positions_in order table) cells depth)) n) same_start
-        ∙ (ap ending_of (both n).state_is ∙ same_ending new (state (store_machine (setting_of program table cells depth)) n begins))
+        sym (ap (ending_after (store_machine (setting_of program table cells depth)) n) same_start
+        ∙ (ap ending_of (both n).state_is ∙ same_ending origin (state (store_machine (setting_of made (positions_in instances table) cells depth)) n instances_begin)))
 
-  pub means_the_same : MeansTheSame program instances
+  pub means_the_same : MeansTheSame program made
   means_the_same = record {
     typed = record {
       functions = typed_functions;
-      main = ap (slice_get (map signature_of instances.functions)) main_first ∙ signed program.main _ main_instance typed.main;
+      closed = closed_functions;
+      main = signed made.main _ is_main (ap (slice_get signatures) main_first ∙ typed.main);
     };
-    positions = positions_in order;
-    positions_are = (is.numbers, is.are, λ table. refl);
+    typings = typings;
+    instances = instances;
+    are = is;
+    positions = positions_in instances;
+    positions_are = λ table. refl;
     traces = same_trace;
     endings = same_end;
   }

@@ -1,6 +1,6 @@
--- Runs of a program and of its instances, side by side: at each step the one is at what the other is at, with calls by the
--- new numbers.
-use Rattle.std.proofs.Common.{◌≡◌, ℕ, zero, suc, Bool, true, false, List, [], ◌∷◌, ◌++◌, Option, Some, None, map, refl, sym, ap, ◌∙◌}
+-- Runs of a program's instances and of the program, side by side: at each step the program is at what the instances are at,
+-- where each call names a function by its number there.
+use Rattle.std.proofs.Common.{◌≡◌, ℕ, zero, suc, Bool, true, false, List, [], ◌∷◌, ◌++◌, Option, Some, None, map, refl, sym, ap, ◌∙◌, subst}
 use Rattle.std.specs.Prelude.{option_map, nat_le, if◌then◌else◌, slice_get, slice_index_or}
 use Rattle.std.specs.Fmt.{signed_decimal}
 use Rattle.kk_base.specs.Machines.{step_unless, trace, state}
@@ -16,10 +16,10 @@ use Rattle.kk_source.specs.State.{Setting, Value, Store, Environment, Frame, arg
 use Rattle.kk_source.specs.Notes.{Note}
 use Rattle.kk_source.specs.Live.{value_of, held, held_by_all, live}
 use Rattle.kk_source.specs.Matching.{Chosen, matched, chosen_or, first_match}
-use Rattle.kk_source.specs.Step.{Action, goes, puts, takes, builds, calls, at_expression, at_end, at_new_place, in_body, is_true, piece_of, print_step, argument, integer_of, lent_places, call_frames, construct_step, push_step, call_step, form_step, expression_step, choice_step, value_step, step_at, step_of}
+use Rattle.kk_source.specs.Step.{Action, goes, puts, takes, builds, calls, at_expression, at_end, at_new_place, is_true, piece_of, print_step, argument, integer_of, lent_places, bind_parameters, call_frames, construct_step, push_step, call_step, form_step, expression_step, choice_step, value_step, step_at, step_of}
 use Rattle.kk_source.specs.SourceAfter.{performed, step, ending_of, store_machine}
 use Rattle.kk_source.proofs.Sound.{LeadsTo}
-use Rattle.kk_mono.specs.Instances.{renamed, renamed_all, renamed_rows, renamed_form, instance_of}
+use Rattle.kk_mono.specs.Instances.{renamed, renamed_all, renamed_rows, renamed_form}
 use Rattle.kk_instances.specs.Meaning.{setting_of}
 use Rattle.kk_instances.proofs.Renamed.{FormCalls, TreeCalls, TreesCall, RowsCall, same_free, same_free_all, same_free_rows}
 
@@ -161,14 +161,22 @@ same_performed new (calls found to) input = refl
 
 -- ---- the steps
 
--- The functions with the property are there under their new numbers, their bodies call only functions with the property,
--- and their positions are lent alike.
-module _ (program instances : ProgramTree) (table other : PositionTable) (cells depth : ℕ) (new : ℕ → ℕ) (P : ℕ → Type 0) (there : (f : ℕ) → P f → slice_get instances.functions (new f) ≡ option_map (instance_of new) (slice_get program.functions f)) (bodies : (f : ℕ) (function : FunctionTree) → P f → slice_get program.functions f ≡ Some function → TreeCalls P function.body) (lent : (f : ℕ) → P f → slice_index_or other (new f) [] ≡ slice_index_or table f []) where
+-- a function of each program, whose bodies differ in the numbers of their calls alone
+pub record IsAlike (program instances : ProgramTree) (new : ℕ → ℕ) (f : ℕ) : Type 0 where
+  pub function : FunctionTree
+  pub is : slice_get instances.functions f ≡ Some function
+  pub other : FunctionTree
+  pub other_is : slice_get program.functions (new f) ≡ Some other
+  pub body : other.body ≡ renamed new function.body
+
+-- The functions with the property are there under both numbers, their bodies call only functions with the property, and
+-- their positions are lent alike.
+module _ (program instances : ProgramTree) (table other : PositionTable) (cells depth : ℕ) (new : ℕ → ℕ) (P : ℕ → Type 0) (there : (f : ℕ) → P f → IsAlike program instances new f) (bodies : (f : ℕ) (function : FunctionTree) → P f → slice_get instances.functions f ≡ Some function → TreeCalls P function.body) (lent : (f : ℕ) → P f → slice_index_or other (new f) [] ≡ slice_index_or table f []) where
   abbrev old_setting : Setting
-  old_setting = setting_of program table cells depth
+  old_setting = setting_of instances table cells depth
 
   abbrev new_setting : Setting
-  new_setting = setting_of instances other cells depth
+  new_setting = setting_of program other cells depth
 
   -- both do the same, and what comes then calls only functions with the property
   record Follows (a b : Action) : Type 0 where
@@ -189,31 +197,42 @@ module _ (program instances : ProgramTree) (table other : PositionTable) (cells 
       }
 
   -- the machine that a call pushes a frame in, with the positions that its function lends
-  abbrev pushed : FunctionTree → List Value → List Frame → Configuration → List Ownership → Configuration
-  pushed function vs older from lending = in_body function vs (record from { frames = call (lent_places (λ i. lends (slice_index_or lending i Owned)) 0 vs) ∷ older })
+  abbrev pushed : Tree → List Value → List Frame → Configuration → List Ownership → Configuration
+  pushed body vs older from lending = at_expression body (bind_parameters 0 vs []) (record from { frames = call (lent_places (λ i. lends (slice_index_or lending i Owned)) 0 vs) ∷ older })
 
-  push_follows : (f : ℕ) (function : FunctionTree) (vs : List Value) (older : List Frame) (from : Configuration) → P f → TreeCalls P function.body → FramesCall P older → MachineCalls P from → Follows (push_step new_setting (new f) (instance_of new function) vs (renamed_frames new older) (renamed_machine new from)) (push_step old_setting f function vs older from)
-  push_follows f function vs older from instance body frames machine =
+  push_follows : (f : ℕ) (function made : FunctionTree) (vs : List Value) (older : List Frame) (from : Configuration) → P f → made.body ≡ renamed new function.body → TreeCalls P function.body → FramesCall P older → MachineCalls P from → Follows (push_step new_setting (new f) made vs (renamed_frames new older) (renamed_machine new from)) (push_step old_setting f function vs older from)
+  push_follows f function made vs older from instance same body frames machine =
       let found = call_frames older in
       let lending = slice_index_or table f [] in
       record {
         is =
-            ap (λ (row : List Ownership). calls (call_frames (renamed_frames new older)) (if nat_le depth (call_frames (renamed_frames new older)) then at_end stack_full (renamed_machine new from) else pushed (instance_of new function) vs (renamed_frames new older) (renamed_machine new from) row)) (lent f instance)
-            ∙ (ap (λ (n : ℕ). calls n (if nat_le depth n then at_end stack_full (renamed_machine new from) else pushed (instance_of new function) vs (renamed_frames new older) (renamed_machine new from) lending)) (same_call_frames new older)
-            ∙ ap (calls found) (same_test new (nat_le depth found) (at_end stack_full from) (pushed function vs older from lending)));
+            ap (λ (row : List Ownership). calls (call_frames (renamed_frames new older)) (if nat_le depth (call_frames (renamed_frames new older)) then at_end stack_full (renamed_machine new from) else pushed made.body vs (renamed_frames new older) (renamed_machine new from) row)) (lent f instance)
+            ∙ (ap (λ (n : ℕ). calls n (if nat_le depth n then at_end stack_full (renamed_machine new from) else pushed made.body vs (renamed_frames new older) (renamed_machine new from) lending)) (same_call_frames new older)
+            ∙ (ap (λ (b : Tree). calls found (if nat_le depth found then at_end stack_full (renamed_machine new from) else pushed b vs (renamed_frames new older) (renamed_machine new from) lending)) same
+            ∙ ap (calls found) (same_test new (nat_le depth found) (at_end stack_full from) (pushed function.body vs older from lending))));
         only =
-            test_calls P (nat_le depth found) (at_end stack_full from) (pushed function vs older from lending)
+            test_calls P (nat_le depth found) (at_end stack_full from) (pushed function.body vs older from lending)
             (record { control = tt; frames = machine.frames }) (record { control = body; frames = (tt, frames) });
       }
 
-  call_follows : (f : ℕ) (function : Option FunctionTree) (vs : List Value) (older : List Frame) (from : Configuration) → P f → slice_get program.functions f ≡ function → FramesCall P older → MachineCalls P from → Follows (call_step new_setting (new f) (option_map (instance_of new) function) vs (renamed_frames new older) (renamed_machine new from)) (call_step old_setting f function vs older from)
-  call_follows f None vs older from instance at frames machine = record { is = refl; only = machine }
-  call_follows f (Some function) vs (call lent ∷ older) from instance at frames machine = record { is = refl; only = record { control = bodies f function instance at; frames = frames } }
-  call_follows f (Some function) vs [] from instance at frames machine = push_follows f function vs [] from instance (bodies f function instance at) frames machine
-  call_follows f (Some function) vs (arguments form values left environment ∷ older) from instance at frames machine = push_follows f function vs (arguments form values left environment ∷ older) from instance (bodies f function instance at) frames machine
-  call_follows f (Some function) vs (branches positive negative environment ∷ older) from instance at frames machine = push_follows f function vs (branches positive negative environment ∷ older) from instance (bodies f function instance at) frames machine
-  call_follows f (Some function) vs (rows of environment ∷ older) from instance at frames machine = push_follows f function vs (rows of environment ∷ older) from instance (bodies f function instance at) frames machine
-  call_follows f (Some function) vs (statement awaited rest environment ∷ older) from instance at frames machine = push_follows f function vs (statement awaited rest environment ∷ older) from instance (bodies f function instance at) frames machine
+  entry_follows : (f : ℕ) (function made : FunctionTree) (vs : List Value) (older : List Frame) (from : Configuration) → P f → made.body ≡ renamed new function.body → TreeCalls P function.body → FramesCall P older → MachineCalls P from → Follows (call_step new_setting (new f) (Some made) vs (renamed_frames new older) (renamed_machine new from)) (call_step old_setting f (Some function) vs older from)
+  entry_follows f function made vs (call lent ∷ older) from instance same body frames machine = record {
+    is = ap (λ (b : Tree). goes (at_expression b (bind_parameters 0 vs []) (renamed_machine new (record from { frames = call lent ∷ older })))) same;
+    only = record { control = body; frames = frames };
+  }
+  entry_follows f function made vs [] from instance same body frames machine = push_follows f function made vs [] from instance same body frames machine
+  entry_follows f function made vs (arguments form values left environment ∷ older) from instance same body frames machine = push_follows f function made vs (arguments form values left environment ∷ older) from instance same body frames machine
+  entry_follows f function made vs (branches positive negative environment ∷ older) from instance same body frames machine = push_follows f function made vs (branches positive negative environment ∷ older) from instance same body frames machine
+  entry_follows f function made vs (rows of environment ∷ older) from instance same body frames machine = push_follows f function made vs (rows of environment ∷ older) from instance same body frames machine
+  entry_follows f function made vs (statement awaited rest environment ∷ older) from instance same body frames machine = push_follows f function made vs (statement awaited rest environment ∷ older) from instance same body frames machine
+
+  call_follows : (f : ℕ) (vs : List Value) (older : List Frame) (from : Configuration) → P f → FramesCall P older → MachineCalls P from → Follows (call_step new_setting (new f) (slice_get program.functions (new f)) vs (renamed_frames new older) (renamed_machine new from)) (call_step old_setting f (slice_get instances.functions f) vs older from)
+  call_follows f vs older from instance frames machine =
+      let alike = there f instance in
+      let at_functions : Option FunctionTree → Option FunctionTree → Type 0 = λ one another. Follows (call_step new_setting (new f) one vs (renamed_frames new older) (renamed_machine new from)) (call_step old_setting f another vs older from) in
+      subst (λ (o : Option FunctionTree). at_functions o (slice_get instances.functions f)) (sym alike.other_is)
+      (subst (at_functions (Some alike.other)) (sym alike.is)
+      (entry_follows f alike.function alike.other vs older from instance alike.body (bodies f alike.function instance alike.is) frames machine))
 
   print_follows : (piece : List ℕ) (older : List Frame) (from : Configuration) → FramesCall P older → Follows (print_step piece (renamed_machine new (record from { frames = older }))) (print_step piece (record from { frames = older }))
   print_follows [] older from frames = record { is = refl; only = record { control = tt; frames = frames } }
@@ -224,12 +243,7 @@ module _ (program instances : ProgramTree) (table other : PositionTable) (cells 
   form_follows (Binary operator) vs older from only frames machine = record { is = refl; only = record { control = tt; frames = frames } }
   form_follows (Print form) vs older from only frames machine = print_follows (piece_of form (signed_decimal (integer_of (argument 0 vs)))) older from frames
   form_follows (Construct c) vs older from only frames machine = construct_follows c vs older from frames machine
-  form_follows (Call f) vs older from only frames machine =
-      let follows = call_follows f (slice_get program.functions f) vs older from only refl frames machine in
-      record {
-        is = ap (λ (function : Option FunctionTree). call_step new_setting (new f) function vs (renamed_frames new older) (renamed_machine new from)) (there f only) ∙ follows.is;
-        only = follows.only;
-      }
+  form_follows (Call f) vs older from only frames machine = call_follows f vs older from only frames machine
 
   expression_follows : (e : Tree) (environment : Environment) (c : Configuration) → TreeCalls P e → MachineCalls P c → Follows (expression_step new_setting (renamed new e) environment (renamed_machine new c)) (expression_step old_setting e environment c)
   expression_follows (number n) environment c only machine = record { is = refl; only = record { control = tt; frames = machine.frames } }

@@ -4,13 +4,14 @@ use Rattle.kk_base.specs.Machines.{trace, ending_after}
 use Rattle.kk_syntax.specs.Programs.{ProgramTree}
 use Rattle.kk_syntax.specs.PositionsOf.{PositionTable}
 use Rattle.kk_syntax.specs.PlainTyping.{IsTyped}
+use Rattle.kk_syntax.specs.Typing.{Choice}
 use Rattle.kk_source.specs.State.{Setting}
 use Rattle.kk_source.specs.SourceAfter.{store_machine, first_state}
-use Rattle.kk_mono.specs.Instances.{AreInstances, numbered}
+use Rattle.kk_mono.specs.Instances.{InstanceTree, IsInstanceProgram}
 
 -- the positions of instances, in their order: those of the functions that they are
-abbrev pub positions_in : List ℕ → PositionTable → PositionTable
-positions_in order table = map (λ f. slice_index_or table f []) order
+abbrev pub positions_in : List InstanceTree → PositionTable → PositionTable
+positions_in instances table = map (λ instance. slice_index_or table instance.function []) instances
 
 -- a program as it is run, with these positions lent, on so many cells and with such a depth
 abbrev pub setting_of : ProgramTree → PositionTable → ℕ → ℕ → Setting
@@ -20,9 +21,12 @@ setting_of program table cells depth = record { program = program; positions = t
 -- each instance has those of the function that it is. Then the instances do what the program does, on every input, with
 -- every number of cells and every depth: after each number of steps they have told the same, also of live places and of
 -- call frames, and have ended alike.
-pub record MeansTheSame (program instances : ProgramTree) : Type 0 where
-  pub typed : IsTyped instances
+pub record MeansTheSame (program made : ProgramTree) : Type 0 where
+  pub typed : IsTyped made
+  pub typings : List (List Choice)
+  pub instances : List InstanceTree
+  pub are : IsInstanceProgram program typings instances made
   pub positions : PositionTable → PositionTable
-  pub positions_are : (numbers : List ℕ) × AreInstances program numbers × ((table : PositionTable) → positions table ≡ positions_in (numbered program numbers) table)
-  pub traces : (table : PositionTable) (cells depth : ℕ) (input : List ℕ) (n : ℕ) → trace (store_machine (setting_of instances (positions table) cells depth)) n (first_state (setting_of instances (positions table) cells depth) input) ≡ trace (store_machine (setting_of program table cells depth)) n (first_state (setting_of program table cells depth) input)
-  pub endings : (table : PositionTable) (cells depth : ℕ) (input : List ℕ) (n : ℕ) → ending_after (store_machine (setting_of instances (positions table) cells depth)) n (first_state (setting_of instances (positions table) cells depth) input) ≡ ending_after (store_machine (setting_of program table cells depth)) n (first_state (setting_of program table cells depth) input)
+  pub positions_are : (table : PositionTable) → positions table ≡ positions_in instances table
+  pub traces : (table : PositionTable) (cells depth : ℕ) (input : List ℕ) (n : ℕ) → trace (store_machine (setting_of made (positions table) cells depth)) n (first_state (setting_of made (positions table) cells depth) input) ≡ trace (store_machine (setting_of program table cells depth)) n (first_state (setting_of program table cells depth) input)
+  pub endings : (table : PositionTable) (cells depth : ℕ) (input : List ℕ) (n : ℕ) → ending_after (store_machine (setting_of made (positions table) cells depth)) n (first_state (setting_of made (positions table) cells depth) input) ≡ ending_after (store_machine (setting_of program table cells depth)) n (first_state (setting_of program table cells depth) input)

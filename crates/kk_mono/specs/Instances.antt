@@ -1,17 +1,60 @@
--- The instances of a program without type variables: `main`, and each function that is called in the body of one.
-use Rattle.std.specs.Prelude.{◌≡◌, ℕ, ◌+◌, ◌<◌, Bool, true, false, not, ◌==◌, if◌then◌else◌, List, [], ◌∷◌, ◌++◌, map, filter, Some, slice_get, slice_index_or, IsTrue}
+-- The instances of a program: `main`, and each function that is called in the body of one, at the types that stand for its
+-- type variables there.
+use Rattle.std.specs.Prelude.{◌≡◌, ℕ, List, [], ◌∷◌, ◌++◌, map, flat_map, length, All, Contains, Some, slice_get, slice_index_or}
 use Rattle.kk_syntax.specs.declared.program.Form.{Form}
-use Rattle.kk_syntax.specs.declared.program.Form.TheVariants.{Unary, Binary, Print, Construct, Call}
+use Rattle.kk_syntax.specs.declared.program.Form.TheVariants.{Call}
 use Rattle.kk_syntax.specs.Trees.{Tree, number, unit, variable, read_byte, print_text, apply, branch, match, sequence, Trees, no_tree, tree, Rows, no_row, row}
-use Rattle.kk_syntax.specs.Programs.{FunctionTree, ProgramTree, no_function}
-use Rattle.kk_syntax.specs.Shapes.{is_among}
+use Rattle.kk_syntax.specs.Types.{TypeTree, put, type_at}
+use Rattle.kk_syntax.specs.Typing.{Choice, constructing, calling, holding}
+use Rattle.kk_syntax.specs.Programs.{FunctionTree, ProgramTree}
+
+-- a function by its number, at types without variables
+pub record InstanceTree : Type 0 where
+  pub function : ℕ
+  pub at : List TypeTree
+
+-- `main` has no type variables
+abbrev pub main_instance : ℕ → InstanceTree
+main_instance main = record { function = main; at = [] }
+
+-- The instances that a body calls, in the order of the text, where types stand for the variables of its function. A
+-- variable that remains open stands for `()`.
+abbrev pub called_at : List TypeTree → List Choice → List InstanceTree
+called_at ts [] = []
+called_at ts (constructing by at ∷ choices) = called_at ts choices
+called_at ts (calling function at ∷ choices) = record { function = function; at = map (put (type_at ts)) at } ∷ called_at ts choices
+called_at ts (holding of ∷ choices) = called_at ts choices
+
+-- the instances that are called in the body of an instance, by the typings of all functions
+abbrev pub called_in : List (List Choice) → InstanceTree → List InstanceTree
+called_in typings instance = called_at instance.at (slice_index_or typings instance.function [])
+
+-- what is an instance: `main`, and what is called in the body of an instance
+pub data IsInstance (main : ℕ) (typings : List (List Choice)) : InstanceTree → Type 0 where
+  main_is : IsInstance main typings (main_instance main)
+  called_is : {caller called : InstanceTree} → IsInstance main typings caller → Contains (called_in typings caller) called → IsInstance main typings called
+
+-- which of some things are seen for the first time, in their order, where others have been seen before
+pub data FirstSights {X : Type 0} : List X → List X → List X → Type 0 where
+  none_left : {seen : List X} → FirstSights seen [] []
+  again : {seen : List X} {x : X} {xs new : List X} → Contains seen x → FirstSights seen xs new → FirstSights seen (x ∷ xs) new
+  new_one : {seen : List X} {x : X} {xs new : List X} → ¬ Contains seen x → FirstSights (seen ++ (x ∷ [])) xs new → FirstSights seen (x ∷ xs) (x ∷ new)
+
+-- These are all instances, each once, in the order of first sight: `main` first, then those that its body calls, those
+-- that the body of the second one calls, and so on.
+pub record AreInstances (main : ℕ) (typings : List (List Choice)) (instances : List InstanceTree) : Type 0 where
+  pub others : List InstanceTree
+  pub begins : instances ≡ main_instance main ∷ others
+  pub in_order : FirstSights (main_instance main ∷ []) (flat_map (called_in typings) instances) others
+  pub each : All (IsInstance main typings) instances
+  pub all : (instance : InstanceTree) → IsInstance main typings instance → Contains instances instance
 
 -- the function that a form calls
 abbrev pub called_by : Form → List ℕ
 called_by (Call function) = function ∷ []
 called_by _ = []
 
--- the functions that an expression calls, as often as it does
+-- the functions that an expression calls, as often as it does, in the order of the text
 abbrev mutual
   pub calls : Tree → List ℕ
   calls (number value) = []
@@ -32,32 +75,7 @@ abbrev mutual
   calls_of_rows no_row = []
   calls_of_rows (row pattern body rest) = calls body ++ calls_of_rows rest
 
--- a function, by its number, is an instance: it is `main`, or it is called in the body of an instance
-pub data IsInstance (program : ProgramTree) : ℕ → Type 0 where
-  main_is : {function : FunctionTree} → slice_get program.functions program.main ≡ Some function → IsInstance program program.main
-  called_is : {f g : ℕ} {caller function : FunctionTree} → IsInstance program f → slice_get program.functions f ≡ Some caller → IsTrue (is_among (calls caller.body) g) → slice_get program.functions g ≡ Some function → IsInstance program g
-
--- numbers that grow, each of them from some number on
-abbrev pub Ascending : ℕ → List ℕ → Type 0
-Ascending least [] = Unit {0}
-Ascending least (f ∷ fs) = (least < f + 1) × Ascending (f + 1) fs
-
--- these are the numbers of all instances, each once, in the order of the text
-pub record AreInstances (program : ProgramTree) (fs : List ℕ) : Type 0 where
-  pub ascending : Ascending 0 fs
-  pub each : (f : ℕ) → IsTrue (is_among fs f) → IsInstance program f
-  pub all : (f : ℕ) → IsInstance program f → IsTrue (is_among fs f)
-
--- the instances in the order in which the compiler numbers them: `main` first, then the others in the order of the text
-abbrev pub numbered : ProgramTree → List ℕ → List ℕ
-numbered program fs = program.main ∷ filter (λ f. not (f == program.main)) fs
-
--- the new number of a function: its place in that order
-abbrev pub place_in : List ℕ → ℕ → ℕ
-place_in [] f = 0
-place_in (g ∷ gs) f = if g == f then 0 else place_in gs f + 1
-
--- a form, and an expression, that calls functions by their new numbers
+-- a form, and an expression, that calls functions by other numbers
 abbrev pub renamed_form : (ℕ → ℕ) → Form → Form
 renamed_form new (Call function) = Call (new function)
 renamed_form new form = form
@@ -82,15 +100,25 @@ abbrev mutual
   renamed_rows new no_row = no_row
   renamed_rows new (row pattern body rest) = row pattern (renamed new body) (renamed_rows new rest)
 
--- a function as an instance: its calls are by the new numbers
-abbrev pub instance_of : (ℕ → ℕ) → FunctionTree → FunctionTree
-instance_of new function = record function { body = renamed new function.body }
+-- the function of which an instance is one, by the instance's number
+abbrev pub origin_in : List InstanceTree → ℕ → ℕ
+origin_in instances n = (slice_index_or instances n (main_instance 0)).function
 
--- a program's instances as a program: `main` is its function 0, and there is no function that `main` does not come to
-pub record IsInstanceProgram (program instances : ProgramTree) : Type 0 where
-  pub numbers : List ℕ
-  pub are : AreInstances program numbers
-  pub functions : instances.functions ≡ map (λ f. instance_of (place_in (numbered program numbers)) (slice_index_or program.functions f no_function)) (numbered program numbers)
-  pub main : instances.main ≡ 0
-  pub types : instances.types ≡ program.types
-  pub constructors : instances.constructors ≡ program.constructors
+-- A function is an instance of another, whose body has this typing: its types are without variables, and its body is the
+-- other's, in which each call names the instance that is called there.
+pub record IsAtTypes (instances : List InstanceTree) (at : List TypeTree) (choices : List Choice) (function made : FunctionTree) : Type 0 where
+  pub no_variables : made.variables ≡ 0
+  pub parameters : made.parameters ≡ map (put (type_at at)) function.parameters
+  pub result : made.result ≡ put (type_at at) function.result
+  pub body : renamed (origin_in instances) made.body ≡ function.body
+  pub called : map (slice_get instances) (calls made.body) ≡ map Some (called_at at choices)
+
+-- these instances of a program are the functions of another, in which `main` is the first
+pub record IsInstanceProgram (program : ProgramTree) (typings : List (List Choice)) (instances : List InstanceTree) (made : ProgramTree) : Type 0 where
+  pub are : AreInstances program.main typings instances
+  pub as_many : length made.functions ≡ length instances
+  pub each : (n : ℕ) (instance : InstanceTree) (function_made : FunctionTree) → slice_get instances n ≡ Some instance → slice_get made.functions n ≡ Some function_made
+      → (function : FunctionTree) × (slice_get program.functions instance.function ≡ Some function) × IsAtTypes instances instance.at (slice_index_or typings instance.function []) function function_made
+  pub main : made.main ≡ 0
+  pub types : made.types ≡ program.types
+  pub constructors : made.constructors ≡ program.constructors

@@ -1,14 +1,16 @@
-//! The instances of a program, and its limits: on parameters, on nodes, and on instances.
+//! The instances of a typed program, and its limits: on parameters, on nodes, and on instances.
 #![tactic(auto)]
 
-mod copy;
+mod body;
+mod build;
 mod error;
+mod keys;
+mod labels;
 mod limits;
+mod numbers;
 mod program;
-mod reach;
-mod renaming;
-#[cfg(test)]
-mod tests;
+mod search;
+mod types;
 
 pub use error::MonoError;
 pub use limits::{check_parameters, each_program_is_counted};

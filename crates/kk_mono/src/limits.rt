@@ -1,10 +1,12 @@
-ghost use Rattle.std.specs.Prelude.{◌≡◌, ◌-◌, ◌^◌, ◌<◌, min, map, option_map, length, All};
+ghost use Rattle.std.specs.Prelude.{◌≡◌, ◌-◌, ◌^◌, ◌<◌, min, map, option_map, length, All, IfOk, IfErr};
 ghost use Rattle.std.specs.Result.{result_err};
 ghost use Rattle.kk_base.specs.Exactly.{IsOnly};
 ghost use Rattle.kk_syntax.specs.Programs.{function_tree, program_tree};
-ghost use Rattle.kk_mono.specs.Counts.{ParametersAs, too_many_nodes, summed_nodes, told_limit, AnswersCounts, EachProgramIsCounted};
-ghost use Rattle.kk_mono.specs.Reaching.{AreNumbered};
+ghost use Rattle.kk_mono.specs.Counts.{ParametersAs, EachProgramIsCounted, too_many_nodes};
+ghost use Rattle.kk_mono.specs.KeyTrees.{KeyTree, keys_in};
+ghost use Rattle.kk_mono.specs.Told.{told, summed_keys, AreFew, PassedBy};
 
+use crate::keys::Keys;
 use kk_base::{Limit, LimitKind};
 use kk_syntax::{Fun, Program, nodes};
 
@@ -29,34 +31,10 @@ pub fn each_program_is_counted()
     ensures { EachProgramIsCounted }
 {}
 
-/// Checks the limits on nodes and on instances, which are given by the numbers of their functions. A count stays at a
-/// `u64`'s last value where it is larger. Takes no memory.
-pub fn check_counts(program: &Program, order: &[usize]) -> Result<(), Limit>
-    requires { AreNumbered (program_tree program.now) order.now }
-    ensures { AnswersCounts program.now result }
-{
-    check_nodes(&program.functions)?;
-    let greatest = LimitKind::Instances.greatest();
-    if order.len() as u64 > greatest {
-        return Err(Limit {
-            kind: LimitKind::Instances,
-            count: greatest + 1,
-        });
-    }
-    let count = nodes_of_instances(program, order);
-    if count > LimitKind::ProgramNodes.greatest() {
-        return Err(Limit {
-            kind: LimitKind::ProgramNodes,
-            count,
-        });
-    }
-    Ok(())
-}
-
-// Checks that no function has more nodes than the limit allows; the first that has is told.
-fn check_nodes(functions: &[Fun]) -> Result<(), Limit>
-    ensures { result_err result
-        ≡ option_map told_limit (too_many_nodes (map function_tree functions.now)) }
+/// Checks that no function has more nodes than the limit allows; the first that has is told. A count stays at a `u64`'s
+/// last value where it is larger. Takes no memory.
+pub fn check_nodes(functions: &[Fun]) -> Result<(), Limit>
+    ensures { result_err result ≡ option_map (told LimitKind.FunctionNodes) (too_many_nodes (map function_tree functions.now)) }
 {
     for function in functions {
         let count = nodes(&function.body);
@@ -70,14 +48,39 @@ fn check_nodes(functions: &[Fun]) -> Result<(), Limit>
     Ok(())
 }
 
-// The nodes of instances, which are given by the numbers of their functions, summed.
-fn nodes_of_instances(program: &Program, order: &[usize]) -> u64
-    requires { All (λ f. f < length program.now.functions.items) order.now }
-    ensures { result ≡ min (summed_nodes (program_tree program.now) order.now) (2 ^ 64 - 1) }
+/// Checks the limits on the number of the instances, and on their nodes in all. A count stays at a `u64`'s last value where
+/// it is larger. Takes no memory.
+pub fn check_instances(program: &Program, keys: &Keys) -> Result<(), Limit>
+    requires { All (λ (key : KeyTree). key.function < length program.now.functions.items) (keys_in keys.now) }
+    ensures ok { IfOk result (λ _. AreFew (program_tree program.now) (keys_in keys.now)) }
+    ensures err { IfErr result (λ limit. PassedBy (program_tree program.now) (keys_in keys.now) limit) }
+{
+    let greatest = LimitKind::Instances.greatest();
+    if keys.len() as u64 > greatest {
+        return Err(Limit {
+            kind: LimitKind::Instances,
+            count: greatest + 1,
+        });
+    }
+    let count = nodes_of_instances(program, keys);
+    if count > LimitKind::ProgramNodes.greatest() {
+        return Err(Limit {
+            kind: LimitKind::ProgramNodes,
+            count,
+        });
+    }
+    Ok(())
+}
+
+// The nodes of instances, summed.
+fn nodes_of_instances(program: &Program, keys: &Keys) -> u64
+    requires { All (λ (key : KeyTree). key.function < length program.now.functions.items) (keys_in keys.now) }
+    ensures { result ≡ min (summed_keys (program_tree program.now) (keys_in keys.now)) (2 ^ 64 - 1) }
 {
     let mut sum: u64 = 0;
-    for function in order {
-        sum = sum.saturating_add(nodes(&program.functions[*function].body));
+    for number in 0..keys.len() {
+        let function = keys.get(number).function as usize;
+        sum = sum.saturating_add(nodes(&program.functions[function].body));
     }
     sum
 }

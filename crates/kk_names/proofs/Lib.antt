@@ -4,6 +4,7 @@ pub mod Firsts
 pub mod Growing
 pub mod Mains
 pub mod Nodes
+pub mod Plain
 pub mod Resolving
 pub mod Statements
 pub mod Tables

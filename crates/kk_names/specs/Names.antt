@@ -7,6 +7,7 @@ use Rattle.kk_syntax.specs.declared.program.Program.{Program}
 use Rattle.kk_syntax.specs.declared.program.TypeDecl.{TypeDecl}
 use Rattle.kk_syntax.specs.declared.tree.Identifier.{Identifier}
 use Rattle.kk_syntax.specs.declared.tree.Tree.{Tree}
+use Rattle.kk_syntax.specs.PlainTyping.{IsPlainProgram}
 use Rattle.kk_syntax.specs.Programs.{ConstructorTree, FunctionTree, ProgramTree, program_tree}
 use Rattle.kk_syntax.specs.Shapes.{nodes_of}
 use Rattle.kk_syntax.specs.Surface.{Written, WrittenType, WrittenParameter, WrittenDeclaration, type_declaration, function_declaration, WrittenTree, written_tree}
@@ -128,3 +129,7 @@ pub record HasMain (program : ProgramTree) : Type 0 where
 
 abbrev pub ResolvedProgramsHaveMain : Type 0
 ResolvedProgramsHaveMain = (tree : WrittenTree) (program : ProgramTree) → ResolvesAs tree (Ok program) → HasMain program
+
+-- a program of today's grammar has no type variables, no matches and no cells
+abbrev pub ResolvedProgramsArePlain : Type 0
+ResolvedProgramsArePlain = (tree : WrittenTree) (program : ProgramTree) → ResolvesAs tree (Ok program) → IsPlainProgram program

@@ -13,4 +13,6 @@ mod table;
 #[cfg(test)]
 mod tests;
 
-pub use program::{each_tree_is_resolved, resolve, resolved_programs_have_main};
+pub use program::{
+    each_tree_is_resolved, resolve, resolved_programs_are_plain, resolved_programs_have_main,
+};

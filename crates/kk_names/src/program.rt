@@ -3,7 +3,7 @@ ghost use Rattle.kk_syntax.specs.Programs.{function_tree, program_tree};
 ghost use Rattle.kk_syntax.specs.Surface.{written_declaration, written_tree};
 ghost use Rattle.kk_names.specs.Faults.{faults_of};
 ghost use Rattle.kk_names.specs.Methods.{main_among, first_with, AnswersMain, IsNoMain, IsOtherMain};
-ghost use Rattle.kk_names.specs.Names.{functions_meant, program_of, IsMainShaped, AnswersNames, KeepsNodes, EachTreeIsResolved, ResolvedProgramsHaveMain};
+ghost use Rattle.kk_names.specs.Names.{functions_meant, program_of, IsMainShaped, AnswersNames, KeepsNodes, EachTreeIsResolved, ResolvedProgramsHaveMain, ResolvedProgramsArePlain};
 
 use crate::builtin;
 use crate::fault::Fault;
@@ -39,6 +39,11 @@ pub fn each_tree_is_resolved()
 /// nothing.
 pub fn resolved_programs_have_main()
     ensures { ResolvedProgramsHaveMain }
+{}
+
+/// A program that a tree means has no type variables, no matches and no cells. It is a law, and does nothing.
+pub fn resolved_programs_are_plain()
+    ensures { ResolvedProgramsArePlain }
 {}
 
 // The functions of declarations, and the first fault of those.

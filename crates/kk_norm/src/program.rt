@@ -1,54 +1,59 @@
-ghost use Rattle.std.specs.Prelude.{◌≡◌, map, IfOk};
-ghost use Rattle.kk_syntax.specs.Programs.{function_tree, program_tree};
+ghost use Rattle.std.specs.Prelude.{◌≡◌, ◌≤◌, List, map, vec_len, IfOk};
+ghost use Rattle.kk_base.specs.Limits.{greatest_of};
+ghost use Rattle.kk_base.specs.declared.limit.LimitKind.TheVariants.{Parameters, FunctionNodes};
+ghost use Rattle.kk_syntax.specs.GroundPrograms.{instance_tree, ground_program};
 ghost use Rattle.kk_syntax.specs.PlainTyping.{IsTyped};
+ghost use Rattle.kk_syntax.specs.Shapes.{nodes_of};
+ghost use Rattle.kk_syntax.specs.Trees.{expr_tree};
+ghost use Rattle.kk_syntax.specs.Types.{TypeTree};
 ghost use Rattle.kk_core.specs.Codes.{function_code, core_code};
-ghost use Rattle.kk_norm.specs.NoCells.{IsPlain, ArePlain};
-ghost use Rattle.kk_norm.specs.Normal.{IsFunctionWithin, AreWithin, IsWithin, IsNormalForm};
+ghost use Rattle.kk_norm.specs.NoCells.{NoCells, ArePlain};
+ghost use Rattle.kk_norm.specs.Normal.{AreWithin, IsWithin, IsNormalForm};
 ghost use Rattle.kk_norm.specs.Normalized.{normal_function, normal_program};
 
 use crate::writer::Writer;
 use kk_base::NoMemory;
 use kk_core::{Core, CoreFunction};
-use kk_syntax::{Fun, Program};
+use kk_syntax::{Ground, Instance};
 use std::alloc::Global;
 
-/// The core form of a program. It keeps the program's meaning, is typed and is small.
+/// The core form of a program of instances, of which the first is `main`. It keeps the program's meaning, is typed and is
+/// small.
 ///
 /// The recursion is as deep as the deepest expression.
-pub fn normal(alloc: Global, program: &Program) -> Result<Core, NoMemory>
-    requires typed { IsTyped (program_tree program.now) }
-    requires small { IsWithin (program_tree program.now) }
-    ensures form { IfOk result (λ core. core_code core ≡ normal_program (program_tree program.now)) }
-    ensures means { IfOk result (λ core. IsNormalForm (program_tree program.now) (core_code core)) }
+pub fn normal(alloc: Global, given: &Ground) -> Result<Core, NoMemory>
+    requires typed { IsTyped (ground_program given.now) }
+    requires small { IsWithin (ground_program given.now) }
+    ensures form { IfOk result (λ core. core_code core ≡ normal_program (ground_program given.now)) }
+    ensures means { IfOk result (λ core. IsNormalForm (ground_program given.now) (core_code core)) }
 {
-    let functions = all_functions(alloc, &program.functions)?;
-    Ok(Core {
-        functions,
-        main: program.main,
-    })
+    let functions = all_functions(alloc, given)?;
+    Ok(Core { functions, main: 0 })
 }
 
-fn all_functions(alloc: Global, functions: &[Fun]) -> Result<Vec<CoreFunction>, NoMemory>
-    requires plain { ArePlain (map function_tree functions.now) }
-    requires small { AreWithin (map function_tree functions.now) }
-    ensures { IfOk result (λ cores. map function_code cores.items ≡ map (λ function. normal_function (function_tree function)) functions.now) }
+fn all_functions(alloc: Global, given: &Ground) -> Result<Vec<CoreFunction>, NoMemory>
+    requires plain { ArePlain (ground_program given.now).functions }
+    requires small { AreWithin (ground_program given.now).functions }
+    ensures { IfOk result (λ cores. map function_code cores.items ≡ map normal_function (ground_program given.now).functions) }
 {
     let mut cores = Vec::new(alloc);
-    for function in functions {
-        let core = core_function(alloc, function)?;
+    for instance in &given.instances {
+        let core = core_function(alloc, instance)?;
         cores.push(core)?;
     }
     Ok(cores)
 }
 
-fn core_function(alloc: Global, function: &Fun) -> Result<CoreFunction, NoMemory>
-    requires plain { IsPlain (function_tree function.now) }
-    requires small { IsFunctionWithin (function_tree function.now) }
-    ensures { IfOk result (λ core. function_code core ≡ normal_function (function_tree function.now)) }
+// The types of an instance make no difference.
+fn core_function(alloc: Global, instance: &Instance) -> Result<CoreFunction, NoMemory>
+    requires plain { NoCells (expr_tree instance.now.body) }
+    requires few { vec_len instance.now.parameters ≤ greatest_of Parameters }
+    requires small { nodes_of (expr_tree instance.now.body) ≤ greatest_of FunctionNodes }
+    ensures { IfOk result (λ core. (types : List TypeTree) → function_code core ≡ normal_function (instance_tree types instance.now)) }
 {
-    let parameters = function.parameters.len() as u32;
+    let parameters = instance.parameters.len() as u32;
     let mut writer = Writer::new(alloc, parameters);
-    let body = writer.block(true, &function.body)?;
+    let body = writer.block(true, &instance.body)?;
     Ok(CoreFunction {
         parameters,
         variables: writer.next,

@@ -1,10 +1,11 @@
 -- The types of programs without type variables and without cells: `int32`, `bool` and `()`. One clause for each form.
 use Rattle.std.specs.Prelude.{◌≡◌, ◌≤◌, ℕ, List, [], ◌∷◌, map, Some, slice_get}
+use Rattle.kk_syntax.specs.declared.program.TypeDecl.{TypeDecl}
 use Rattle.kk_syntax.specs.declared.program.Form.{Form}
 use Rattle.kk_syntax.specs.declared.program.Form.TheVariants.{Unary, Binary, Print, Construct, Call}
-use Rattle.kk_syntax.specs.Types.{TypeTree, int32, unit_type}
+use Rattle.kk_syntax.specs.Types.{TypeTree, TypeTrees, int32, unit_type, type_variable, named, no_type, type, types_of}
 use Rattle.kk_syntax.specs.Trees.{Tree, number, unit, variable, read_byte, print_text, apply, branch, match, sequence, Trees, no_tree, tree}
-use Rattle.kk_syntax.specs.Programs.{FunctionTree, ProgramTree}
+use Rattle.kk_syntax.specs.Programs.{ConstructorTree, FunctionTree, ProgramTree}
 pub use Rattle.kk_syntax.specs.Typing.{bool, TypedVariable, Scope, type_in, with_parameters, with_binder, unary_type, binary_type}
 
 -- the types of a function's parameters and of its result
@@ -48,7 +49,61 @@ abbrev mutual
 abbrev pub IsFunctionTyped : List Signature → FunctionTree → Type 0
 IsFunctionTyped signatures function = HasType signatures (with_parameters 0 function.parameters []) function.body function.result
 
--- each function is typed, and `main` has no parameters and gives `()`
+-- a type, and types, without type variables
+abbrev mutual
+  pub IsClosed : TypeTree → Type 0
+  IsClosed int32 = Unit {0}
+  IsClosed unit_type = Unit {0}
+  IsClosed (type_variable of) = ⊥
+  IsClosed (named by arguments) = AreClosed arguments
+
+  pub AreClosed : TypeTrees → Type 0
+  AreClosed no_type = Unit {0}
+  AreClosed (type first rest) = IsClosed first × AreClosed rest
+
+-- a function has no type variables
+pub record HasClosedTypes (function : FunctionTree) : Type 0 where
+  pub variables : function.variables ≡ 0
+  pub parameters : AreClosed (types_of function.parameters)
+  pub result : IsClosed function.result
+
+-- each function is typed and has no type variables, and `main` has no parameters and gives `()`
 pub record IsTyped (program : ProgramTree) : Type 0 where
   pub functions : (f : ℕ) (function : FunctionTree) → slice_get program.functions f ≡ Some function → IsFunctionTyped (map signature_of program.functions) function
+  pub closed : (f : ℕ) (function : FunctionTree) → slice_get program.functions f ≡ Some function → HasClosedTypes function
   pub main : slice_get (map signature_of program.functions) program.main ≡ Some (record { parameters = []; result = unit_type })
+
+-- a form other than `False` and `True` constructs nothing
+abbrev pub IsPlainForm : Form → Type 0
+IsPlainForm (Construct c) = c ≤ 1
+IsPlainForm _ = Unit {0}
+
+-- an expression, and expressions, without matches and without constructions but `False` and `True`
+abbrev mutual
+  pub IsPlainTree : Tree → Type 0
+  IsPlainTree (apply form es) = IsPlainForm form × ArePlainTrees es
+  IsPlainTree (branch e positive negative) = IsPlainTree e × IsPlainTree positive × IsPlainTree negative
+  IsPlainTree (match e rows) = ⊥
+  IsPlainTree (sequence binder first rest) = IsPlainTree first × IsPlainTree rest
+  IsPlainTree _ = Unit {0}
+
+  pub ArePlainTrees : Trees → Type 0
+  ArePlainTrees no_tree = Unit {0}
+  ArePlainTrees (tree first rest) = IsPlainTree first × ArePlainTrees rest
+
+-- the constructor of this number is one of `bool`: it is of the first type, and has no fields
+pub record IsOfBool (program : ProgramTree) (c : ℕ) : Type 0 where
+  pub constructor : ConstructorTree
+  pub is : slice_get program.constructors c ≡ Some constructor
+  pub of_type : constructor.of_type ≡ 0
+  pub fields : constructor.fields ≡ []
+
+-- A program without type variables, without matches and without cells: its first type is `bool`, which has no variables,
+-- and its first constructors are those of `bool`.
+pub record IsPlainProgram (program : ProgramTree) : Type 0 where
+  pub closed : (f : ℕ) (function : FunctionTree) → slice_get program.functions f ≡ Some function → HasClosedTypes function
+  pub bodies : (f : ℕ) (function : FunctionTree) → slice_get program.functions f ≡ Some function → IsPlainTree function.body
+  pub bool : TypeDecl
+  pub bool_is : slice_get program.types 0 ≡ Some bool
+  pub no_variables : bool.variables ≡ 0
+  pub constructors : (c : ℕ) → c ≤ 1 → IsOfBool program c

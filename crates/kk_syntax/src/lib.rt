@@ -2,6 +2,7 @@
 #![tactic(auto)]
 
 mod accepted;
+mod copy;
 mod ground;
 mod literal;
 mod operator;
@@ -13,6 +14,9 @@ mod tree;
 mod typed;
 
 pub use accepted::Accepted;
+pub use copy::{
+    copied_constructors, copied_declarations, copied_pattern, copied_type, copied_types,
+};
 pub use ground::{Ground, GroundType, Instance};
 pub use literal::StringLiteral;
 pub use operator::{BinaryOperator, PrintForm, UnaryOperator};

@@ -1,3 +1,4 @@
 pub mod Checks
-pub mod Inference
-pub mod Views
+pub mod Claims
+pub mod Steps
+pub mod Walks

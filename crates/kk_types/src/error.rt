@@ -1,3 +1,8 @@
+ghost use Rattle.std.specs.Prelude.{◌≡◌};
+ghost use Rattle.kk_types.specs.declared.error.TypeError.TheVariants.{NoMemory as OutOfMemory};
+
+use kk_base::NoMemory;
+use std::alloc::AllocFailed;
 use thiserror::Error;
 
 /// Why a program is not typed.
@@ -8,4 +13,20 @@ pub enum TypeError {
     NotTyped { function: u32 },
     #[error("no memory")]
     NoMemory,
+}
+
+impl From<NoMemory> for TypeError {
+    ghost from_gives = { λ _ e. e ≡ OutOfMemory };
+
+    fn from(_error: NoMemory) -> TypeError {
+        TypeError::NoMemory
+    }
+}
+
+impl<T: Drop> From<AllocFailed<T>> for TypeError {
+    ghost from_gives = { λ _ e. e ≡ OutOfMemory };
+
+    fn from(_error: AllocFailed<T>) -> TypeError {
+        TypeError::NoMemory
+    }
 }

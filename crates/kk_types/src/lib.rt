@@ -1,16 +1,18 @@
-//! Which programs without type variables, cells and matches are typed.
+//! The types of a program: the types that the parts of its functions are taken at, which are as general as can be, or the
+//! first function that is not typed.
 #![tactic(auto)]
 
-mod built_in;
+mod build;
 mod error;
-mod failure;
-mod form;
-mod infer;
+mod expression;
+mod function;
+mod instance;
+mod number;
+mod pattern;
 mod program;
-mod same;
+mod rows;
 mod scope;
-#[cfg(test)]
-mod tests;
+mod walk;
 
 pub use error::TypeError;
 pub use program::{check, each_program_is_checked};

@@ -1,16 +1,14 @@
 ghost use Rattle.std.specs.Prelude.{◌≡◌, ◌==◌, find, reverse};
 
-use kk_syntax::Ty;
-
-/// A variable that is bound, and its type.
+/// A variable that is bound, and the node of its type.
 #[derive(Clone, Copy, Debug)]
-pub struct Bound<'a> {
-    pub variable: usize,
-    pub ty: &'a Ty,
+pub struct Bound {
+    pub variable: u32,
+    pub node: u32,
 }
 
 /// The newest variable of this number in a scope, if there is one. The newest of all stands last.
-pub fn newest<'a>(scope: &[Bound<'a>], variable: usize) -> Option<Bound<'a>>
+pub fn newest(scope: &[Bound], variable: u32) -> Option<Bound>
     ensures { result ≡ find (λ bound. bound.variable == variable) (reverse scope.now) }
 {
     scope

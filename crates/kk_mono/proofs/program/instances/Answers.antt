@@ -1,27 +1,27 @@
-use Rattle.std.proofs.lemmas.Result.{err_from_is_err_and}
 use Rattle.kk_syntax.specs.Programs.{program_tree}
-use Rattle.kk_mono.proofs.Answering.{main_within}
-use Rattle.kk_mono.proofs.Small.{small_instances, few_in_order}
+use Rattle.kk_syntax.specs.TypedPrograms.{typings_of}
+use Rattle.kk_mono.specs.KeyTrees.{keys_in}
+use Rattle.kk_mono.specs.Views.{types_in}
+use Rattle.std.proofs.Common.{length}
+use Rattle.kk_mono.proofs.Answered.{keys_below, are_given}
+use Rattle.kk_mono.proofs.Told.{nodes_answered, none_large, passed_answered}
 use Rattle.kk_mono.proofs.program.instances.Goals as goal
 
-pub returns-in_err-order : goal.returns-in_err-order
-returns-in_err-order c = let p = err_from_is_err_and c.from_residual.result c.from_residual.ensures.1 in rw (p.1, p.2) tt
+pub returns-in-Err : goal.returns-in-Err
+returns-in-Err c = nodes_answered c.args.typed.now.program c.deref.result.now c.in-Err.limit c.deref.ensures.value c.in-Err.ensures
 
-pub as_program-requires-clause-few : goal.as_program-requires-clause-few
-as_program-requires-clause-few c =
-    few_in_order (program_tree c.args.program.now) c.in_ok-order.order.items c.deref-in-Ok.result.now c.deref-in-Ok.ensures.value (main_within c.args.program.now) c.in_ok-order.ensures c.in-Ok.ensures.holds
+pub check_instances-requires : goal.check_instances-requires
+check_instances-requires c = keys_below c.args.typed.now c.requires c.in_ok-found.found c.in_ok-found.ensures
 
-pub returns-in_err-as_program-in-Ok : goal.returns-in_err-as_program-in-Ok
-returns-in_err-as_program-in-Ok c =
-    let p = err_from_is_err_and c.from_residual-in_err-as_program-in-Ok.result c.from_residual-in_err-as_program-in-Ok.ensures.1 in
-    rw (p.1, p.2) tt
+pub ground-requires-clause-within : goal.ground-requires-clause-within
+ground-requires-clause-within c = keys_below c.args.typed.now c.requires c.in_ok-found.found c.in_ok-found.ensures
 
-pub returns-in-Ok : goal.returns-in-Ok
-returns-in-Ok c =
-    let program = program_tree c.args.program.now in
-    let made = program_tree c.in_ok-as_program-in-Ok.field-0 in
-    record {
-      counts = c.in-Ok.ensures;
-      instances = c.in_ok-as_program-in-Ok.ensures;
-      small = small_instances program made (main_within c.args.program.now) c.in-Ok.ensures.holds c.in_ok-as_program-in-Ok.ensures;
-    }
+pub returns-in_ok-ground-in-Ok : goal.returns-in_ok-ground-in-Ok
+returns-in_ok-ground-in-Ok c =
+    are_given c.args.typed.now c.requires c.in_ok-found.found c.in_ok-found.ensures (none_large c.args.typed.now.program c.deref.result.now c.deref.ensures.value c.in_default.ensures) c.in-Ok.ensures.ok c.in_ok-ground-in-Ok.field-0 c.in_ok-ground-in-Ok.ensures
+
+pub returns-in-Err-check_instances : goal.returns-in-Err-check_instances
+returns-in-Err-check_instances c =
+    let found = c.in_ok-found.found in
+    let searched = c.in_ok-found.ensures in
+    passed_answered (program_tree c.args.typed.now.program) (typings_of c.args.typed.now) c.requires (types_in found.types) (keys_in found.keys) (length found.looked.items) searched.searching.searched searched.ends (none_large c.args.typed.now.program c.deref.result.now c.deref.ensures.value c.in_default.ensures) c.in-Err-check_instances.limit c.in-Err-check_instances.ensures.err

@@ -1,13 +1,37 @@
-use Rattle.std.proofs.Common.{map}
-use Rattle.kk_syntax.specs.Programs.{function_tree}
-use Rattle.kk_norm.proofs.Programs.{tree_at, within_at}
+use Rattle.std.proofs.Common.{arith}
+use Rattle.std.proofs.lemmas.List.{length-map}
+use Rattle.kk_syntax.specs.declared.ground.Instance.{Instance}
+use Rattle.kk_syntax.specs.GroundPrograms.{ground_types, instance_tree, ground_program}
+use Rattle.kk_syntax.specs.Types.{type_at}
+use Rattle.kk_core.specs.Codes.{function_code}
+use Rattle.kk_norm.specs.Normal.{IsFunctionWithin}
+use Rattle.kk_norm.specs.Normalized.{normal_function}
+use Rattle.kk_norm.proofs.Programs.{function_at, within_at, mapped_more, mapped_all}
 use Rattle.kk_norm.proofs.program.all_functions.Goals as goal
 
 pub core_function-requires-clause-plain : goal.core_function-requires-clause-plain
 core_function-requires-clause-plain c =
-    c.requires.plain c.loop-function.function-index (function_tree c.function-item.result) (tree_at c.args.functions.now c.loop-function.function-index c.function-item.result c.function-item.is c.loop-function-test.true)
+    (c.requires.plain c.loop-instance.instance-index (instance_tree (ground_types c.args.given.now.types.items) c.instance-item.result)
+    (function_at c.args.given.now c.deref-instance-items.result.now c.loop-instance.instance-index c.instance-item.result c.deref-instance-items.ensures.value c.instance-item.is c.loop-instance-test.true)).no_cells
+
+pub core_function-requires-clause-few : goal.core_function-requires-clause-few
+core_function-requires-clause-few c =
+    let within : IsFunctionWithin (instance_tree (ground_types c.args.given.now.types.items) c.instance-item.result) =
+    within_at (ground_program c.args.given.now).functions c.loop-instance.instance-index _ c.requires.small
+    (function_at c.args.given.now c.deref-instance-items.result.now c.loop-instance.instance-index c.instance-item.result c.deref-instance-items.ensures.value c.instance-item.is c.loop-instance-test.true) in
+    omega (arith, within.parameters, c.instance-item.result.parameters.ok.0, length-map c.instance-item.result.parameters.items (type_at (ground_types c.args.given.now.types.items)))
 
 pub core_function-requires-clause-small : goal.core_function-requires-clause-small
 core_function-requires-clause-small c =
-    within_at (map function_tree c.args.functions.now) c.loop-function.function-index (function_tree c.function-item.result) c.requires.small
-    (tree_at c.args.functions.now c.loop-function.function-index c.function-item.result c.function-item.is c.loop-function-test.true)
+    (within_at (ground_program c.args.given.now).functions c.loop-instance.instance-index (instance_tree (ground_types c.args.given.now.types.items) c.instance-item.result) c.requires.small
+    (function_at c.args.given.now c.deref-instance-items.result.now c.loop-instance.instance-index c.instance-item.result c.deref-instance-items.ensures.value c.instance-item.is c.loop-instance-test.true)).nodes
+
+pub loop-instance-preserved : goal.loop-instance-preserved
+loop-instance-preserved c =
+    mapped_more function_code (λ (instance : Instance). normal_function (instance_tree (ground_types c.args.given.now.types.items) instance)) c.loop-instance.cores.items c.push.new.self.items c.in_ok-core.core c.deref-instance-items.result.now
+    c.loop-instance.instance-index c.instance-item.result c.in_ok-push.ensures.items c.loop-instance.invariant (c.in_ok-core.ensures (ground_types c.args.given.now.types.items)) c.instance-item.is c.loop-instance-test.true
+
+pub returns : goal.returns
+returns c =
+    mapped_all function_code normal_function (instance_tree (ground_types c.args.given.now.types.items)) c.loop-instance.cores.items c.deref-instance-items.result.now c.args.given.now.instances.items
+    c.loop-instance.instance-index c.loop-instance.invariant c.loop-instance-test.false c.deref-instance-items.ensures.value

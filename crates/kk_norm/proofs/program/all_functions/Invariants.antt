@@ -1,9 +1,9 @@
 use Rattle.std.proofs.Common.{◌≡◌, map, take}
-use Rattle.kk_syntax.specs.Programs.{function_tree}
+use Rattle.kk_syntax.specs.GroundPrograms.{ground_types, instance_tree}
 use Rattle.kk_core.specs.Codes.{function_code}
 use Rattle.kk_norm.specs.Normalized.{normal_function}
 use Rattle.kk_norm.proofs.program.all_functions.Given as goal
 
-abbrev pub invariant-loop-function : goal.invariant-loop-function
-invariant-loop-function l =
-    map function_code l.cores.items ≡ map (λ function. normal_function (function_tree function)) (take l.function-index l.functions)
+abbrev pub invariant-loop-instance : goal.invariant-loop-instance
+invariant-loop-instance l =
+    map function_code l.cores.items ≡ map (λ instance. normal_function (instance_tree (ground_types l.given.types.items) instance)) (take l.instance-index l.instance-items)

@@ -1,0 +1,266 @@
+-- What is seen in an instance stays while other types and instances become known, and the search goes on by it.
+use Rattle.std.proofs.Common.{◌≡◌, ℕ, ◌<◌, List, [], ◌∷◌, ◌++◌, length, map, get_or, All, Some, option_map, Vec, Global, refl, sym, ap, ◌∙◌, subst, inl, inr, arith}
+use Rattle.std.specs.Prelude.{slice_get, slice_index_or}
+use Rattle.std.specs.List.{AllZip}
+use Rattle.std.proofs.lemmas.Bool.{cases_lt}
+use Rattle.std.proofs.lemmas.List.{length-map, length_push, get_or-map, get_or_default, get_or_append_left, get_or_push, map-append}
+use Rattle.std.proofs.lemmas.List.Elements.{All-nil, All-cons, All-head, All-tail, All-append, All-weaker}
+use Rattle.std.proofs.lemmas.Option.{slice_get-map, get_or_from_slice_get}
+use Rattle.kk_syntax.specs.declared.program.Fun.{Fun}
+use Rattle.kk_syntax.specs.declared.program.Program.{Program}
+use Rattle.kk_syntax.specs.declared.typed.BodyTypes.{BodyTypes}
+use Rattle.kk_syntax.specs.declared.typed.Taken.{Taken}
+use Rattle.kk_syntax.specs.declared.typed.Taken.TheVariants.{Construct, Call, Value}
+use Rattle.kk_syntax.specs.declared.program.Ty.{Ty}
+use Rattle.kk_syntax.specs.declared.typed.TypeNode.{TypeNode}
+use Rattle.kk_syntax.specs.declared.typed.Typed.{Typed}
+use Rattle.kk_syntax.specs.Programs.{FunctionTree, ProgramTree, function_tree, program_tree, no_function}
+use Rattle.kk_syntax.specs.TypedPrograms.{choice_of, node_types, typing_of, typings_of}
+use Rattle.kk_syntax.specs.Types.{TypeTree, unit_type, type_tree, put, type_at}
+use Rattle.kk_syntax.specs.Typing.{Choice, constructing, calling, holding, put_choice, ArePrincipal}
+use Rattle.kk_mono.specs.declared.search.Looked.{Looked}
+use Rattle.kk_mono.specs.declared.search.Found.{Found}
+use Rattle.kk_mono.specs.Instances.{InstanceTree, main_instance, called_in, FirstSights}
+use Rattle.kk_mono.specs.KeyTrees.{KeyTree, keys_in, viewed, keys_called, AreTakenWithin}
+use Rattle.kk_mono.specs.Looking.{Looks}
+use Rattle.kk_mono.specs.Places.{Renumbers}
+use Rattle.kk_mono.specs.Searching.{Searched, function_in, IsLooked, AreLooked, known_in, IsSearching}
+use Rattle.kk_mono.specs.Tables.{Grows, number_in, AreNumbers}
+use Rattle.kk_mono.specs.Views.{types_in}
+use Rattle.kk_mono.specs.declared.types.Types.{Types}
+use Rattle.kk_mono.proofs.Keyed.{IsKeyWithin, all_stay, called_within, new_within, sights_viewed, called_viewed}
+use Rattle.kk_mono.proofs.Numbered.{grows_on, unit_of, some_of, within_grown, type_stays, types_stay, numbers_grown, longer, place_within, place_type, places_within, places_types, put_at, put_each_at}
+use Rattle.kk_mono.proofs.Renamings.{instance_below}
+use Rattle.kk_mono.proofs.Searched.{search_starts, search_steps}
+
+-- a choice by other numbers
+module _ (types earlier : List TypeTree) (ns : List ℕ) (s : ℕ → TypeTree) (first : type_at types 0 ≡ unit_type) (some : 0 < length types) (are : AreNumbers types ns (map (put s) earlier)) where
+  places_put : (ks : List ℕ) → map (type_at types) (map (number_in ns) ks) ≡ map (put s) (map (type_at earlier) ks)
+  places_put ks = places_types types ns ks first ∙ (ap (λ ts. map (type_at ts) ks) are.types_are ∙ sym (put_each_at s earlier ks))
+
+  choice_put : (choice made : Taken) → Renumbers ns choice made → AreTakenWithin types made × (choice_of types made ≡ put_choice s (choice_of earlier choice))
+  choice_put (Construct by at) (Construct made_by made_at) (by_is, at_is) = (
+    subst (λ ks. All (λ n. n < length types) ks) (sym at_is) (places_within types ns at.items some are.within),
+    ap (λ b. constructing b (map (type_at types) made_at.items)) by_is ∙ ap (λ ts. constructing by ts) (ap (map (type_at types)) at_is ∙ places_put at.items),
+  )
+  choice_put (Construct by at) (Call function made_at) wrong = absurd wrong
+  choice_put (Construct by at) (Value made_of) wrong = absurd wrong
+  choice_put (Call function at) (Construct made_by made_at) wrong = absurd wrong
+  choice_put (Call function at) (Call made_function made_at) (function_is, at_is) = (
+    subst (λ ks. All (λ n. n < length types) ks) (sym at_is) (places_within types ns at.items some are.within),
+    ap (λ f. calling f (map (type_at types) made_at.items)) function_is ∙ ap (λ ts. calling function ts) (ap (map (type_at types)) at_is ∙ places_put at.items),
+  )
+  choice_put (Call function at) (Value made_of) wrong = absurd wrong
+  choice_put (Value of) (Construct made_by made_at) wrong = absurd wrong
+  choice_put (Value of) (Call function made_at) wrong = absurd wrong
+  choice_put (Value of) (Value made_of) is = (
+    subst (λ n. n < length types) (sym is) (place_within types ns of some are.within),
+    ap holding (ap (type_at types) is ∙ (place_type types ns of first ∙ (ap (λ ts. type_at ts of) are.types_are ∙ sym (put_at s earlier of)))),
+  )
+
+  pub taken_put : (taken made : List Taken) → AllZip (Renumbers ns) taken made → All (AreTakenWithin types) made × (map (choice_of types) made ≡ map (put_choice s) (map (choice_of earlier) taken))
+  taken_put [] [] zip = (All-nil (AreTakenWithin types), refl)
+  taken_put [] (made ∷ mades) zip = absurd zip
+  taken_put (taken ∷ more) [] zip = absurd zip
+  taken_put (taken ∷ more) (made ∷ mades) (here, behind) =
+      let one = choice_put taken made here in
+      let rest = taken_put more mades behind in
+      (All-cons (AreTakenWithin types) made mades one.0 rest.0, ap (λ c. c ∷ map (choice_of types) mades) one.1 ∙ ap (λ cs. put_choice s (choice_of earlier taken) ∷ cs) rest.1)
+
+-- what is taken stays while the table grows
+module _ (types more : List TypeTree) (grows : Grows types more) where
+  choice_stays : (taken : Taken) → AreTakenWithin types taken → AreTakenWithin more taken × (choice_of more taken ≡ choice_of types taken)
+  choice_stays (Construct by at) within = (within_grown types more at.items within grows, ap (λ ts. constructing by ts) (types_stay types more at.items within grows))
+  choice_stays (Call function at) within = (within_grown types more at.items within grows, ap (λ ts. calling function ts) (types_stay types more at.items within grows))
+  choice_stays (Value of) within = (let long = longer types more grows in omega (arith, long, within), ap holding (type_stays types more of within grows))
+
+  pub taken_stays : (taken : List Taken) → All (AreTakenWithin types) taken → All (AreTakenWithin more) taken × (map (choice_of more) taken ≡ map (choice_of types) taken)
+  taken_stays [] within = (All-nil (AreTakenWithin more), refl)
+  taken_stays (taken ∷ rest) within =
+      let one = choice_stays taken (All-head (AreTakenWithin types) taken rest within) in
+      let behind = taken_stays rest (All-tail (AreTakenWithin types) taken rest within) in
+      (All-cons (AreTakenWithin more) taken rest one.0 behind.0, ap (λ c. c ∷ map (choice_of more) rest) one.1 ∙ ap (λ cs. choice_of types taken ∷ cs) behind.1)
+
+  pub key_stays : (key : KeyTree) → IsKeyWithin types key → viewed more key ≡ viewed types key
+  key_stays key within = ap (λ ts. record { function = key.function; at = ts }) (types_stay types more key.at within grows)
+
+  pub keys_stay : (keys : List KeyTree) → All (IsKeyWithin types) keys → map (viewed more) keys ≡ map (viewed types) keys
+  keys_stay [] within = refl
+  keys_stay (key ∷ keys) within =
+      ap (λ x. x ∷ map (viewed more) keys) (key_stays key (All-head (IsKeyWithin types) key keys within)) ∙ ap (λ xs. viewed types key ∷ xs) (keys_stay keys (All-tail (IsKeyWithin types) key keys within))
+
+  pub looked_stays : (program : ProgramTree) (typings : List (List Choice)) (known new : List InstanceTree) (instance : InstanceTree) (looked : Looked) → IsLooked program typings types known instance looked → IsLooked program typings more (known ++ new) instance looked
+  looked_stays program typings known new instance looked is =
+      let taken = taken_stays looked.taken.items is.taken_within in
+      record {
+        parameters = numbers_grown types more looked.parameters.items _ is.parameters grows;
+        result_within = let long = longer types more grows in let within = is.result_within in omega (arith, long, within);
+        result_is = type_stays types more looked.result is.result_within grows ∙ is.result_is;
+        taken_within = taken.0;
+        taken = taken.1 ∙ is.taken;
+        called = all_stay known new looked.called.items (called_in typings instance) is.called;
+      }
+
+viewed_found : (types : List TypeTree) (keys : List KeyTree) (ns : List ℕ) (called : List KeyTree) → map (slice_get keys) ns ≡ map Some called → map (slice_get (map (viewed types) keys)) ns ≡ map Some (map (viewed types) called)
+viewed_found types keys [] [] found = refl
+viewed_found types keys [] (key ∷ called) found = cc
+viewed_found types keys (n ∷ ns) [] found = cc
+viewed_found types keys (n ∷ ns) (key ∷ called) found =
+    let here : slice_get keys n ≡ Some key = cc in
+    let behind : map (slice_get keys) ns ≡ map Some called = cc in
+    let first : slice_get (map (viewed types) keys) n ≡ Some (viewed types key) = slice_get-map (viewed types) keys n ∙ ap (option_map (viewed types)) here in
+    let rest = viewed_found types keys ns called behind in
+    cc
+
+-- the function of an instance and its typing, in memory
+pub function_read : (program : Program) (f : ℕ) (function : Fun) → f < length program.functions.items → function ≡ get_or program.functions.items f function → function_in (program_tree program) f ≡ function_tree function
+function_read program f function lt is = get_or-map function_tree program.functions.items f function no_function lt ∙ ap function_tree (sym is)
+
+pub typing_read : (typed : Typed) (f : ℕ) (body : BodyTypes) → f < length typed.bodies.items → body ≡ get_or typed.bodies.items f body → slice_index_or (typings_of typed) f [] ≡ typing_of body
+typing_read typed f body lt is = get_or-map typing_of typed.bodies.items f body [] lt ∙ ap typing_of (sym is)
+
+module _ (typed : Typed) (principal : ArePrincipal (program_tree typed.program) (typings_of typed)) where
+  pub main_below : typed.program.main < length (program_tree typed.program).functions
+  main_below =
+      let is_in = typed.program.main_in in
+      let count = typed.program.functions.ok.0 in
+      let seen = length-map typed.program.functions.items function_tree in
+      omega (arith, is_in, count, seen)
+
+  pub known_below : (found : Found) (i : ℕ) (d : InstanceTree) → IsSearching typed found → i < length (known_in found) → (get_or (known_in found) i d).function < length (program_tree typed.program).functions
+  known_below found i d searching lt = instance_below (program_tree typed.program) main_below (typings_of typed) principal (get_or (known_in found) i d) (searching.searched.each i d lt)
+
+  -- the function of the next instance is one of the program's, with its body's types
+  pub key_below : (found : Found) (n : ℕ) (key : KeyTree) → IsSearching typed found → slice_get (keys_in found.keys) n ≡ Some key → n < length (known_in found) → key.function < length (program_tree typed.program).functions
+  key_below found n key searching found_at lt =
+      let is : get_or (known_in found) n (main_instance 0) ≡ viewed (types_in found.types) key =
+      get_or_from_slice_get (known_in found) n (viewed (types_in found.types) key) (main_instance 0) (slice_get-map (viewed (types_in found.types)) (keys_in found.keys) n ∙ ap (option_map (viewed (types_in found.types))) found_at) in
+      subst (λ (x : InstanceTree). x.function < length (program_tree typed.program).functions) is (known_below found n (main_instance 0) searching lt)
+
+  pub function_within : (found : Found) (n : ℕ) (key : KeyTree) → IsSearching typed found → slice_get (keys_in found.keys) n ≡ Some key → n < length (known_in found) → key.function < length typed.program.functions.items
+  function_within found n key searching found_at lt =
+      let below = key_below found n key searching found_at lt in
+      let seen = length-map typed.program.functions.items function_tree in
+      omega (arith, below, seen)
+
+  pub body_within : (found : Found) (n : ℕ) (key : KeyTree) → IsSearching typed found → slice_get (keys_in found.keys) n ≡ Some key → n < length (known_in found) → key.function < length typed.bodies.items
+  body_within found n key searching found_at lt =
+      let below = key_below found n key searching found_at lt in
+      let long = principal.length in
+      let seen = length-map typed.bodies.items typing_of in
+      omega (arith, below, long, seen)
+
+  pub key_types : (found : Found) (n : ℕ) (key : KeyTree) → IsSearching typed found → slice_get (keys_in found.keys) n ≡ Some key → n < length (known_in found) → All (λ k. k < length (types_in found.types)) key.at
+  key_types found n key searching found_at lt = subst (λ (k : KeyTree). IsKeyWithin (types_in found.types) k) (get_or_from_slice_get (keys_in found.keys) n key key found_at)
+      (searching.within n key (let long = length-map (keys_in found.keys) (viewed (types_in found.types)) in omega (arith, long, lt)))
+
+  -- at the start
+  pub searching_starts : (found : Found) → keys_in found.keys ≡ record { function = typed.program.main; at = [] } ∷ [] → found.looked.items ≡ [] → IsSearching typed found
+  searching_starts found keys_are none = record {
+    within = subst (λ ks. All (IsKeyWithin (types_in found.types)) ks) (sym keys_are) (All-cons (IsKeyWithin (types_in found.types)) (record { function = typed.program.main; at = [] }) [] (All-nil (λ n. n < length (types_in found.types))) (All-nil (IsKeyWithin (types_in found.types))));
+    searched = subst (λ xs. Searched typed.program.main (typings_of typed) xs (length found.looked.items)) (sym (ap (map (viewed (types_in found.types))) keys_are))
+        (subst (λ (ls : List Looked). Searched typed.program.main (typings_of typed) (main_instance typed.program.main ∷ []) (length ls)) (sym none) (search_starts typed.program.main (typings_of typed)));
+    looked = λ i d lt. absurd (let long = ap length none in omega (arith, long, lt));
+  }
+
+  -- one instance is looked at
+  module _ (found after : Found) (key : KeyTree) (function : Fun) (body : BodyTypes) (looked : Looked) (searching : IsSearching typed found) (found_at : slice_get (keys_in found.keys) (length found.looked.items) ≡ Some key)
+      (left : length found.looked.items < length (known_in found)) (function_is : function_in (program_tree typed.program) key.function ≡ function_tree function) (typing_is : slice_index_or (typings_of typed) key.function [] ≡ typing_of body)
+      (looks : Looks (types_in found.types) (types_in after.types) key.at (keys_in found.keys) (keys_in after.keys) function body looked) (pushed : after.looked.items ≡ found.looked.items ++ looked ∷ []) where
+    key_in : IsKeyWithin (types_in found.types) key
+    key_in = subst (λ (k : KeyTree). IsKeyWithin (types_in found.types) k) (get_or_from_slice_get (keys_in found.keys) (length found.looked.items) key key found_at)
+        (searching.within (length found.looked.items) key (let long = length-map (keys_in found.keys) (viewed (types_in found.types)) in omega (arith, long, left)))
+
+    same_known : map (viewed (types_in after.types)) (keys_in found.keys) ≡ known_in found
+    same_known = keys_stay (types_in found.types) (types_in after.types) looks.grows (keys_in found.keys) searching.within
+
+    known_after : known_in after ≡ known_in found ++ map (viewed (types_in after.types)) looks.sights.0
+    known_after = ap (map (viewed (types_in after.types))) looks.sights.2 ∙ (map-append (viewed (types_in after.types)) (keys_in found.keys) looks.sights.0 ∙ ap (λ xs. xs ++ map (viewed (types_in after.types)) looks.sights.0) same_known)
+
+    called_is_viewed : map (viewed (types_in after.types)) (keys_called looked.taken.items) ≡ called_in (typings_of typed) (viewed (types_in found.types) key)
+    called_is_viewed = called_viewed (types_in after.types) (map (type_at (types_in found.types)) key.at) looked.taken.items (slice_index_or (typings_of typed) key.function [])
+        (looks.taken ∙ ap (map (put_choice (type_at (map (type_at (types_in found.types)) key.at)))) (sym typing_is))
+
+    keys_called_in : All (IsKeyWithin (types_in after.types)) (keys_called looked.taken.items)
+    keys_called_in = called_within (types_in after.types) looked.taken.items looks.taken_within
+
+    sights : FirstSights (known_in found) (called_in (typings_of typed) (viewed (types_in found.types) key)) (map (viewed (types_in after.types)) looks.sights.0)
+    sights = subst (λ xs. FirstSights xs (called_in (typings_of typed) (viewed (types_in found.types) key)) (map (viewed (types_in after.types)) looks.sights.0)) same_known
+        (subst (λ ys. FirstSights (map (viewed (types_in after.types)) (keys_in found.keys)) ys (map (viewed (types_in after.types)) looks.sights.0)) called_is_viewed
+        (sights_viewed (types_in after.types) after.types.once
+        (All-weaker (IsKeyWithin (types_in found.types)) (IsKeyWithin (types_in after.types)) (λ k within. within_grown (types_in found.types) (types_in after.types) k.at within looks.grows) (keys_in found.keys) searching.within) keys_called_in looks.sights.1))
+
+    read_at : get_or (known_in found) (length found.looked.items) (viewed (types_in found.types) key) ≡ viewed (types_in found.types) key
+    read_at = get_or_from_slice_get (known_in found) (length found.looked.items) (viewed (types_in found.types) key) (viewed (types_in found.types) key)
+        (slice_get-map (viewed (types_in found.types)) (keys_in found.keys) (length found.looked.items) ∙ ap (option_map (viewed (types_in found.types))) found_at)
+
+    is_looked : IsLooked (program_tree typed.program) (typings_of typed) (types_in after.types) (known_in found ++ map (viewed (types_in after.types)) looks.sights.0) (viewed (types_in found.types) key) looked
+    is_looked = record {
+      parameters = subst (λ (f : FunctionTree). AreNumbers (types_in after.types) looked.parameters.items (map (put (type_at (map (type_at (types_in found.types)) key.at))) f.parameters)) (sym function_is) looks.parameters;
+      result_within = looks.result_within;
+      result_is = looks.result_is ∙ ap (λ (f : FunctionTree). put (type_at (map (type_at (types_in found.types)) key.at)) f.result) (sym function_is);
+      taken_within = looks.taken_within;
+      taken = looks.taken ∙ ap (map (put_choice (type_at (map (type_at (types_in found.types)) key.at)))) (sym typing_is);
+      called =
+          ap (λ xs. map (slice_get xs) looked.called.items) (sym known_after)
+          ∙ (viewed_found (types_in after.types) (keys_in after.keys) looked.called.items (keys_called looked.taken.items) looks.called
+          ∙ ap (map Some) called_is_viewed);
+    }
+
+    all_looked : AreLooked (program_tree typed.program) (typings_of typed) (types_in after.types) (known_in found ++ map (viewed (types_in after.types)) looks.sights.0) (found.looked.items ++ looked ∷ [])
+    all_looked i d lt = elim (cases_lt i (length found.looked.items)) [
+      | inl earlier ↦
+          subst (λ l. IsLooked (program_tree typed.program) (typings_of typed) (types_in after.types) (known_in found ++ map (viewed (types_in after.types)) looks.sights.0) (get_or (known_in found ++ map (viewed (types_in after.types)) looks.sights.0) i (main_instance 0)) l) (sym (get_or_append_left found.looked.items (looked ∷ []) d i earlier))
+          (subst (λ x. IsLooked (program_tree typed.program) (typings_of typed) (types_in after.types) (known_in found ++ map (viewed (types_in after.types)) looks.sights.0) x (get_or found.looked.items i d)) (sym (get_or_append_left (known_in found) (map (viewed (types_in after.types)) looks.sights.0) (main_instance 0) i (omega (arith, earlier, left))))
+          (looked_stays (types_in found.types) (types_in after.types) looks.grows (program_tree typed.program) (typings_of typed) (known_in found) (map (viewed (types_in after.types)) looks.sights.0) (get_or (known_in found) i (main_instance 0)) (get_or found.looked.items i d) (searching.looked i d earlier)))
+      | inr past ↦
+          let long = length_push found.looked.items looked in
+          let last : i ≡ length found.looked.items = omega (arith, long, lt, past) in
+          let here : get_or (known_in found ++ map (viewed (types_in after.types)) looks.sights.0) i (main_instance 0) ≡ viewed (types_in found.types) key =
+          get_or_append_left (known_in found) (map (viewed (types_in after.types)) looks.sights.0) (main_instance 0) i (omega (arith, last, left))
+          ∙ (ap (λ k. get_or (known_in found) k (main_instance 0)) last
+          ∙ (get_or_default (known_in found) (length found.looked.items) (main_instance 0) (viewed (types_in found.types) key) left ∙ read_at)) in
+          subst (λ l. IsLooked (program_tree typed.program) (typings_of typed) (types_in after.types) (known_in found ++ map (viewed (types_in after.types)) looks.sights.0) (get_or (known_in found ++ map (viewed (types_in after.types)) looks.sights.0) i (main_instance 0)) l) (sym (get_or_push found.looked.items looked d i (sym last)))
+          (subst (λ x. IsLooked (program_tree typed.program) (typings_of typed) (types_in after.types) (known_in found ++ map (viewed (types_in after.types)) looks.sights.0) x looked) (sym here) is_looked)
+    ]
+
+    pub looked_more : IsSearching typed after
+    looked_more = record {
+      within = subst (λ ks. All (IsKeyWithin (types_in after.types)) ks) (sym looks.sights.2)
+          (All-append (IsKeyWithin (types_in after.types)) (keys_in found.keys) looks.sights.0
+          (All-weaker (IsKeyWithin (types_in found.types)) (IsKeyWithin (types_in after.types)) (λ k within. within_grown (types_in found.types) (types_in after.types) k.at within looks.grows) (keys_in found.keys) searching.within)
+          (new_within (types_in after.types) keys_called_in looks.sights.1));
+      searched = subst (λ xs. Searched typed.program.main (typings_of typed) xs (length after.looked.items)) (sym known_after)
+          (subst (λ n. Searched typed.program.main (typings_of typed) (known_in found ++ map (viewed (types_in after.types)) looks.sights.0) n) (sym (ap length pushed ∙ length_push found.looked.items looked))
+          (search_steps typed.program.main (typings_of typed) (known_in found) (map (viewed (types_in after.types)) looks.sights.0) (length found.looked.items) (viewed (types_in found.types) key) searching.searched left read_at sights));
+      looked = subst (λ xs. AreLooked (program_tree typed.program) (typings_of typed) (types_in after.types) xs after.looked.items) (sym known_after)
+          (subst (λ ls. AreLooked (program_tree typed.program) (typings_of typed) (types_in after.types) (known_in found ++ map (viewed (types_in after.types)) looks.sights.0) ls) (sym pushed) all_looked);
+    }
+
+-- what is seen, from its parts
+pub looks_from : (first second : Types) (third fourth : List TypeTree) (at : List ℕ) (keys_before keys_after : List KeyTree) (function : Fun) (body : BodyTypes)
+    (numbers numbers_slice : List ℕ) (nodes : List TypeNode) (choices : List Taken) (made_slice : List Taken) (written : List Ty) (made : Vec Taken Global) (called : Vec ℕ Global) (parameters : Vec ℕ Global) (result : ℕ) → All (λ n. n < length (types_in first)) at
+    → Grows (types_in first) (types_in second) → AreNumbers (types_in second) numbers (map (put (type_at (map (type_at (types_in first)) at))) (node_types nodes)) → nodes ≡ body.nodes.items → numbers_slice ≡ numbers → choices ≡ body.taken.items → AllZip (Renumbers numbers_slice) choices made.items
+    → made_slice ≡ made.items → (new : List KeyTree) × FirstSights keys_before (keys_called made_slice) new × (keys_after ≡ keys_before ++ new) → map (slice_get keys_after) called.items ≡ map Some (keys_called made_slice)
+    → written ≡ function.parameters.items → Grows (types_in second) third → AreNumbers third parameters.items (map (put (type_at (map (type_at (types_in second)) at))) (map type_tree written)) → Grows third fourth → result < length fourth → type_at fourth result ≡ put (type_at (map (type_at third) at)) (type_tree function.result)
+    → Looks (types_in first) fourth at keys_before keys_after function body (record { parameters = parameters; result = result; taken = made; called = called })
+looks_from first second third fourth at keys_before keys_after function body numbers numbers_slice nodes choices made_slice written made called parameters result at_in
+    grows_nodes numbers_are nodes_is slice_is choices_is renumbers made_is sights found written_is grows_parameters parameters_are grows_result result_in result_is =
+    let s : ℕ → TypeTree = type_at (map (type_at (types_in first)) at) in
+    let second_same : map (type_at (types_in second)) at ≡ map (type_at (types_in first)) at = types_stay (types_in first) (types_in second) at at_in grows_nodes in
+    let at_second = within_grown (types_in first) (types_in second) at at_in grows_nodes in
+    let third_same : map (type_at third) at ≡ map (type_at (types_in first)) at = types_stay (types_in second) third at at_second grows_parameters ∙ second_same in
+    let to_fourth : Grows (types_in second) fourth = grows_on (types_in second) third fourth grows_parameters grows_result in
+    let put_in = taken_put (types_in second) (node_types nodes) numbers s (unit_of second) (some_of second) numbers_are choices made.items (subst (λ ns. AllZip (Renumbers ns) choices made.items) slice_is renumbers) in
+    let stays = taken_stays (types_in second) fourth to_fourth made.items put_in.0 in
+    record {
+      grows = grows_on (types_in first) (types_in second) fourth grows_nodes to_fourth;
+      parameters = numbers_grown third fourth parameters.items _
+          (subst (λ ts. AreNumbers third parameters.items (map (put (type_at ts)) (map type_tree function.parameters.items))) second_same (subst (λ ws. AreNumbers third parameters.items (map (put (type_at (map (type_at (types_in second)) at))) (map type_tree ws))) written_is parameters_are)) grows_result;
+      result_within = result_in;
+      result_is = result_is ∙ ap (λ ts. put (type_at ts) (type_tree function.result)) third_same;
+      taken_within = stays.0;
+      taken = stays.1 ∙ (put_in.1 ∙ (ap (λ ns. map (put_choice s) (map (choice_of (node_types ns)) choices)) nodes_is ∙ ap (λ cs. map (put_choice s) (map (choice_of (node_types body.nodes.items)) cs)) choices_is));
+      sights = subst (λ ms. (new : List KeyTree) × FirstSights keys_before (keys_called ms) new × (keys_after ≡ keys_before ++ new)) made_is sights;
+      called = found ∙ ap (λ ms. map Some (keys_called ms)) made_is;
+    }

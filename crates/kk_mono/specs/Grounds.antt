@@ -1,0 +1,40 @@
+-- What is answered of a typed program: its instances, or the limit that it passes first.
+use Rattle.std.specs.Prelude.{◌≡◌, ◌≢◌, List, [], map, AllPairs, All, slice_index_or, Result, Ok, Err}
+use Rattle.kk_syntax.specs.declared.typed.Typed.{Typed}
+use Rattle.kk_syntax.specs.declared.ground.Ground.{Ground}
+use Rattle.kk_syntax.specs.declared.ground.Instance.{Instance}
+use Rattle.kk_syntax.specs.GroundPrograms.{ground_types, ground_program}
+use Rattle.kk_syntax.specs.Programs.{program_tree}
+use Rattle.kk_syntax.specs.TypedPrograms.{choice_of, typings_of}
+use Rattle.kk_syntax.specs.Types.{TypeTree, type_at}
+use Rattle.kk_syntax.specs.Typing.{Choice, put_choice}
+use Rattle.kk_mono.specs.Counts.{AnswersCounts, IsSmall}
+use Rattle.kk_mono.specs.Instances.{InstanceTree, IsInstanceProgram}
+use Rattle.kk_mono.specs.declared.error.MonoError.{MonoError}
+use Rattle.kk_mono.specs.declared.error.MonoError.TheVariants.{Over, NoMemory}
+
+-- an instance in memory: its function, at the types of these nodes
+abbrev pub instance_view : List TypeTree → Instance → InstanceTree
+instance_view types instance = record { function = instance.function; at = map (type_at types) instance.arguments.items }
+
+abbrev pub instances_of : Ground → List InstanceTree
+instances_of given = map (instance_view (ground_types given.types.items)) given.instances.items
+
+-- the types that are taken in the body of an instance are those of its function's typing, with its types put in place
+abbrev pub TakesTypes : List (List Choice) → List TypeTree → Instance → Type 0
+TakesTypes typings types instance =
+    map (choice_of types) instance.taken.items ≡ map (put_choice (type_at (map (type_at types) instance.arguments.items))) (slice_index_or typings instance.function [])
+
+-- the instances of a program that keeps its limits; no type is there twice
+pub record AreGiven (typed : Typed) (given : Ground) : Type 0 where
+  pub counts : AnswersCounts (program_tree typed.program) (Ok tt)
+  pub instances : IsInstanceProgram (program_tree typed.program) (typings_of typed) (instances_of given) (ground_program given)
+  pub small : IsSmall (ground_program given)
+  pub taken : All (TakesTypes (typings_of typed) (ground_types given.types.items)) given.instances.items
+  pub once : AllPairs (λ one other. one ≢ other) (ground_types given.types.items)
+
+-- an answer is the program's instances, or the limit that it passes first; want of memory may come at any time
+abbrev pub AnswersInstances : Typed → Result Ground MonoError → Type 0
+AnswersInstances typed (Ok given) = AreGiven typed given
+AnswersInstances typed (Err (Over limit)) = AnswersCounts (program_tree typed.program) (Err limit)
+AnswersInstances typed (Err NoMemory) = Unit {0}

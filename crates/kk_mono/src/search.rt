@@ -1,0 +1,104 @@
+ghost use Rattle.std.specs.Prelude.{◌≡◌, ◌+◌, ◌<◌, length, All, IfOk, OnOk};
+ghost use Rattle.kk_syntax.specs.Programs.{program_tree};
+ghost use Rattle.kk_syntax.specs.TypedPrograms.{typings_of};
+ghost use Rattle.kk_syntax.specs.Typing.{ArePrincipal};
+ghost use Rattle.kk_mono.specs.KeyTrees.{keys_in};
+ghost use Rattle.kk_mono.specs.Looking.{Looks};
+ghost use Rattle.kk_mono.specs.Searching.{known_in, IsSearching, HasSearched};
+ghost use Rattle.kk_mono.specs.Views.{types_in};
+
+use crate::keys::{Keys, numbers_of_called};
+use crate::numbers::{number_of_written, numbers_of_nodes, numbers_of_written, taken_at};
+use crate::types::Types;
+use kk_base::{LimitKind, NoMemory};
+use kk_syntax::{BodyTypes, Fun, Taken, Typed};
+use std::alloc::Global;
+
+/// What has been seen in an instance.
+#[derive(Debug, Drop)]
+pub struct Looked {
+    /// The numbers of the types of its parameters.
+    pub parameters: Vec<u32>,
+    /// The number of the type of its result.
+    pub result: u32,
+    /// The types that are taken in its body.
+    pub taken: Vec<Taken>,
+    /// The numbers of the instances that it calls, in the order of the text.
+    pub called: Vec<u32>,
+}
+
+/// The search for the instances: those that are known, of which the first so many have been looked at.
+#[derive(Debug, Drop)]
+pub struct Found {
+    pub types: Types,
+    pub keys: Keys,
+    pub looked: Vec<Looked>,
+}
+
+/// Looks at `main`, and at each instance that is called in one that has been looked at, until all are known, or more than
+/// are allowed.
+pub fn search(alloc: Global, typed: &Typed) -> Result<Found, NoMemory>
+    requires { ArePrincipal (program_tree typed.now.program) (typings_of typed.now) }
+    ensures { IfOk result (λ found. HasSearched typed.now found) }
+{
+    let mut found = Found {
+        types: Types::new(alloc)?,
+        keys: Keys::new(alloc, typed.program.main)?,
+        looked: Vec::new(alloc),
+    };
+    let greatest = LimitKind::Instances.greatest() as usize;
+    while found.looked.len() < found.keys.len() && found.keys.len() <= greatest {
+        found.look(alloc, typed)?;
+    }
+    Ok(found)
+}
+
+impl Found {
+    // Looks at the next instance.
+    fn look(&mut self, alloc: Global, typed: &Typed) -> Result<(), NoMemory>
+        requires principal { ArePrincipal (program_tree typed.now.program) (typings_of typed.now) }
+        requires searching { IsSearching typed.now self.old }
+        requires left { length self.old.looked.items < length (known_in self.old) }
+        ensures searching { OnOk result (IsSearching typed.now self.new) }
+        ensures more { OnOk result (length self.new.looked.items ≡ length self.old.looked.items + 1) }
+    {
+        let key = self.keys.get(self.looked.len());
+        let function = key.function as usize;
+        let at = Vec::from_slice(alloc, &key.arguments)?;
+        let looked = looked_at(
+            alloc,
+            &mut self.types,
+            &mut self.keys,
+            &typed.program.functions[function],
+            &typed.bodies[function],
+            &at,
+        )?;
+        self.looked.push(looked)?;
+        Ok(())
+    }
+}
+
+// What is seen in a function and its body, where types stand for its type variables.
+fn looked_at(
+    alloc: Global,
+    types: &mut Types,
+    keys: &mut Keys,
+    function: &Fun,
+    body: &BodyTypes,
+    at: &[u32],
+) -> Result<Looked, NoMemory>
+    requires { All (λ n. n < length (types_in types.old)) at.now }
+    ensures { IfOk result (λ looked. Looks (types_in types.old) (types_in types.new) at.now (keys_in keys.old) (keys_in keys.new) function.now body.now looked) }
+{
+    let numbers = numbers_of_nodes(alloc, types, at, &body.nodes)?;
+    let taken = taken_at(alloc, &numbers, &body.taken)?;
+    let called = numbers_of_called(alloc, keys, &taken)?;
+    let parameters = numbers_of_written(alloc, types, at, &function.parameters)?;
+    let result = number_of_written(alloc, types, at, &function.result)?;
+    Ok(Looked {
+        parameters,
+        result,
+        taken,
+        called,
+    })
+}

@@ -1,0 +1,153 @@
+-- A walk over the rows of a match.
+use Rattle.std.proofs.Common.{◌≡◌, ◌<◌, ◌≤◌, ◌+◌, ℕ, zero, suc, Bool, true, false, List, [], ◌∷◌, ◌++◌, length, map, get_or, take, drop, drop_of_length-le, refl, ap, sym, ◌∙◌, subst, arith}
+use Rattle.std.specs.Prelude.{Result, Ok, Err}
+use Rattle.std.proofs.lemmas.List.{drop_more}
+use Rattle.std.proofs.lemmas.List.Elements.{All-nil, All-cons}
+use Rattle.kk_base.specs.declared.error.NoMemory.{NoMemory}
+use Rattle.kk_syntax.specs.declared.program.Row.{Row}
+use Rattle.kk_syntax.specs.declared.program.Expr.TheFolds.{fold_out-Row}
+use Rattle.kk_syntax.specs.Patterns.{Pattern, pattern_tree}
+use Rattle.kk_syntax.specs.Programs.{ProgramTree}
+use Rattle.kk_syntax.specs.Shapes.{bound}
+use Rattle.kk_syntax.specs.Trees.{Tree, RowTree, StatementTree, rows_of, expr_step, row_step, statement_step, expr_tree, row_tree}
+use Rattle.kk_syntax.specs.Types.{TypeTree}
+use Rattle.kk_syntax.specs.Typing.{Choice, Scope, holding, with_bound, Binds, InTurn, IsPatternTyped, IsTypedBy}
+use Rattle.kk_unify.specs.Graphs.{NodeTree, Assignment, Obeys}
+use Rattle.kk_unify.specs.GraphOf.{variables_of}
+use Rattle.kk_types.specs.declared.scope.Bound.{Bound}
+use Rattle.kk_types.specs.declared.walk.Walk.{Walk}
+use Rattle.kk_types.specs.Claims.{both, expression_at, rows_at, pattern_at}
+use Rattle.kk_types.specs.Steps.{nodes_of, size_of, Goes, Walked, BindsEach}
+use Rattle.kk_types.specs.Walks.{Taking, holding_at, takings_of, choices_at, AreBelow, IsTakenBelow, AreTakenBelow, AreBoundBelow, Agree, scope_at, Claim, Leads, Done, Refused, IsOf}
+use Rattle.kk_types.proofs.Going.{takes_then, refused_after, goes_on, goes_first}
+use Rattle.kk_types.proofs.Locals.{node_of, both_of, expression_of, rows_of_claim}
+use Rattle.kk_types.proofs.Refining.{head_of, tail_of, scope_agrees, bound_more, Chooses, opens_leads, then_leads, refused_behind, first_refused}
+
+-- a row in memory as a tree
+row_tree_is : (r : Row) → row_tree r ≡ record { pattern = pattern_tree r.pattern; body = expr_tree r.body }
+row_tree_is r = fold_out-Row Tree RowTree StatementTree expr_step row_step statement_step r
+
+-- what is taken for variables
+taken_below : (size : ℕ) (numbers : List ℕ) → AreBelow size numbers → AreTakenBelow size (map holding_at numbers)
+taken_below size [] below = All-nil (IsTakenBelow size)
+taken_below size (i ∷ is) below =
+    All-cons (IsTakenBelow size) (holding_at i) (map holding_at is) (head_of (λ j. j < size) i is below) (taken_below size is (tail_of (λ j. j < size) i is below))
+
+choices_held : (r : Assignment) (numbers : List ℕ) → choices_at r (map holding_at numbers) ≡ map holding (map r numbers)
+choices_held r [] = refl
+choices_held r (i ∷ is) = ap (λ l. holding (r i) ∷ l) (choices_held r is)
+
+-- a claim that is of no node
+constant_of : (size : ℕ) (F : List Choice → Type 0) → IsOf size (λ r. F)
+constant_of size F = record { follows = λ r q choices agree whole. whole }
+
+-- the same walk, with what is to be shown and what is left in other words
+retold : (a b : List NodeTree) (xs : List Taking) (Whole Left Whole_ Left_ : Claim) → ((r : Assignment) (choices : List Choice) → Whole_ r choices → Whole r choices) → ((r : Assignment) (choices : List Choice) → Whole r choices → Whole_ r choices) → ((r : Assignment) (choices : List Choice) → Left r choices → Left_ r choices) → ((r : Assignment) (choices : List Choice) → Left_ r choices → Left r choices) → Leads a b xs Whole Left → Leads a b xs Whole_ Left_
+retold a b xs Whole Left Whole_ Left_ into out on back leads = record {
+  longer = leads.longer;
+  below = leads.below;
+  sound = λ r choices obeys left.
+      let one = leads.sound r choices obeys (back r choices left) in
+      (one.0, out r (choices_at r xs ++ choices) one.1);
+  complete = λ r choices obeys whole.
+      let one = leads.complete r choices obeys (into r choices whole) in
+      (one.0, one.1, one.2, (one.3.0, one.3.1, on one.0 one.3.0 one.3.2));
+}
+
+module _ (a b : Walk) (variables : List ℕ) (binds : BindsEach a b variables) (inside : AreBoundBelow (size_of a) a.scope.items) (Inside : Assignment → Scope → List Choice → Type 0) (of : (scope : Scope) → IsOf (size_of a) (λ r. Inside r scope)) where
+  abbrev bound_in : Claim
+  bound_in r = Binds variables (scope_at r a.scope.items) (Inside r)
+
+  abbrev chosen_in : Assignment → List TypeTree → List Choice → Type 0
+  chosen_in r ts = Inside r (with_bound variables ts (scope_at r a.scope.items))
+
+  chosen_of : (ts : List TypeTree) → IsOf (size_of a) (λ r. chosen_in r ts)
+  chosen_of ts = record {
+    follows = λ r q choices agree whole.
+        subst (λ scope. Inside q (with_bound variables ts scope) choices) (scope_agrees (size_of a) r q agree a.scope.items inside)
+        ((of (with_bound variables ts (scope_at r a.scope.items))).follows r q choices agree whole);
+  }
+
+  -- the variables are bound, and what is left is inside
+  binds_leads : Leads (nodes_of a) (nodes_of b) (map holding_at binds.at) bound_in (λ r. Inside r (scope_at r b.scope.items))
+  binds_leads =
+      retold (nodes_of a) (nodes_of b) (map holding_at binds.at) (λ r. Chooses (length variables) (map holding) (chosen_in r)) (λ r. chosen_in r (map r binds.at)) bound_in (λ r. Inside r (scope_at r b.scope.items))
+      (λ r choices met. record { at = met.at; each = met.each; rest = met.rest; choices_are = met.choices_are; inside = met.inside })
+      (λ r choices met. record { at = met.at; each = met.each; rest = met.rest; choices_are = met.choices_are; inside = met.inside })
+      (λ r choices met. subst (λ scope. Inside r scope choices) (sym (binds.scope r)) met)
+      (λ r choices met. subst (λ scope. Inside r scope choices) (binds.scope r) met)
+      (opens_leads (nodes_of a) (nodes_of b) binds.at (length variables) (map holding_at binds.at) (map holding) chosen_in binds.opens (taken_below (size_of b) binds.at binds.opens.inside) (λ r. choices_held r binds.at) chosen_of)
+
+module _ (program : ProgramTree) (a b : Walk) (pattern : Pattern) (body : Tree) (scrutinee want : ℕ) (inside : AreBoundBelow (size_of a) a.scope.items) (first_lt : scrutinee < size_of a) (lt : want < size_of a) (binds : BindsEach a b (bound pattern)) where
+  abbrev in_row : Assignment → Scope → List Choice → Type 0
+  in_row r scope = InTurn (IsPatternTyped program scope pattern (r scrutinee)) (IsTypedBy program scope body (r want))
+
+  in_row_of : (scope : Scope) → IsOf (size_of a) (λ r. in_row r scope)
+  in_row_of scope =
+      both_of (size_of a) (λ r. IsPatternTyped program scope pattern (r scrutinee)) (λ r. IsTypedBy program scope body (r want))
+      (node_of (size_of a) scrutinee (λ r t. IsPatternTyped program scope pattern t) first_lt (λ t. constant_of (size_of a) (IsPatternTyped program scope pattern t)))
+      (node_of (size_of a) want (λ r t. IsTypedBy program scope body t) lt (λ t. constant_of (size_of a) (IsTypedBy program scope body t)))
+
+  abbrev one_row : Claim
+  one_row r = Binds (bound pattern) (scope_at r a.scope.items) (in_row r)
+
+  abbrev row_pattern : Claim
+  row_pattern = pattern_at program b.scope.items pattern scrutinee
+
+  abbrev row_body : Claim
+  row_body = expression_at program b.scope.items body want
+
+  begun : Leads (nodes_of a) (nodes_of b) (map holding_at binds.at) one_row (both row_pattern row_body)
+  begun = binds_leads a b (bound pattern) binds inside in_row in_row_of
+
+  pub pattern_refused : (c : Walk) → Walked b c row_pattern (Ok false) → Refused (nodes_of a) one_row
+  pattern_refused c walked = refused_behind (nodes_of a) (nodes_of b) (map holding_at binds.at) one_row (both row_pattern row_body) begun (first_refused (nodes_of b) row_pattern row_body walked)
+
+  module _ (c : Walk) (first : Walked b c row_pattern (Ok true)) where
+    patterned : Goes b c (both row_pattern row_body) row_body
+    patterned = goes_first b c row_pattern row_body (expression_of (size_of b) program b.scope.items (binds.bound_inside inside) body want (omega (arith, lt, binds.opens.longer))) first
+
+    pub body_refused : (d : Walk) → Walked c d (expression_at program c.scope.items body want) (Ok false) → Refused (nodes_of a) one_row
+    body_refused d walked =
+        refused_behind (nodes_of a) (nodes_of b) (map holding_at binds.at) one_row (both row_pattern row_body) begun
+        (refused_after b c (both row_pattern row_body) row_body patterned (subst (λ bs. Refused (nodes_of c) (expression_at program bs body want)) first.same_scope walked))
+
+    -- the row is done, and its variables are gone
+    pub row_done : (d e : Walk) → Walked c d (expression_at program c.scope.items body want) (Ok true) → nodes_of e ≡ nodes_of d → variables_of e.graph ≡ variables_of d.graph → e.taken.items ≡ d.taken.items → e.scope.items ≡ take (length a.scope.items) d.scope.items → Goes a e one_row Done
+    row_done d e walked same_graph same_variables same_taken cut =
+        let rest : Goes c d row_body Done = subst (λ bs. Goes c d (expression_at program bs body want) Done) first.same_scope walked in
+        let all = goes_on b c d (both row_pattern row_body) row_body Done patterned rest in
+        record {
+          taken = map holding_at binds.at ++ all.taken;
+          takes = ap takings_of same_taken ∙ takes_then a b d (map holding_at binds.at) all.taken binds.takes all.takes;
+          same_scope = cut ∙ (ap (take (length a.scope.items)) all.same_scope ∙ binds.outer);
+          same_variables = same_variables ∙ (all.same_variables ∙ binds.same_variables);
+          leads = subst (λ g. Leads (nodes_of a) g (map holding_at binds.at ++ all.taken) one_row Done) (sym same_graph) (then_leads (nodes_of a) (nodes_of b) (nodes_of d) (map holding_at binds.at) all.taken one_row (both row_pattern row_body) Done begun all.leads);
+        }
+
+module _ (program : ProgramTree) (bounds : List Bound) (scrutinee want : ℕ) where
+  -- what is to be shown of rows in memory
+  abbrev pub cases_at : List Row → Claim
+  cases_at rows = rows_at program bounds (rows_of (map row_tree rows)) scrutinee want
+
+  -- what is to be shown of one
+  abbrev pub case_at : Row → Claim
+  case_at r q = Binds (bound (pattern_tree r.pattern)) (scope_at q bounds) (λ inner. InTurn (IsPatternTyped program inner (pattern_tree r.pattern) (q scrutinee)) (IsTypedBy program inner (expr_tree r.body) (q want)))
+
+  module _ (a b : Walk) (Whole : Claim) (rows : List Row) (i : ℕ) (r : Row) (lt : i < length rows) (is : r ≡ get_or rows i r) (goes : Goes a b Whole (cases_at (drop i rows))) where
+    next_case : Goes a b Whole (both (case_at r) (cases_at (drop (i + 1) rows)))
+    next_case =
+        subst (λ (t : RowTree). Goes a b Whole (both (λ q. Binds (bound t.pattern) (scope_at q bounds) (λ inner. InTurn (IsPatternTyped program inner t.pattern (q scrutinee)) (IsTypedBy program inner t.body (q want)))) (cases_at (drop (i + 1) rows)))) (row_tree_is r)
+        (subst (λ rs. Goes a b Whole (cases_at rs)) (drop_more rows i r lt ∙ ap (λ s. s ∷ drop (i + 1) rows) (sym is)) goes)
+
+    pub case_refused : Refused (nodes_of b) (case_at r) → Refused (nodes_of a) Whole
+    case_refused refused = refused_after a b Whole (both (case_at r) (cases_at (drop (i + 1) rows))) next_case (first_refused (nodes_of b) (case_at r) (cases_at (drop (i + 1) rows)) refused)
+
+    pub case_goes : (c : Walk) → AreBoundBelow (size_of b) bounds → scrutinee < size_of b → want < size_of b → Goes b c (case_at r) Done → Goes a c Whole (cases_at (drop (i + 1) rows))
+    case_goes c inside first_lt less one =
+        goes_on a b c Whole (both (case_at r) (cases_at (drop (i + 1) rows))) (cases_at (drop (i + 1) rows)) next_case
+        (goes_first b c (case_at r) (cases_at (drop (i + 1) rows)) (rows_of_claim (size_of b) program bounds inside (rows_of (map row_tree (drop (i + 1) rows))) scrutinee want first_lt less) one)
+
+-- no row is left
+pub cases_done : (program : ProgramTree) (bounds : List Bound) (scrutinee want : ℕ) (a b : Walk) (Whole : Claim) (rows : List Row) (i : ℕ) → length rows ≤ i → Goes a b Whole (cases_at program bounds scrutinee want (drop i rows)) → Goes a b Whole Done
+cases_done program bounds scrutinee want a b Whole rows i none goes = subst (λ rs. Goes a b Whole (cases_at program bounds scrutinee want rs)) (drop_of_length-le rows none) goes

@@ -1,0 +1,17 @@
+pub mod Finding
+pub mod InMemory
+pub mod Joining
+pub mod Linking
+pub mod Obeying
+pub mod Pairing
+pub mod Adding
+pub mod Rooting
+pub mod Sizes
+pub mod Walking
+pub mod Advancing
+pub mod Stepping
+pub mod Turning
+pub mod Visiting
+pub mod Solving
+pub mod DecidedJoins
+pub mod DecidedGraphs

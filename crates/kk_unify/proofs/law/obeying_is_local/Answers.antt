@@ -1,0 +1,5 @@
+use Rattle.kk_unify.proofs.Obeying.{obeying_is_local}
+use Rattle.kk_unify.proofs.law.obeying_is_local.Goals as goal
+
+pub returns : goal.returns
+returns c = obeying_is_local
