@@ -1,13 +1,13 @@
 -- A node is added to a graph in memory.
-use Rattle.std.proofs.Common.{◌≡◌, ◌<◌, ◌≤◌, ◌+◌, ◌++◌, ℕ, List, [], ◌∷◌, length, map, Result, Ok, Err, IfOk, Bool, true, false, if◌then◌else◌, refl, sym, ◌∙◌, ap, subst, arith}
-use Rattle.std.proofs.lemmas.List.{map_push, length_push}
+use Rattle.std.proofs.Common.{◌≡◌, ◌++◌, ℕ, List, [], ◌∷◌, length, Result, Ok, Err, IfOk, Bool, true, false, if◌then◌else◌, sym, ◌∙◌, ap, subst}
+use Rattle.std.proofs.lemmas.List.{map_push}
 use Rattle.kk_base.specs.declared.error.NoMemory.{NoMemory}
 use Rattle.kk_syntax.specs.declared.typed.TypeNode.{TypeNode}
 use Rattle.kk_syntax.specs.declared.typed.TypeNode.TheVariants as Of
 use Rattle.kk_unify.specs.declared.node.Node.{Node}
 use Rattle.kk_unify.specs.Graphs.{NodeTree, Assignment, Holds, IsNodeFormed, IsFormed, Adds}
 use Rattle.kk_unify.specs.NodesOf.{node_tree, node_trees, added_node}
-use Rattle.kk_unify.specs.GraphOf.{type_by, IsAddable}
+use Rattle.kk_unify.specs.GraphOf.{type_by}
 use Rattle.kk_unify.proofs.Obeying.{formed_more, added}
 
 pub added_holds : (node : TypeNode) (r : Assignment) (i : ℕ) → r i ≡ type_by r node → Holds r i (added_node node)
@@ -21,17 +21,6 @@ added_says Of.Int32 r i is = is
 added_says Of.Unit r i is = is
 added_says (Of.Variable of) r i is = is
 added_says (Of.Named by arguments) r i is = is
-
-pub added_formed : (variables size i : ℕ) (node : TypeNode) (tree : NodeTree) → tree ≡ added_node node → IsAddable variables size node → IsNodeFormed variables size i tree
-added_formed variables size i node tree is addable =
-    let P : NodeTree → Type 0 = IsNodeFormed variables size i in
-    subst P (sym is) (cases node addable)
-  where
-    cases : (node : TypeNode) → IsAddable variables size node → IsNodeFormed variables size i (added_node node)
-    cases Of.Int32 addable = tt
-    cases Of.Unit addable = tt
-    cases (Of.Variable of) addable = addable
-    cases (Of.Named by arguments) addable = addable
 
 -- a node is pushed, if there is memory
 pub formed_pushed : (variables : ℕ) (nodes new : List Node) (node : Node) (pushed : Bool) → new ≡ (if pushed then nodes ++ (node ∷ []) else nodes) → IsFormed variables (node_trees nodes) → IsNodeFormed variables (length (node_trees nodes)) (length (node_trees nodes)) (node_tree node) → IsFormed variables (node_trees new)

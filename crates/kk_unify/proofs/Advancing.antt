@@ -1,6 +1,6 @@
 -- The next argument of a node on the way.
-use Rattle.std.proofs.Common.{◌≡◌, ◌<◌, ◌≤◌, ◌+◌, ◌-◌, ◌++◌, ◌⊎◌, ℕ, List, [], ◌∷◌, length, get_or, take, drop, inl, inr, refl, sym, ◌∙◌, ap, subst, arith}
-use Rattle.std.proofs.lemmas.Bool.{cases_eq, cases_lt}
+use Rattle.std.proofs.Common.{◌≡◌, ◌<◌, ◌+◌, ◌-◌, ◌++◌, ◌⊎◌, ℕ, List, [], ◌∷◌, length, get_or, take, drop, inl, inr, refl, sym, ◌∙◌, ap, arith}
+use Rattle.std.proofs.lemmas.Bool.{cases_lt}
 use Rattle.std.proofs.lemmas.List.{get_or_append_left, get_or_push, get_or_default, get_or-drop, get_or-take, length_push, length-take, length-drop}
 use Rattle.kk_unify.specs.declared.node.Node.{Node}
 use Rattle.kk_unify.specs.declared.walk.Mark.{Mark}
@@ -8,7 +8,7 @@ use Rattle.kk_unify.specs.declared.walk.Mark.TheVariants.{New, Entered, Numbered
 use Rattle.kk_unify.specs.declared.walk.Frame.{Frame}
 use Rattle.kk_unify.specs.declared.walk.Rooted.{Rooted}
 use Rattle.kk_unify.specs.Graphs.{NodeTree}
-use Rattle.kk_unify.specs.NodesOf.{node_tree, node_trees}
+use Rattle.kk_unify.specs.NodesOf.{node_tree}
 use Rattle.kk_unify.specs.Joining.{node_at}
 use Rattle.kk_unify.specs.Walking.{root_at, arguments_of, mark_at, IsReady}
 use Rattle.kk_unify.specs.WalkOf.{graph_in, IsRootedIn, arguments_in, next_root, IsReadyIn, IsWanted}

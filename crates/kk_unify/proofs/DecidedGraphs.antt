@@ -1,5 +1,5 @@
 -- Whether an assignment obeys a graph is decided, by a walk over lists of nodes.
-use Rattle.std.proofs.Common.{◌≡◌, ◌≢◌, ◌<◌, ◌≤◌, ◌+◌, ◌++◌, ◌⊎◌, ℕ, zero, suc, List, [], ◌∷◌, length, map, get_or, set, replicate, sum_by, All, inl, inr, refl, sym, ◌∙◌, ap, subst, arith}
+use Rattle.std.proofs.Common.{◌≡◌, ◌<◌, ◌≤◌, ◌++◌, ◌⊎◌, ℕ, zero, suc, List, [], ◌∷◌, length, map, get_or, set, replicate, sum_by, inl, inr, refl, ◌∙◌, ap, subst, arith}
 use Rattle.std.proofs.lemmas.Bool.{cases_lt}
 use Rattle.std.proofs.lemmas.List.{length_push, get_or_default}
 use Rattle.kk_syntax.specs.Types.{TypeTree}
@@ -7,7 +7,7 @@ use Rattle.kk_unify.specs.declared.walk.Mark.{Mark}
 use Rattle.kk_unify.specs.declared.walk.Mark.TheVariants.{New, Entered, Numbered}
 use Rattle.kk_unify.specs.Graphs.{NodeTree, any_node, same_node, int32_node, unit_node, variable_node, named_node, Assignment, IsFormed, IsPrincipalOf, NoneObeys, EachGraphIsDecided}
 use Rattle.kk_unify.specs.Joining.{node_at}
-use Rattle.kk_unify.specs.Walking.{root_at, AreRoots, IsRooted, arguments_of, mark_at, work_of, IsDone, types_so_far, made_type, Walks}
+use Rattle.kk_unify.specs.Walking.{root_at, IsRooted, arguments_of, mark_at, work_of, types_so_far, made_type, Walks}
 use Rattle.kk_unify.proofs.DecidedJoins.{last_of}
 use Rattle.kk_unify.proofs.Joining.{same_earlier}
 use Rattle.kk_unify.proofs.Rooting.{RootsSoFar, roots_more, root_same, root_own, root_is, root_of_root}
@@ -35,7 +35,7 @@ first_roots variables graph formed (suc count) le =
 all_roots : (variables : ℕ) (graph : List NodeTree) → IsFormed variables graph → (roots : List ℕ) × IsRooted variables graph roots
 all_roots variables graph formed =
     let all = first_roots variables graph formed (length graph) (omega arith) in
-    (all.0, record { formed = formed; rooted = record { as_long = all.1; each = λ i lt. all.2 i (omega (arith, lt, all.1)); }; })
+    (all.0, record { formed = formed; rooted = record { as_long = all.1; each = λ i lt. all.2 i (omega (arith, lt, all.1)) } })
 
 -- either holds of each number below one, or the other of one of them
 either : (A B : ℕ → Type 0) (n : ℕ) → ((i : ℕ) → i < n → A i ⊎ B i) → ((i : ℕ) → i < n → A i) ⊎ ((i : ℕ) × (i < n) × B i)
@@ -84,10 +84,10 @@ module _ (variables : ℕ) (graph : List NodeTree) (roots : List ℕ) (rooted : 
   one_on_the_way marks front i types walks later (inl all) =
       later (set marks i (Numbered (length types))) front (types ++ (made_type variables i (map (types_so_far roots marks types) (arguments_of (node_at graph i))) (node_at graph i) ∷ [])) (on.left_less variables graph roots rooted marks front types i walks (length types))
       (on.walks_left variables graph roots rooted marks front types i walks (λ k d h.
-        let argument = root_at roots (get_or (arguments_of (node_at graph i)) k d) in
-        let number = (all k h).0 in
-        let is : mark_at marks argument ≡ Numbered number = ap (λ a. mark_at marks (root_at roots a)) (get_or_default (arguments_of (node_at graph i)) k d 0 h) ∙ (all k h).1 in
-        done_from (length types) number (mark_at marks argument) is (walks.numbered argument number is).within))
+      let argument = root_at roots (get_or (arguments_of (node_at graph i)) k d) in
+      let number = (all k h).0 in
+      let is : mark_at marks argument ≡ Numbered number = ap (λ a. mark_at marks (root_at roots a)) (get_or_default (arguments_of (node_at graph i)) k d 0 h) ∙ (all k h).1 in
+      done_from (length types) number (mark_at marks argument) is (walks.numbered argument number is).within))
   one_on_the_way marks front i types walks later (inr (k, lt, inl new)) =
       let child = root_at roots (get_or (arguments_of (node_at graph i)) k 0) in
       let within : child < length graph = on.child_within variables graph roots rooted marks front types i walks k lt in

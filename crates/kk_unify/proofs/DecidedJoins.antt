@@ -1,10 +1,10 @@
 -- Whether two nodes can be of one type is decided, by the steps of a join over lists of nodes.
-use Rattle.std.proofs.Common.{◌≡◌, ◌<◌, ◌≤◌, ◌+◌, ◌++◌, ◌⊎◌, ℕ, zero, suc, min, max, Bool, true, false, List, [], ◌∷◌, length, Ok, inl, inr, refl, sym, ◌∙◌, ap, subst, arith}
+use Rattle.std.proofs.Common.{◌≡◌, ◌<◌, ◌+◌, ◌++◌, ◌⊎◌, ℕ, zero, suc, min, max, Bool, true, false, List, [], ◌∷◌, length, Ok, inl, inr, refl, sym, ◌∙◌, ap, subst, arith}
 use Rattle.std.proofs.lemmas.Bool.{cases_eq, cases_lt}
 use Rattle.std.proofs.lemmas.List.{length_push}
 use Rattle.std.proofs.lemmas.List.Elements.{All-nil}
-use Rattle.kk_unify.specs.Graphs.{NodeTree, any_node, same_node, int32_node, unit_node, variable_node, named_node, IsNodeFormed, IsFormed, Joins, Clashes, EachJoinIsDecided}
-use Rattle.kk_unify.specs.Joining.{Pair, node_at, IsHead, weight, AreWithin, heads_agree, merged, met, linked, Finds, Steps}
+use Rattle.kk_unify.specs.Graphs.{NodeTree, any_node, same_node, int32_node, unit_node, variable_node, named_node, IsFormed, Joins, Clashes, EachJoinIsDecided}
+use Rattle.kk_unify.specs.Joining.{Pair, node_at, IsHead, weight, heads_agree, merged, met, linked, Finds, Steps}
 use Rattle.kk_unify.proofs.Obeying.{formed_at}
 use Rattle.kk_unify.proofs.Joining.{alike_refl, leads_refl, same_holds, same_earlier, linked_steps, linked_formed, linked_clash, merged_formed}
 use Rattle.kk_unify.proofs.Pairing.{steps_found, pair_joined, pair_within, steps_on, clash_on, steps_done}

@@ -1,8 +1,8 @@
 -- Nodes in memory as nodes of a list.
-use Rattle.std.proofs.Common.{◌≡◌, ◌<◌, ◌++◌, ℕ, List, [], ◌∷◌, length, map, get_or, set, sym, ◌∙◌, ap}
-use Rattle.std.proofs.lemmas.List.{get_or-map, length-map, map-set, map_push}
+use Rattle.std.proofs.Common.{◌≡◌, ◌<◌, ℕ, List, length, get_or, set, ◌∙◌, ap}
+use Rattle.std.proofs.lemmas.List.{get_or-map, length-map, map-set}
 use Rattle.kk_unify.specs.declared.node.Node.{Node}
-use Rattle.kk_unify.specs.Graphs.{NodeTree, any_node}
+use Rattle.kk_unify.specs.Graphs.{any_node}
 use Rattle.kk_unify.specs.NodesOf.{node_tree, node_trees}
 use Rattle.kk_unify.specs.Joining.{node_at}
 

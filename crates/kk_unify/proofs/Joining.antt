@@ -1,15 +1,15 @@
 -- What the steps of a join do, over lists of nodes.
-use Rattle.std.proofs.Common.{◌≡◌, ◌≢◌, ◌<◌, ◌≤◌, ◌+◌, ◌⊎◌, ◌==◌, ◌&&◌, ℕ, zero, suc, Bool, true, false, List, [], ◌∷◌, ◌++◌, length, map, get_or, set, take, min, sum_by, Some, All, inl, inr, refl, sym, ◌∙◌, ap, subst, arith}
+use Rattle.std.proofs.Common.{◌≡◌, ◌≢◌, ◌<◌, ◌≤◌, ◌+◌, ◌==◌, ◌&&◌, ℕ, zero, suc, Bool, true, false, List, [], ◌∷◌, ◌++◌, length, map, get_or, set, take, min, All, inl, inr, refl, sym, ◌∙◌, ap, subst, arith}
 use Rattle.std.specs.List.{zip}
-use Rattle.std.proofs.lemmas.Bool.{cases_eq, cases_lt, eqb-true, eq-eqb}
+use Rattle.std.proofs.lemmas.Bool.{cases_eq, eqb-true, eq-eqb}
 use Rattle.std.proofs.lemmas.List.{get_or-set_other, length-set, length-append, get_or-append-add, get_or_append_left, append_assoc, take_more, take_all}
 use Rattle.std.proofs.lemmas.List.Elements.{All-append, All-nil}
 use Rattle.std.proofs.lemmas.List.Sums.{sum_by-set}
 use Rattle.std.proofs.lemmas.Slice.Zip.{length-zip, get_or-zip}
-use Rattle.kk_syntax.specs.Types.{TypeTree, int32, unit_type, type_variable, named, TypeTrees, no_type, type, types_of}
-use Rattle.kk_unify.specs.Graphs.{NodeTree, any_node, same_node, int32_node, unit_node, variable_node, named_node, Assignment, Holds, Obeys, IsNodeFormed, IsFormed, Joins, Clashes}
-use Rattle.kk_unify.specs.Joining.{Pair, node_at, IsLinked, KeepsFormed, IsHead, parts, weight, PairsHold, AreWithin, heads_agree, merged, met, met_by, Alike, Leads, Finds, Steps, linked}
-use Rattle.kk_unify.proofs.Obeying.{obeyed_at, obeys_from, obeys_each, formed_at, formed_set, obeyed_set, obeyed_before, holds_moved, set_at}
+use Rattle.kk_syntax.specs.Types.{TypeTree, type_variable, types_of}
+use Rattle.kk_unify.specs.Graphs.{NodeTree, any_node, same_node, int32_node, unit_node, variable_node, named_node, Assignment, Holds, Obeys, IsNodeFormed, IsFormed, Clashes}
+use Rattle.kk_unify.specs.Joining.{Pair, node_at, IsHead, parts, PairsHold, AreWithin, heads_agree, merged, met, Alike, Leads, Steps, linked}
+use Rattle.kk_unify.proofs.Obeying.{obeyed_at, obeys_each, formed_at, formed_set, obeyed_set, obeyed_before, holds_moved, set_at}
 
 pub same_types : (ts us : List TypeTree) → types_of ts ≡ types_of us → ts ≡ us
 same_types [] [] e = refl
@@ -350,6 +350,3 @@ linked_formed variables graph low high node formed lt within here =
 pub linked_clash : (graph : List NodeTree) (low high : ℕ) → IsHead (node_at graph low) → IsHead (node_at graph high) → heads_agree (node_at graph low) (node_at graph high) ≡ false → Clashes graph low high
 linked_clash graph low high lower upper apart = λ r obeys same.
     differ (node_at graph low) (node_at graph high) r low lower upper apart (obeyed_at graph r obeys low) (holds_moved r high low (node_at graph high) (sym same) (obeyed_at graph r obeys high))
-
-pub linked_on : (old new : List NodeTree) → KeepsFormed old new → IsLinked old → IsLinked new
-linked_on old new keeps is = (is.0, keeps is.0 is.1)

@@ -1,10 +1,10 @@
 -- Two nodes become one type, over nodes in memory.
-use Rattle.std.proofs.Common.{◌≡◌, ◌<◌, ◌++◌, ◌⊎◌, ℕ, List, length, get_or, set, Bool, true, false, Result, Ok, Err, IfOk, MatchBool, inl, inr, refl, sym, ◌∙◌, ap, subst, arith}
-use Rattle.std.proofs.lemmas.List.{get_or-set_other, length-set}
+use Rattle.std.proofs.Common.{◌≡◌, ◌<◌, ◌++◌, ◌⊎◌, ℕ, List, length, get_or, set, Bool, true, false, Result, Ok, Err, IfOk, MatchBool, inl, inr, sym, ◌∙◌, ap, subst, arith}
+use Rattle.std.proofs.lemmas.List.{get_or-set_other}
 use Rattle.kk_base.specs.declared.error.NoMemory.{NoMemory}
 use Rattle.kk_unify.specs.declared.node.Node.{Node}
 use Rattle.kk_unify.specs.declared.node.Node.TheVariants.{Same}
-use Rattle.kk_unify.specs.Graphs.{NodeTree, same_node, IsFormed, IsNodeFormed, Clashes, Assignment, Obeys}
+use Rattle.kk_unify.specs.Graphs.{NodeTree, same_node, IsFormed, IsNodeFormed, Clashes}
 use Rattle.kk_unify.specs.NodesOf.{node_tree, node_trees}
 use Rattle.kk_unify.specs.Joining.{Pair, node_at, IsHead, heads_agree, merged, met, linked, Steps}
 use Rattle.kk_unify.proofs.InMemory.{as_long, read, written}

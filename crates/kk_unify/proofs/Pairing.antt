@@ -1,11 +1,11 @@
 -- A pair of nodes, found and made one type.
-use Rattle.std.proofs.Common.{◌≡◌, ◌<◌, ◌≤◌, ◌+◌, ◌⊎◌, ℕ, List, [], ◌∷◌, ◌++◌, length, get_or, zero, suc, min, max, Bool, true, false, Result, Ok, Err, IfOk, MatchBool, inl, inr, refl, sym, ◌∙◌, ap, subst, arith}
+use Rattle.std.proofs.Common.{◌≡◌, ◌<◌, ℕ, List, [], ◌∷◌, ◌++◌, length, get_or, zero, suc, min, max, Bool, true, false, Result, Ok, Err, IfOk, MatchBool, inl, inr, refl, sym, ◌∙◌, ap, subst, arith}
 use Rattle.std.proofs.lemmas.Bool.{cases_lt}
 use Rattle.std.proofs.lemmas.List.{length_push, get_or_append_left, get_or_push}
 use Rattle.std.proofs.lemmas.List.Elements.{All-append, All-nil}
 use Rattle.kk_base.specs.declared.error.NoMemory.{NoMemory}
 use Rattle.kk_unify.specs.Graphs.{NodeTree, Assignment, Obeys, Joins, Clashes}
-use Rattle.kk_unify.specs.Joining.{Pair, weight, PairsHold, AreWithin, Leads, Finds, Steps}
+use Rattle.kk_unify.specs.Joining.{Pair, PairsHold, AreWithin, Finds, Steps}
 use Rattle.kk_unify.proofs.Joining.{after_append, before_append}
 
 -- the smaller and the greater of two nodes are of one type exactly if the nodes are

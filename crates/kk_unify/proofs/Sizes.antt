@@ -1,7 +1,7 @@
 -- Types of nodes by those of their arguments: their sizes, and types put in place of variables.
-use Rattle.std.proofs.Common.{◌≡◌, ◌<◌, ◌≤◌, ◌+◌, ◌-◌, ℕ, zero, suc, Bool, true, false, if◌then◌else◌, nat_lt, List, [], ◌∷◌, length, map, get_or, All, refl, sym, ◌∙◌, ap, subst, arith}
+use Rattle.std.proofs.Common.{◌≡◌, ◌<◌, ◌≤◌, ◌+◌, ◌-◌, ℕ, zero, suc, Bool, if◌then◌else◌, List, [], ◌∷◌, length, map, get_or, All, refl, sym, ◌∙◌, ap, arith}
 use Rattle.std.proofs.lemmas.Bool.{le-ltb, lt-ltb}
-use Rattle.kk_syntax.specs.Types.{TypeTree, int32, unit_type, type_variable, named, TypeTrees, no_type, type, types_of, put, put_each}
+use Rattle.kk_syntax.specs.Types.{type_variable, named, types_of, put, put_each}
 use Rattle.kk_unify.specs.Graphs.{NodeTree, any_node, same_node, int32_node, unit_node, variable_node, named_node, Assignment, Holds, IsNodeFormed, filled}
 use Rattle.kk_unify.specs.Joining.{IsHead}
 use Rattle.kk_unify.specs.Walking.{size, sizes, arguments_of, made_type}

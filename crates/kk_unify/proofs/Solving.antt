@@ -1,9 +1,7 @@
 -- A walk through all nodes of a graph gives its solution.
-use Rattle.std.proofs.Common.{◌≡◌, ◌≢◌, ◌<◌, ◌≤◌, ◌+◌, ◌++◌, ◌⊎◌, ℕ, zero, suc, List, [], ◌∷◌, length, map, get_or, replicate, All, inl, inr, refl, sym, ◌∙◌, ap, subst, arith}
-use Rattle.std.proofs.lemmas.Bool.{cases_lt}
-use Rattle.std.proofs.lemmas.List.{append-nil, get_or_append_left, get_or_push, get_or_default, length_push}
-use Rattle.std.proofs.lemmas.List.Elements.{All-nil, All-from_get_or}
-use Rattle.std.proofs.lemmas.Option.{slice_get_within}
+use Rattle.std.proofs.Common.{◌≡◌, ◌<◌, ◌≤◌, ℕ, zero, suc, List, [], length, get_or, replicate, refl, sym, ◌∙◌, ap, subst, arith}
+use Rattle.std.proofs.lemmas.List.{append-nil}
+use Rattle.std.proofs.lemmas.List.Elements.{All-from_get_or}
 use Rattle.kk_syntax.specs.declared.typed.TypeNode.{TypeNode}
 use Rattle.kk_syntax.specs.Types.{TypeTree, put, type_at}
 use Rattle.kk_syntax.specs.TypedPrograms.{node_types}
@@ -13,10 +11,10 @@ use Rattle.kk_unify.specs.declared.walk.Frame.{Frame}
 use Rattle.kk_unify.specs.declared.walk.Walk.{Walk}
 use Rattle.kk_unify.specs.declared.walk.Rooted.{Rooted}
 use Rattle.kk_unify.specs.declared.solve.Solution.{Solution}
-use Rattle.kk_unify.specs.Graphs.{NodeTree, any_node, same_node, int32_node, unit_node, variable_node, named_node, Assignment, Holds, Obeys, IsNodeFormed, IsFormed, filled, IsPrincipalOf}
-use Rattle.kk_unify.specs.Joining.{node_at, IsHead}
+use Rattle.kk_unify.specs.Graphs.{NodeTree, any_node, same_node, int32_node, unit_node, variable_node, named_node, Assignment, Holds, IsFormed, filled, IsPrincipalOf}
+use Rattle.kk_unify.specs.Joining.{node_at}
 use Rattle.kk_unify.specs.Solutions.{types_in, Solves}
-use Rattle.kk_unify.specs.Walking.{root_at, HasRoot, IsRooted, mark_at, number_of, types_so_far, IsReady, IsNumbered, Walks, IsOn, EachNamesEarlier, KeepsNumbers}
+use Rattle.kk_unify.specs.Walking.{root_at, HasRoot, IsRooted, mark_at, number_of, types_so_far, IsNumbered, Walks, IsOn}
 use Rattle.kk_unify.specs.WalkOf.{graph_in, IsRootedIn, Stands}
 use Rattle.kk_unify.proofs.Obeying.{obeys_from, obeying_is_local}
 use Rattle.kk_unify.proofs.Rooting.{root_is, root_of_root}
@@ -47,31 +45,6 @@ begins_walk variables graph roots = record {
   held = λ i is. (let both : New ≡ Entered = sym (new_mark (length graph) i) ∙ is in cc);
   falls = λ r obeys p q order h. absurd (omega (arith, h));
   numbered = λ i number is. (let both : New ≡ Numbered number = sym (new_mark (length graph) i) ∙ is in cc);
-}
-
-pub begins : (variables : ℕ) (graph : List NodeTree) (roots : List ℕ) (marks : List Mark) (frames : List Frame) (made : List TypeNode) → marks ≡ replicate (length graph) New → frames ≡ [] → made ≡ [] → IsOn variables graph roots marks (frames ++ []) made
-begins variables graph roots marks frames made marks_are none nothing =
-    let P : List Mark → Type 0 = λ m. IsOn variables graph roots m (frames ++ []) made in
-    let Q : List Frame → Type 0 = λ f. IsOn variables graph roots (replicate (length graph) New) f made in
-    let R : List TypeNode → Type 0 = IsOn variables graph roots (replicate (length graph) New) [] in
-    subst P (sym marks_are) (subst Q (sym (append-nil frames ∙ none)) (subst R (sym nothing) record {
-      walks = begins_walk variables graph roots;
-      ready = All-nil (IsReady graph roots (replicate (length graph) New));
-      earlier = λ number node is. absurd (omega (arith, slice_get_within [] number node is));
-    }))
-
--- one number more
-pub numbers_more : (rooted : Rooted) (walk new : Walk) (numbers : List ℕ) (count number : ℕ) → NumbersSoFar rooted walk numbers count → KeepsNumbers walk.marks.items new.marks.items → mark_at new.marks.items (root_at rooted.roots.items count) ≡ Numbered number → NumbersSoFar rooted new (numbers ++ (number ∷ [])) (count + 1)
-numbers_more rooted walk new numbers count number so_far keeps here = record {
-  long = omega (arith, length_push numbers number, so_far.long);
-  each = λ k h.
-      elim (cases_lt k count) [
-        | inl before ↦
-            keeps (root_at rooted.roots.items k) (get_or numbers k 0) (so_far.each k before) ∙ ap Numbered (sym (get_or_append_left numbers (number ∷ []) 0 k (omega (arith, before, so_far.long))))
-        | inr past ↦
-            let last : count ≡ k = omega (arith, past, h) in
-            ap (λ n. mark_at new.marks.items (root_at rooted.roots.items n)) (sym last) ∙ here ∙ ap Numbered (sym (get_or_push numbers number 0 k (so_far.long ∙ last)))
-      ];
 }
 
 -- the types that are made are principal once each root has a number

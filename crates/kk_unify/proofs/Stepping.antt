@@ -1,13 +1,11 @@
 -- The steps of a walk, over frames and types in memory.
-use Rattle.std.proofs.Common.{◌≡◌, ◌≢◌, ◌<◌, ◌≤◌, ◌+◌, ◌++◌, ◌⊎◌, ℕ, zero, suc, List, [], ◌∷◌, length, map, get_or, set, sum_by, slice_get, Some, All, inl, inr, refl, sym, ◌∙◌, ap, subst, arith}
-use Rattle.std.proofs.lemmas.Bool.{cases_eq, cases_lt}
-use Rattle.std.proofs.lemmas.List.{append-nil, append_assoc, map_push, map-append, length_push, length-append, length-map, get_or_append_left, get_or_push, get_or_default, get_or-map}
-use Rattle.std.proofs.lemmas.List.Elements.{All-push, All-weaker, All-same}
-use Rattle.std.proofs.lemmas.List.Sums.{sum_by-set}
-use Rattle.std.proofs.lemmas.Option.{slice_get_within, slice_get-get_or, get_or_from_slice_get, same_Some}
+use Rattle.std.proofs.Common.{◌≡◌, ◌≢◌, ◌<◌, ◌+◌, ◌++◌, ℕ, suc, List, [], ◌∷◌, length, map, get_or, set, sum_by, Some, All, inl, inr, refl, sym, ◌∙◌, ap, subst, arith}
+use Rattle.std.proofs.lemmas.Bool.{cases_lt}
+use Rattle.std.proofs.lemmas.List.{map_push, length_push, get_or_append_left, get_or_push, get_or_default}
+use Rattle.std.proofs.lemmas.List.Elements.{All-push, All-weaker}
+use Rattle.std.proofs.lemmas.Option.{slice_get_within, slice_get-get_or, get_or_from_slice_get}
 use Rattle.kk_syntax.specs.declared.typed.TypeNode.{TypeNode}
-use Rattle.kk_syntax.specs.declared.typed.TypeNode.TheVariants as OfType
-use Rattle.kk_syntax.specs.Types.{TypeTree, unit_type, type_at}
+use Rattle.kk_syntax.specs.Types.{TypeTree, type_at}
 use Rattle.kk_syntax.specs.TypedPrograms.{type_of_node, types_behind, node_types}
 use Rattle.kk_unify.specs.declared.walk.Mark.{Mark}
 use Rattle.kk_unify.specs.declared.walk.Mark.TheVariants.{New, Entered, Numbered}
@@ -16,9 +14,6 @@ use Rattle.kk_unify.specs.Graphs.{NodeTree, Assignment, Obeys, NoneObeys}
 use Rattle.kk_unify.specs.Joining.{node_at, IsHead}
 use Rattle.kk_unify.specs.Solutions.{NamesEarlier}
 use Rattle.kk_unify.specs.Walking.{root_at, IsRooted, size, arguments_of, mark_at, number_of, work_of, IsDone, types_so_far, made_type, Walks, IsReady, node_on, EachNamesEarlier, IsOn, KeepsNumbers}
-use Rattle.kk_unify.proofs.Obeying.{formed_at}
-use Rattle.kk_unify.proofs.Rooting.{root_is, root_of_root}
-use Rattle.kk_unify.proofs.Sizes.{arguments_formed}
 use Rattle.kk_unify.proofs.Walking.{done_from}
 use Rattle.kk_unify.proofs.Walking as on
 

@@ -1,17 +1,17 @@
 -- A turn of a walk in memory: a node is left, or an argument is entered, or it is on the way.
-use Rattle.std.proofs.Common.{◌≡◌, ◌<◌, ◌++◌, ℕ, Option, Some, None, MatchOption, List, [], ◌∷◌, length, get_or, set, All, inl, inr, refl, sym, ◌∙◌, ap, subst, arith}
+use Rattle.std.proofs.Common.{◌≡◌, ◌<◌, ◌++◌, ℕ, Option, Some, None, MatchOption, List, [], ◌∷◌, length, get_or, set, All, inl, inr, sym, ◌∙◌, ap, subst, arith}
 use Rattle.std.proofs.lemmas.List.{append-nil, get_or_default, get_or_past}
 use Rattle.std.proofs.lemmas.Bool.{cases_eq, cases_lt}
 use Rattle.kk_syntax.specs.declared.typed.TypeNode.{TypeNode}
 use Rattle.kk_unify.specs.declared.walk.Mark.{Mark}
-use Rattle.kk_unify.specs.declared.walk.Mark.TheVariants.{New, Entered, Numbered}
+use Rattle.kk_unify.specs.declared.walk.Mark.TheVariants.{New, Entered}
 use Rattle.kk_unify.specs.declared.walk.Frame.{Frame}
 use Rattle.kk_unify.specs.declared.walk.Walk.{Walk}
 use Rattle.kk_unify.specs.declared.walk.Rooted.{Rooted}
 use Rattle.kk_unify.specs.Graphs.{NoneObeys}
 use Rattle.kk_unify.specs.Joining.{node_at, IsHead}
 use Rattle.kk_unify.specs.Walking.{mark_at, IsOn, KeepsNumbers}
-use Rattle.kk_unify.specs.WalkOf.{graph_in, IsRootedIn, Stands, work_left, IsComplete, IsWanted, IsEntered, IsLeft}
+use Rattle.kk_unify.specs.WalkOf.{graph_in, IsRootedIn, Stands, work_left, IsComplete, IsWanted, IsLeft}
 use Rattle.kk_unify.proofs.Stepping.{node_head, numbers_within, stands_left, left_keeps, left_less, child_within, stands_again, entered_keeps, entered_less, stands_entered, is_new}
 use Rattle.kk_unify.proofs.Walking.{mark_set, mark_other}
 

@@ -1,5 +1,5 @@
 -- A walk begins at a root, where no node is on the way.
-use Rattle.std.proofs.Common.{◌≡◌, ◌≢◌, ◌<◌, ◌++◌, ℕ, List, [], ◌∷◌, length, map, get_or, set, All, refl, sym, ◌∙◌, ap, subst, arith}
+use Rattle.std.proofs.Common.{◌≡◌, ◌≢◌, ◌<◌, ◌++◌, ℕ, List, [], ◌∷◌, length, get_or, set, sym, ◌∙◌, ap, subst, arith}
 use Rattle.std.proofs.lemmas.List.{append-nil, get_or_default}
 use Rattle.std.proofs.lemmas.List.Elements.{All-push, All-nil}
 use Rattle.kk_syntax.specs.declared.typed.TypeNode.{TypeNode}
@@ -9,7 +9,7 @@ use Rattle.kk_unify.specs.declared.walk.Mark.TheVariants.{New, Entered, Numbered
 use Rattle.kk_unify.specs.declared.walk.Frame.{Frame}
 use Rattle.kk_unify.specs.declared.walk.Walk.{Walk}
 use Rattle.kk_unify.specs.declared.walk.Rooted.{Rooted}
-use Rattle.kk_unify.specs.Walking.{root_at, mark_at, Walks, IsReady, node_on, IsOn, KeepsNumbers}
+use Rattle.kk_unify.specs.Walking.{root_at, mark_at, Walks, IsReady, IsOn, KeepsNumbers}
 use Rattle.kk_unify.specs.WalkOf.{graph_in, IsRootedIn, Stands, IsEntered}
 use Rattle.kk_unify.proofs.InMemory.{as_long}
 use Rattle.kk_unify.proofs.Walking.{mark_set, keeps_set, walks_entered}

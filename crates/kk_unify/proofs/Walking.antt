@@ -1,16 +1,16 @@
 -- The walk through a graph, over lists: a node is entered, a node is numbered, a node is met again.
-use Rattle.std.proofs.Common.{◌≡◌, ◌≢◌, ◌<◌, ◌≤◌, ◌+◌, ◌++◌, ◌⊎◌, ℕ, zero, suc, List, [], ◌∷◌, length, map, get_or, set, sum_by, All, inl, inr, refl, sym, ◌∙◌, ap, subst, arith}
+use Rattle.std.proofs.Common.{◌≡◌, ◌≢◌, ◌<◌, ◌≤◌, ◌+◌, ◌++◌, ℕ, List, [], ◌∷◌, length, map, get_or, set, sum_by, All, inl, inr, refl, sym, ◌∙◌, ap, subst, arith}
 use Rattle.std.proofs.lemmas.Bool.{cases_eq, cases_lt}
-use Rattle.std.proofs.lemmas.List.{get_or-set_other, get_or-set_same, get_or_append_left, get_or_push, get_or_past, get_or_default, length_push, length-set}
+use Rattle.std.proofs.lemmas.List.{get_or-set_other, get_or-set_same, get_or_append_left, get_or_push, length_push, length-set}
 use Rattle.std.proofs.lemmas.List.Sums.{sum_by-set}
 use Rattle.kk_syntax.specs.Types.{TypeTree, unit_type, put, type_at}
 use Rattle.kk_unify.specs.declared.walk.Mark.{Mark}
 use Rattle.kk_unify.specs.declared.walk.Mark.TheVariants.{New, Entered, Numbered}
-use Rattle.kk_unify.specs.Graphs.{NodeTree, Assignment, Holds, Obeys, IsFormed, filled, NoneObeys}
+use Rattle.kk_unify.specs.Graphs.{NodeTree, Assignment, Obeys, filled, NoneObeys}
 use Rattle.kk_unify.specs.Joining.{node_at, IsHead}
-use Rattle.kk_unify.specs.Walking.{root_at, AreRoots, IsRooted, size, arguments_of, mark_at, IsDone, number_of, work_of, types_so_far, made_type, IsNumbered, Walks, KeepsNumbers}
+use Rattle.kk_unify.specs.Walking.{root_at, IsRooted, size, arguments_of, mark_at, IsDone, number_of, work_of, types_so_far, made_type, IsNumbered, Walks, KeepsNumbers}
 use Rattle.kk_unify.proofs.Obeying.{obeyed_at, formed_at}
-use Rattle.kk_unify.proofs.Rooting.{IsRootOf, root_is, root_of_root, head_is_root}
+use Rattle.kk_unify.proofs.Rooting.{root_is, root_of_root}
 use Rattle.kk_unify.proofs.Sizes.{argument_smaller, arguments_formed, made_instance, made_holds, holds_kept}
 
 -- types are kept where more are made

@@ -1,5 +1,5 @@
 -- What graphs in memory mean, and the nodes that are added to them.
-use Rattle.std.specs.Prelude.{◌<◌, ℕ, List, map, length, All}
+use Rattle.std.specs.Prelude.{◌<◌, ℕ, List, map, All}
 use Rattle.kk_syntax.specs.declared.typed.TypeNode.{TypeNode}
 use Rattle.kk_syntax.specs.declared.typed.TypeNode.TheVariants.{Int32, Unit as Nothing, Variable, Named}
 use Rattle.kk_syntax.specs.Types.{TypeTree, int32, unit_type, type_variable, named, types_of}

@@ -1,6 +1,6 @@
 -- Graphs of types: numbered nodes, each a type that is not known yet, another node, or a type of which the parts are nodes.
 -- A graph means the assignments of types to its nodes that obey each node.
-use Rattle.std.specs.Prelude.{◌≡◌, ◌<◌, ◌-◌, ◌⊎◌, ℕ, suc, List, [], ◌∷◌, length, map, All, Some, if◌then◌else◌, nat_lt, slice_get}
+use Rattle.std.specs.Prelude.{◌≡◌, ◌<◌, ◌-◌, ◌⊎◌, ℕ, suc, List, length, map, All, Some, if◌then◌else◌, nat_lt, slice_get}
 use Rattle.kk_syntax.specs.Types.{TypeTree, int32, unit_type, type_variable, named, types_of, put}
 
 -- a node: of any type; the same as another; `int32`; `()`; a type variable that stands for itself; a declared type with arguments

@@ -1,7 +1,7 @@
 -- How two nodes become one type: the later one becomes the same as the earlier one, and their arguments are to become one type pair by pair.
-use Rattle.std.specs.Prelude.{◌≡◌, ◌<◌, ◌≤◌, ◌==◌, ◌&&◌, ◌++◌, ◌+◌, ◌⊎◌, ℕ, Bool, true, false, List, [], ◌∷◌, length, slice_index_or, slice_set, All, sum_by}
+use Rattle.std.specs.Prelude.{◌≡◌, ◌<◌, ◌≤◌, ◌==◌, ◌&&◌, ◌+◌, ℕ, Bool, true, false, List, [], length, slice_index_or, slice_set, All, sum_by}
 use Rattle.std.specs.List.{zip}
-use Rattle.kk_unify.specs.Graphs.{NodeTree, any_node, same_node, int32_node, unit_node, variable_node, named_node, Assignment, Holds, Obeys, IsNodeFormed, IsFormed}
+use Rattle.kk_unify.specs.Graphs.{NodeTree, any_node, same_node, int32_node, unit_node, variable_node, named_node, Assignment, Obeys, IsFormed}
 
 abbrev pub Pair : Type 0
 Pair = ℕ × ℕ

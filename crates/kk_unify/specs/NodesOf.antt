@@ -1,12 +1,12 @@
 -- What nodes in memory mean.
-use Rattle.std.specs.Prelude.{ℕ, List, length, map}
+use Rattle.std.specs.Prelude.{ℕ, List, map}
 use Rattle.std.specs.Coded.{Unit-prop, le_prop}
 use Rattle.std.proofs.Props.{props}
 use Rattle.kk_syntax.specs.declared.typed.TypeNode.{TypeNode}
 use Rattle.kk_syntax.specs.declared.typed.TypeNode.TheVariants as Added
 use Rattle.kk_unify.specs.declared.node.Node.{Node}
 use Rattle.kk_unify.specs.declared.node.Node.TheVariants.{Any, Same, Int32, Unit as Nothing, Variable, Named}
-use Rattle.kk_unify.specs.Graphs.{NodeTree, any_node, same_node, int32_node, unit_node, variable_node, named_node, IsNodeFormed, IsFormed}
+use Rattle.kk_unify.specs.Graphs.{NodeTree, any_node, same_node, int32_node, unit_node, variable_node, named_node, IsNodeFormed}
 
 abbrev pub node_tree : Node → NodeTree
 node_tree Any = any_node

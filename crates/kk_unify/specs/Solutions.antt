@@ -1,8 +1,8 @@
 -- What the solution of a graph is.
-use Rattle.std.specs.Prelude.{◌≡◌, ◌<◌, ℕ, List, length, map, All, Some, slice_get, slice_index_or}
+use Rattle.std.specs.Prelude.{◌≡◌, ◌<◌, ℕ, List, length, All, Some, slice_get, slice_index_or}
 use Rattle.kk_syntax.specs.declared.typed.TypeNode.{TypeNode}
 use Rattle.kk_syntax.specs.declared.typed.TypeNode.TheVariants.{Int32, Unit as Nothing, Variable, Named}
-use Rattle.kk_syntax.specs.Types.{TypeTree, type_at}
+use Rattle.kk_syntax.specs.Types.{type_at}
 use Rattle.kk_syntax.specs.TypedPrograms.{node_types}
 use Rattle.kk_unify.specs.declared.solve.Solution.{Solution}
 use Rattle.kk_unify.specs.Graphs.{NodeTree, Assignment, IsPrincipalOf}

@@ -1,10 +1,10 @@
 -- Walks in memory.
-use Rattle.std.specs.Prelude.{◌≡◌, ◌<◌, ◌≤◌, ◌≢◌, ◌++◌, ℕ, List, [], ◌∷◌, length, map, sum_by, slice_set, slice_index_or}
+use Rattle.std.specs.Prelude.{◌≡◌, ◌<◌, ◌≢◌, ◌++◌, ℕ, List, [], ◌∷◌, length, map, sum_by, slice_set, slice_index_or}
 use Rattle.kk_syntax.specs.declared.typed.TypeNode.{TypeNode}
-use Rattle.kk_syntax.specs.Types.{TypeTree, type_at}
+use Rattle.kk_syntax.specs.Types.{type_at}
 use Rattle.kk_syntax.specs.TypedPrograms.{node_types, type_of_node}
 use Rattle.kk_unify.specs.declared.walk.Mark.{Mark}
-use Rattle.kk_unify.specs.declared.walk.Mark.TheVariants.{New, Entered, Numbered}
+use Rattle.kk_unify.specs.declared.walk.Mark.TheVariants.{Entered, Numbered}
 use Rattle.kk_unify.specs.declared.walk.Frame.{Frame}
 use Rattle.kk_unify.specs.declared.walk.Walk.{Walk}
 use Rattle.kk_unify.specs.declared.walk.Rooted.{Rooted}
@@ -12,7 +12,7 @@ use Rattle.kk_unify.specs.Graphs.{NodeTree}
 use Rattle.kk_unify.specs.NodesOf.{node_trees}
 use Rattle.kk_unify.specs.Joining.{node_at}
 use Rattle.kk_unify.specs.Solutions.{NamesEarlier}
-use Rattle.kk_unify.specs.Walking.{root_at, IsRooted, arguments_of, mark_at, work_of, made_type, IsReady, EachNamesEarlier, IsOn, KeepsNumbers}
+use Rattle.kk_unify.specs.Walking.{root_at, IsRooted, arguments_of, mark_at, work_of, made_type, IsReady, IsOn}
 
 abbrev pub graph_in : Rooted → List NodeTree
 graph_in rooted = node_trees rooted.nodes.now

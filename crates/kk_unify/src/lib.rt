@@ -13,3 +13,6 @@ mod walk;
 pub use graph::Graph;
 pub use law::{graphs_are_decided, obeying_is_local};
 pub use solve::Solution;
+
+#[cfg(test)]
+mod tests;
