@@ -16,3 +16,4 @@ pub mod Parts
 pub mod Functions
 pub mod Numbering
 pub mod RowsOf
+pub mod Checking
