@@ -51,8 +51,8 @@ module _ (program : ProgramTree) (a : Walk) (want : ℕ) (bound : AreBoundBelow 
 
       pub form_walked : (c d : Walk) (result : Result Bool NoMemory) → Walked b c (typed_as want (λ r. r instance.result)) (Ok true) → Walked c d (expressions_at program c.scope.items es instance.parameters.items) result → Walked a d (expression_at program a.scope.items (apply form es) want) result
       form_walked c d result given walked =
-          let inside : AreBoundBelow (size_of b) a.scope.items = bound_more (size_of a) (size_of b) a.scope.items made.opens.longer bound in
-          let first = was_given (form_scheme program form) (chosen_at form) want arguments_typed a b instance made lt arguments_of c (expressions_of (size_of b) program a.scope.items inside es instance.parameters.items made.parameters_inside) given in
+          let inside : AreBoundBelow (size_of b) a.scope.items = bound_more (size_of a) (size_of b) a.scope.items made.nodes.opens.longer bound in
+          let first = was_given (form_scheme program form) (chosen_at form) want arguments_typed a b instance made lt arguments_of c (expressions_of (size_of b) program a.scope.items inside es instance.parameters.items made.nodes.takes_inside) given in
           walked_behind a c d (expression_at program a.scope.items (apply form es) want) (expressions_at program a.scope.items es instance.parameters.items) result first
           (subst (λ bs. Walked c d (expressions_at program bs es instance.parameters.items) result) (first.same_scope) walked)
 

@@ -49,18 +49,20 @@ module _ (old : Walk) (g h k : Graph) (taken : Vec Taken Global) (at : List ℕ)
   instantiated scheme chosen more is grown below chosen_are =
       let still = opens_still (nodes_of old) (graph_of g) (graph_of h) (graph_of k) at count instance.parameters.items types instance.result type opens parts whole in
       record {
-        of = record { variables = count; parameters = map type_tree types; result = type };
-        is = is;
-        at = at;
-        opens = still;
-        parameters_inside = below_more (length (graph_of h)) (length (graph_of k)) instance.parameters.items whole.longer parts.inside;
-        result_inside = whole.inside;
-        parameters = λ r obeys. (parts.sound r (whole.sound r obeys).0).1;
-        result = λ r obeys. (whole.sound r obeys).1;
         taken = more;
         takes = grown;
-        taken_inside = below (length (graph_of k)) still.inside;
-        taken_are = chosen_are;
+        nodes = record {
+          of = record { variables = count; parameters = map type_tree types; result = type };
+          is = is;
+          at = at;
+          opens = still;
+          takes_inside = below_more (length (graph_of h)) (length (graph_of k)) instance.parameters.items whole.longer parts.inside;
+          gives_inside = whole.inside;
+          parameters = λ r obeys. (parts.sound r (whole.sound r obeys).0).1;
+          result = λ r obeys. (whole.sound r obeys).1;
+          taken_inside = below (length (graph_of k)) still.inside;
+          taken_are = chosen_are;
+        };
         same_scope = refl;
         same_variables = same;
       }

@@ -113,11 +113,11 @@ pub expression-arguments-requires : goal.expression-arguments-requires
 expression-arguments-requires t c =
     let made = rw c.in-Some.is at c.in_ok-instance-in-Apply.ensures in
     let goes = rw c.if-not-ok-2.false at c.in_ok-ok-in-Apply.ensures in
-    let longer : size_of c.args.self.now ≤ size_of c.same.new.self = omega (arith, made.opens.longer, goes.leads.longer) in
+    let longer : size_of c.args.self.now ≤ size_of c.same.new.self = omega (arith, made.nodes.opens.longer, goes.leads.longer) in
     let scope = goes.same_scope ∙ made.same_scope in
     (search (rules, the_lemmas),
     (subst (AreBoundBelow (size_of c.same.new.self)) (sym scope) (bound_more (size_of c.args.self.now) (size_of c.same.new.self) c.args.self.now.scope.items longer c.requires.scope),
-    subst (AreBelow (size_of c.same.new.self)) (sym c.deref-in-Apply-2.ensures.value) (below_more (size_of c.form.new.self) (size_of c.same.new.self) c.in-Some.instance.parameters.items goes.leads.longer made.parameters_inside)))
+    subst (AreBelow (size_of c.same.new.self)) (sym c.deref-in-Apply-2.ensures.value) (below_more (size_of c.form.new.self) (size_of c.same.new.self) c.in-Some.instance.parameters.items goes.leads.longer made.nodes.takes_inside)))
 
 pub expression-returns-else-not-ok-2 : goal.expression-returns-else-not-ok-2
 expression-returns-else-not-ok-2 t c =
