@@ -69,7 +69,7 @@ variable_built a at ty x node inside is lt here =
 
 module _ (variables : ℕ) (a b c : List NodeTree) (formed : IsFormed variables b) (numbers : List ℕ) (types : Assignment → List TypeTree) (number by : ℕ) where
   -- a declared type at nodes
-  named_builds : ((r q : Assignment) → Agree (length a) r q → types r ≡ types q) → BuildsEach a b numbers types → Adds b c number (λ r. r number ≡ named by (types_of (map r numbers))) → Builds a c number (λ r. named by (types_of (types r)))
+  pub named_builds : ((r q : Assignment) → Agree (length a) r q → types r ≡ types q) → BuildsEach a b numbers types → Adds b c number (λ r. r number ≡ named by (types_of (map r numbers))) → Builds a c number (λ r. named by (types_of (types r)))
   named_builds follows parts adds =
       let whole = adds_builds variables b c formed number (λ r. named by (types_of (map r numbers))) (λ r q agree. ap (λ ts. named by (types_of ts)) (types_agree (length b) r q agree numbers parts.inside)) adds in
       record {

@@ -27,7 +27,7 @@ variables_put (suc n) ts le =
     let before = variables_put n ts (omega arith) in
     map-append (put (type_at ts)) (variables_below n) (type_variable n ∷ []) ∙ (ap (λ l. l ++ (type_at ts n ∷ [])) before ∙ (sym (take_more ts n unit_type (omega arith)) ∙ ap (λ k. take k ts) (add-one n)))
 
-module _ (a b c d : List NodeTree) (at : List ℕ) (count : ℕ) (numbers : List ℕ) (types : List Ty) (number : ℕ) (type : TypeTree) (opens : Opens a b at count) (parts : BuildsEach b c numbers (types_put at types)) (whole : Builds c d number (λ r. put (at_nodes at r) type)) where
+module _ (a b c d : List NodeTree) (at : List ℕ) (count : ℕ) (numbers : List ℕ) (types : Assignment → List TypeTree) (number : ℕ) (type : Assignment → TypeTree) (opens : Opens a b at count) (parts : BuildsEach b c numbers types) (whole : Builds c d number type) where
   -- the nodes of a scheme's variables, behind the types over them
   pub opens_still : Opens a d at count
   opens_still = record {
@@ -47,7 +47,7 @@ module _ (old : Walk) (g h k : Graph) (taken : Vec Taken Global) (at : List ℕ)
   -- a scheme is instantiated
   pub instantiated : (scheme : Option Scheme) (chosen : List TypeTree → List Choice) (more : List Taking) → scheme ≡ Some (record { variables = count; parameters = map type_tree types; result = type }) → takings_of taken.items ≡ takings_of old.taken.items ++ more → ((size : ℕ) → AreBelow size at → AreTakenBelow size more) → ((r : Assignment) → choices_at r more ≡ chosen (map r at)) → Instantiates scheme chosen old (record old { graph = k; taken = taken }) instance
   instantiated scheme chosen more is grown below chosen_are =
-      let still = opens_still (nodes_of old) (graph_of g) (graph_of h) (graph_of k) at count instance.parameters.items types instance.result type opens parts whole in
+      let still = opens_still (nodes_of old) (graph_of g) (graph_of h) (graph_of k) at count instance.parameters.items (types_put at types) instance.result (λ r. put (at_nodes at r) type) opens parts whole in
       record {
         taken = more;
         takes = grown;

@@ -25,12 +25,12 @@ use Rattle.kk_types.proofs.Refining.{bound_more, first_leads, first_refused, hol
 use Rattle.kk_types.proofs.Scopes.{scope_more}
 use Rattle.kk_types.proofs.Views.{statement_tree_is}
 
-binder_scope : (binder : Binder) (r : Assignment) (bounds : List Bound) (node : ℕ) → with_binder binder (r node) (scope_at r bounds) ≡ scope_at r (bounds ++ bounds_by binder node)
+pub binder_scope : (binder : Binder) (r : Assignment) (bounds : List Bound) (node : ℕ) → with_binder binder (r node) (scope_at r bounds) ≡ scope_at r (bounds ++ bounds_by binder node)
 binder_scope OfBinder.Nothing r bounds node = ap (scope_at r) (sym (append-nil bounds))
 binder_scope OfBinder.Wildcard r bounds node = ap (scope_at r) (sym (append-nil bounds))
 binder_scope (OfBinder.Variable x) r bounds node = sym (scope_more r bounds (record { variable = x; node = node }))
 
-binder_inside : (binder : Binder) (size node : ℕ) → node < size → AreBoundBelow size (bounds_by binder node)
+pub binder_inside : (binder : Binder) (size node : ℕ) → node < size → AreBoundBelow size (bounds_by binder node)
 binder_inside OfBinder.Nothing size node lt = All-nil (λ b. b.node < size)
 binder_inside OfBinder.Wildcard size node lt = All-nil (λ b. b.node < size)
 binder_inside (OfBinder.Variable x) size node lt = All-cons (λ b. b.node < size) (record { variable = x; node = node }) [] lt (All-nil (λ b. b.node < size))
