@@ -22,7 +22,7 @@ use Rattle.kk_types.proofs.Adding.{adds_builds, adds_opens, type_by_agrees}
 use Rattle.kk_types.proofs.Going.{goes_made, goes_reworded, joined_walked, walked_behind}
 use Rattle.kk_types.proofs.Scopes.{newest_is, newest_inside}
 
-typed_as_of : (size node : ℕ) (type : Assignment → TypeTree) → node < size → ((r q : Assignment) → Agree size r q → type r ≡ type q) → IsOf size (typed_as node type)
+pub typed_as_of : (size node : ℕ) (type : Assignment → TypeTree) → node < size → ((r q : Assignment) → Agree size r q → type r ≡ type q) → IsOf size (typed_as node type)
 typed_as_of size node type lt follows = record {
   follows = λ r q choices agree whole. (sym (agree node lt) ∙ (whole.0 ∙ follows r q agree), whole.1);
 }

@@ -17,3 +17,5 @@ pub mod Functions
 pub mod Numbering
 pub mod RowsOf
 pub mod Checking
+pub mod Existing
+pub mod Deciding

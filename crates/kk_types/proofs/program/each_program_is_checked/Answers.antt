@@ -1,3 +1,4 @@
+use Rattle.kk_types.proofs.Deciding.{Decided}
 use Rattle.kk_types.proofs.program.each_program_is_checked.Goals as goal
 
 pub returns-clause-checked : goal.returns-clause-checked
