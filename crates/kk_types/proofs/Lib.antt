@@ -19,3 +19,4 @@ pub mod RowsOf
 pub mod Checking
 pub mod Existing
 pub mod Deciding
+pub mod DecidedFunctions
