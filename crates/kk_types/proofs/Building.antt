@@ -6,11 +6,11 @@ use Rattle.kk_base.specs.declared.error.NoMemory.{NoMemory}
 use Rattle.kk_syntax.specs.declared.program.Ty.{Ty}
 use Rattle.kk_syntax.specs.declared.program.Ty.TheVariants.{Int32, Unit as Nothing, Variable, Named, rolls-Int32, rolls-Unit, rolls-Variable, rolls-Named}
 use Rattle.kk_syntax.specs.declared.program.Ty.TheFolds.{fold-roll-Ty}
-use Rattle.kk_syntax.specs.Types.{TypeTree, TypeTrees, int32, unit_type, type_variable, named, types_of, put, put_each, type_at, type_step, type_tree}
-use Rattle.kk_unify.specs.Graphs.{NodeTree, Assignment, Obeys, Adds, IsFormed}
+use Rattle.kk_syntax.specs.Types.{TypeTree, int32, unit_type, type_variable, named, types_of, put, put_each, type_at, type_step, type_tree}
+use Rattle.kk_unify.specs.Graphs.{NodeTree, Assignment, Adds, IsFormed}
 use Rattle.kk_types.specs.Walks.{AreBelow, Agree, Builds, BuildsEach}
 use Rattle.kk_types.proofs.Adding.{adds_builds, builds_more, stays}
-use Rattle.kk_types.proofs.Refining.{agree_on, agree_along, types_agree}
+use Rattle.kk_types.proofs.Refining.{agree_on, types_agree}
 
 -- a type of the program, by its form
 int32_tree : type_tree Int32 ≡ int32

@@ -1,16 +1,13 @@
 -- A function has a principal typing, or it is not typed.
-use Rattle.std.proofs.Common.{◌≡◌, ◌<◌, ◌≤◌, ◌+◌, ◌⊎◌, inl, inr, ℕ, Some, List, [], ◌∷◌, ◌++◌, length, map, refl, ap, sym, ◌∙◌, append_assoc, arith}
-use Rattle.std.specs.Prelude.{slice_get}
+use Rattle.std.proofs.Common.{◌≡◌, ◌<◌, ◌+◌, ◌⊎◌, inl, inr, ℕ, List, [], ◌∷◌, ◌++◌, length, map, ap, sym, ◌∙◌, append_assoc, arith}
 use Rattle.std.proofs.lemmas.List.{append-nil}
 use Rattle.std.proofs.lemmas.List.Elements.{All-nil, All-cons}
 use Rattle.kk_syntax.specs.Programs.{ProgramTree, FunctionTree}
-use Rattle.kk_syntax.specs.Types.{put, type_at}
 use Rattle.kk_syntax.specs.Typing.{Choice, with_parameters, IsTypable, IsPrincipal}
-use Rattle.kk_unify.specs.Graphs.{NodeTree, Assignment, IsFormed, EachJoinIsDecided, EachGraphIsDecided}
+use Rattle.kk_unify.specs.Graphs.{Assignment, IsFormed, EachJoinIsDecided, EachGraphIsDecided}
 use Rattle.kk_types.specs.declared.scope.Bound.{Bound}
-use Rattle.kk_types.specs.Claims.{expression_at}
 use Rattle.kk_types.specs.Walks.{AreBelow, AreBoundBelow, scope_at, choices_at}
-use Rattle.kk_types.proofs.Deciding.{Decided, expression_decided}
+use Rattle.kk_types.proofs.Deciding.{expression_decided}
 use Rattle.kk_types.proofs.Existing.{own_built, list_built, type_built}
 use Rattle.kk_types.proofs.Functions.{begun, body_refused, body_leads, unsolved, solved}
 use Rattle.kk_types.proofs.Refining.{head_of, tail_of, below_more, bound_more}

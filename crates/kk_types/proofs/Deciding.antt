@@ -1,5 +1,5 @@
 -- A walk over a body comes to its end, or is refused.
-use Rattle.std.proofs.Common.{◌≡◌, ◌<◌, ◌≤◌, ◌+◌, ◌⊎◌, inl, inr, ℕ, ◌==◌, Option, Some, None, List, [], ◌∷◌, ◌++◌, length, map, reverse, refl, ap, sym, ◌∙◌, subst, append_assoc, arith}
+use Rattle.std.proofs.Common.{◌≡◌, ◌<◌, ◌≤◌, ◌⊎◌, inl, inr, ℕ, ◌==◌, Option, Some, None, List, [], ◌∷◌, ◌++◌, length, map, reverse, refl, ap, sym, ◌∙◌, subst, append_assoc, arith}
 use Rattle.std.specs.List.{find}
 use Rattle.std.proofs.lemmas.List.{append-nil}
 use Rattle.std.proofs.lemmas.List.Elements.{All-append, All-nil, All-cons}
@@ -11,17 +11,17 @@ use Rattle.kk_syntax.specs.Programs.{ProgramTree}
 use Rattle.kk_syntax.specs.Shapes.{bound}
 use Rattle.kk_syntax.specs.Trees.{Tree, number, unit, variable, read_byte, print_text, apply, branch, match, sequence, Trees, no_tree, tree, Rows, no_row, row}
 use Rattle.kk_syntax.specs.Types.{TypeTree, int32, unit_type}
-use Rattle.kk_syntax.specs.Typing.{Choice, bool, Scheme, Scope, InTurn, with_binder, with_bound, form_scheme, constructor_scheme, chosen_at, IsPatternTyped, ArePatternsTyped, IsTypedBy, AreTypedBy, AreRowsTypedBy}
-use Rattle.kk_unify.specs.Graphs.{NodeTree, Assignment, Obeys, IsFormed, Joins, Clashes, EachJoinIsDecided}
+use Rattle.kk_syntax.specs.Typing.{Choice, bool, Scheme, InTurn, with_binder, with_bound, form_scheme, constructor_scheme, chosen_at, ArePatternsTyped, IsTypedBy, AreTypedBy, AreRowsTypedBy}
+use Rattle.kk_unify.specs.Graphs.{NodeTree, Assignment, IsFormed, EachJoinIsDecided}
 use Rattle.kk_types.specs.declared.scope.Bound.{Bound}
 use Rattle.kk_types.specs.Claims.{typed_as, bound_as, both, expression_at, expressions_at, rows_at, pattern_at, patterns_at, bounds_by}
-use Rattle.kk_types.specs.Walks.{Taking, holding_at, AreBelow, AreBoundBelow, variable_at, scope_at, Agree, Claim, Leads, Done, Refused, IsOf, Builds}
+use Rattle.kk_types.specs.Walks.{Taking, holding_at, AreBelow, AreBoundBelow, scope_at, Claim, Leads, Done, Refused, IsOf}
 use Rattle.kk_types.proofs.Basics.{typed_as_of, unbound_refused}
-use Rattle.kk_types.proofs.Existing.{Built, type_built, int32_built, unit_built, OneOpened, any_opened, Opened, opened, Instanced, instanced}
+use Rattle.kk_types.proofs.Existing.{Built, type_built, int32_built, unit_built, any_opened, opened, instanced}
 use Rattle.kk_types.proofs.Locals.{scoped_of, node_of, nodes_of_claim, both_of, expression_of, expressions_of, rows_of_claim}
-use Rattle.kk_types.proofs.Parts.{pattern_of, parts_of}
+use Rattle.kk_types.proofs.Parts.{parts_of}
 use Rattle.kk_types.proofs.Refining.{head_of, tail_of, bound_more, below_more, then_leads, refused_behind, reworded, first_leads, first_refused, builds_leads, holds_leads, joins_refines, clash_refused}
-use Rattle.kk_types.proofs.RowsOf.{one_row, row_pattern, row_body, row_begun}
+use Rattle.kk_types.proofs.RowsOf.{one_row, row_begun}
 use Rattle.kk_types.proofs.Scopes.{newest_is, newest_inside, scope_more}
 use Rattle.kk_types.proofs.Stating.{binder_scope, binder_inside}
 use Rattle.kk_types.proofs.Using.{used, giving, taking_arguments, unused, instance_leads}

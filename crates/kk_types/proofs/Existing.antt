@@ -1,13 +1,13 @@
 -- The nodes that a walk adds are there for each graph.
-use Rattle.std.proofs.Common.{◌≡◌, ◌<◌, ◌≤◌, ◌+◌, ◌⊎◌, inl, inr, ℕ, zero, suc, add-one, Some, List, [], ◌∷◌, ◌++◌, length, map, get_or, refl, ap, sym, ◌∙◌, subst, arith}
+use Rattle.std.proofs.Common.{◌≡◌, ◌<◌, ◌≤◌, inl, inr, ℕ, zero, suc, add-one, Some, List, [], ◌∷◌, ◌++◌, length, map, get_or, refl, ap, sym, subst, arith}
 use Rattle.std.proofs.lemmas.Bool.{cases_lt}
 use Rattle.std.proofs.lemmas.List.{get_or-map, get_or_past, length-map}
 use Rattle.std.proofs.lemmas.List.Elements.{All-nil, All-cons}
 use Rattle.kk_syntax.specs.declared.program.Form.{Form}
 use Rattle.kk_syntax.specs.declared.program.Form.TheVariants.{Unary, Binary, Print, Construct, Call}
 use Rattle.kk_syntax.specs.Types.{TypeTree, TypeTrees, int32, unit_type, type_variable, named, no_type, type, types_of, type_list, put, put_each, type_at, variables_below}
-use Rattle.kk_syntax.specs.Typing.{Choice, Scheme, chosen_at}
-use Rattle.kk_unify.specs.Graphs.{NodeTree, any_node, int32_node, unit_node, variable_node, named_node, Assignment, Holds, Obeys, IsFormed, IsNodeFormed}
+use Rattle.kk_syntax.specs.Typing.{Scheme, chosen_at}
+use Rattle.kk_unify.specs.Graphs.{NodeTree, any_node, int32_node, unit_node, variable_node, named_node, Assignment, Holds, IsFormed, IsNodeFormed}
 use Rattle.kk_unify.proofs.Obeying.{added, formed_more}
 use Rattle.kk_types.specs.Walks.{Taking, constructing_at, calling_at, choices_at, AreBelow, IsTakenBelow, AreTakenBelow, Agree, Builds, BuildsEach, Opens, IsInstance}
 use Rattle.kk_types.proofs.Adding.{adds_builds, adds_opens, builds_none, builds_more, opens_none, opens_more, stays}

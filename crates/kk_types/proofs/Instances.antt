@@ -1,21 +1,19 @@
 -- Schemes at nodes for their variables.
-use Rattle.std.proofs.Common.{◌≡◌, ◌<◌, ◌≤◌, ◌+◌, ℕ, zero, suc, add-one, Option, Some, None, option_map, List, [], ◌∷◌, ◌++◌, length, map, get_or, take, refl, ap, sym, ◌∙◌, subst, arith}
+use Rattle.std.proofs.Common.{◌≡◌, ◌≤◌, ℕ, zero, suc, add-one, Option, Some, List, [], ◌∷◌, ◌++◌, length, map, take, refl, ap, sym, ◌∙◌, arith}
 use Rattle.std.proofs.Common.{Vec, Global}
-use Rattle.std.specs.Prelude.{slice_get}
-use Rattle.std.proofs.lemmas.List.{map-append, append-nil, length-map, take_more, take_all}
+use Rattle.std.proofs.lemmas.List.{map-append, length-map, take_more, take_all}
 use Rattle.std.proofs.lemmas.List.Elements.{All-nil, All-cons}
-use Rattle.std.proofs.lemmas.Option.{slice_get-map}
 use Rattle.kk_syntax.specs.declared.typed.Taken.{Taken}
 use Rattle.kk_syntax.specs.declared.program.Ty.{Ty}
 use Rattle.kk_syntax.specs.Types.{TypeTree, unit_type, named, types_of, put, type_at, type_variable, type_tree, variables_below}
 use Rattle.kk_syntax.specs.Typing.{Choice, Scheme}
 use Rattle.kk_unify.specs.declared.graph.Graph.{Graph}
-use Rattle.kk_unify.specs.Graphs.{NodeTree, Assignment, Obeys, Adds, IsFormed}
+use Rattle.kk_unify.specs.Graphs.{NodeTree, Assignment, Adds, IsFormed}
 use Rattle.kk_unify.specs.GraphOf.{graph_of, variables_of}
 use Rattle.kk_types.specs.declared.instance.Instance.{Instance}
 use Rattle.kk_types.specs.declared.walk.Walk.{Walk}
-use Rattle.kk_types.specs.Steps.{nodes_of, size_of, Instantiates}
-use Rattle.kk_types.specs.Walks.{Taking, taking_of, takings_of, choices_at, AreBelow, IsTakenBelow, AreTakenBelow, Agree, Builds, BuildsEach, Opens}
+use Rattle.kk_types.specs.Steps.{nodes_of, Instantiates}
+use Rattle.kk_types.specs.Walks.{Taking, taking_of, takings_of, choices_at, AreBelow, IsTakenBelow, AreTakenBelow, Builds, BuildsEach, Opens}
 use Rattle.kk_types.proofs.Adding.{adds_builds}
 use Rattle.kk_types.proofs.Building.{at_nodes, types_put, put_each_of, builds_same}
 use Rattle.kk_types.proofs.Refining.{agree_on, types_agree, below_more}

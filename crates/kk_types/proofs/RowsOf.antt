@@ -1,9 +1,8 @@
 -- A walk over the rows of a match.
-use Rattle.std.proofs.Common.{◌≡◌, ◌<◌, ◌≤◌, ◌+◌, ℕ, zero, suc, Bool, true, false, List, [], ◌∷◌, ◌++◌, length, map, get_or, take, drop, drop_of_length-le, refl, ap, sym, ◌∙◌, subst, arith}
-use Rattle.std.specs.Prelude.{Result, Ok, Err}
+use Rattle.std.proofs.Common.{◌≡◌, ◌<◌, ◌≤◌, ◌+◌, ℕ, true, false, List, [], ◌∷◌, ◌++◌, length, map, get_or, take, drop, drop_of_length-le, refl, ap, sym, ◌∙◌, subst, arith}
+use Rattle.std.specs.Prelude.{Ok}
 use Rattle.std.proofs.lemmas.List.{drop_more}
 use Rattle.std.proofs.lemmas.List.Elements.{All-nil, All-cons}
-use Rattle.kk_base.specs.declared.error.NoMemory.{NoMemory}
 use Rattle.kk_syntax.specs.declared.program.Row.{Row}
 use Rattle.kk_syntax.specs.declared.program.Expr.TheFolds.{fold_out-Row}
 use Rattle.kk_syntax.specs.Patterns.{Pattern, pattern_tree}
@@ -12,16 +11,16 @@ use Rattle.kk_syntax.specs.Shapes.{bound}
 use Rattle.kk_syntax.specs.Trees.{Tree, RowTree, StatementTree, rows_of, expr_step, row_step, statement_step, expr_tree, row_tree}
 use Rattle.kk_syntax.specs.Types.{TypeTree}
 use Rattle.kk_syntax.specs.Typing.{Choice, Scope, holding, with_bound, Binds, InTurn, IsPatternTyped, IsTypedBy}
-use Rattle.kk_unify.specs.Graphs.{NodeTree, Assignment, Obeys}
+use Rattle.kk_unify.specs.Graphs.{NodeTree, Assignment}
 use Rattle.kk_unify.specs.GraphOf.{variables_of}
 use Rattle.kk_types.specs.declared.scope.Bound.{Bound}
 use Rattle.kk_types.specs.declared.walk.Walk.{Walk}
 use Rattle.kk_types.specs.Claims.{both, expression_at, rows_at, pattern_at}
 use Rattle.kk_types.specs.Steps.{nodes_of, size_of, Goes, Walked, BindsEach}
-use Rattle.kk_types.specs.Walks.{Taking, holding_at, takings_of, choices_at, AreBelow, IsTakenBelow, AreTakenBelow, AreBoundBelow, Agree, scope_at, Claim, Leads, Done, Refused, IsOf, Opens}
+use Rattle.kk_types.specs.Walks.{Taking, holding_at, takings_of, choices_at, AreBelow, IsTakenBelow, AreTakenBelow, AreBoundBelow, scope_at, Claim, Leads, Done, Refused, IsOf, Opens}
 use Rattle.kk_types.proofs.Going.{takes_then, refused_after, goes_on, goes_first}
 use Rattle.kk_types.proofs.Locals.{node_of, both_of, expression_of, rows_of_claim}
-use Rattle.kk_types.proofs.Refining.{head_of, tail_of, scope_agrees, bound_more, Chooses, opens_leads, then_leads, refused_behind, first_refused}
+use Rattle.kk_types.proofs.Refining.{head_of, tail_of, scope_agrees, Chooses, opens_leads, then_leads, refused_behind, first_refused}
 
 -- a row in memory as a tree
 row_tree_is : (r : Row) → row_tree r ≡ record { pattern = pattern_tree r.pattern; body = expr_tree r.body }

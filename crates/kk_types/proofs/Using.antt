@@ -1,17 +1,16 @@
 -- A walk over a use of a scheme.
-use Rattle.std.proofs.Common.{◌≡◌, ◌<◌, ◌≤◌, ℕ, Bool, true, false, Option, Some, None, List, [], ◌∷◌, ◌++◌, length, map, refl, ap, sym, ◌∙◌, subst, arith}
-use Rattle.std.specs.Prelude.{Result, Ok, Err}
+use Rattle.std.proofs.Common.{◌≡◌, ◌<◌, ℕ, true, false, Option, None, List, [], ◌++◌, length, map, refl, ap, sym, ◌∙◌, subst}
+use Rattle.std.specs.Prelude.{Ok}
 use Rattle.std.proofs.lemmas.List.{length-map}
-use Rattle.kk_base.specs.declared.error.NoMemory.{NoMemory}
 use Rattle.kk_syntax.specs.Types.{TypeTree, put, type_at}
 use Rattle.kk_syntax.specs.Typing.{Choice, Scheme, Uses}
-use Rattle.kk_unify.specs.Graphs.{NodeTree, Assignment, Obeys}
+use Rattle.kk_unify.specs.Graphs.{NodeTree, Assignment}
 use Rattle.kk_types.specs.declared.instance.Instance.{Instance}
 use Rattle.kk_types.specs.declared.walk.Walk.{Walk}
 use Rattle.kk_types.specs.Claims.{typed_as, both}
 use Rattle.kk_types.specs.Steps.{nodes_of, size_of, Goes, Walked, Instantiates}
-use Rattle.kk_types.specs.Walks.{Taking, choices_at, Claim, Leads, Done, Refused, IsOf, IsInstance}
-use Rattle.kk_types.proofs.Going.{goes_first, goes_on, refused_after, walked_behind}
+use Rattle.kk_types.specs.Walks.{Taking, Claim, Leads, Refused, IsOf, IsInstance}
+use Rattle.kk_types.proofs.Going.{goes_first, goes_on, refused_after}
 use Rattle.kk_types.proofs.Refining.{first_refused}
 
 module _ (scheme : Option Scheme) (chosen : List TypeTree → List Choice) (want : ℕ) (A : Assignment → List TypeTree → List Choice → Type 0) where
@@ -34,17 +33,19 @@ module _ (scheme : Option Scheme) (chosen : List TypeTree → List Choice) (want
     instance_leads = record {
       longer = made.opens.longer;
       below = made.taken_inside;
-      sound = λ r choices obeys left.
-          (made.opens.sound r obeys, record {
-            of = made.of;
-            is = made.is;
-            at = map r made.at;
-            each = length-map made.at r ∙ made.opens.each;
-            gives = left.3.0 ∙ made.result r obeys;
-            rest = choices;
-            choices_are = ap (λ l. l ++ choices) (made.taken_are r);
-            arguments = subst (λ ts. A r ts choices) (made.parameters r obeys) (subst (A r (map r takes)) (sym (left.2 ∙ ap (λ l. l ++ left.1) left.3.1)) left.4);
-          });
+      sound = λ r choices obeys left. (
+        made.opens.sound r obeys,
+        record {
+          of = made.of;
+          is = made.is;
+          at = map r made.at;
+          each = length-map made.at r ∙ made.opens.each;
+          gives = left.3.0 ∙ made.result r obeys;
+          rest = choices;
+          choices_are = ap (λ l. l ++ choices) (made.taken_are r);
+          arguments = subst (λ ts. A r ts choices) (made.parameters r obeys) (subst (A r (map r takes)) (sym (left.2 ∙ ap (λ l. l ++ left.1) left.3.1)) left.4);
+        },
+      );
       complete = λ r choices obeys whole.
           let is = sym whole.is ∙ made.is in
           let same : whole.of ≡ made.of = cc (is) in
@@ -52,13 +53,18 @@ module _ (scheme : Option Scheme) (chosen : List TypeTree → List Choice) (want
           let one = made.opens.complete r whole.at each obeys in
           let there : map one.0 made.at ≡ whole.at = one.3 in
           let given : one.0 want ≡ one.0 gives =
-              sym (one.2 want lt) ∙ (whole.gives ∙ (ap (λ (s : Scheme). put (type_at whole.at) s.result) same ∙ (ap (λ ts. put (type_at ts) made.of.result) (sym there) ∙ sym (made.result one.0 one.1)))) in
+          sym (one.2 want lt) ∙ (whole.gives ∙ (ap (λ (s : Scheme). put (type_at whole.at) s.result) same ∙ (ap (λ ts. put (type_at ts) made.of.result) (sym there) ∙ sym (made.result one.0 one.1)))) in
           let taken_types : map (put (type_at whole.at)) whole.of.parameters ≡ map one.0 takes =
-              ap (λ (s : Scheme). map (put (type_at whole.at)) s.parameters) same ∙ (ap (λ ts. map (put (type_at ts)) made.of.parameters) (sym there) ∙ sym (made.parameters one.0 one.1)) in
-          (one.0, one.1, one.2,
-          (whole.rest,
-          whole.choices_are ∙ ap (λ l. l ++ whole.rest) (ap chosen (sym there) ∙ sym (made.taken_are one.0)),
-          ([], whole.rest, refl, (given, refl), subst (λ ts. A one.0 ts whole.rest) taken_types ((of (map (put (type_at whole.at)) whole.of.parameters)).follows r one.0 whole.rest one.2 whole.arguments))));
+          ap (λ (s : Scheme). map (put (type_at whole.at)) s.parameters) same ∙ (ap (λ ts. map (put (type_at ts)) made.of.parameters) (sym there) ∙ sym (made.parameters one.0 one.1)) in (
+            one.0,
+            one.1,
+            one.2,
+            (
+              whole.rest,
+              whole.choices_are ∙ ap (λ l. l ++ whole.rest) (ap chosen (sym there) ∙ sym (made.taken_are one.0)),
+              ([], whole.rest, refl, (given, refl), subst (λ ts. A one.0 ts whole.rest) taken_types ((of (map (put (type_at whole.at)) whole.of.parameters)).follows r one.0 whole.rest one.2 whole.arguments)),
+            ),
+          );
     }
 
   module _ (a b : Walk) (instance : Instance) (made : Instantiates scheme chosen a b instance) (lt : want < size_of a) (of : (ts : List TypeTree) → IsOf (size_of a) (λ r. A r ts)) where

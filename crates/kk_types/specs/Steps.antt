@@ -1,16 +1,16 @@
 -- What the steps of a walk leave behind.
 use Rattle.std.specs.Prelude.{◌≡◌, ◌<◌, ◌≤◌, ℕ, Bool, true, false, Option, Some, None, List, [], ◌∷◌, ◌++◌, length, map, take, Result, Ok, Err}
 use Rattle.kk_base.specs.declared.error.NoMemory.{NoMemory}
-use Rattle.kk_syntax.specs.Types.{TypeTree, put, type_at}
+use Rattle.kk_syntax.specs.Types.{TypeTree}
 use Rattle.kk_syntax.specs.Typing.{Choice, Scheme, with_bound}
 use Rattle.kk_syntax.specs.Programs.{ProgramTree}
 use Rattle.kk_syntax.specs.Trees.{Tree, StatementTree, block_of}
-use Rattle.kk_unify.specs.Graphs.{NodeTree, Assignment, Obeys}
+use Rattle.kk_unify.specs.Graphs.{NodeTree, Assignment}
 use Rattle.kk_unify.specs.GraphOf.{graph_of, variables_of}
 use Rattle.kk_types.specs.declared.instance.Instance.{Instance}
 use Rattle.kk_types.specs.declared.walk.Walk.{Walk}
 use Rattle.kk_types.specs.Claims.{expression_at}
-use Rattle.kk_types.specs.Walks.{Taking, holding_at, takings_of, choices_at, AreBelow, AreTakenBelow, AreBoundBelow, scope_at, Agree, Claim, Leads, Done, Refused, Builds, Opens, IsInstance}
+use Rattle.kk_types.specs.Walks.{Taking, holding_at, takings_of, AreBoundBelow, scope_at, Claim, Leads, Done, Refused, Builds, Opens, IsInstance}
 
 abbrev pub nodes_of : Walk → List NodeTree
 nodes_of walk = graph_of walk.graph

@@ -1,5 +1,5 @@
 -- What a walk over a body does to a graph of types: it adds nodes, and takes some of them where a typing chooses types.
-use Rattle.std.specs.Prelude.{◌≡◌, ◌<◌, ◌≤◌, ℕ, Option, Some, List, [], ◌∷◌, ◌++◌, length, map, reverse, All}
+use Rattle.std.specs.Prelude.{◌≡◌, ◌<◌, ◌≤◌, ℕ, Option, Some, List, [], ◌++◌, length, map, reverse, All}
 use Rattle.kk_syntax.specs.declared.typed.Taken.{Taken}
 use Rattle.kk_syntax.specs.declared.typed.Taken.TheVariants as OfTaken
 use Rattle.kk_syntax.specs.Types.{TypeTree, put, type_at}

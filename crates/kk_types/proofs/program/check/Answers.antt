@@ -1,4 +1,4 @@
-use Rattle.std.proofs.Common.{◌≡◌, ◌∷◌, ◌++◌, [], ◌+◌, Ok, Err, map, length, ap, sym, ◌∙◌, subst, arith}
+use Rattle.std.proofs.Common.{◌≡◌, ◌∷◌, [], ◌+◌, Ok, Err, map, length, ap, sym, ◌∙◌, subst, arith}
 use Rattle.std.proofs.lemmas.List.{length-map, map-append}
 use Rattle.kk_base.specs.Exactly.{IsOnly}
 use Rattle.kk_syntax.specs.Programs.{function_tree, program_tree}
@@ -34,7 +34,7 @@ returns c =
     let number = c.loop-number.number in
     let typings = map typing_of c.loop-number.bodies.items in
     let all : number ≡ length program.functions =
-        omega (arith, ap length c.deref-function-items.ensures.value, length-map c.args.program.now.functions.items function_tree, c.loop-number-test.false, c.loop-number.auto.number-end) in
+    omega (arith, ap length c.deref-function-items.ensures.value, length-map c.args.program.now.functions.items function_tree, c.loop-number-test.false, c.loop-number.auto.number-end) in
     record {
       same_program = c.in_ok-program.ensures;
       only = only_outcome program (Ok tt) (all_typed program typings number c.loop-number.invariant all);
