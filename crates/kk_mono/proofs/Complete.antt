@@ -1,19 +1,19 @@
 -- Each function of a typed program has its typing, and each call is of one of the functions: so the function of an instance is
 -- one of them.
-use Rattle.std.proofs.Common.{◌≡◌, ◌⊎◌, ℕ, ◌+◌, ◌<◌, ◌≤◌, List, [], ◌∷◌, length, map, Contains, sym, ap, subst, inl, inr, arith}
-use Rattle.std.specs.Prelude.{slice_get, slice_index_or}
+use Rattle.std.proofs.Common.{ℕ, ◌<◌, List, [], ◌∷◌, length, map, Contains, sym, ap, subst, inl, inr, arith}
+use Rattle.std.specs.Prelude.{slice_index_or}
 use Rattle.std.proofs.lemmas.Bool.{cases_lt}
 use Rattle.std.proofs.lemmas.List.{length-map, get_or_past}
 use Rattle.std.proofs.lemmas.List.Elements.{Contains-append_cases}
 use Rattle.std.proofs.lemmas.Option.{slice_get_within}
 use Rattle.kk_syntax.specs.declared.typed.Typed.{Typed}
-use Rattle.kk_syntax.specs.Programs.{FunctionTree, ProgramTree, function_tree, program_tree}
+use Rattle.kk_syntax.specs.Programs.{ProgramTree, function_tree, program_tree}
 use Rattle.kk_syntax.specs.TypedPrograms.{typing_of, typings_of}
 use Rattle.kk_syntax.specs.Types.{TypeTree, put, type_at}
 use Rattle.kk_syntax.specs.Typing.{Choice, constructing, calling, holding, ArePrincipal}
 use Rattle.kk_mono.specs.Instances.{InstanceTree, called_at, calls, IsInstance, main_is, called_is}
 use Rattle.kk_mono.specs.Searching.{AreCallsBelow, IsComplete}
-use Rattle.kk_mono.proofs.Callees.{IsCall, CallsAre, typing_calls}
+use Rattle.kk_mono.proofs.Callees.{CallsAre, typing_calls}
 use Rattle.kk_mono.proofs.Renamings.{typing_at}
 use Rattle.kk_mono.proofs.Sights.{only_one}
 

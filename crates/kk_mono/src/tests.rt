@@ -57,7 +57,11 @@ fn statement(value: Expr) -> Statement {
 }
 
 /// The function and its body's types, as the sample has them.
-fn function(alloc: Global, parameters: usize, sample: Sample) -> Result<(Fun, BodyTypes), AllocError> {
+fn function(
+    alloc: Global,
+    parameters: usize,
+    sample: Sample,
+) -> Result<(Fun, BodyTypes), AllocError> {
     let mut nodes = Vec::new(alloc);
     for of in sample.0 {
         nodes.push(type_node(alloc, *of)?)?;
@@ -91,7 +95,11 @@ fn function(alloc: Global, parameters: usize, sample: Sample) -> Result<(Fun, Bo
 }
 
 /// The program of these functions, of which the first is `main`.
-fn typed(alloc: Global, parameters: usize, samples: &[Sample]) -> Result<Option<Typed>, AllocError> {
+fn typed(
+    alloc: Global,
+    parameters: usize,
+    samples: &[Sample],
+) -> Result<Option<Typed>, AllocError> {
     let mut functions = Vec::new(alloc);
     let mut bodies = Vec::new(alloc);
     for sample in samples {
@@ -148,22 +156,13 @@ fn is_complete(typed: &Typed) -> bool
     true
 }
 
-/// Adds a type.
-fn show_type(line: &mut String, types: &[GroundType], number: u32, depth: u32) -> Result<(), AllocError> {
-    match types.get(number as usize) {
+/// Adds a type, a declared one by its number alone.
+fn show_type(line: &mut String, of: Option<&GroundType>) -> Result<(), AllocError> {
+    match of {
         None => write!(line, "?"),
         Some(GroundType::Int32) => write!(line, "int32"),
         Some(GroundType::Unit) => write!(line, "()"),
-        Some(GroundType::Named(by, arguments)) => {
-            write!(line, "T{by}")?;
-            if depth > 0 {
-                for argument in arguments {
-                    write!(line, " ")?;
-                    show_type(line, types, *argument, depth - 1)?;
-                }
-            }
-            Ok(())
-        }
+        Some(GroundType::Named(by, _)) => write!(line, "T{by}"),
     }
 }
 
@@ -172,7 +171,7 @@ fn show(line: &mut String, types: &[GroundType], instance: &Instance) -> Result<
     write!(line, "{}", instance.function)?;
     for argument in &instance.arguments {
         write!(line, " ")?;
-        show_type(line, types, *argument, 2)?;
+        show_type(line, types.get(*argument as usize))?;
     }
     if let Expr::Block(statements, _) = &instance.body {
         for statement in statements.iter().take(4) {
@@ -225,11 +224,17 @@ fn shown(alloc: Global, parameters: usize, samples: &[Sample]) -> Result<String,
 }
 
 const NONE: Sample = (&[], &[]);
+
 const AT_INT: Sample = (&[Node::Int], &[(1, &[0], 1)]);
+
 const AT_OPEN: Sample = (&[Node::Variable(5)], &[(1, &[0], 1)]);
+
 const PAIRED: &[Node] = &[Node::Variable(0), Node::Named(1, &[0, 0])];
+
 const LISTED: &[Node] = &[Node::Variable(0), Node::Named(2, &[0])];
+
 const EACH: &[Node] = &[Node::Variable(0), Node::Unit];
+
 const BOTH: &[Node] = &[
     Node::Variable(0),
     Node::Named(1, &[0, 0]),
@@ -268,14 +273,26 @@ static CASES: [(usize, &[Sample], &str); 10] = [
         "0 ~1; 1 () ~1 ~1; 2 in all",
     ),
     (9, &[NONE], "parameters 9"),
-    (1, &[AT_INT, LARGEST], "0 ~1; 1 int32 ~2 ~2 ~2 ~2; 1 ~2 ~2 ~2 ~2; 3 in all"),
+    (
+        1,
+        &[AT_INT, LARGEST],
+        "0 ~1; 1 int32 ~2 ~2 ~2 ~2; 1 ~2 ~2 ~2 ~2; 3 in all",
+    ),
     (
         1,
         &[AT_INT, (PAIRED, &[(1, &[1], 479)]), (&[], &[(0, &[], 480)])],
         "function-nodes 481",
     ),
-    (1, &[SIXTEEN, (&[], &[(2, &[], 479)]), (&[], &[(2, &[], 442)])], "0 ~1 ~2 ~3 ~4; 1 T0 ~17 ~17 ~17 ~17; 1 T1 ~17 ~17 ~17 ~17; 1 T2 ~17 ~17 ~17 ~17; 18 in all"),
-    (1, &[SIXTEEN, (&[], &[(2, &[], 479)]), (&[], &[(2, &[], 443)])], "program-nodes 8193"),
+    (
+        1,
+        &[SIXTEEN, (&[], &[(2, &[], 479)]), (&[], &[(2, &[], 442)])],
+        "0 ~1 ~2 ~3 ~4; 1 T0 ~17 ~17 ~17 ~17; 1 T1 ~17 ~17 ~17 ~17; 1 T2 ~17 ~17 ~17 ~17; 18 in all",
+    ),
+    (
+        1,
+        &[SIXTEEN, (&[], &[(2, &[], 479)]), (&[], &[(2, &[], 443)])],
+        "program-nodes 8193",
+    ),
 ];
 
 /// A function that calls one at 16 types, and a second one. It has 69 nodes.
