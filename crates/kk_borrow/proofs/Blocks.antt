@@ -1,13 +1,16 @@
--- The owned places, the constructions and the tail calls of a block, by its statements and its last expression.
-use Rattle.std.proofs.Common.{◌≡◌, ℕ, ◌==◌, Bool, true, false, not, ◌||◌, ◌&&◌, List, [], ◌∷◌, length, map, refl, ap, sym, ◌∙◌, arith}
+-- The rules and the constructions of a block, by its statements and its last expression.
+use Rattle.std.proofs.Common.{◌≡◌, ℕ, ◌==◌, Bool, true, false, not, ◌||◌, ◌&&◌, cond, List, [], ◌∷◌, ◌++◌, length, map, refl, ap, sym, ◌∙◌, arith, append_assoc}
 use Rattle.std.proofs.lemmas.Bool.{eqb-true, false_from_ne_true}
 use Rattle.kk_syntax.specs.declared.program.Form.TheVariants.{Construct}
 use Rattle.kk_syntax.specs.Patterns.{Pattern, constructor, patterns_of}
 use Rattle.kk_syntax.specs.Trees.{Tree, trees_of, StatementTree, block_of}
-use Rattle.kk_borrow.specs.Sets.{PositionSet}
-use Rattle.kk_borrow.specs.OwnedPlaces.{is_val, opens, makes, builds, uses}
-use Rattle.kk_borrow.specs.Statements.{builds_statements, uses_statements}
-use Rattle.kk_borrow.specs.TailCalls.{is_lent_variable, handed}
+use Rattle.kk_borrow.specs.declared.owned_place.Place.{Place}
+use Rattle.kk_borrow.specs.declared.owned_place.Place.TheVariants.{Always}
+use Rattle.kk_borrow.specs.declared.scope.Binding.{Binding}
+use Rattle.kk_borrow.specs.OwnedPlaces.{is_val, opens, makes, builds}
+use Rattle.kk_borrow.specs.Statements.{builds_statements, placed_statements, place_behind}
+use Rattle.kk_borrow.specs.Rules.{RuleTree}
+use Rattle.kk_borrow.specs.Demands.{place_if, placed, origins_in, tail_rules}
 
 -- whether a list has no element
 abbrev pub is_none : {X : Type 0} → List X → Bool
@@ -22,19 +25,30 @@ pub builds_block : (ss : List StatementTree) (last : Tree) → builds (block_of 
 builds_block [] last = refl
 builds_block (s ∷ ss) last = ap (λ b. builds s.value || b) (builds_block ss last) ∙ or_assoc (builds s.value) (builds_statements ss) (builds last)
 
-pub uses_block : (set : PositionSet) (owned : Bool) (x : ℕ) (ss : List StatementTree) (last : Tree) → uses set owned x (block_of ss last) ≡ (uses_statements set x ss || uses set (owned || not (is_none ss)) x last)
-uses_block set true x [] last = refl
-uses_block set false x [] last = refl
-uses_block set true x (s ∷ ss) last = ap (λ b. uses set (is_val s.binder) x s.value || b) (uses_block set true x ss last) ∙ or_assoc (uses set (is_val s.binder) x s.value) (uses_statements set x ss) (uses set true x last)
-uses_block set false x (s ∷ ss) last = ap (λ b. uses set (is_val s.binder) x s.value || b) (uses_block set true x ss last) ∙ or_assoc (uses set (is_val s.binder) x s.value) (uses_statements set x ss) (uses set true x last)
+placed_rest : (f : ℕ) (ss : List StatementTree) (last : Tree) → placed f Always (block_of ss last) ≡ placed_statements f ss ++ placed f Always last
+placed_rest f [] last = refl
+placed_rest f (s ∷ ss) last =
+    ap (λ rules. placed f (place_if (is_val s.binder)) s.value ++ rules) (placed_rest f ss last)
+    ∙ sym (append_assoc (placed f (place_if (is_val s.binder)) s.value) (placed_statements f ss) (placed f Always last))
 
-pub lent_block : (lent : List ℕ) (ss : List StatementTree) (last : Tree) → is_lent_variable lent (block_of ss last) ≡ (is_none ss && is_lent_variable lent last)
-lent_block lent [] last = refl
-lent_block lent (s ∷ ss) last = refl
+pub placed_block : (f : ℕ) (place : Place) (ss : List StatementTree) (last : Tree) → placed f place (block_of ss last) ≡ placed_statements f ss ++ placed f (place_behind ss place) last
+placed_block f place [] last = refl
+placed_block f place (s ∷ ss) last = placed_rest f (s ∷ ss) last
 
-pub handed_block : (lent : List ℕ) (ss : List StatementTree) (last : Tree) → handed lent (block_of ss last) ≡ handed lent last
-handed_block lent [] last = refl
-handed_block lent (s ∷ ss) last = handed_block lent ss last
+pub origins_block : (scope : List Binding) (ss : List StatementTree) (last : Tree) → origins_in scope (block_of ss last) ≡ cond (is_none ss) (origins_in scope last) []
+origins_block scope [] last = refl
+origins_block scope (s ∷ ss) last = refl
+
+pub tail_block : (f : ℕ) (scope : List Binding) (ss : List StatementTree) (last : Tree) → tail_rules f scope (block_of ss last) ≡ tail_rules f scope last
+tail_block f scope [] last = refl
+tail_block f scope (s ∷ ss) last = tail_block f scope ss last
+
+-- the rules of a block, added one part after the other
+pub read_block : (f : ℕ) (place : Place) (ss : List StatementTree) (last : Tree) (old one two : List RuleTree) → one ≡ old ++ placed_statements f ss → two ≡ one ++ placed f (place_behind ss place) last → two ≡ old ++ placed f place (block_of ss last)
+read_block f place ss last old one two first second =
+    second
+    ∙ (ap (λ (rules : List RuleTree). rules ++ placed f (place_behind ss place) last) first
+    ∙ (append_assoc old (placed_statements f ss) (placed f (place_behind ss place) last) ∙ ap (λ rules. old ++ rules) (sym (placed_block f place ss last))))
 
 pub none_map : {X Y : Type 0} (f : X → Y) (xs : List X) → is_none (map f xs) ≡ is_none xs
 none_map f [] = refl

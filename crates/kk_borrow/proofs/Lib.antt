@@ -1,7 +1,10 @@
 pub mod Blocks
-pub mod Grow
-pub mod Growing
-pub mod More
-pub mod Reached
+pub mod Kept
+pub mod Passed
+pub mod Placed
 pub mod Rows
-pub mod Searching
+pub mod Scopes
+pub mod Search
+pub mod Steps
+pub mod Tables
+pub mod Waiting

@@ -1,90 +1,198 @@
-ghost use Rattle.std.specs.Prelude.{◌≡◌, map};
+ghost use Rattle.std.specs.Prelude.{◌≡◌, ◌++◌, map, IfOk, OnOk};
 ghost use Rattle.kk_syntax.specs.Patterns.{pattern_tree};
-ghost use Rattle.kk_syntax.specs.PositionsOf.{positions_of};
 ghost use Rattle.kk_syntax.specs.Trees.{expr_tree, trees_of, row_tree, rows_of, statement_tree};
-ghost use Rattle.kk_borrow.specs.Sets.{owned_in};
-ghost use Rattle.kk_borrow.specs.OwnedPlaces.{takes, is_val, opens, makes, builds, builds_any, builds_rows, reuses, uses, uses_any, uses_rows};
-ghost use Rattle.kk_borrow.specs.Statements.{builds_statements, uses_statements};
+ghost use Rattle.kk_borrow.specs.OwnedPlaces.{is_val, opens, makes, builds, builds_any, builds_rows, reuses};
+ghost use Rattle.kk_borrow.specs.Statements.{builds_statements, placed_statements, place_behind};
+ghost use Rattle.kk_borrow.specs.Rules.{rule_trees};
+ghost use Rattle.kk_borrow.specs.Demands.{place_in, place_if, at_place, placed, placed_all, placed_rows};
 
-use crate::position::is_owned;
-use kk_syntax::{Binder, Expr, Form, Pat, Positions, Row, Statement};
+use crate::position::Position;
+use crate::rule::Rule;
+use kk_base::NoMemory;
+use kk_syntax::{Binder, Expr, Form, Pat, Row, Statement};
+use std::alloc::Global;
 
-/// Whether a variable stands at an owned place of an expression, which stands at one itself if `owned`.
+/// When what stands at a place is owned.
+#[derive(Clone, Copy, Debug, PartialEq, Eq)]
+pub enum Place {
+    Never,
+    Always,
+    /// As long as this position is owned.
+    With(Position),
+}
+
+/// What the rows of a match build.
+#[derive(Clone, Copy, Debug)]
+struct Built {
+    /// Whether a row holds a construction with fields.
+    any: bool,
+    /// Whether such a row opens what it matches.
+    opened: bool,
+}
+
+/// Adds the rules for the variables of an expression, which stands at a place itself. Tells whether the expression holds
+/// a construction with fields, at any depth.
 ///
-/// The recursion is as deep as the expression.
-#[cycle(uses)]
-pub fn uses(positions: &Positions, owned: bool, variable: usize, expr: &Expr) -> bool
-    ensures { result ≡ uses (owned_in (positions_of positions.now)) owned variable (expr_tree expr.now) }
+/// Each node is read once. The recursion is as deep as the expression.
+#[cycle(read)]
+pub fn read(
+    alloc: Global,
+    function: usize,
+    place: Place,
+    expr: &Expr,
+    rules: &mut Vec<Rule>,
+) -> Result<bool, NoMemory>
+    ensures rules { OnOk result (rule_trees rules.new.items ≡ rule_trees rules.old.items ++ placed function place (expr_tree expr.now)) }
+    ensures builds { IfOk result (λ built. built ≡ builds (expr_tree expr.now)) }
 {
     match expr {
-        Expr::Number(_) | Expr::Unit | Expr::ReadByte | Expr::PrintText(_, _) => false,
-        Expr::Variable(of) => owned && variable == *of as usize,
-        Expr::Apply(form, arguments) => uses_any(positions, *form, variable, arguments),
+        Expr::Number(_) | Expr::Unit | Expr::ReadByte | Expr::PrintText(_, _) => Ok(false),
+        Expr::Variable(of) => {
+            read_variable(alloc, function, place, *of as usize, rules)?;
+            Ok(false)
+        }
+        Expr::Apply(form, arguments) => {
+            let within = read_arguments(alloc, function, *form, arguments, rules)?;
+            Ok(makes(*form, arguments) || within)
+        }
         Expr::If(condition, positive, negative) => {
-            uses(positions, false, variable, condition)
-                || uses(positions, true, variable, positive)
-                || uses(positions, true, variable, negative)
+            let first = read(alloc, function, Place::Never, condition, rules)?;
+            let second = read(alloc, function, Place::Always, positive, rules)?;
+            let third = read(alloc, function, Place::Always, negative, rules)?;
+            Ok(first || second || third)
         }
         Expr::Match(scrutinee, rows) => {
-            uses(positions, reuses(rows), variable, scrutinee)
-                || uses_rows(positions, variable, rows)
+            let built = read_rows(alloc, function, rows, rules)?;
+            let first = read(alloc, function, place_if(built.opened), scrutinee, rules)?;
+            Ok(first || built.any)
         }
         Expr::Block(statements, value) => {
-            uses_statements(positions, variable, statements)
-                || uses(positions, owned || !statements.is_empty(), variable, value)
+            let first = read_statements(alloc, function, statements, rules)?;
+            let last = read(
+                alloc,
+                function,
+                place_behind(statements, place),
+                value,
+                rules,
+            )?;
+            Ok(first || last)
         }
     }
 }
 
-#[cycle(uses)]
-fn uses_any(positions: &Positions, form: Form, variable: usize, arguments: &[Expr]) -> bool
-    ensures { result ≡ uses_any (owned_in (positions_of positions.now)) form variable 0 (trees_of (map expr_tree arguments.now)) }
+#[cycle(read)]
+fn read_arguments(
+    alloc: Global,
+    function: usize,
+    form: Form,
+    arguments: &[Expr],
+    rules: &mut Vec<Rule>,
+) -> Result<bool, NoMemory>
+    ensures rules { OnOk result (rule_trees rules.new.items ≡ rule_trees rules.old.items ++ placed_all function form 0 (trees_of (map expr_tree arguments.now))) }
+    ensures builds { IfOk result (λ built. built ≡ builds_any (trees_of (map expr_tree arguments.now))) }
 {
+    let mut any = false;
     for (index, argument) in arguments.iter().enumerate() {
-        if uses(positions, takes(positions, form, index), variable, argument) {
-            return true;
-        }
+        let built = read(alloc, function, place_in(form, index), argument, rules)?;
+        any = any || built;
     }
-    false
+    Ok(any)
 }
 
-#[cycle(uses)]
-fn uses_rows(positions: &Positions, variable: usize, rows: &[Row]) -> bool
-    ensures { result ≡ uses_rows (owned_in (positions_of positions.now)) variable (rows_of (map row_tree rows.now)) }
+#[cycle(read)]
+fn read_rows(
+    alloc: Global,
+    function: usize,
+    rows: &[Row],
+    rules: &mut Vec<Rule>,
+) -> Result<Built, NoMemory>
+    ensures rules { OnOk result (rule_trees rules.new.items ≡ rule_trees rules.old.items ++ placed_rows function (rows_of (map row_tree rows.now))) }
+    ensures builds { IfOk result (λ built. built.any ≡ builds_rows (rows_of (map row_tree rows.now))) }
+    ensures reuses { IfOk result (λ built. built.opened ≡ reuses (rows_of (map row_tree rows.now))) }
 {
+    let mut any = false;
+    let mut opened = false;
     for row in rows {
-        if uses(positions, true, variable, &row.body) {
-            return true;
-        }
+        let built = read(alloc, function, Place::Always, &row.body, rules)?;
+        any = any || built;
+        opened = opened || opens(&row.pattern) && built;
     }
-    false
+    Ok(Built { any, opened })
 }
 
-#[cycle(uses)]
-fn uses_statements(positions: &Positions, variable: usize, statements: &[Statement]) -> bool
-    ensures { result ≡ uses_statements (owned_in (positions_of positions.now)) variable (map statement_tree statements.now) }
+#[cycle(read)]
+fn read_statements(
+    alloc: Global,
+    function: usize,
+    statements: &[Statement],
+    rules: &mut Vec<Rule>,
+) -> Result<bool, NoMemory>
+    ensures rules { OnOk result (rule_trees rules.new.items ≡ rule_trees rules.old.items ++ placed_statements function (map statement_tree statements.now)) }
+    ensures builds { IfOk result (λ built. built ≡ builds_statements (map statement_tree statements.now)) }
 {
+    let mut any = false;
     for statement in statements {
-        if uses(
-            positions,
-            is_val(statement.binder),
-            variable,
-            &statement.value,
-        ) {
-            return true;
-        }
+        let place = place_if(is_val(statement.binder));
+        let built = read(alloc, function, place, &statement.value, rules)?;
+        any = any || built;
     }
-    false
+    Ok(any)
 }
 
-// Whether an argument of a form stands at an owned place.
-fn takes(positions: &Positions, form: Form, index: usize) -> bool
-    ensures { result ≡ takes (owned_in (positions_of positions.now)) form index }
+// Adds the rule for a variable that stands at a place.
+fn read_variable(
+    alloc: Global,
+    function: usize,
+    place: Place,
+    variable: usize,
+    rules: &mut Vec<Rule>,
+) -> Result<(), NoMemory>
+    ensures { OnOk result (rule_trees rules.new.items ≡ rule_trees rules.old.items ++ at_place function place variable) }
+{
+    let premises = match place {
+        Place::Never => return Ok(()),
+        Place::Always => Vec::new(alloc),
+        Place::With(position) => vec![in alloc; position]?,
+    };
+    let conclusion = Position {
+        function,
+        parameter: variable,
+    };
+    rules.push(Rule {
+        premises,
+        conclusion,
+    })?;
+    Ok(())
+}
+
+// When the argument of a form at an index stands at an owned place.
+fn place_in(form: Form, index: usize) -> Place
+    ensures { result ≡ place_in form index }
 {
     match form {
-        Form::Unary(_) | Form::Binary(_) | Form::Print(_) => false,
-        Form::Construct(_) => true,
-        Form::Call(function) => is_owned(positions, function as usize, index),
+        Form::Unary(_) | Form::Binary(_) | Form::Print(_) => Place::Never,
+        Form::Construct(_) => Place::Always,
+        Form::Call(function) => Place::With(Position {
+            function: function as usize,
+            parameter: index,
+        }),
+    }
+}
+
+fn place_if(owned: bool) -> Place
+    ensures { result ≡ place_if owned }
+{
+    if owned { Place::Always } else { Place::Never }
+}
+
+// The place of a block's value, where the block stands at a place.
+fn place_behind(statements: &[Statement], place: Place) -> Place
+    ensures { result ≡ place_behind (map statement_tree statements.now) place }
+{
+    if statements.is_empty() {
+        place
+    } else {
+        Place::Always
     }
 }
 
@@ -95,18 +203,6 @@ fn is_val(binder: Binder) -> bool
         Binder::Nothing => false,
         Binder::Wildcard | Binder::Variable(_) => true,
     }
-}
-
-// Whether a row opens what it matches, and builds something of the same size.
-fn reuses(rows: &[Row]) -> bool
-    ensures { result ≡ reuses (rows_of (map row_tree rows.now)) }
-{
-    for row in rows {
-        if opens(&row.pattern) && builds(&row.body) {
-            return true;
-        }
-    }
-    false
 }
 
 // Whether a pattern has a constructor with fields.
@@ -127,57 +223,4 @@ fn makes(form: Form, arguments: &[Expr]) -> bool
         Form::Unary(_) | Form::Binary(_) | Form::Print(_) | Form::Call(_) => false,
         Form::Construct(_) => !arguments.is_empty(),
     }
-}
-
-// Whether an expression holds a construction with fields, at any depth.
-#[cycle(builds)]
-fn builds(expr: &Expr) -> bool
-    ensures { result ≡ builds (expr_tree expr.now) }
-{
-    match expr {
-        Expr::Number(_) | Expr::Unit | Expr::Variable(_) | Expr::ReadByte | Expr::PrintText(_, _) =>
-            { false }
-        Expr::Apply(form, arguments) => makes(*form, arguments) || builds_any(arguments),
-        Expr::If(condition, positive, negative) => {
-            builds(condition) || builds(positive) || builds(negative)
-        }
-        Expr::Match(scrutinee, rows) => builds(scrutinee) || builds_rows(rows),
-        Expr::Block(statements, value) => builds_statements(statements) || builds(value),
-    }
-}
-
-#[cycle(builds)]
-fn builds_any(exprs: &[Expr]) -> bool
-    ensures { result ≡ builds_any (trees_of (map expr_tree exprs.now)) }
-{
-    for expr in exprs {
-        if builds(expr) {
-            return true;
-        }
-    }
-    false
-}
-
-#[cycle(builds)]
-fn builds_rows(rows: &[Row]) -> bool
-    ensures { result ≡ builds_rows (rows_of (map row_tree rows.now)) }
-{
-    for row in rows {
-        if builds(&row.body) {
-            return true;
-        }
-    }
-    false
-}
-
-#[cycle(builds)]
-fn builds_statements(statements: &[Statement]) -> bool
-    ensures { result ≡ builds_statements (map statement_tree statements.now) }
-{
-    for statement in statements {
-        if builds(&statement.value) {
-            return true;
-        }
-    }
-    false
 }

@@ -1,153 +1,147 @@
 ghost use Rattle.std.specs.Prelude.{◌≡◌, ◌++◌, map, IfOk, OnOk};
-ghost use Rattle.kk_syntax.specs.Patterns.{pattern_tree, patterns_of};
-ghost use Rattle.kk_syntax.specs.Shapes.{bound, bound_all};
 ghost use Rattle.kk_syntax.specs.Trees.{expr_tree, trees_of, row_tree, rows_of};
-ghost use Rattle.kk_borrow.specs.TailCalls.{is_lent_variable, lent_in_row, handed_to, handed_by, handed, handed_rows};
+ghost use Rattle.kk_borrow.specs.Rules.{rule_trees};
+ghost use Rattle.kk_borrow.specs.Demands.{position, origins_in, passed, passed_by, tail_rules, tail_rules_in};
 
 use crate::position::Position;
+use crate::rule::Rule;
+use crate::scope::{Scope, bind};
 use kk_base::NoMemory;
-use kk_syntax::{Expr, Form, Pat, Row};
+use kk_syntax::{Expr, Form, Row};
 use std::alloc::Global;
 
-/// Adds the positions of tail calls at which anything but a lent variable stands.
+/// Adds the rules for what the tail calls of an expression are given. The scope stays as it was.
 ///
-/// The recursion is as deep as the expression.
-#[cycle(handed)]
-pub fn handed(
+/// Each node is read once at most. The recursion is as deep as the expression.
+#[cycle(tails)]
+pub fn read_tails(
     alloc: Global,
-    lent: &[usize],
+    function: usize,
+    scope: &mut Scope,
     expr: &Expr,
-    found: &mut Vec<Position>,
+    rules: &mut Vec<Rule>,
 ) -> Result<(), NoMemory>
-    ensures { OnOk result (found.new.items ≡ found.old.items ++ handed lent.now (expr_tree expr.now)) }
+    ensures rules { OnOk result (rule_trees rules.new.items ≡ rule_trees rules.old.items ++ tail_rules function scope.old.bindings.items (expr_tree expr.now)) }
+    ensures scope { OnOk result (scope.new.bindings.items ≡ scope.old.bindings.items) }
 {
     match expr {
         Expr::Number(_) | Expr::Unit | Expr::Variable(_) | Expr::ReadByte | Expr::PrintText(_, _) =>
             { Ok(()) }
-        Expr::Apply(form, arguments) => handed_by(lent, *form, arguments, found),
+        Expr::Apply(form, arguments) => read_form(alloc, function, scope, *form, arguments, rules),
         Expr::If(_, positive, negative) => {
-            handed(alloc, lent, positive, found)?;
-            handed(alloc, lent, negative, found)
+            read_tails(alloc, function, scope, positive, rules)?;
+            read_tails(alloc, function, scope, negative, rules)
         }
         Expr::Match(scrutinee, rows) => {
-            let opened = is_lent_variable(lent, scrutinee);
-            handed_rows(alloc, lent, opened, rows, found)
+            let origins = origins_in(alloc, scope, scrutinee)?;
+            read_rows(alloc, function, scope, &origins, rows, rules)
         }
-        Expr::Block(_, value) => handed(alloc, lent, value, found),
+        Expr::Block(_, value) => read_tails(alloc, function, scope, value, rules),
     }
 }
 
-// The same for the rows of a match, which is on a lent variable if `opened`.
-#[cycle(handed)]
-fn handed_rows(
+// The same for the rows of a match, whose scrutinee hangs on some parameters.
+#[cycle(tails)]
+fn read_rows(
     alloc: Global,
-    lent: &[usize],
-    opened: bool,
+    function: usize,
+    scope: &mut Scope,
+    origins: &[usize],
     rows: &[Row],
-    found: &mut Vec<Position>,
+    rules: &mut Vec<Rule>,
 ) -> Result<(), NoMemory>
-    ensures { OnOk result (found.new.items ≡ found.old.items ++ handed_rows lent.now opened (rows_of (map row_tree rows.now))) }
+    ensures rules { OnOk result (rule_trees rules.new.items ≡ rule_trees rules.old.items ++ tail_rules_in function scope.old.bindings.items origins.now (rows_of (map row_tree rows.now))) }
+    ensures scope { OnOk result (scope.new.bindings.items ≡ scope.old.bindings.items) }
 {
     for row in rows {
-        let inner = lent_in_row(alloc, lent, opened, &row.pattern)?;
-        handed(alloc, &inner, &row.body, found)?;
+        let outer = scope.len();
+        bind(scope, &row.pattern, origins)?;
+        read_tails(alloc, function, scope, &row.body, rules)?;
+        scope.leave(outer);
     }
     Ok(())
 }
 
 // The same for a form, which stands in tail position.
-fn handed_by(
-    lent: &[usize],
+fn read_form(
+    alloc: Global,
+    function: usize,
+    scope: &Scope,
     form: Form,
     arguments: &[Expr],
-    found: &mut Vec<Position>,
+    rules: &mut Vec<Rule>,
 ) -> Result<(), NoMemory>
-    ensures { OnOk result (found.new.items ≡ found.old.items ++ handed_by lent.now form (trees_of (map expr_tree arguments.now))) }
+    ensures { OnOk result (rule_trees rules.new.items ≡ rule_trees rules.old.items ++ passed_by function scope.now.bindings.items form (trees_of (map expr_tree arguments.now))) }
 {
     match form {
         Form::Unary(_) | Form::Binary(_) | Form::Print(_) | Form::Construct(_) => Ok(()),
-        Form::Call(function) => handed_to(lent, function as usize, arguments, found),
+        Form::Call(callee) => read_call(alloc, function, scope, callee as usize, arguments, rules),
     }
 }
 
 // The same for a call.
-fn handed_to(
-    lent: &[usize],
+fn read_call(
+    alloc: Global,
     function: usize,
+    scope: &Scope,
+    callee: usize,
     arguments: &[Expr],
-    found: &mut Vec<Position>,
+    rules: &mut Vec<Rule>,
 ) -> Result<(), NoMemory>
-    ensures { OnOk result (found.new.items ≡ found.old.items ++ handed_to lent.now function 0 (trees_of (map expr_tree arguments.now))) }
+    ensures { OnOk result (rule_trees rules.new.items ≡ rule_trees rules.old.items ++ passed function scope.now.bindings.items callee 0 (trees_of (map expr_tree arguments.now))) }
 {
     for (parameter, argument) in arguments.iter().enumerate() {
-        if !is_lent_variable(lent, argument) {
-            found.push(Position {
-                function,
-                parameter,
-            })?;
-        }
+        let origins = origins_in(alloc, scope, argument)?;
+        let premises = positions(alloc, function, &origins)?;
+        let conclusion = Position {
+            function: callee,
+            parameter,
+        };
+        rules.push(Rule {
+            premises,
+            conclusion,
+        })?;
     }
     Ok(())
 }
 
-// Whether an expression is a lent variable. A block without statements is its value.
-fn is_lent_variable(lent: &[usize], expr: &Expr) -> bool
-    ensures { result ≡ is_lent_variable lent.now (expr_tree expr.now) }
+// Parameters of a function, as positions.
+fn positions(
+    alloc: Global,
+    function: usize,
+    parameters: &[usize],
+) -> Result<Vec<Position>, NoMemory>
+    ensures { IfOk result (λ found. found.items ≡ map (position function) parameters.now) }
+{
+    let mut found = Vec::new(alloc);
+    for parameter in parameters {
+        found.push(Position {
+            function,
+            parameter: *parameter,
+        })?;
+    }
+    Ok(found)
+}
+
+// The parameters on which an expression hangs. A block without statements is its value.
+fn origins_in(alloc: Global, scope: &Scope, expr: &Expr) -> Result<Vec<usize>, NoMemory>
+    ensures { IfOk result (λ origins. origins.items ≡ origins_in scope.now.bindings.items (expr_tree expr.now)) }
 {
     match expr {
-        Expr::Variable(of) => lent.contains(&(*of as usize)),
-        Expr::Block(statements, value) => { statements.is_empty() && is_lent_variable(lent, value) }
+        Expr::Variable(of) => scope.origins(alloc, *of as usize),
+        Expr::Block(statements, value) => {
+            if statements.is_empty() {
+                origins_in(alloc, scope, value)
+            } else {
+                Ok(Vec::new(alloc))
+            }
+        }
         Expr::Number(_)
         | Expr::Unit
         | Expr::ReadByte
         | Expr::PrintText(_, _)
         | Expr::Apply(_, _)
         | Expr::If(_, _, _)
-        | Expr::Match(_, _) => false,
+        | Expr::Match(_, _) => Ok(Vec::new(alloc)),
     }
-}
-
-// The lent variables in a row of a match, which is on a lent variable if `opened`.
-fn lent_in_row(
-    alloc: Global,
-    lent: &[usize],
-    opened: bool,
-    pattern: &Pat,
-) -> Result<Vec<usize>, NoMemory>
-    ensures { IfOk result (λ inner. inner.items ≡ lent_in_row lent.now opened (pattern_tree pattern.now)) }
-{
-    let mut inner = match Vec::from_slice(alloc, lent) {
-        Ok(copy) => copy,
-        Err(_) => return Err(NoMemory),
-    };
-    if opened {
-        bind(pattern, &mut inner)?;
-    }
-    Ok(inner)
-}
-
-// Adds the variables of a pattern.
-#[cycle(bind)]
-fn bind(pattern: &Pat, variables: &mut Vec<usize>) -> Result<(), NoMemory>
-    ensures { OnOk result (variables.new.items ≡ variables.old.items ++ bound (pattern_tree pattern.now)) }
-{
-    match pattern {
-        Pat::Wildcard | Pat::Number(_) => Ok(()),
-        Pat::Variable(variable) => {
-            variables.push(*variable as usize)?;
-            Ok(())
-        }
-        Pat::Constructor(_, parts) => bind_each(parts, variables),
-    }
-}
-
-// Adds the variables of several patterns.
-#[cycle(bind)]
-fn bind_each(patterns: &[Pat], variables: &mut Vec<usize>) -> Result<(), NoMemory>
-    ensures { OnOk result (variables.new.items ≡ variables.old.items ++ bound_all (patterns_of (map pattern_tree patterns.now))) }
-{
-    for pattern in patterns {
-        bind(pattern, variables)?;
-    }
-    Ok(())
 }

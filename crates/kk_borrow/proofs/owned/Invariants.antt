@@ -1,15 +1,11 @@
-use Rattle.kk_syntax.specs.PositionsOf.{positions_of}
 use Rattle.kk_syntax.specs.Programs.{program_tree}
-use Rattle.kk_borrow.proofs.Grow.{lent_count}
-use Rattle.kk_borrow.proofs.Growing.{LeastSoFar}
-use Rattle.kk_borrow.proofs.Reached.{Told}
+use Rattle.kk_borrow.specs.Rules.{rule_trees}
+use Rattle.kk_borrow.specs.Standings.{ownerships, waitings, work}
+use Rattle.kk_borrow.proofs.Search.{Searches}
 use Rattle.kk_borrow.proofs.owned.Given as goal
 
-abbrev pub invariant-grow : goal.invariant-grow
-invariant-grow l = record {
-  told : Told (program_tree l.program) (positions_of l.positions);
-  least : LeastSoFar (program_tree l.program) (positions_of l.positions);
-}
+abbrev pub invariant-apply : goal.invariant-apply
+invariant-apply l = Searches (program_tree l.program) (ownerships l.standings) (waitings l.standings) (rule_trees l.rules.items)
 
-abbrev pub decreases-grow : goal.decreases-grow
-decreases-grow l = lent_count (positions_of l.positions)
+abbrev pub decreases-apply : goal.decreases-apply
+decreases-apply l = work (waitings l.standings) (rule_trees l.rules.items)

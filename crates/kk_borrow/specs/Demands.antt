@@ -1,0 +1,125 @@
+-- What the body of a function asks of ownership, as rules. They say what Obeys says (OwnedPlaces and TailCalls), and do
+-- not depend on a set.
+use Rattle.std.specs.Prelude.{◌≡◌, ℕ, zero, suc, ◌+◌, Bool, ◌==◌, List, [], ◌∷◌, ◌++◌, map, filter, length, if◌then◌else◌}
+use Rattle.kk_syntax.specs.declared.program.Form.{Form}
+use Rattle.kk_syntax.specs.declared.program.Form.TheVariants.{Unary, Binary, Print, Construct, Call}
+use Rattle.kk_syntax.specs.declared.program.Binder.{Binder}
+use Rattle.kk_syntax.specs.Patterns.{Pattern}
+use Rattle.kk_syntax.specs.Programs.{FunctionTree}
+use Rattle.kk_syntax.specs.Shapes.{bound}
+use Rattle.kk_syntax.specs.Trees.{Tree, number, unit, variable, read_byte, print_text, apply, branch, match, sequence, Trees, no_tree, tree, Rows, no_row, row}
+use Rattle.kk_borrow.specs.declared.position.Position.{Position}
+use Rattle.kk_borrow.specs.declared.owned_place.Place.{Place}
+use Rattle.kk_borrow.specs.declared.owned_place.Place.TheVariants.{Never, Always, With}
+use Rattle.kk_borrow.specs.declared.scope.Binding.{Binding}
+use Rattle.kk_borrow.specs.OwnedPlaces.{is_val, reuses}
+use Rattle.kk_borrow.specs.Rules.{RuleTree}
+
+abbrev pub position : ℕ → ℕ → Position
+position function parameter = record { function = function; parameter = parameter }
+
+-- when the argument of a form at an index stands at an owned place
+abbrev pub place_in : Form → ℕ → Place
+place_in (Unary operator) index = Never
+place_in (Binary operator) index = Never
+place_in (Print form) index = Never
+place_in (Construct of) index = Always
+place_in (Call function) index = With (position function index)
+
+abbrev pub place_if : Bool → Place
+place_if owned = if owned then Always else Never
+
+-- the rule by which a variable of a function is owned at a place
+abbrev pub at_place : ℕ → Place → ℕ → List RuleTree
+at_place f Never x = []
+at_place f Always x = record { premises = []; conclusion = position f x } ∷ []
+at_place f (With p) x = record { premises = p ∷ []; conclusion = position f x } ∷ []
+
+-- o1 to o4: the rules for the variables of an expression, which stands at a place itself
+abbrev mutual
+  pub placed : ℕ → Place → Tree → List RuleTree
+  placed f place (number value) = []
+  placed f place unit = []
+  placed f place (variable of) = at_place f place of
+  placed f place read_byte = []
+  placed f place (print_text form text) = []
+  placed f place (apply form arguments) = placed_all f form 0 arguments
+  placed f place (branch condition positive negative) = placed f Never condition ++ (placed f Always positive ++ placed f Always negative)
+  placed f place (match scrutinee rows) = placed_rows f rows ++ placed f (place_if (reuses rows)) scrutinee
+  placed f place (sequence binder first rest) = placed f (place_if (is_val binder)) first ++ placed f Always rest
+
+  -- arguments of a form, from one of them on, which has this number
+  pub placed_all : ℕ → Form → ℕ → Trees → List RuleTree
+  placed_all f form index no_tree = []
+  placed_all f form index (tree first rest) = placed f (place_in form index) first ++ placed_all f form (index + 1) rest
+
+  pub placed_rows : ℕ → Rows → List RuleTree
+  placed_rows f no_row = []
+  placed_rows f (row pattern body rest) = placed f Always body ++ placed_rows f rest
+
+-- the parameters on which a variable hangs: it is lent as long as one of them is
+abbrev pub origins_of : List Binding → ℕ → List ℕ
+origins_of scope x = map (λ b. b.parameter) (filter (λ b. b.variable == x) scope)
+
+-- the parameters on which the value of an expression hangs
+abbrev pub origins_in : List Binding → Tree → List ℕ
+origins_in scope (number value) = []
+origins_in scope unit = []
+origins_in scope (variable of) = origins_of scope of
+origins_in scope read_byte = []
+origins_in scope (print_text form text) = []
+origins_in scope (apply form arguments) = []
+origins_in scope (branch condition positive negative) = []
+origins_in scope (match scrutinee rows) = []
+origins_in scope (sequence binder first rest) = []
+
+-- a variable hangs on each of some parameters
+abbrev pub hung : ℕ → List ℕ → List Binding
+hung x origins = map (λ p. record { variable = x; parameter = p }) origins
+
+abbrev pub all_hung : List ℕ → List ℕ → List Binding
+all_hung [] origins = []
+all_hung (x ∷ xs) origins = hung x origins ++ all_hung xs origins
+
+-- each parameter of a function hangs on itself
+abbrev pub parameters : ℕ → List Binding
+parameters zero = []
+parameters (suc count) = parameters count ++ (record { variable = count; parameter = count } ∷ [])
+
+-- o5: the rules for the arguments of a tail call, from one of them on, which has this number
+abbrev pub passed : ℕ → List Binding → ℕ → ℕ → Trees → List RuleTree
+passed f scope function index no_tree = []
+passed f scope function index (tree first rest) = record { premises = map (position f) (origins_in scope first); conclusion = position function index } ∷ passed f scope function (index + 1) rest
+
+abbrev pub passed_by : ℕ → List Binding → Form → Trees → List RuleTree
+passed_by f scope (Unary operator) arguments = []
+passed_by f scope (Binary operator) arguments = []
+passed_by f scope (Print form) arguments = []
+passed_by f scope (Construct of) arguments = []
+passed_by f scope (Call function) arguments = passed f scope function 0 arguments
+
+-- o5: the rules for the tail calls of an expression in a scope
+abbrev mutual
+  pub tail_rules : ℕ → List Binding → Tree → List RuleTree
+  tail_rules f scope (number value) = []
+  tail_rules f scope unit = []
+  tail_rules f scope (variable of) = []
+  tail_rules f scope read_byte = []
+  tail_rules f scope (print_text form text) = []
+  tail_rules f scope (apply form arguments) = passed_by f scope form arguments
+  tail_rules f scope (branch condition positive negative) = tail_rules f scope positive ++ tail_rules f scope negative
+  tail_rules f scope (match scrutinee rows) = tail_rules_in f scope (origins_in scope scrutinee) rows
+  tail_rules f scope (sequence binder first rest) = tail_rules f scope rest
+
+  -- the rows of a match whose scrutinee hangs on these parameters
+  pub tail_rules_in : ℕ → List Binding → List ℕ → Rows → List RuleTree
+  tail_rules_in f scope origins no_row = []
+  tail_rules_in f scope origins (row pattern body rest) = tail_rules f (scope ++ all_hung (bound pattern) origins) body ++ tail_rules_in f scope origins rest
+
+-- the rules of a function by its number, and of functions from a number on
+abbrev pub rules_in : ℕ → FunctionTree → List RuleTree
+rules_in f function = placed f Always function.body ++ tail_rules f (parameters (length function.parameters)) function.body
+
+abbrev pub rules_from : ℕ → List FunctionTree → List RuleTree
+rules_from f [] = []
+rules_from f (g ∷ gs) = rules_in f g ++ rules_from (f + 1) gs

@@ -1,0 +1,8 @@
+use crate::position::Position;
+
+/// A position that is owned if each of some others is.
+#[derive(Debug, Drop)]
+pub struct Rule {
+    pub premises: Vec<Position>,
+    pub conclusion: Position,
+}
