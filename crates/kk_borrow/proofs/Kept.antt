@@ -1,8 +1,8 @@
 -- A set is closed if and only if it keeps each rule of the program.
-use Rattle.std.proofs.Common.{◌≡◌, ◌<◌, ℕ, zero, suc, ◌+◌, List, [], ◌∷◌, ◌++◌, length, get_or, refl, sym, ap, ◌∙◌, subst, arith, All, IsTrue, ◌↔◌}
+use Rattle.std.proofs.Common.{◌<◌, ℕ, zero, suc, ◌+◌, List, [], ◌∷◌, length, get_or, subst, arith, All, ◌↔◌}
 use Rattle.std.proofs.lemmas.List.Elements.{All-nil, All-append}
 use Rattle.kk_syntax.specs.Programs.{FunctionTree, ProgramTree, no_function}
-use Rattle.kk_borrow.specs.Sets.{PositionSet, arity_of}
+use Rattle.kk_borrow.specs.Sets.{PositionSet}
 use Rattle.kk_borrow.specs.Least.{Obeys, Closed}
 use Rattle.kk_borrow.specs.Rules.{Keeps}
 use Rattle.kk_borrow.specs.TailCalls.{lent_below}

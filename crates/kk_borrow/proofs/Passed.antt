@@ -1,5 +1,5 @@
 -- The rules for tail calls say what the second part of Obeys says: what is passed there is owned, or a lent variable.
-use Rattle.std.proofs.Common.{◌≡◌, ◌<◌, ℕ, zero, suc, ◌+◌, Bool, true, false, not, ◌==◌, ◌&&◌, ◌||◌, cond, List, [], ◌∷◌, ◌++◌, map, refl, sym, ap, ◌∙◌, subst, inl, inr, All, IsTrue, ◌↔◌}
+use Rattle.std.proofs.Common.{◌≡◌, ◌<◌, ℕ, zero, suc, ◌+◌, Bool, true, false, not, ◌==◌, ◌&&◌, ◌||◌, cond, List, [], ◌∷◌, ◌++◌, map, refl, sym, ap, ◌∙◌, All, IsTrue, ◌↔◌}
 use Rattle.std.specs.List.{list_any, filter}
 use Rattle.std.proofs.lemmas.Bool.{both_ways, or_parts, or_from, not_from_true, not-false}
 use Rattle.std.proofs.lemmas.List.{map-append}
@@ -15,7 +15,7 @@ use Rattle.kk_borrow.specs.declared.position.Position.{Position}
 use Rattle.kk_borrow.specs.declared.scope.Binding.{Binding}
 use Rattle.kk_borrow.specs.Sets.{PositionSet, arity_of}
 use Rattle.kk_borrow.specs.TailCalls.{lent_below, is_lent_variable, lent_in_row, handed_to, handed_by, handed, handed_rows}
-use Rattle.kk_borrow.specs.Rules.{RuleTree, Has, Keeps}
+use Rattle.kk_borrow.specs.Rules.{Has, Keeps}
 use Rattle.kk_borrow.specs.Demands.{position, origins_of, origins_in, hung, all_hung, parameters, passed, passed_by, tail_rules, tail_rules_in}
 use Rattle.kk_borrow.proofs.Placed.{all_left, all_right}
 

@@ -1,6 +1,5 @@
 -- What variables hang on, variable by variable.
 use Rattle.std.proofs.Common.{◌≡◌, ℕ, List, [], ◌∷◌, ◌++◌, refl, ap, sym, ◌∙◌, append_assoc}
-use Rattle.kk_borrow.specs.declared.scope.Binding.{Binding}
 use Rattle.kk_borrow.specs.Demands.{hung, all_hung}
 
 pub all_hung-append : (xs ys origins : List ℕ) → all_hung (xs ++ ys) origins ≡ all_hung xs origins ++ all_hung ys origins

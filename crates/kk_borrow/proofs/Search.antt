@@ -1,10 +1,10 @@
 -- The search for the least set: its start, one step of it, and its end. A set is closed if and only if it agrees with
 -- the state.
-use Rattle.std.proofs.Common.{◌≡◌, ℕ, IsTrue, List, [], refl, sym, ap, ◌∙◌, subst, All, ◌↔◌}
+use Rattle.std.proofs.Common.{◌≡◌, ℕ, IsTrue, List, [], sym, subst, All}
 use Rattle.std.proofs.lemmas.List.Elements.{All-nil}
 use Rattle.kk_syntax.specs.PositionsOf.{PositionTable}
 use Rattle.kk_syntax.specs.Programs.{ProgramTree}
-use Rattle.kk_borrow.specs.Sets.{PositionSet, arity_of, owned_in}
+use Rattle.kk_borrow.specs.Sets.{PositionSet, owned_in}
 use Rattle.kk_borrow.specs.Least.{Closed, IsLeast}
 use Rattle.kk_borrow.specs.Rules.{RuleTree, Keeps}
 use Rattle.kk_borrow.specs.Demands.{rules_from}

@@ -1,9 +1,9 @@
 -- One step of the search for the least set: the same sets agree with the state before and after it.
-use Rattle.std.proofs.Common.{◌≡◌, ◌<◌, ◌≤◌, ℕ, ◌+◌, ◌⊎◌, inl, inr, true, false, not, None, Some, map, List, [], ◌∷◌, ◌++◌, length, get_or, refl, sym, ap, ◌∙◌, subst, arith, All, IsTrue}
+use Rattle.std.proofs.Common.{◌≡◌, ◌<◌, ◌≤◌, ◌⊎◌, inl, inr, true, false, not, None, Some, List, [], ◌∷◌, ◌++◌, length, get_or, sym, ap, ◌∙◌, subst, arith, All, IsTrue}
 use Rattle.std.proofs.lemmas.Bool.{cases_lt}
 use Rattle.std.proofs.lemmas.List.{get_or_past, map-append}
 use Rattle.std.proofs.lemmas.Option.{get_or_from_slice_get, slice_get-get_or}
-use Rattle.std.proofs.lemmas.List.Elements.{All-nil, All-cons, All-head, All-append, All-push}
+use Rattle.std.proofs.lemmas.List.Elements.{All-nil, All-head, All-append, All-push}
 use Rattle.kk_syntax.specs.declared.positions.Ownership.TheVariants.{Owned, Lent}
 use Rattle.kk_syntax.specs.PositionsOf.{PositionTable, lends, is_lent}
 use Rattle.kk_syntax.specs.Programs.{ProgramTree}
@@ -11,7 +11,7 @@ use Rattle.kk_borrow.specs.declared.position.Position.{Position}
 use Rattle.kk_borrow.specs.Sets.{PositionSet, arity_of, owned_in}
 use Rattle.kk_borrow.specs.declared.rule.Rule.{Rule}
 use Rattle.kk_borrow.specs.Rules.{RuleTree, rule_tree, rule_trees, Has, Keeps}
-use Rattle.kk_borrow.specs.Standings.{WaitingTable, waiting_at, told_at, with_owned, with_waiting, Told, InProgram, Agrees, Follows}
+use Rattle.kk_borrow.specs.Standings.{WaitingTable, waiting_at, told_at, with_owned, with_waiting, Told, InProgram, Follows}
 use Rattle.kk_borrow.proofs.Placed.{all_left, all_right}
 use Rattle.kk_borrow.proofs.Tables.{owned_told, lent_told, grown_told, grown_within, grown_more, grown_has}
 use Rattle.kk_borrow.proofs.Waiting.{at_same, at_other}

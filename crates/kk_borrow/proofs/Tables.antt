@@ -1,5 +1,5 @@
 -- A table of owned positions, and one that has one position more: it keeps its shape, and has what it had.
-use Rattle.std.proofs.Common.{◌≡◌, ◌<◌, ℕ, zero, suc, ◌+◌, ◌⊎◌, inl, inr, true, false, not, List, [], ◌∷◌, length, replicate, set, get_or, refl, sym, ap, ◌∙◌, subst, arith, IsTrue, get_or-set_same, get_or-set_other}
+use Rattle.std.proofs.Common.{◌≡◌, ◌<◌, ℕ, zero, suc, ◌⊎◌, inl, inr, true, false, not, List, [], ◌∷◌, length, replicate, set, get_or, refl, sym, ap, ◌∙◌, subst, arith, IsTrue, get_or-set_same, get_or-set_other}
 use Rattle.std.proofs.lemmas.Bool.{both_ways, not_from_false, cases_lt, cases_eq}
 use Rattle.std.proofs.lemmas.List.{get_or_past, length-set, length-replicate, set_past}
 use Rattle.kk_syntax.specs.declared.positions.Ownership.{Ownership}

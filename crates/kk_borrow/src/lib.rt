@@ -29,9 +29,10 @@ use std::alloc::Global;
 
 /// The owned positions of a program: the least set that is closed under the rules of ownership. All others are lent.
 ///
-/// The time is linear in the nodes of the program, if each binder of a function has a number of its own: the bodies are
-/// read once for rules, and each step from there on takes a premise from a rule, or the rule itself. The recursion is as
-/// deep as the program.
+/// Each node is read twice at most, for rules. From there on each step takes a premise from a rule or ends the rule, so
+/// there are as many steps as premises and rules: both are linear in the nodes if each binder of a function has a number
+/// of its own. A variable in tail position is looked for among those in scope that hang on parameters. The recursion is
+/// as deep as the program.
 pub fn owned(alloc: Global, program: &Program) -> Result<Positions, NoMemory>
     ensures { IfOk result (λ positions. IsLeast (program_tree program.now) (positions_of positions)) }
 {

@@ -49,7 +49,7 @@ impl Scope {
     }
 
     /// The number of bindings, to which `leave` goes back.
-    pub fn len(&self) -> usize
+    pub fn count(&self) -> usize
         ensures { result ≡ length self.now.bindings.items }
     {
         self.bindings.len()

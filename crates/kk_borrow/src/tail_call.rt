@@ -54,7 +54,7 @@ fn read_rows(
     ensures scope { OnOk result (scope.new.bindings.items ≡ scope.old.bindings.items) }
 {
     for row in rows {
-        let outer = scope.len();
+        let outer = scope.count();
         bind(scope, &row.pattern, origins)?;
         read_tails(alloc, function, scope, &row.body, rules)?;
         scope.leave(outer);

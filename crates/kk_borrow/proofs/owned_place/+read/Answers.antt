@@ -1,4 +1,4 @@
-use Rattle.std.proofs.Common.{◌≡◌, ◌||◌, map, ap, sym, ◌∙◌}
+use Rattle.std.proofs.Common.{◌||◌, map, ap, sym, ◌∙◌}
 use Rattle.std.proofs.lemmas.Bool.{or_left}
 use Rattle.kk_syntax.specs.Trees.{expr_tree, statement_tree}
 use Rattle.kk_syntax.proofs.Blocks.{block_tree}

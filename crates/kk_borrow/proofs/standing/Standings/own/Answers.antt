@@ -1,4 +1,4 @@
-use Rattle.std.proofs.Common.{refl, set, ap}
+use Rattle.std.proofs.Common.{set, ap}
 use Rattle.kk_borrow.proofs.Rows.{owned_now, waits_none}
 use Rattle.kk_borrow.proofs.standing.Standings.own.Goals as goal
 
