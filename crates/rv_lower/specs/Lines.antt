@@ -14,6 +14,7 @@ use Rattle.rv_isa.specs.declared.asm.Action.{Action}
 use Rattle.rv_isa.specs.declared.asm.Operation.{Operation as AsmOperation}
 use Rattle.rv_isa.specs.declared.asm.Operation.TheVariants as Op
 use Rattle.rv_isa.specs.declared.asm.RegisterOperation.TheVariants as Register
+use Rattle.rv_isa.specs.declared.asm.ImmediateOperation.{ImmediateOperation}
 use Rattle.rv_isa.specs.declared.asm.ImmediateOperation.TheVariants as Immediate
 use Rattle.rv_isa.specs.declared.asm.ShiftOperation.TheVariants as Shift
 use Rattle.rv_isa.specs.declared.immediate.Immediate.{Immediate as ImmediateWord}
@@ -64,10 +65,14 @@ MakesTruth x lines =
 abbrev pub Compares : ℕ → List Line → List Line → Type 0
 Compares x first lines = (truth : List Line) × MakesTruth x truth × (lines ≡ first ++ truth)
 
+-- the same where one line more, of what `first` gave and 1, gives the 0 or 1
+abbrev pub ComparesWithOne : ImmediateOperation → ℕ → Line → List Line → Type 0
+ComparesWithOne further x first lines =
+    (one : ImmediateWord) × (one.word ≡ 1) × Compares x (first ∷ computes (Op.Immediate further one) (x ∷ []) x ∷ []) lines
+
 -- the same of the opposite comparison
 abbrev pub ComparesNot : ℕ → Line → List Line → Type 0
-ComparesNot x first lines =
-    (one : ImmediateWord) × (one.word ≡ 1) × Compares x (first ∷ computes (Op.Immediate Immediate.Xori one) (x ∷ []) x ∷ []) lines
+ComparesNot x first lines = ComparesWithOne Immediate.Xori x first lines
 
 abbrev pub registers : ℕ → ℕ → ℕ → AsmOperation → Line
 registers x a b operation = computes operation (a ∷ b ∷ []) x
@@ -80,9 +85,7 @@ BinaryLines base x Multiply a b lines = lines ≡ registers x a b (Op.Register R
 BinaryLines base x Remainder a b lines = lines ≡ registers x a b (Op.Register Register.Rem) ∷ []
 BinaryLines base x Divide a b lines =
     lines ≡ registers x a b (Op.Register Register.Div) ∷ sets 0 base ∷ registers base base b (Op.Register Register.Sltu) ∷ registers x x base (Op.Register Register.Mul) ∷ []
-BinaryLines base x Equal a b lines =
-    (one : ImmediateWord) × (one.word ≡ 1)
-    × Compares x (registers x a b (Op.Register Register.Sub) ∷ computes (Op.Immediate Immediate.Sltiu one) (x ∷ []) x ∷ []) lines
+BinaryLines base x Equal a b lines = ComparesWithOne Immediate.Sltiu x (registers x a b (Op.Register Register.Sub)) lines
 BinaryLines base x NotEqual a b lines =
     Compares x (registers x a b (Op.Register Register.Sub) ∷ sets 0 base ∷ registers x base x (Op.Register Register.Sltu) ∷ []) lines
 BinaryLines base x Less a b lines = Compares x (registers x a b (Op.Register Register.Slt) ∷ []) lines

@@ -8,7 +8,7 @@ ghost use Rattle.kk_core.specs.Codes.{operation_of};
 ghost use Rattle.rv_isa.specs.declared.asm.Operation.TheVariants.{Register};
 ghost use Rattle.rv_isa.specs.declared.asm.RegisterOperation.TheVariants.{Slt};
 ghost use Rattle.rv_isa.specs.Frames.{only_of};
-ghost use Rattle.rv_lower.specs.Lines.{choice_of, constant_word, registers, Compares, ComparesNot, BinaryLines, FormLines, PrintLines};
+ghost use Rattle.rv_lower.specs.Lines.{choice_of, constant_word, registers, Compares, ComparesWithOne, ComparesNot, BinaryLines, FormLines, PrintLines};
 ghost use Rattle.rv_lower.specs.Written.{pair_of, short_line, Wrote, WroteLines, WrotePrint, WroteOperation};
 
 use crate::line::{Reads, Short, act, binary, constant, copy, set, unary};
@@ -216,17 +216,12 @@ impl Lowering {
     fn equal(&mut self, into: u32, first: u32, second: u32) -> Result<(), NoMemory>
         ensures { OnOk result (WroteLines (BinaryLines self.old.base into Equal first second) self.old self.new) }
     {
-        let one = Immediate::new(1);
-        self.truth(
+        self.compare_with_one(
             into,
-            &[
-                binary(RegisterOperation::Sub, first, second, into),
-                unary(
-                    Operation::Immediate(ImmediateOperation::Sltiu, one),
-                    into,
-                    into,
-                ),
-            ],
+            RegisterOperation::Sub,
+            ImmediateOperation::Sltiu,
+            first,
+            second,
         )
     }
 
@@ -244,21 +239,37 @@ impl Lowering {
         )
     }
 
-    /// Whether the first is not less than the second.
-    fn opposite(&mut self, into: u32, first: u32, second: u32) -> Result<(), NoMemory>
-        ensures { OnOk result (WroteLines (ComparesNot into (registers into first second (Register Slt))) self.old self.new) }
+    /// A comparison by an operation on the values and then one on what it gave and 1.
+    fn compare_with_one(
+        &mut self,
+        into: u32,
+        operation: RegisterOperation,
+        further: ImmediateOperation,
+        first: u32,
+        second: u32,
+    ) -> Result<(), NoMemory>
+        ensures { OnOk result (WroteLines (ComparesWithOne further into (registers into first second (Register operation))) self.old self.new) }
     {
         let one = Immediate::new(1);
         self.truth(
             into,
             &[
-                binary(RegisterOperation::Slt, first, second, into),
-                unary(
-                    Operation::Immediate(ImmediateOperation::Xori, one),
-                    into,
-                    into,
-                ),
+                binary(operation, first, second, into),
+                unary(Operation::Immediate(further, one), into, into),
             ],
+        )
+    }
+
+    /// Whether the first is not less than the second.
+    fn opposite(&mut self, into: u32, first: u32, second: u32) -> Result<(), NoMemory>
+        ensures { OnOk result (WroteLines (ComparesNot into (registers into first second (Register Slt))) self.old self.new) }
+    {
+        self.compare_with_one(
+            into,
+            RegisterOperation::Slt,
+            ImmediateOperation::Xori,
+            first,
+            second,
         )
     }
 

@@ -2,6 +2,7 @@
 use Rattle.std.proofs.Common.{◌≡◌, ◌≢◌, ◌≤◌, ℕ, suc, ◌+◌, ◌*◌, List, [], ◌∷◌, length, drop, Option, Some, Bool, true, false, cond, map, refl, sym, ap, ◌∙◌, subst, arith, append-nil}
 use Rattle.kk_base.specs.Memory.{Part}
 use Rattle.kk_base.specs.Simulations.{Reaches, Simulates}
+use Rattle.kk_base.proofs.Simulations.{ended_reaches}
 use Rattle.rv_isa.specs.declared.asm.Action.{Action}
 use Rattle.rv_isa.specs.declared.asm.Action.TheVariants.{Compute, Label, Jump, Branch, Call, TailCall, Return, Routine, Hold, Unhold}
 use Rattle.rv_isa.specs.declared.placed.Operand.{Operand}
@@ -134,24 +135,6 @@ module _ {map_of : Map} {functions : List PlacedLines} {depth buffer stop : ℕ}
       comes.runs told comes.told (omega arith) (omega arith) (never, comes.stands_for 3 0 (omega arith) (omega arith))
   reaches_next most credit idle old before stuck s comes saved left never told = absurd (never 0 refl)
 
-  -- what has ended stays
-  reaches_end : (credit idle : ℕ) (how : Ending) (world : World) (progress : Progress) → Related map_of functions depth stop code parts credit idle (ended how world) progress
-      → Reaches (processor_machine rv32im) (Related map_of functions depth stop code parts) Any (suc (most_lines functions)) (0 + credit) 1 idle [] (ended how world) progress
-  reaches_end credit idle how world progress related =
-      let machine = processor_machine rv32im in
-      let stays = machine.stays progress how related.1.0 in
-      let weight = machine.weightless progress how related.1.0 in
-      record {
-        steps = 1;
-        credit_after = credit;
-        idle_after = idle;
-        paid = omega arith;
-        moves = omega arith;
-        events_are = append-nil (machine.step progress).0 ∙ ap (λ p. p.0) stays;
-        passes = λ k below. tt;
-        related = subst (Related map_of functions depth stop code parts credit idle (ended how world)) (sym (ap (λ p. p.1) stays)) related;
-      }
-
   steps_by : (credit idle : ℕ) (turn : PlacedTurn World Ending) (progress : Progress) → Related map_of functions depth stop code parts credit idle turn progress
       → Reaches (processor_machine rv32im) (Related map_of functions depth stop code parts) Any (suc (most_lines functions)) ((placed_machine (primitives map_of.constants) depth functions).weight turn + credit) 1 idle
       ((placed_machine (primitives map_of.constants) depth functions).step turn).0 ((placed_machine (primitives map_of.constants) depth functions).step turn).1 progress
@@ -160,7 +143,9 @@ module _ {map_of : Map} {functions : List PlacedLines} {depth buffer stop : ℕ}
       (drop (length (placed_told (primitives map_of.constants) (go t))) (placed_told (primitives map_of.constants) (placed_next (primitives map_of.constants) depth functions (go t)))) (placed_next (primitives map_of.constants) depth functions (go t)) p) (sym progress_is)
       (reaches_next (placed_weight (primitives map_of.constants) (go t)) credit idle (lines_left t.frames) (go t) (placed_next (primitives map_of.constants) depth functions (go t)) s
       (follows t.frames t.registers t.shared s running (never 1)) saved left (λ n. never (suc n)) (sym running.trace))
-  steps_by credit idle (ended how world) progress related = reaches_end credit idle how world progress related
+  steps_by credit idle (ended how world) progress related =
+      ended_reaches (placed_machine (primitives map_of.constants) depth functions) (processor_machine rv32im) (Related map_of functions depth stop code parts) Any (suc (most_lines functions)) credit idle (ended how world) progress how
+      (omega arith) related refl related.1.0 tt
   steps_by credit idle stuck progress related = absurd related.1
 
   ends_alike : (credit idle : ℕ) (turn : PlacedTurn World Ending) (progress : Progress) → Related map_of functions depth stop code parts credit idle turn progress → OfProcessor.ended progress.ending ≡ end_of turn

@@ -191,6 +191,16 @@ fn run(machine: &mut Machine, steps: u64, input: &mut Tape, out: &mut Paper) -> 
     Some(machine.run(steps, input, out))
 }
 
+/// A run of up to 100 steps, with no input, and with devices that do not fail.
+fn run_alone(alloc: Global, machine: &mut Machine) -> Option<Halt> {
+    run(
+        machine,
+        100,
+        &mut Tape::new(b"", 0),
+        &mut Paper::new(alloc, 0),
+    )
+}
+
 #[test]
 fn budgets(rt: HostRuntime) -> Result<(), Fail> {
     let cases = [
@@ -354,13 +364,7 @@ fn lone_texts(rt: HostRuntime) -> Result<(), Fail> {
     ];
     for (flags, words, expected, executed) in cases {
         let mut machine = loaded(rt.alloc(), &[text(flags, words)])?;
-        let halt = run(
-            &mut machine,
-            100,
-            &mut Tape::new(b"", 0),
-            &mut Paper::new(rt.alloc(), 0),
-        );
-        assert_eq!(rt; halt, Some(expected));
+        assert_eq!(rt; run_alone(rt.alloc(), &mut machine), Some(expected));
         assert_eq!(rt; machine.executed(), executed);
     }
     Ok(())
@@ -393,13 +397,7 @@ fn parts_with_gaps(rt: HostRuntime) -> Result<(), Fail> {
             part(0x1_1000, &[42], 4),
         ];
         let mut machine = loaded(rt.alloc(), &segments)?;
-        let halt = run(
-            &mut machine,
-            100,
-            &mut Tape::new(b"", 0),
-            &mut Paper::new(rt.alloc(), 0),
-        );
-        assert_eq!(rt; halt, Some(expected));
+        assert_eq!(rt; run_alone(rt.alloc(), &mut machine), Some(expected));
     }
     Ok(())
 }
@@ -516,12 +514,7 @@ fn free_cells(rt: HostRuntime) -> Result<(), Fail> {
     ];
     for (words, cells, expected) in cases {
         let mut machine = machine(rt.alloc(), 5, words, 8)?;
-        let _halt = run(
-            &mut machine,
-            100,
-            &mut Tape::new(b"", 0),
-            &mut Paper::new(rt.alloc(), 0),
-        );
+        let _halt = run_alone(rt.alloc(), &mut machine);
         assert_eq!(rt; machine.free_cells(cells), expected);
     }
     Ok(())
