@@ -1,5 +1,5 @@
 -- A pair of nodes, found and made one type.
-use Rattle.std.proofs.Common.{◌≡◌, ◌<◌, ℕ, List, [], ◌∷◌, ◌++◌, length, get_or, zero, suc, min, max, Bool, true, false, Result, Ok, Err, IfOk, MatchBool, inl, inr, refl, sym, ◌∙◌, ap, subst, arith}
+use Rattle.std.proofs.Common.{◌⊎◌, ◌≡◌, ◌<◌, ℕ, List, [], ◌∷◌, ◌++◌, length, get_or, zero, suc, min, max, Bool, true, false, Result, Ok, Err, IfOk, MatchBool, inl, inr, refl, sym, ◌∙◌, ap, subst, arith}
 use Rattle.std.proofs.lemmas.Bool.{cases_lt}
 use Rattle.std.proofs.lemmas.List.{length_push, get_or_append_left, get_or_push}
 use Rattle.std.proofs.lemmas.List.Elements.{All-append, All-nil}
@@ -8,32 +8,16 @@ use Rattle.kk_unify.specs.Graphs.{NodeTree, Assignment, Obeys, Joins, Clashes}
 use Rattle.kk_unify.specs.Joining.{Pair, PairsHold, AreWithin, Finds, Steps}
 use Rattle.kk_unify.proofs.Joining.{after_append, before_append}
 
--- the smaller and the greater of two nodes are of one type exactly if the nodes are
+-- of two numbers one is the smaller and the other the greater
+sides : (a b : ℕ) → ((min a b ≡ a) × (max a b ≡ b)) ⊎ ((min a b ≡ b) × (max a b ≡ a))
+sides a b = elim (cases_lt a b) [ inl lt ↦ inl (omega (arith, lt), omega (arith, lt)) | inr le ↦ inr (omega (arith, le), omega (arith, le)) ]
+
+-- they are of one type exactly if the nodes are
 ordered : (r : Assignment) (a b : ℕ) → r a ≡ r b → r (min a b) ≡ r (max a b)
-ordered r a b same =
-    elim (cases_lt a b) [
-      | inl lt ↦
-          let low : min a b ≡ a = omega arith in
-          let high : max a b ≡ b = omega arith in
-          cc
-      | inr le ↦
-          let low : min a b ≡ b = omega arith in
-          let high : max a b ≡ a = omega arith in
-          cc
-    ]
+ordered r a b same = elim (sides a b) [ inl is ↦ ap r is.0 ∙ same ∙ sym (ap r is.1) | inr is ↦ ap r is.0 ∙ sym same ∙ sym (ap r is.1) ]
 
 unordered : (r : Assignment) (a b : ℕ) → r (min a b) ≡ r (max a b) → r a ≡ r b
-unordered r a b same =
-    elim (cases_lt a b) [
-      | inl lt ↦
-          let low : min a b ≡ a = omega arith in
-          let high : max a b ≡ b = omega arith in
-          cc
-      | inr le ↦
-          let low : min a b ≡ b = omega arith in
-          let high : max a b ≡ a = omega arith in
-          cc
-    ]
+unordered r a b same = elim (sides a b) [ inl is ↦ sym (ap r is.0) ∙ same ∙ ap r is.1 | inr is ↦ sym (ap r is.1) ∙ sym same ∙ ap r is.0 ]
 
 module _ (old between now : List NodeTree) (first second a b : ℕ) (one : Finds old between first a) (other : Finds between now second b) where
   obeys_now : (r : Assignment) → Obeys old r → Obeys now r
