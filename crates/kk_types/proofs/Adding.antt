@@ -1,9 +1,7 @@
 -- New nodes.
-use Rattle.std.proofs.Common.{◌≡◌, ◌<◌, ◌≤◌, ◌+◌, ℕ, zero, suc, Bool, true, false, cond, ◌==◌, eqb, List, [], ◌∷◌, ◌++◌, length, map, refl, ap, sym, ◌∙◌, subst, arith}
-use Rattle.std.specs.Prelude.{vec_len}
-use Rattle.std.proofs.lemmas.List.{map-append, append-nil, length-append, length-map}
+use Rattle.std.proofs.Common.{◌≡◌, ◌<◌, ◌+◌, ℕ, zero, suc, cond, ◌==◌, List, [], ◌∷◌, ◌++◌, length, map, refl, ap, sym, ◌∙◌, subst, arith}
+use Rattle.std.proofs.lemmas.List.{map-append, length-append}
 use Rattle.std.proofs.lemmas.List.Elements.{All-append, All-nil, All-cons}
-use Rattle.std.proofs.lemmas.Bool.{cases_eq}
 use Rattle.std.proofs.lemmas.Bool.Decides.{nat_tests}
 use Rattle.kk_syntax.specs.declared.typed.TypeNode.{TypeNode}
 use Rattle.kk_syntax.specs.declared.typed.TypeNode.TheVariants.{Int32, Unit as Nothing, Variable, Named}
@@ -11,7 +9,7 @@ use Rattle.kk_syntax.specs.Types.{TypeTree, named, types_of}
 use Rattle.kk_unify.specs.Graphs.{NodeTree, Assignment, Obeys, Adds, IsFormed}
 use Rattle.kk_unify.specs.GraphOf.{type_by, IsAddable}
 use Rattle.kk_unify.proofs.Obeying.{obeying_is_local}
-use Rattle.kk_types.specs.Walks.{AreBelow, Agree, Builds, BuildsEach, Opens}
+use Rattle.kk_types.specs.Walks.{Agree, Builds, BuildsEach, Opens}
 use Rattle.kk_types.proofs.Refining.{agree_on, types_agree, below_more}
 
 -- an assignment with another type for one node

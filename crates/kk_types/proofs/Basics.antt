@@ -1,5 +1,5 @@
 -- The shortest walks: of one node, and of a variable.
-use Rattle.std.proofs.Common.{◌≡◌, ◌<◌, ◌≤◌, ℕ, Bool, true, false, List, [], ◌∷◌, ◌++◌, length, map, Option, Some, None, option_map, refl, ap, sym, ◌∙◌, subst, arith}
+use Rattle.std.proofs.Common.{◌≡◌, ◌<◌, ℕ, Bool, List, [], ◌∷◌, ◌++◌, map, Some, None, refl, ap, sym, ◌∙◌, subst}
 use Rattle.std.specs.Prelude.{Result, Ok, Err, IfOk, MatchBool, ◌==◌, reverse}
 use Rattle.std.specs.List.{find}
 use Rattle.std.proofs.Common.{Vec, Global}
@@ -9,20 +9,20 @@ use Rattle.kk_syntax.specs.declared.typed.Taken.{Taken}
 use Rattle.kk_syntax.specs.declared.typed.Taken.TheVariants.{Value}
 use Rattle.kk_syntax.specs.declared.typed.TypeNode.{TypeNode}
 use Rattle.kk_syntax.specs.Types.{TypeTree, named, types_of}
-use Rattle.kk_syntax.specs.Typing.{Choice, bool}
+use Rattle.kk_syntax.specs.Typing.{bool}
 use Rattle.kk_unify.specs.declared.graph.Graph.{Graph}
-use Rattle.kk_unify.specs.Graphs.{NodeTree, Assignment, Obeys, Adds, Joins, Clashes}
+use Rattle.kk_unify.specs.Graphs.{NodeTree, Assignment, Adds, Joins, Clashes}
 use Rattle.kk_unify.specs.GraphOf.{graph_of, variables_of, type_by, IsAddable}
 use Rattle.kk_types.specs.declared.scope.Bound.{Bound}
 use Rattle.kk_types.specs.declared.walk.Walk.{Walk}
 use Rattle.kk_types.specs.Claims.{typed_as, bound_as}
-use Rattle.kk_types.specs.Steps.{nodes_of, size_of, Goes, Walked, Made, Opened}
-use Rattle.kk_types.specs.Walks.{taking_of, takings_of, Agree, AreBoundBelow, Claim, Done, Refused, IsOf, Builds}
+use Rattle.kk_types.specs.Steps.{nodes_of, size_of, Walked, Made, Opened}
+use Rattle.kk_types.specs.Walks.{taking_of, takings_of, Agree, Refused, IsOf}
 use Rattle.kk_types.proofs.Adding.{adds_builds, adds_opens, type_by_agrees}
 use Rattle.kk_types.proofs.Going.{goes_made, goes_reworded, joined_walked, walked_behind}
-use Rattle.kk_types.proofs.Scopes.{newest_is, newest_inside}
+use Rattle.kk_types.proofs.Scopes.{newest_is}
 
-typed_as_of : (size node : ℕ) (type : Assignment → TypeTree) → node < size → ((r q : Assignment) → Agree size r q → type r ≡ type q) → IsOf size (typed_as node type)
+pub typed_as_of : (size node : ℕ) (type : Assignment → TypeTree) → node < size → ((r q : Assignment) → Agree size r q → type r ≡ type q) → IsOf size (typed_as node type)
 typed_as_of size node type lt follows = record {
   follows = λ r q choices agree whole. (sym (agree node lt) ∙ (whole.0 ∙ follows r q agree), whole.1);
 }

@@ -6,11 +6,11 @@ use Rattle.kk_base.specs.declared.error.NoMemory.{NoMemory}
 use Rattle.kk_syntax.specs.declared.program.Ty.{Ty}
 use Rattle.kk_syntax.specs.declared.program.Ty.TheVariants.{Int32, Unit as Nothing, Variable, Named, rolls-Int32, rolls-Unit, rolls-Variable, rolls-Named}
 use Rattle.kk_syntax.specs.declared.program.Ty.TheFolds.{fold-roll-Ty}
-use Rattle.kk_syntax.specs.Types.{TypeTree, TypeTrees, int32, unit_type, type_variable, named, types_of, put, put_each, type_at, type_step, type_tree}
-use Rattle.kk_unify.specs.Graphs.{NodeTree, Assignment, Obeys, Adds, IsFormed}
+use Rattle.kk_syntax.specs.Types.{TypeTree, int32, unit_type, type_variable, named, types_of, put, put_each, type_at, type_step, type_tree}
+use Rattle.kk_unify.specs.Graphs.{NodeTree, Assignment, Adds, IsFormed}
 use Rattle.kk_types.specs.Walks.{AreBelow, Agree, Builds, BuildsEach}
 use Rattle.kk_types.proofs.Adding.{adds_builds, builds_more, stays}
-use Rattle.kk_types.proofs.Refining.{agree_on, agree_along, types_agree}
+use Rattle.kk_types.proofs.Refining.{agree_on, types_agree}
 
 -- a type of the program, by its form
 int32_tree : type_tree Int32 ≡ int32
@@ -67,23 +67,25 @@ variable_built a at ty x node inside is lt here =
     stays a node (λ r. put (at_nodes at r) (type_tree ty)) (subst (λ n. n < length a) (sym here) (inside x node lt))
     (λ r. ap r here ∙ (sym (get_or-map r at x node unit_type lt) ∙ sym (ap (put (at_nodes at r)) (ap type_tree is ∙ variable_tree x))))
 
-module _ (variables : ℕ) (a b c : List NodeTree) (formed : IsFormed variables b) (numbers : List ℕ) (types : Assignment → List TypeTree) (number by : ℕ) where
+module _ (a b c : List NodeTree) (numbers : List ℕ) (types : Assignment → List TypeTree) (number by : ℕ) where
   -- a declared type at nodes
-  named_builds : ((r q : Assignment) → Agree (length a) r q → types r ≡ types q) → BuildsEach a b numbers types → Adds b c number (λ r. r number ≡ named by (types_of (map r numbers))) → Builds a c number (λ r. named by (types_of (types r)))
-  named_builds follows parts adds =
-      let whole = adds_builds variables b c formed number (λ r. named by (types_of (map r numbers))) (λ r q agree. ap (λ ts. named by (types_of ts)) (types_agree (length b) r q agree numbers parts.inside)) adds in
-      record {
-        longer = omega (arith, parts.longer, whole.longer);
-        inside = whole.inside;
-        sound = λ r obeys.
-            let one = whole.sound r obeys in
-            let two = parts.sound r one.0 in
-            (two.0, one.1 ∙ ap (λ ts. named by (types_of ts)) two.1);
-        complete = λ r obeys.
-            let one = parts.complete r obeys in
-            let two = whole.complete one.0 one.1 in
-            (two.0, two.1, agree_on (length a) (length b) r one.0 two.0 parts.longer one.2 two.2);
-      }
+  pub named_over : BuildsEach a b numbers types → Builds b c number (λ r. named by (types_of (map r numbers))) → Builds a c number (λ r. named by (types_of (types r)))
+  named_over parts whole = record {
+    longer = omega (arith, parts.longer, whole.longer);
+    inside = whole.inside;
+    sound = λ r obeys.
+        let one = whole.sound r obeys in
+        let two = parts.sound r one.0 in
+        (two.0, one.1 ∙ ap (λ ts. named by (types_of ts)) two.1);
+    complete = λ r obeys.
+        let one = parts.complete r obeys in
+        let two = whole.complete one.0 one.1 in
+        (two.0, two.1, agree_on (length a) (length b) r one.0 two.0 parts.longer one.2 two.2);
+  }
+
+  named_builds : (variables : ℕ) → IsFormed variables b → BuildsEach a b numbers types → Adds b c number (λ r. r number ≡ named by (types_of (map r numbers))) → Builds a c number (λ r. named by (types_of (types r)))
+  named_builds variables formed parts adds =
+      named_over parts (adds_builds variables b c formed number (λ r. named by (types_of (map r numbers))) (λ r q agree. ap (λ ts. named by (types_of ts)) (types_agree (length b) r q agree numbers parts.inside)) adds)
 
 -- types in the program at the types of nodes below
 abbrev pub types_put : List ℕ → List Ty → Assignment → List TypeTree
@@ -96,7 +98,7 @@ pub named_built : (variables : ℕ) (a b c : List NodeTree) (formed : IsFormed v
 named_built variables a b c formed (Ok number) at numbers ty by arguments is inside parts adds =
     builds_same a c number (λ r. named by (types_of (types_put at arguments.items r))) (λ r. put (at_nodes at r) (type_tree ty))
     (λ r. ap (named by) (sym (put_each_of (at_nodes at r) (map type_tree arguments.items))) ∙ sym (ap (put (at_nodes at r)) (ap type_tree is ∙ named_tree by arguments)))
-    (named_builds variables a b c formed numbers (types_put at arguments.items) number by (types_put_agree (length a) at arguments.items inside) parts adds)
+    (named_builds a b c numbers (types_put at arguments.items) number by variables formed parts adds)
 named_built variables a b c formed (Err error) at numbers ty by arguments is inside parts adds = tt
 
 -- one type more

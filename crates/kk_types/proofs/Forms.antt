@@ -1,23 +1,23 @@
 -- A walk over an expression, form by form.
-use Rattle.std.proofs.Common.{◌≡◌, ◌<◌, ◌≤◌, ◌+◌, ℕ, Bool, true, false, Option, Some, None, List, [], ◌∷◌, ◌++◌, length, map, get_or, drop, refl, ap, sym, ◌∙◌, subst, arith}
-use Rattle.std.specs.Prelude.{Result, Ok, Err}
+use Rattle.std.proofs.Common.{◌≡◌, ◌<◌, ℕ, Bool, true, false, None, List, [], ◌∷◌, subst, arith}
+use Rattle.std.specs.Prelude.{Result, Ok}
 use Rattle.kk_base.specs.declared.error.NoMemory.{NoMemory}
 use Rattle.kk_syntax.specs.declared.program.Form.{Form}
 use Rattle.kk_syntax.specs.Programs.{ProgramTree}
-use Rattle.kk_syntax.specs.Trees.{Tree, apply, branch, match, sequence, Trees, Rows}
+use Rattle.kk_syntax.specs.Trees.{Tree, apply, branch, match, Trees, Rows}
 use Rattle.kk_syntax.specs.Types.{TypeTree}
 use Rattle.kk_syntax.specs.Typing.{Choice, bool, form_scheme, chosen_at, InTurn, Holds, IsTypedBy, AreTypedBy, AreRowsTypedBy}
-use Rattle.kk_unify.specs.Graphs.{NodeTree, Assignment}
+use Rattle.kk_unify.specs.Graphs.{Assignment}
 use Rattle.kk_types.specs.declared.instance.Instance.{Instance}
 use Rattle.kk_types.specs.declared.scope.Bound.{Bound}
 use Rattle.kk_types.specs.declared.walk.Walk.{Walk}
 use Rattle.kk_types.specs.Claims.{typed_as, both, expression_at, expressions_at, rows_at}
 use Rattle.kk_types.specs.Steps.{nodes_of, size_of, Goes, Walked, Made, Opened, Instantiates}
-use Rattle.kk_types.specs.Walks.{holding_at, takings_of, AreBelow, AreBoundBelow, scope_at, Claim, Leads, Done, Refused, IsOf}
+use Rattle.kk_types.specs.Walks.{holding_at, AreBoundBelow, scope_at, Claim, Refused, IsOf}
 use Rattle.kk_types.proofs.Going.{still_inside, still_bound, refused_after, goes_on, goes_first, goes_made, walked_behind}
 use Rattle.kk_types.proofs.Locals.{scoped_of, node_of, both_of, expression_of, expressions_of, rows_of_claim}
 use Rattle.kk_types.proofs.Refining.{bound_more, first_refused, holds_leads}
-use Rattle.kk_types.proofs.Using.{used, giving, taking_arguments, unused, was_given, not_given}
+use Rattle.kk_types.proofs.Using.{unused, was_given, not_given}
 
 -- a node is taken for a type that is chosen
 pub goes_opened : (a b : Walk) (node : ℕ) (V : Assignment → TypeTree → List Choice → Type 0) → Opened a b node → ((t : TypeTree) → IsOf (size_of a) (λ r. V r t)) → Goes a b (λ r. Holds (V r)) (λ r. V r (r node))
@@ -51,8 +51,8 @@ module _ (program : ProgramTree) (a : Walk) (want : ℕ) (bound : AreBoundBelow 
 
       pub form_walked : (c d : Walk) (result : Result Bool NoMemory) → Walked b c (typed_as want (λ r. r instance.result)) (Ok true) → Walked c d (expressions_at program c.scope.items es instance.parameters.items) result → Walked a d (expression_at program a.scope.items (apply form es) want) result
       form_walked c d result given walked =
-          let inside : AreBoundBelow (size_of b) a.scope.items = bound_more (size_of a) (size_of b) a.scope.items made.opens.longer bound in
-          let first = was_given (form_scheme program form) (chosen_at form) want arguments_typed a b instance made lt arguments_of c (expressions_of (size_of b) program a.scope.items inside es instance.parameters.items made.parameters_inside) given in
+          let inside : AreBoundBelow (size_of b) a.scope.items = bound_more (size_of a) (size_of b) a.scope.items made.nodes.opens.longer bound in
+          let first = was_given (form_scheme program form) (chosen_at form) want arguments_typed a b instance made lt arguments_of c (expressions_of (size_of b) program a.scope.items inside es instance.parameters.items made.nodes.takes_inside) given in
           walked_behind a c d (expression_at program a.scope.items (apply form es) want) (expressions_at program a.scope.items es instance.parameters.items) result first
           (subst (λ bs. Walked c d (expressions_at program bs es instance.parameters.items) result) (first.same_scope) walked)
 
@@ -101,8 +101,8 @@ module _ (program : ProgramTree) (a : Walk) (want : ℕ) (bound : AreBoundBelow 
           let after = in_scope program c d a.scope.items positive want (Ok true) conditioned.same_scope second in
           let inside = subst (AreBoundBelow (size_of c)) conditioned.same_scope (still_bound a c whole branches conditioned bound) in
           let two =
-              goes_on a c d whole branches (expression_at program a.scope.items negative want) conditioned
-              (goes_first c d (expression_at program a.scope.items positive want) (expression_at program a.scope.items negative want) (expression_of (size_of c) program a.scope.items inside negative want (still_inside a c whole branches conditioned want lt)) after) in
+          goes_on a c d whole branches (expression_at program a.scope.items negative want) conditioned
+          (goes_first c d (expression_at program a.scope.items positive want) (expression_at program a.scope.items negative want) (expression_of (size_of c) program a.scope.items inside negative want (still_inside a c whole branches conditioned want lt)) after) in
           walked_behind a d e whole (expression_at program a.scope.items negative want) result two (in_scope program d e a.scope.items negative want result two.same_scope third)
 
   -- a match
@@ -130,7 +130,7 @@ module _ (program : ProgramTree) (a : Walk) (want : ℕ) (bound : AreBoundBelow 
         let whole = both (expression_at program a.scope.items scrutinee node) cases in
         let inside = subst (AreBoundBelow (size_of b)) opened.same_scope (still_bound a b matched whole scrutinized bound) in
         let one =
-            goes_on a b c matched whole cases scrutinized
-            (goes_first b c (expression_at program a.scope.items scrutinee node) cases (rows_of_claim (size_of b) program a.scope.items inside rows node want (opened.opens.inside 0 node (omega arith)) (still_inside a b matched whole scrutinized want lt))
-            (in_scope program b c a.scope.items scrutinee node (Ok true) opened.same_scope first)) in
+        goes_on a b c matched whole cases scrutinized
+        (goes_first b c (expression_at program a.scope.items scrutinee node) cases (rows_of_claim (size_of b) program a.scope.items inside rows node want (opened.opens.inside 0 node (omega arith)) (still_inside a b matched whole scrutinized want lt))
+        (in_scope program b c a.scope.items scrutinee node (Ok true) opened.same_scope first)) in
         walked_behind a c d matched cases result one (subst (λ bs. Walked c d (rows_at program bs rows node want) result) one.same_scope second)

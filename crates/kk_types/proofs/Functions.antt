@@ -1,11 +1,10 @@
 -- A function: what its body's walk and the types of its graph say of it.
-use Rattle.std.proofs.Common.{◌≡◌, ◌<◌, ◌≤◌, ◌-◌, ◌+◌, ℕ, suc, zero-add, add-zero, Bool, true, false, cond, nat_lt, List, [], ◌∷◌, ◌++◌, length, map, get_or, take, refl, ap, sym, ◌∙◌, subst, arith}
+use Rattle.std.proofs.Common.{◌≡◌, ◌<◌, ◌-◌, ◌+◌, ℕ, suc, zero-add, add-zero, cond, List, [], ◌∷◌, ◌++◌, length, map, get_or, take, refl, ap, sym, ◌∙◌, subst, arith}
 use Rattle.std.proofs.lemmas.List.{append-nil, length-map, length-take-le, map-append, take_more}
 use Rattle.std.proofs.lemmas.Bool.{lt-ltb}
 use Rattle.kk_syntax.specs.Programs.{ProgramTree, FunctionTree}
-use Rattle.kk_syntax.specs.Trees.{Tree}
 use Rattle.kk_syntax.specs.Types.{TypeTree, unit_type, type_variable, put, type_at, variables_below}
-use Rattle.kk_syntax.specs.Typing.{Scope, Choice, constructing, calling, holding, put_choice, with_parameters, IsTypedBy, IsTyping, IsTypable, IsPrincipal, Fixes}
+use Rattle.kk_syntax.specs.Typing.{Scope, constructing, calling, holding, put_choice, with_parameters, IsTypedBy, IsTyping, IsTypable, IsPrincipal, Fixes}
 use Rattle.kk_unify.specs.Graphs.{NodeTree, Assignment, Obeys, IsPrincipalOf, NoneObeys, filled}
 use Rattle.kk_types.specs.declared.scope.Bound.{Bound}
 use Rattle.kk_types.specs.Claims.{expression_at}

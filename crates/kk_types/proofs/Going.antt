@@ -1,18 +1,18 @@
 -- How the parts of a walk over a body are put together.
-use Rattle.std.proofs.Common.{◌≡◌, ◌<◌, ◌≤◌, ℕ, Bool, true, false, List, [], ◌∷◌, ◌++◌, length, refl, ap, sym, ◌∙◌, subst, append_assoc, arith}
+use Rattle.std.proofs.Common.{◌≡◌, ◌<◌, ℕ, Bool, true, false, List, [], ◌++◌, refl, ap, sym, ◌∙◌, subst, append_assoc, arith}
 use Rattle.std.specs.Prelude.{Result, Ok, Err, IfOk, MatchBool}
 use Rattle.std.proofs.lemmas.List.{append-nil}
 use Rattle.kk_base.specs.declared.error.NoMemory.{NoMemory}
 use Rattle.kk_syntax.specs.Types.{TypeTree}
 use Rattle.kk_syntax.specs.Typing.{Choice}
 use Rattle.kk_unify.specs.declared.graph.Graph.{Graph}
-use Rattle.kk_unify.specs.Graphs.{NodeTree, Assignment, Obeys, Joins, Clashes}
+use Rattle.kk_unify.specs.Graphs.{Assignment, Obeys, Joins, Clashes}
 use Rattle.kk_unify.specs.GraphOf.{graph_of, variables_of}
 use Rattle.kk_types.specs.declared.walk.Walk.{Walk}
 use Rattle.kk_types.specs.Claims.{typed_as, both}
 use Rattle.kk_types.specs.Steps.{nodes_of, size_of, Takes, Goes, Walked, Made}
-use Rattle.kk_types.specs.Walks.{Taking, takings_of, AreBoundBelow, Claim, Leads, Done, Refused, IsOf, Builds}
-use Rattle.kk_types.proofs.Refining.{bound_more, then_leads, refused_behind, reworded, first_leads, first_refused, joins_refines, clash_refused, builds_leads}
+use Rattle.kk_types.specs.Walks.{Taking, takings_of, AreBoundBelow, Claim, Done, Refused, IsOf}
+use Rattle.kk_types.proofs.Refining.{bound_more, then_leads, refused_behind, reworded, first_leads, joins_refines, clash_refused, builds_leads}
 
 module _ (a b : Walk) (Whole Left : Claim) (goes : Goes a b Whole Left) where
   -- what was there is there behind

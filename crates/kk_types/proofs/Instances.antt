@@ -1,21 +1,19 @@
 -- Schemes at nodes for their variables.
-use Rattle.std.proofs.Common.{◌≡◌, ◌<◌, ◌≤◌, ◌+◌, ℕ, zero, suc, add-one, Option, Some, None, option_map, List, [], ◌∷◌, ◌++◌, length, map, get_or, take, refl, ap, sym, ◌∙◌, subst, arith}
+use Rattle.std.proofs.Common.{◌≡◌, ◌≤◌, ℕ, zero, suc, add-one, Option, Some, List, [], ◌∷◌, ◌++◌, length, map, take, refl, ap, sym, ◌∙◌, arith}
 use Rattle.std.proofs.Common.{Vec, Global}
-use Rattle.std.specs.Prelude.{slice_get}
-use Rattle.std.proofs.lemmas.List.{map-append, append-nil, length-map, take_more, take_all}
+use Rattle.std.proofs.lemmas.List.{map-append, length-map, take_more, take_all}
 use Rattle.std.proofs.lemmas.List.Elements.{All-nil, All-cons}
-use Rattle.std.proofs.lemmas.Option.{slice_get-map}
 use Rattle.kk_syntax.specs.declared.typed.Taken.{Taken}
 use Rattle.kk_syntax.specs.declared.program.Ty.{Ty}
 use Rattle.kk_syntax.specs.Types.{TypeTree, unit_type, named, types_of, put, type_at, type_variable, type_tree, variables_below}
 use Rattle.kk_syntax.specs.Typing.{Choice, Scheme}
 use Rattle.kk_unify.specs.declared.graph.Graph.{Graph}
-use Rattle.kk_unify.specs.Graphs.{NodeTree, Assignment, Obeys, Adds, IsFormed}
+use Rattle.kk_unify.specs.Graphs.{NodeTree, Assignment, Adds, IsFormed}
 use Rattle.kk_unify.specs.GraphOf.{graph_of, variables_of}
 use Rattle.kk_types.specs.declared.instance.Instance.{Instance}
 use Rattle.kk_types.specs.declared.walk.Walk.{Walk}
-use Rattle.kk_types.specs.Steps.{nodes_of, size_of, Instantiates}
-use Rattle.kk_types.specs.Walks.{Taking, taking_of, takings_of, choices_at, AreBelow, IsTakenBelow, AreTakenBelow, Agree, Builds, BuildsEach, Opens}
+use Rattle.kk_types.specs.Steps.{nodes_of, Instantiates}
+use Rattle.kk_types.specs.Walks.{Taking, taking_of, takings_of, choices_at, AreBelow, IsTakenBelow, AreTakenBelow, Builds, BuildsEach, Opens}
 use Rattle.kk_types.proofs.Adding.{adds_builds}
 use Rattle.kk_types.proofs.Building.{at_nodes, types_put, put_each_of, builds_same}
 use Rattle.kk_types.proofs.Refining.{agree_on, types_agree, below_more}
@@ -27,7 +25,7 @@ variables_put (suc n) ts le =
     let before = variables_put n ts (omega arith) in
     map-append (put (type_at ts)) (variables_below n) (type_variable n ∷ []) ∙ (ap (λ l. l ++ (type_at ts n ∷ [])) before ∙ (sym (take_more ts n unit_type (omega arith)) ∙ ap (λ k. take k ts) (add-one n)))
 
-module _ (a b c d : List NodeTree) (at : List ℕ) (count : ℕ) (numbers : List ℕ) (types : List Ty) (number : ℕ) (type : TypeTree) (opens : Opens a b at count) (parts : BuildsEach b c numbers (types_put at types)) (whole : Builds c d number (λ r. put (at_nodes at r) type)) where
+module _ (a b c d : List NodeTree) (at : List ℕ) (count : ℕ) (numbers : List ℕ) (types : Assignment → List TypeTree) (number : ℕ) (type : Assignment → TypeTree) (opens : Opens a b at count) (parts : BuildsEach b c numbers types) (whole : Builds c d number type) where
   -- the nodes of a scheme's variables, behind the types over them
   pub opens_still : Opens a d at count
   opens_still = record {
@@ -47,20 +45,22 @@ module _ (old : Walk) (g h k : Graph) (taken : Vec Taken Global) (at : List ℕ)
   -- a scheme is instantiated
   pub instantiated : (scheme : Option Scheme) (chosen : List TypeTree → List Choice) (more : List Taking) → scheme ≡ Some (record { variables = count; parameters = map type_tree types; result = type }) → takings_of taken.items ≡ takings_of old.taken.items ++ more → ((size : ℕ) → AreBelow size at → AreTakenBelow size more) → ((r : Assignment) → choices_at r more ≡ chosen (map r at)) → Instantiates scheme chosen old (record old { graph = k; taken = taken }) instance
   instantiated scheme chosen more is grown below chosen_are =
-      let still = opens_still (nodes_of old) (graph_of g) (graph_of h) (graph_of k) at count instance.parameters.items types instance.result type opens parts whole in
+      let still = opens_still (nodes_of old) (graph_of g) (graph_of h) (graph_of k) at count instance.parameters.items (types_put at types) instance.result (λ r. put (at_nodes at r) type) opens parts whole in
       record {
-        of = record { variables = count; parameters = map type_tree types; result = type };
-        is = is;
-        at = at;
-        opens = still;
-        parameters_inside = below_more (length (graph_of h)) (length (graph_of k)) instance.parameters.items whole.longer parts.inside;
-        result_inside = whole.inside;
-        parameters = λ r obeys. (parts.sound r (whole.sound r obeys).0).1;
-        result = λ r obeys. (whole.sound r obeys).1;
         taken = more;
         takes = grown;
-        taken_inside = below (length (graph_of k)) still.inside;
-        taken_are = chosen_are;
+        nodes = record {
+          of = record { variables = count; parameters = map type_tree types; result = type };
+          is = is;
+          at = at;
+          opens = still;
+          takes_inside = below_more (length (graph_of h)) (length (graph_of k)) instance.parameters.items whole.longer parts.inside;
+          gives_inside = whole.inside;
+          parameters = λ r obeys. (parts.sound r (whole.sound r obeys).0).1;
+          result = λ r obeys. (whole.sound r obeys).1;
+          taken_inside = below (length (graph_of k)) still.inside;
+          taken_are = chosen_are;
+        };
         same_scope = refl;
         same_variables = same;
       }

@@ -16,3 +16,7 @@ pub mod Parts
 pub mod Functions
 pub mod Numbering
 pub mod RowsOf
+pub mod Checking
+pub mod Existing
+pub mod Deciding
+pub mod DecidedFunctions

@@ -1,24 +1,22 @@
 -- A walk over arguments.
-use Rattle.std.proofs.Common.{◌≡◌, ◌<◌, ◌≤◌, ◌+◌, ℕ, Bool, true, false, List, [], ◌∷◌, ◌++◌, length, map, get_or, drop, refl, ap, sym, ◌∙◌, subst, arith}
-use Rattle.std.specs.Prelude.{Result, Ok, Err}
-use Rattle.std.proofs.lemmas.List.{append-nil, drop_more, length-map}
+use Rattle.std.proofs.Common.{◌≡◌, ◌<◌, ◌+◌, ℕ, true, false, List, [], ◌∷◌, length, map, get_or, drop, refl, ap, sym, ◌∙◌, subst, arith}
+use Rattle.std.specs.Prelude.{Ok}
+use Rattle.std.proofs.lemmas.List.{drop_more, length-map}
 use Rattle.std.proofs.lemmas.List.Elements.{All-drop}
-use Rattle.kk_base.specs.declared.error.NoMemory.{NoMemory}
 use Rattle.kk_syntax.specs.declared.program.Expr.{Expr}
 use Rattle.kk_syntax.specs.Programs.{ProgramTree}
-use Rattle.kk_syntax.specs.Trees.{Tree, Trees, trees_of, expr_tree}
+use Rattle.kk_syntax.specs.Trees.{Tree, trees_of, expr_tree}
 use Rattle.kk_syntax.specs.Types.{TypeTree}
 use Rattle.kk_syntax.specs.Typing.{Choice, Scope, AreTypedBy}
-use Rattle.kk_unify.specs.Graphs.{NodeTree, Assignment, Obeys}
+use Rattle.kk_unify.specs.Graphs.{NodeTree}
 use Rattle.kk_types.specs.declared.scope.Bound.{Bound}
 use Rattle.kk_types.specs.declared.walk.Walk.{Walk}
 use Rattle.kk_types.specs.Claims.{both, expression_at, expressions_at}
 use Rattle.kk_types.specs.Steps.{nodes_of, size_of, Goes, Walked}
-use Rattle.kk_types.specs.Walks.{takings_of, AreBelow, AreBoundBelow, scope_at, Claim, Done, Refused, IsOf}
-use Rattle.kk_types.proofs.Going.{still_bound, refused_after, goes_on, goes_first, goes_reworded}
+use Rattle.kk_types.specs.Walks.{AreBelow, AreBoundBelow, scope_at, Claim, Refused}
+use Rattle.kk_types.proofs.Going.{refused_after, goes_on, goes_first, goes_reworded}
 use Rattle.kk_types.proofs.Locals.{expressions_of}
-use Rattle.kk_types.proofs.Refining.{below_more, first_refused}
-use Rattle.kk_types.proofs.Forms.{in_scope}
+use Rattle.kk_types.proofs.Refining.{first_refused}
 
 -- as many arguments as are taken
 as_many : (program : ProgramTree) (scope : Scope) (es : List Tree) (ts : List TypeTree) (choices : List Choice) → AreTypedBy program scope (trees_of es) ts choices → length es ≡ length ts

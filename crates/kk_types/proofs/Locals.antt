@@ -1,6 +1,5 @@
 -- Claims that are of the nodes that are there alone.
-use Rattle.std.proofs.Common.{◌≡◌, ◌<◌, ℕ, List, map, sym, subst}
-use Rattle.kk_syntax.specs.Patterns.{Pattern, Patterns}
+use Rattle.std.proofs.Common.{◌<◌, ℕ, List, map, subst}
 use Rattle.kk_syntax.specs.Programs.{ProgramTree}
 use Rattle.kk_syntax.specs.Trees.{Tree, Trees, Rows}
 use Rattle.kk_syntax.specs.Types.{TypeTree}

@@ -1,10 +1,8 @@
 -- What is taken, with other numbers for nodes.
 use Rattle.std.proofs.Common.{◌≡◌, ◌<◌, ◌+◌, ℕ, List, [], ◌∷◌, ◌++◌, length, map, get_or, take, refl, ap, sym, ◌∙◌, subst, arith}
-use Rattle.std.specs.List.{All}
 use Rattle.std.proofs.lemmas.List.{get_or-map, length-map, map-append, take_more}
 use Rattle.kk_syntax.specs.declared.typed.Taken.{Taken}
 use Rattle.kk_syntax.specs.Types.{TypeTree, type_at}
-use Rattle.kk_syntax.specs.Typing.{Choice}
 use Rattle.kk_syntax.specs.TypedPrograms.{choice_of}
 use Rattle.kk_types.specs.Walks.{taking_of, takings_of, choice_at, choices_at, IsTakenBelow, AreTakenBelow}
 

@@ -1,11 +1,11 @@
 -- A walk over patterns whose variables are bound.
-use Rattle.std.proofs.Common.{◌≡◌, ◌<◌, ◌≤◌, ◌+◌, ℕ, zero, suc, Bool, true, false, Option, Some, None, List, [], ◌∷◌, ◌++◌, length, map, get_or, drop, drop_of_length-le, refl, ap, sym, ◌∙◌, subst, arith}
-use Rattle.std.specs.Prelude.{Result, Ok, Err}
+use Rattle.std.proofs.Common.{◌≡◌, ◌<◌, ◌≤◌, ◌+◌, ℕ, Bool, true, false, Option, None, List, [], ◌∷◌, length, map, get_or, drop, drop_of_length-le, refl, ap, sym, ◌∙◌, subst, arith}
+use Rattle.std.specs.Prelude.{Result, Ok}
 use Rattle.std.proofs.lemmas.List.{drop_more, length-map}
 use Rattle.std.proofs.lemmas.List.Elements.{All-drop}
 use Rattle.kk_base.specs.declared.error.NoMemory.{NoMemory}
 use Rattle.kk_syntax.specs.declared.program.Pat.{Pat}
-use Rattle.kk_syntax.specs.Patterns.{Pattern, constructor, Patterns, no_part, part, patterns_of, pattern_tree}
+use Rattle.kk_syntax.specs.Patterns.{Pattern, constructor, Patterns, patterns_of, pattern_tree}
 use Rattle.kk_syntax.specs.Programs.{ProgramTree}
 use Rattle.kk_syntax.specs.Types.{TypeTree}
 use Rattle.kk_syntax.specs.Typing.{Choice, Scheme, Scope, constructing, constructor_scheme, IsPatternTyped, ArePatternsTyped}
@@ -50,8 +50,8 @@ module _ (program : ProgramTree) (a : Walk) (want : ℕ) (bound : AreBoundBelow 
 
     pub constructor_walked : (d e : Walk) (result : Result Bool NoMemory) → Walked b d (typed_as want (λ r. r instance.result)) (Ok true) → Walked d e (patterns_at program d.scope.items parts instance.parameters.items) result → Walked a e whole result
     constructor_walked d e result given walked =
-        let inside = bound_more (size_of a) (size_of b) a.scope.items made.opens.longer bound in
-        let first = was_given (constructor_scheme program c) chosen want parts_typed a b instance made lt typed_parts_of d (parts_of (size_of b) program a.scope.items inside parts instance.parameters.items made.parameters_inside) given in
+        let inside = bound_more (size_of a) (size_of b) a.scope.items made.nodes.opens.longer bound in
+        let first = was_given (constructor_scheme program c) chosen want parts_typed a b instance made lt typed_parts_of d (parts_of (size_of b) program a.scope.items inside parts instance.parameters.items made.nodes.takes_inside) given in
         walked_behind a d e whole (patterns_at program a.scope.items parts instance.parameters.items) result first
         (subst (λ bs. Walked d e (patterns_at program bs parts instance.parameters.items) result) first.same_scope walked)
 
@@ -99,6 +99,7 @@ parts_done program bounds a b Whole ps wants i none less goes =
 
 -- what parts of a constructor ask for
 pub parts_asked : (a b d : Walk) (scheme : Option Scheme) (chosen_ : List TypeTree → List Choice) (instance : Instance) (want : ℕ) (wants : List ℕ) → AreBoundBelow (size_of a) a.scope.items → Instantiates scheme chosen_ a b instance → Walked b d (typed_as want (λ r. r instance.result)) (Ok true) → wants ≡ instance.parameters.items → AreBoundBelow (size_of d) d.scope.items × AreBelow (size_of d) wants
-parts_asked a b d scheme chosen_ instance want wants bound made given are =
-    (subst (AreBoundBelow (size_of d)) (sym (given.same_scope ∙ made.same_scope)) (bound_more (size_of a) (size_of d) a.scope.items (omega (arith, made.opens.longer, given.leads.longer)) bound),
-    subst (AreBelow (size_of d)) (sym are) (below_more (size_of b) (size_of d) instance.parameters.items given.leads.longer made.parameters_inside))
+parts_asked a b d scheme chosen_ instance want wants bound made given are = (
+  subst (AreBoundBelow (size_of d)) (sym (given.same_scope ∙ made.same_scope)) (bound_more (size_of a) (size_of d) a.scope.items (omega (arith, made.nodes.opens.longer, given.leads.longer)) bound),
+  subst (AreBelow (size_of d)) (sym are) (below_more (size_of b) (size_of d) instance.parameters.items given.leads.longer made.nodes.takes_inside),
+)

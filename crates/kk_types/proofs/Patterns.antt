@@ -9,12 +9,12 @@ use Rattle.kk_syntax.specs.Patterns.{Pattern, anything, variable, exactly, const
 use Rattle.kk_syntax.specs.Shapes.{bound, bound_all}
 use Rattle.kk_syntax.specs.Types.{TypeTree}
 use Rattle.kk_syntax.specs.Typing.{Scope, with_bound}
-use Rattle.kk_unify.specs.Graphs.{NodeTree, Assignment, Obeys}
+use Rattle.kk_unify.specs.Graphs.{NodeTree}
 use Rattle.kk_unify.specs.GraphOf.{variables_of}
 use Rattle.kk_types.specs.declared.scope.Bound.{Bound}
 use Rattle.kk_types.specs.declared.walk.Walk.{Walk}
-use Rattle.kk_types.specs.Steps.{nodes_of, size_of, Takes, Opened, BindsEach}
-use Rattle.kk_types.specs.Walks.{holding_at, takings_of, AreBelow, AreBoundBelow, Agree, variable_at, scope_at, Opens}
+use Rattle.kk_types.specs.Steps.{nodes_of, size_of, Opened, BindsEach}
+use Rattle.kk_types.specs.Walks.{holding_at, takings_of, AreBoundBelow, scope_at, Opens}
 use Rattle.kk_types.proofs.Adding.{opens_none}
 use Rattle.kk_types.proofs.Refining.{head_of, agree_on, types_agree, below_more, bound_more}
 use Rattle.kk_types.proofs.Scopes.{scope_more}
@@ -129,7 +129,9 @@ module _ (a b c : Walk) (xs ys : List ℕ) where
 pub binds_part : (a b c : Walk) (xs : List ℕ) (parts : List Pat) (i : ℕ) (part : Pat) (all : List ℕ) → i < length parts → part ≡ get_or parts i part → BindsEach a b xs → xs ++ bound_all (patterns_of (map pattern_tree (drop i parts))) ≡ all → BindsEach b c (bound (pattern_tree part)) → (ys : List ℕ) × BindsEach a c ys × (ys ++ bound_all (patterns_of (map pattern_tree (drop (i + 1) parts))) ≡ all)
 binds_part a b c xs parts i part all lt is first whole next =
     let rest = bound_all (patterns_of (map pattern_tree (drop (i + 1) parts))) in
-    let left : drop i parts ≡ part ∷ drop (i + 1) parts = drop_more parts i part lt ∙ ap (λ p. p ∷ drop (i + 1) parts) (sym is) in
-    (xs ++ bound (pattern_tree part), binds_then a b c xs (bound (pattern_tree part)) first next,
-    append_assoc xs (bound (pattern_tree part)) rest
-    ∙ (ap (λ ps. xs ++ bound_all (patterns_of (map pattern_tree ps))) (sym left) ∙ whole))
+    let left : drop i parts ≡ part ∷ drop (i + 1) parts = drop_more parts i part lt ∙ ap (λ p. p ∷ drop (i + 1) parts) (sym is) in (
+      xs ++ bound (pattern_tree part),
+      binds_then a b c xs (bound (pattern_tree part)) first next,
+      append_assoc xs (bound (pattern_tree part)) rest
+          ∙ (ap (λ ps. xs ++ bound_all (patterns_of (map pattern_tree ps))) (sym left) ∙ whole),
+    )

@@ -1,14 +1,14 @@
 -- How the parts of a walk are put together.
-use Rattle.std.proofs.Common.{◌≡◌, ◌<◌, ◌≤◌, ◌+◌, ℕ, zero, suc, List, [], ◌∷◌, ◌++◌, length, map, reverse, get_or, refl, ap, sym, ◌∙◌, subst, append_assoc, arith}
+use Rattle.std.proofs.Common.{◌≡◌, ◌<◌, ◌≤◌, ℕ, suc, List, [], ◌∷◌, ◌++◌, length, map, reverse, get_or, refl, ap, sym, ◌∙◌, subst, append_assoc, arith}
 use Rattle.std.specs.List.{All}
 use Rattle.std.proofs.lemmas.List.{map-append, append-nil, length-map}
 use Rattle.std.proofs.lemmas.List.Elements.{All-append, All-nil, All-cons}
 use Rattle.kk_syntax.specs.Types.{TypeTree}
-use Rattle.kk_syntax.specs.Typing.{Choice, constructing, calling, holding, Scope, TypedVariable, InTurn, Holds}
-use Rattle.kk_unify.specs.Graphs.{NodeTree, Assignment, Obeys, Adds, Joins, Clashes}
+use Rattle.kk_syntax.specs.Typing.{Choice, constructing, calling, holding, Holds}
+use Rattle.kk_unify.specs.Graphs.{NodeTree, Assignment, Obeys, Joins, Clashes}
 use Rattle.kk_types.specs.declared.scope.Bound.{Bound}
 use Rattle.kk_types.specs.Claims.{typed_as, both}
-use Rattle.kk_types.specs.Walks.{Taking, constructing_at, calling_at, holding_at, choice_at, choices_at, AreBelow, IsTakenBelow, AreTakenBelow, variable_at, scope_at, AreBoundBelow, Agree, Claim, Leads, Done, Refines, Refused, IsOf, Builds, Opens}
+use Rattle.kk_types.specs.Walks.{Taking, constructing_at, calling_at, holding_at, choice_at, choices_at, AreBelow, IsTakenBelow, AreTakenBelow, variable_at, scope_at, AreBoundBelow, Agree, Claim, Leads, Refines, Refused, IsOf, Builds, Opens}
 
 module _ {X : Type 0} (P : X → Type 0) (x : X) (xs : List X) where
   -- the first element, and the others
@@ -82,11 +82,16 @@ module _ (a b c : List NodeTree) (xs ys : List Taking) (Whole Left Rest : Claim)
     complete = λ r choices obeys whole.
         let one = first.complete r choices obeys whole in
         let two = next.complete one.0 one.3.0 one.1 one.3.2 in
-        let same : choices_at one.0 xs ≡ choices_at two.0 xs = choices_agree (length b) one.0 two.0 two.2 xs first.below in
-        (two.0, two.1, agree_on (length a) (length b) r one.0 two.0 first.longer one.2 two.2,
-        (two.3.0,
-        one.3.1 ∙ (ap (λ l. l ++ one.3.0) same ∙ (ap (λ l. choices_at two.0 xs ++ l) two.3.1 ∙ (sym (append_assoc (choices_at two.0 xs) (choices_at two.0 ys) two.3.0) ∙ ap (λ l. l ++ two.3.0) (sym (map-append (choice_at two.0) xs ys))))),
-        two.3.2));
+        let same : choices_at one.0 xs ≡ choices_at two.0 xs = choices_agree (length b) one.0 two.0 two.2 xs first.below in (
+          two.0,
+          two.1,
+          agree_on (length a) (length b) r one.0 two.0 first.longer one.2 two.2,
+          (
+            two.3.0,
+            one.3.1 ∙ (ap (λ l. l ++ one.3.0) same ∙ (ap (λ l. choices_at two.0 xs ++ l) two.3.1 ∙ (sym (append_assoc (choices_at two.0 xs) (choices_at two.0 ys) two.3.0) ∙ ap (λ l. l ++ two.3.0) (sym (map-append (choice_at two.0) xs ys))))),
+            two.3.2,
+          ),
+        );
   }
 
 module _ (a b : List NodeTree) (xs : List Taking) (Whole Left : Claim) where
@@ -165,20 +170,27 @@ module _ (a b : List NodeTree) (numbers : List ℕ) (count : ℕ) (xs : List Tak
   opens_leads opens below taken of = record {
     longer = opens.longer;
     below = below;
-    sound = λ r choices obeys left.
-        (opens.sound r obeys, record {
-          at = map r numbers;
-          each = length-map numbers r ∙ opens.each;
-          rest = choices;
-          choices_are = ap (λ l. l ++ choices) (taken r);
-          inside = left;
-        });
+    sound = λ r choices obeys left. (
+      opens.sound r obeys,
+      record {
+        at = map r numbers;
+        each = length-map numbers r ∙ opens.each;
+        rest = choices;
+        choices_are = ap (λ l. l ++ choices) (taken r);
+        inside = left;
+      },
+    );
     complete = λ r choices obeys whole.
-        let one = opens.complete r whole.at whole.each obeys in
-        (one.0, one.1, one.2,
-        (whole.rest,
-        whole.choices_are ∙ ap (λ l. l ++ whole.rest) (sym (taken one.0 ∙ ap chosen one.3)),
-        subst (λ ts. V one.0 ts whole.rest) (sym one.3) ((of whole.at).follows r one.0 whole.rest one.2 whole.inside)));
+        let one = opens.complete r whole.at whole.each obeys in (
+          one.0,
+          one.1,
+          one.2,
+          (
+            whole.rest,
+            whole.choices_are ∙ ap (λ l. l ++ whole.rest) (sym (taken one.0 ∙ ap chosen one.3)),
+            subst (λ ts. V one.0 ts whole.rest) (sym one.3) ((of whole.at).follows r one.0 whole.rest one.2 whole.inside),
+          ),
+        );
   }
 
 module _ (a b : List NodeTree) (node : ℕ) (V : Assignment → TypeTree → List Choice → Type 0) where
@@ -190,11 +202,16 @@ module _ (a b : List NodeTree) (node : ℕ) (V : Assignment → TypeTree → Lis
     sound = λ r choices obeys left. (opens.sound r obeys, record { of = r node; rest = choices; choices_are = refl; inside = left });
     complete = λ r choices obeys whole.
         let one = opens.complete r (whole.of ∷ []) refl obeys in
-        let same : one.0 node ≡ whole.of = cc (one.3) in
-        (one.0, one.1, one.2,
-        (whole.rest,
-        whole.choices_are ∙ ap (λ t. holding t ∷ whole.rest) (sym same),
-        subst (λ t. V one.0 t whole.rest) (sym same) ((of whole.of).follows r one.0 whole.rest one.2 whole.inside)));
+        let same : one.0 node ≡ whole.of = cc (one.3) in (
+          one.0,
+          one.1,
+          one.2,
+          (
+            whole.rest,
+            whole.choices_are ∙ ap (λ t. holding t ∷ whole.rest) (sym same),
+            subst (λ t. V one.0 t whole.rest) (sym same) ((of whole.of).follows r one.0 whole.rest one.2 whole.inside),
+          ),
+        );
   }
 
 module _ (a b : List NodeTree) (i j : ℕ) where

@@ -1,9 +1,8 @@
 -- A walk over the rows of a match.
-use Rattle.std.proofs.Common.{◌≡◌, ◌<◌, ◌≤◌, ◌+◌, ℕ, zero, suc, Bool, true, false, List, [], ◌∷◌, ◌++◌, length, map, get_or, take, drop, drop_of_length-le, refl, ap, sym, ◌∙◌, subst, arith}
-use Rattle.std.specs.Prelude.{Result, Ok, Err}
+use Rattle.std.proofs.Common.{◌≡◌, ◌<◌, ◌≤◌, ◌+◌, ℕ, true, false, List, [], ◌∷◌, ◌++◌, length, map, get_or, take, drop, drop_of_length-le, refl, ap, sym, ◌∙◌, subst, arith}
+use Rattle.std.specs.Prelude.{Ok}
 use Rattle.std.proofs.lemmas.List.{drop_more}
 use Rattle.std.proofs.lemmas.List.Elements.{All-nil, All-cons}
-use Rattle.kk_base.specs.declared.error.NoMemory.{NoMemory}
 use Rattle.kk_syntax.specs.declared.program.Row.{Row}
 use Rattle.kk_syntax.specs.declared.program.Expr.TheFolds.{fold_out-Row}
 use Rattle.kk_syntax.specs.Patterns.{Pattern, pattern_tree}
@@ -12,16 +11,16 @@ use Rattle.kk_syntax.specs.Shapes.{bound}
 use Rattle.kk_syntax.specs.Trees.{Tree, RowTree, StatementTree, rows_of, expr_step, row_step, statement_step, expr_tree, row_tree}
 use Rattle.kk_syntax.specs.Types.{TypeTree}
 use Rattle.kk_syntax.specs.Typing.{Choice, Scope, holding, with_bound, Binds, InTurn, IsPatternTyped, IsTypedBy}
-use Rattle.kk_unify.specs.Graphs.{NodeTree, Assignment, Obeys}
+use Rattle.kk_unify.specs.Graphs.{NodeTree, Assignment}
 use Rattle.kk_unify.specs.GraphOf.{variables_of}
 use Rattle.kk_types.specs.declared.scope.Bound.{Bound}
 use Rattle.kk_types.specs.declared.walk.Walk.{Walk}
 use Rattle.kk_types.specs.Claims.{both, expression_at, rows_at, pattern_at}
 use Rattle.kk_types.specs.Steps.{nodes_of, size_of, Goes, Walked, BindsEach}
-use Rattle.kk_types.specs.Walks.{Taking, holding_at, takings_of, choices_at, AreBelow, IsTakenBelow, AreTakenBelow, AreBoundBelow, Agree, scope_at, Claim, Leads, Done, Refused, IsOf}
+use Rattle.kk_types.specs.Walks.{Taking, holding_at, takings_of, choices_at, AreBelow, IsTakenBelow, AreTakenBelow, AreBoundBelow, scope_at, Claim, Leads, Done, Refused, IsOf, Opens}
 use Rattle.kk_types.proofs.Going.{takes_then, refused_after, goes_on, goes_first}
 use Rattle.kk_types.proofs.Locals.{node_of, both_of, expression_of, rows_of_claim}
-use Rattle.kk_types.proofs.Refining.{head_of, tail_of, scope_agrees, bound_more, Chooses, opens_leads, then_leads, refused_behind, first_refused}
+use Rattle.kk_types.proofs.Refining.{head_of, tail_of, scope_agrees, Chooses, opens_leads, then_leads, refused_behind, first_refused}
 
 -- a row in memory as a tree
 row_tree_is : (r : Row) → row_tree r ≡ record { pattern = pattern_tree r.pattern; body = expr_tree r.body }
@@ -54,75 +53,87 @@ retold a b xs Whole Left Whole_ Left_ into out on back leads = record {
       (one.0, one.1, one.2, (one.3.0, one.3.1, on one.0 one.3.0 one.3.2));
 }
 
-module _ (a b : Walk) (variables : List ℕ) (binds : BindsEach a b variables) (inside : AreBoundBelow (size_of a) a.scope.items) (Inside : Assignment → Scope → List Choice → Type 0) (of : (scope : Scope) → IsOf (size_of a) (λ r. Inside r scope)) where
+module _ (g h : List NodeTree) (variables at : List ℕ) (outer inner : List Bound) (opens : Opens g h at (length variables)) (scope : (r : Assignment) → scope_at r inner ≡ with_bound variables (map r at) (scope_at r outer)) (inside : AreBoundBelow (length g) outer) (Inside : Assignment → Scope → List Choice → Type 0) (of : (scope : Scope) → IsOf (length g) (λ r. Inside r scope)) where
   abbrev bound_in : Claim
-  bound_in r = Binds variables (scope_at r a.scope.items) (Inside r)
+  bound_in r = Binds variables (scope_at r outer) (Inside r)
 
   abbrev chosen_in : Assignment → List TypeTree → List Choice → Type 0
-  chosen_in r ts = Inside r (with_bound variables ts (scope_at r a.scope.items))
+  chosen_in r ts = Inside r (with_bound variables ts (scope_at r outer))
 
-  chosen_of : (ts : List TypeTree) → IsOf (size_of a) (λ r. chosen_in r ts)
+  chosen_of : (ts : List TypeTree) → IsOf (length g) (λ r. chosen_in r ts)
   chosen_of ts = record {
     follows = λ r q choices agree whole.
-        subst (λ scope. Inside q (with_bound variables ts scope) choices) (scope_agrees (size_of a) r q agree a.scope.items inside)
-        ((of (with_bound variables ts (scope_at r a.scope.items))).follows r q choices agree whole);
+        subst (λ env. Inside q (with_bound variables ts env) choices) (scope_agrees (length g) r q agree outer inside) ((of (with_bound variables ts (scope_at r outer))).follows r q choices agree whole);
   }
 
   -- the variables are bound, and what is left is inside
-  binds_leads : Leads (nodes_of a) (nodes_of b) (map holding_at binds.at) bound_in (λ r. Inside r (scope_at r b.scope.items))
+  binds_leads : Leads g h (map holding_at at) bound_in (λ r. Inside r (scope_at r inner))
   binds_leads =
-      retold (nodes_of a) (nodes_of b) (map holding_at binds.at) (λ r. Chooses (length variables) (map holding) (chosen_in r)) (λ r. chosen_in r (map r binds.at)) bound_in (λ r. Inside r (scope_at r b.scope.items))
+      retold g h (map holding_at at) (λ r. Chooses (length variables) (map holding) (chosen_in r)) (λ r. chosen_in r (map r at)) bound_in (λ r. Inside r (scope_at r inner))
       (λ r choices met. record { at = met.at; each = met.each; rest = met.rest; choices_are = met.choices_are; inside = met.inside })
       (λ r choices met. record { at = met.at; each = met.each; rest = met.rest; choices_are = met.choices_are; inside = met.inside })
-      (λ r choices met. subst (λ scope. Inside r scope choices) (sym (binds.scope r)) met)
-      (λ r choices met. subst (λ scope. Inside r scope choices) (binds.scope r) met)
-      (opens_leads (nodes_of a) (nodes_of b) binds.at (length variables) (map holding_at binds.at) (map holding) chosen_in binds.opens (taken_below (size_of b) binds.at binds.opens.inside) (λ r. choices_held r binds.at) chosen_of)
+      (λ r choices met. subst (λ env. Inside r env choices) (sym (scope r)) met)
+      (λ r choices met. subst (λ env. Inside r env choices) (scope r) met)
+      (opens_leads g h at (length variables) (map holding_at at) (map holding) chosen_in opens (taken_below (length h) at opens.inside) (λ r. choices_held r at) chosen_of)
 
-module _ (program : ProgramTree) (a b : Walk) (pattern : Pattern) (body : Tree) (scrutinee want : ℕ) (inside : AreBoundBelow (size_of a) a.scope.items) (first_lt : scrutinee < size_of a) (lt : want < size_of a) (binds : BindsEach a b (bound pattern)) where
-  abbrev in_row : Assignment → Scope → List Choice → Type 0
+module _ (program : ProgramTree) (pattern : Pattern) (body : Tree) (scrutinee want : ℕ) where
+  abbrev pub in_row : Assignment → Scope → List Choice → Type 0
   in_row r scope = InTurn (IsPatternTyped program scope pattern (r scrutinee)) (IsTypedBy program scope body (r want))
 
-  in_row_of : (scope : Scope) → IsOf (size_of a) (λ r. in_row r scope)
-  in_row_of scope =
-      both_of (size_of a) (λ r. IsPatternTyped program scope pattern (r scrutinee)) (λ r. IsTypedBy program scope body (r want))
-      (node_of (size_of a) scrutinee (λ r t. IsPatternTyped program scope pattern t) first_lt (λ t. constant_of (size_of a) (IsPatternTyped program scope pattern t)))
-      (node_of (size_of a) want (λ r t. IsTypedBy program scope body t) lt (λ t. constant_of (size_of a) (IsTypedBy program scope body t)))
+  abbrev pub one_row : List Bound → Claim
+  one_row bounds r = Binds (bound pattern) (scope_at r bounds) (in_row r)
 
-  abbrev one_row : Claim
-  one_row r = Binds (bound pattern) (scope_at r a.scope.items) (in_row r)
+  abbrev pub row_pattern : List Bound → Claim
+  row_pattern bounds = pattern_at program bounds pattern scrutinee
 
-  abbrev row_pattern : Claim
-  row_pattern = pattern_at program b.scope.items pattern scrutinee
+  abbrev pub row_body : List Bound → Claim
+  row_body bounds = expression_at program bounds body want
 
-  abbrev row_body : Claim
-  row_body = expression_at program b.scope.items body want
+  in_row_of : (size : ℕ) → scrutinee < size → want < size → (scope : Scope) → IsOf size (λ r. in_row r scope)
+  in_row_of size first_lt lt scope =
+      both_of size (λ r. IsPatternTyped program scope pattern (r scrutinee)) (λ r. IsTypedBy program scope body (r want))
+      (node_of size scrutinee (λ r t. IsPatternTyped program scope pattern t) first_lt (λ t. constant_of size (IsPatternTyped program scope pattern t)))
+      (node_of size want (λ r t. IsTypedBy program scope body t) lt (λ t. constant_of size (IsTypedBy program scope body t)))
 
-  begun : Leads (nodes_of a) (nodes_of b) (map holding_at binds.at) one_row (both row_pattern row_body)
-  begun = binds_leads a b (bound pattern) binds inside in_row in_row_of
+  pub row_begun : (g h : List NodeTree) (at : List ℕ) (outer inner : List Bound) → Opens g h at (length (bound pattern)) → ((r : Assignment) → scope_at r inner ≡ with_bound (bound pattern) (map r at) (scope_at r outer)) → AreBoundBelow (length g) outer → scrutinee < length g → want < length g → Leads g h (map holding_at at) (one_row outer) (both (row_pattern inner) (row_body inner))
+  row_begun g h at outer inner opens scope inside first_lt lt = binds_leads g h (bound pattern) at outer inner opens scope inside in_row (in_row_of (length g) first_lt lt)
 
-  pub pattern_refused : (c : Walk) → Walked b c row_pattern (Ok false) → Refused (nodes_of a) one_row
-  pattern_refused c walked = refused_behind (nodes_of a) (nodes_of b) (map holding_at binds.at) one_row (both row_pattern row_body) begun (first_refused (nodes_of b) row_pattern row_body walked)
+module _ (program : ProgramTree) (a b : Walk) (pattern : Pattern) (body : Tree) (scrutinee want : ℕ) (inside : AreBoundBelow (size_of a) a.scope.items) (first_lt : scrutinee < size_of a) (lt : want < size_of a) (binds : BindsEach a b (bound pattern)) where
+  abbrev this_row : Claim
+  this_row = one_row program pattern body scrutinee want a.scope.items
 
-  module _ (c : Walk) (first : Walked b c row_pattern (Ok true)) where
-    patterned : Goes b c (both row_pattern row_body) row_body
-    patterned = goes_first b c row_pattern row_body (expression_of (size_of b) program b.scope.items (binds.bound_inside inside) body want (omega (arith, lt, binds.opens.longer))) first
+  abbrev this_pattern : Claim
+  this_pattern = row_pattern program pattern body scrutinee want b.scope.items
 
-    pub body_refused : (d : Walk) → Walked c d (expression_at program c.scope.items body want) (Ok false) → Refused (nodes_of a) one_row
+  abbrev this_body : Claim
+  this_body = row_body program pattern body scrutinee want b.scope.items
+
+  begun : Leads (nodes_of a) (nodes_of b) (map holding_at binds.at) this_row (both this_pattern this_body)
+  begun = row_begun program pattern body scrutinee want (nodes_of a) (nodes_of b) binds.at a.scope.items b.scope.items binds.opens binds.scope inside first_lt lt
+
+  pub pattern_refused : (c : Walk) → Walked b c this_pattern (Ok false) → Refused (nodes_of a) this_row
+  pattern_refused c walked = refused_behind (nodes_of a) (nodes_of b) (map holding_at binds.at) this_row (both this_pattern this_body) begun (first_refused (nodes_of b) this_pattern this_body walked)
+
+  module _ (c : Walk) (first : Walked b c this_pattern (Ok true)) where
+    patterned : Goes b c (both this_pattern this_body) this_body
+    patterned = goes_first b c this_pattern this_body (expression_of (size_of b) program b.scope.items (binds.bound_inside inside) body want (omega (arith, lt, binds.opens.longer))) first
+
+    pub body_refused : (d : Walk) → Walked c d (expression_at program c.scope.items body want) (Ok false) → Refused (nodes_of a) this_row
     body_refused d walked =
-        refused_behind (nodes_of a) (nodes_of b) (map holding_at binds.at) one_row (both row_pattern row_body) begun
-        (refused_after b c (both row_pattern row_body) row_body patterned (subst (λ bs. Refused (nodes_of c) (expression_at program bs body want)) first.same_scope walked))
+        refused_behind (nodes_of a) (nodes_of b) (map holding_at binds.at) this_row (both this_pattern this_body) begun
+        (refused_after b c (both this_pattern this_body) this_body patterned (subst (λ bs. Refused (nodes_of c) (expression_at program bs body want)) first.same_scope walked))
 
     -- the row is done, and its variables are gone
-    pub row_done : (d e : Walk) → Walked c d (expression_at program c.scope.items body want) (Ok true) → nodes_of e ≡ nodes_of d → variables_of e.graph ≡ variables_of d.graph → e.taken.items ≡ d.taken.items → e.scope.items ≡ take (length a.scope.items) d.scope.items → Goes a e one_row Done
+    pub row_done : (d e : Walk) → Walked c d (expression_at program c.scope.items body want) (Ok true) → nodes_of e ≡ nodes_of d → variables_of e.graph ≡ variables_of d.graph → e.taken.items ≡ d.taken.items → e.scope.items ≡ take (length a.scope.items) d.scope.items → Goes a e this_row Done
     row_done d e walked same_graph same_variables same_taken cut =
-        let rest : Goes c d row_body Done = subst (λ bs. Goes c d (expression_at program bs body want) Done) first.same_scope walked in
-        let all = goes_on b c d (both row_pattern row_body) row_body Done patterned rest in
+        let rest : Goes c d this_body Done = subst (λ bs. Goes c d (expression_at program bs body want) Done) first.same_scope walked in
+        let all = goes_on b c d (both this_pattern this_body) this_body Done patterned rest in
         record {
           taken = map holding_at binds.at ++ all.taken;
           takes = ap takings_of same_taken ∙ takes_then a b d (map holding_at binds.at) all.taken binds.takes all.takes;
           same_scope = cut ∙ (ap (take (length a.scope.items)) all.same_scope ∙ binds.outer);
           same_variables = same_variables ∙ (all.same_variables ∙ binds.same_variables);
-          leads = subst (λ g. Leads (nodes_of a) g (map holding_at binds.at ++ all.taken) one_row Done) (sym same_graph) (then_leads (nodes_of a) (nodes_of b) (nodes_of d) (map holding_at binds.at) all.taken one_row (both row_pattern row_body) Done begun all.leads);
+          leads = subst (λ g. Leads (nodes_of a) g (map holding_at binds.at ++ all.taken) this_row Done) (sym same_graph) (then_leads (nodes_of a) (nodes_of b) (nodes_of d) (map holding_at binds.at) all.taken this_row (both this_pattern this_body) Done begun all.leads);
         }
 
 module _ (program : ProgramTree) (bounds : List Bound) (scrutinee want : ℕ) where

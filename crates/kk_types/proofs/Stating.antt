@@ -1,23 +1,22 @@
 -- A walk over the statements of a block.
 use Rattle.std.proofs.Common.{◌≡◌, ◌<◌, ◌≤◌, ◌+◌, ℕ, Bool, true, false, List, [], ◌∷◌, ◌++◌, length, map, get_or, drop, take, refl, ap, sym, ◌∙◌, subst, arith}
-use Rattle.std.specs.Prelude.{Result, Ok, Err}
+use Rattle.std.specs.Prelude.{Ok}
 use Rattle.std.proofs.lemmas.List.{append-nil, drop_more, length-take, take-append-le, take_all}
 use Rattle.std.proofs.lemmas.List.Elements.{All-append, All-nil, All-cons}
-use Rattle.kk_base.specs.declared.error.NoMemory.{NoMemory}
 use Rattle.kk_syntax.specs.declared.program.Binder.{Binder}
 use Rattle.kk_syntax.specs.declared.program.Binder.TheVariants as OfBinder
 use Rattle.kk_syntax.specs.declared.program.Statement.{Statement}
 use Rattle.kk_syntax.specs.Programs.{ProgramTree}
 use Rattle.kk_syntax.specs.Trees.{Tree, sequence, StatementTree, block_of, expr_tree, statement_tree}
 use Rattle.kk_syntax.specs.Types.{TypeTree}
-use Rattle.kk_syntax.specs.Typing.{Choice, Scope, with_binder, InTurn, Holds, IsTypedBy}
-use Rattle.kk_unify.specs.Graphs.{NodeTree, Assignment, Obeys}
+use Rattle.kk_syntax.specs.Typing.{with_binder, InTurn, IsTypedBy}
+use Rattle.kk_unify.specs.Graphs.{Assignment}
 use Rattle.kk_unify.specs.GraphOf.{variables_of}
 use Rattle.kk_types.specs.declared.scope.Bound.{Bound}
 use Rattle.kk_types.specs.declared.walk.Walk.{Walk}
 use Rattle.kk_types.specs.Claims.{both, expression_at, bounds_by}
-use Rattle.kk_types.specs.Steps.{nodes_of, size_of, Goes, GoesInto, Walked, Opened}
-use Rattle.kk_types.specs.Walks.{Taking, holding_at, takings_of, AreBoundBelow, scope_at, Claim, Leads, Done, Refused, IsOf}
+use Rattle.kk_types.specs.Steps.{nodes_of, size_of, GoesInto, Walked, Opened}
+use Rattle.kk_types.specs.Walks.{holding_at, takings_of, AreBoundBelow, scope_at, Claim, Leads, Done, Refused, IsOf}
 use Rattle.kk_types.proofs.Forms.{in_scope}
 use Rattle.kk_types.proofs.Going.{takes_then}
 use Rattle.kk_types.proofs.Locals.{scoped_of, node_of, both_of}
@@ -25,12 +24,12 @@ use Rattle.kk_types.proofs.Refining.{bound_more, first_leads, first_refused, hol
 use Rattle.kk_types.proofs.Scopes.{scope_more}
 use Rattle.kk_types.proofs.Views.{statement_tree_is}
 
-binder_scope : (binder : Binder) (r : Assignment) (bounds : List Bound) (node : ℕ) → with_binder binder (r node) (scope_at r bounds) ≡ scope_at r (bounds ++ bounds_by binder node)
+pub binder_scope : (binder : Binder) (r : Assignment) (bounds : List Bound) (node : ℕ) → with_binder binder (r node) (scope_at r bounds) ≡ scope_at r (bounds ++ bounds_by binder node)
 binder_scope OfBinder.Nothing r bounds node = ap (scope_at r) (sym (append-nil bounds))
 binder_scope OfBinder.Wildcard r bounds node = ap (scope_at r) (sym (append-nil bounds))
 binder_scope (OfBinder.Variable x) r bounds node = sym (scope_more r bounds (record { variable = x; node = node }))
 
-binder_inside : (binder : Binder) (size node : ℕ) → node < size → AreBoundBelow size (bounds_by binder node)
+pub binder_inside : (binder : Binder) (size node : ℕ) → node < size → AreBoundBelow size (bounds_by binder node)
 binder_inside OfBinder.Nothing size node lt = All-nil (λ b. b.node < size)
 binder_inside OfBinder.Wildcard size node lt = All-nil (λ b. b.node < size)
 binder_inside (OfBinder.Variable x) size node lt = All-cons (λ b. b.node < size) (record { variable = x; node = node }) [] lt (All-nil (λ b. b.node < size))
@@ -134,8 +133,8 @@ module _ (program : ProgramTree) (a : Walk) (all : List StatementTree) where
               let second = holds_stated last want lt in
               let third = first_leads (nodes_of c) (nodes_of d) walked.taken value_at after (behind_of last want lt) (subst (λ bs. Leads (nodes_of c) (nodes_of d) walked.taken (expression_at program bs value node) Done) opened.same_scope walked.leads) in
               let all_of =
-                  then_leads (nodes_of a) (nodes_of b) (nodes_of d) goes.taken ((holding_at node ∷ []) ++ walked.taken) whole claim after first
-                  (then_leads (nodes_of b) (nodes_of c) (nodes_of d) (holding_at node ∷ []) walked.taken claim (both value_at after) after second third) in
+              then_leads (nodes_of a) (nodes_of b) (nodes_of d) goes.taken ((holding_at node ∷ []) ++ walked.taken) whole claim after first
+              (then_leads (nodes_of b) (nodes_of c) (nodes_of d) (holding_at node ∷ []) walked.taken claim (both value_at after) after second third) in
               left_reworded (nodes_of a) (nodes_of d) (goes.taken ++ ((holding_at node ∷ []) ++ walked.taken)) whole after (expression_at program e.scope.items (block_of rest last) want)
               (λ r choices left. subst (λ scope. IsTypedBy program scope (block_of rest last) (r want) choices) (entered r) left) (λ r choices left. subst (λ scope. IsTypedBy program scope (block_of rest last) (r want) choices) (sym (entered r)) left) all_of
             where

@@ -1,16 +1,16 @@
 -- What the steps of a walk leave behind.
 use Rattle.std.specs.Prelude.{◌≡◌, ◌<◌, ◌≤◌, ℕ, Bool, true, false, Option, Some, None, List, [], ◌∷◌, ◌++◌, length, map, take, Result, Ok, Err}
 use Rattle.kk_base.specs.declared.error.NoMemory.{NoMemory}
-use Rattle.kk_syntax.specs.Types.{TypeTree, put, type_at}
+use Rattle.kk_syntax.specs.Types.{TypeTree}
 use Rattle.kk_syntax.specs.Typing.{Choice, Scheme, with_bound}
 use Rattle.kk_syntax.specs.Programs.{ProgramTree}
 use Rattle.kk_syntax.specs.Trees.{Tree, StatementTree, block_of}
-use Rattle.kk_unify.specs.Graphs.{NodeTree, Assignment, Obeys}
+use Rattle.kk_unify.specs.Graphs.{NodeTree, Assignment}
 use Rattle.kk_unify.specs.GraphOf.{graph_of, variables_of}
 use Rattle.kk_types.specs.declared.instance.Instance.{Instance}
 use Rattle.kk_types.specs.declared.walk.Walk.{Walk}
 use Rattle.kk_types.specs.Claims.{expression_at}
-use Rattle.kk_types.specs.Walks.{Taking, holding_at, takings_of, choices_at, AreBelow, AreTakenBelow, AreBoundBelow, scope_at, Agree, Claim, Leads, Done, Refused, Builds, Opens}
+use Rattle.kk_types.specs.Walks.{Taking, holding_at, takings_of, AreBoundBelow, scope_at, Claim, Leads, Done, Refused, Builds, Opens, IsInstance}
 
 abbrev pub nodes_of : Walk → List NodeTree
 nodes_of walk = graph_of walk.graph
@@ -67,20 +67,11 @@ pub record Opened (old new : Walk) (node : ℕ) : Type 0 where
   pub same_scope : new.scope.items ≡ old.scope.items
   pub same_variables : variables_of new.graph ≡ variables_of old.graph
 
--- A scheme at new nodes for its variables: nodes for what it takes and gives there.
+-- A scheme is instantiated, in the same scope.
 pub record Instantiates (scheme : Option Scheme) (chosen : List TypeTree → List Choice) (old new : Walk) (instance : Instance) : Type 0 where
-  pub of : Scheme
-  pub is : scheme ≡ Some of
-  pub at : List ℕ
-  pub opens : Opens (nodes_of old) (nodes_of new) at of.variables
-  pub parameters_inside : AreBelow (size_of new) instance.parameters.items
-  pub result_inside : instance.result < size_of new
-  pub parameters : (r : Assignment) → Obeys (nodes_of new) r → map r instance.parameters.items ≡ map (put (type_at (map r at))) of.parameters
-  pub result : (r : Assignment) → Obeys (nodes_of new) r → r instance.result ≡ put (type_at (map r at)) of.result
   pub taken : List Taking
   pub takes : Takes old new taken
-  pub taken_inside : AreTakenBelow (size_of new) taken
-  pub taken_are : (r : Assignment) → choices_at r taken ≡ chosen (map r at)
+  pub nodes : IsInstance scheme chosen (nodes_of old) (nodes_of new) taken instance.parameters.items instance.result
   pub same_scope : new.scope.items ≡ old.scope.items
   pub same_variables : variables_of new.graph ≡ variables_of old.graph
 

@@ -1,9 +1,9 @@
 -- What a walk over a body does to a graph of types: it adds nodes, and takes some of them where a typing chooses types.
-use Rattle.std.specs.Prelude.{◌≡◌, ◌<◌, ◌≤◌, ℕ, List, [], ◌∷◌, ◌++◌, length, map, reverse, All}
+use Rattle.std.specs.Prelude.{◌≡◌, ◌<◌, ◌≤◌, ℕ, Option, Some, List, [], ◌++◌, length, map, reverse, All}
 use Rattle.kk_syntax.specs.declared.typed.Taken.{Taken}
 use Rattle.kk_syntax.specs.declared.typed.Taken.TheVariants as OfTaken
-use Rattle.kk_syntax.specs.Types.{TypeTree}
-use Rattle.kk_syntax.specs.Typing.{Choice, constructing, calling, holding, TypedVariable, Scope}
+use Rattle.kk_syntax.specs.Types.{TypeTree, put, type_at}
+use Rattle.kk_syntax.specs.Typing.{Choice, constructing, calling, holding, TypedVariable, Scope, Scheme}
 use Rattle.kk_unify.specs.Graphs.{NodeTree, Assignment, Obeys}
 use Rattle.kk_types.specs.declared.scope.Bound.{Bound}
 
@@ -111,3 +111,16 @@ pub record Opens (old new : List NodeTree) (numbers : List ℕ) (count : ℕ) : 
   pub each : length numbers ≡ count
   pub sound : (r : Assignment) → Obeys new r → Obeys old r
   pub complete : (r : Assignment) (ts : List TypeTree) → length ts ≡ count → Obeys old r → (q : Assignment) × Obeys new q × Agree (length old) r q × (map q numbers ≡ ts)
+
+-- A scheme at new nodes for its variables: nodes for what it takes and gives there.
+pub record IsInstance (scheme : Option Scheme) (chosen : List TypeTree → List Choice) (old new : List NodeTree) (taken : List Taking) (takes : List ℕ) (gives : ℕ) : Type 0 where
+  pub of : Scheme
+  pub is : scheme ≡ Some of
+  pub at : List ℕ
+  pub opens : Opens old new at of.variables
+  pub takes_inside : AreBelow (length new) takes
+  pub gives_inside : gives < length new
+  pub parameters : (r : Assignment) → Obeys new r → map r takes ≡ map (put (type_at (map r at))) of.parameters
+  pub result : (r : Assignment) → Obeys new r → r gives ≡ put (type_at (map r at)) of.result
+  pub taken_inside : AreTakenBelow (length new) taken
+  pub taken_are : (r : Assignment) → choices_at r taken ≡ chosen (map r at)

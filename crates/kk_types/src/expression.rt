@@ -13,7 +13,12 @@ impl Walk {
 
     /// Walks over an expression, and asks that it is of the type of a node. The recursion is as deep as the expression.
     #[cycle(walk)]
-    pub fn expression(&mut self, program: &Program, expr: &Expr, want: u32) -> Result<bool, NoMemory>
+    pub fn expression(
+        &mut self,
+        program: &Program,
+        expr: &Expr,
+        want: u32,
+    ) -> Result<bool, NoMemory>
         requires scope { AreBoundBelow (size_of self.old) self.old.scope.items }
         requires want { want < size_of self.old }
         ensures { Walked self.old self.new
@@ -68,7 +73,12 @@ impl Walk {
     }
 
     #[cycle(walk)]
-    fn arguments(&mut self, program: &Program, arguments: &[Expr], wants: &[u32]) -> Result<bool, NoMemory>
+    fn arguments(
+        &mut self,
+        program: &Program,
+        arguments: &[Expr],
+        wants: &[u32],
+    ) -> Result<bool, NoMemory>
         requires scope { AreBoundBelow (size_of self.old) self.old.scope.items }
         requires wants { AreBelow (size_of self.old) wants.now }
         ensures { Walked self.old self.new

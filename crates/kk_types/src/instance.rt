@@ -43,7 +43,11 @@ impl Walk {
     }
 
     /// A constructor at new nodes for the variables of its type, which are taken.
-    pub fn constructor(&mut self, program: &Program, constructor: u32) -> Result<Option<Instance>, NoMemory>
+    pub fn constructor(
+        &mut self,
+        program: &Program,
+        constructor: u32,
+    ) -> Result<Option<Instance>, NoMemory>
         ensures { AnswersInstance (constructor_scheme (program_tree program.now) constructor)
             (λ ts. constructing constructor ts ∷ []) self.old self.new result }
     {

@@ -12,6 +12,8 @@ mod pattern;
 mod program;
 mod rows;
 mod scope;
+#[cfg(test)]
+mod tests;
 mod walk;
 
 pub use error::TypeError;

@@ -23,10 +23,8 @@ pub fn check(alloc: Global, program: &Program) -> Result<Typed, TypeError>
             }
         }
     }
-    Ok(Typed {
-        program: program.copied(alloc)?,
-        bodies,
-    })
+    let program = program.copied(alloc)?;
+    Ok(Typed { program, bodies })
 }
 
 /// Each program is typed or has exactly one first function that is not. It is a law, and does nothing.

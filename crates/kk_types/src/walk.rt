@@ -75,7 +75,8 @@ impl Walk {
     pub fn truth(&mut self) -> Result<u32, NoMemory>
         ensures { IfOk result (λ node. Made self.old self.new node (λ r. bool)) }
     {
-        self.graph.add(TypeNode::Named(Program::BOOL, Vec::new(self.alloc)))
+        self.graph
+            .add(TypeNode::Named(Program::BOOL, Vec::new(self.alloc)))
     }
 
     /// Takes a new node, of any type.

@@ -1,4 +1,4 @@
-use Rattle.std.proofs.Common.{◌≡◌, [], map, take, refl, ap, sym, ◌∙◌, subst, arith}
+use Rattle.std.proofs.Common.{[], map, refl, sym, ◌∙◌, subst}
 use Rattle.std.proofs.lemmas.List.{take_all}
 use Rattle.kk_syntax.specs.Types.{put, type_at, type_tree}
 use Rattle.kk_unify.specs.GraphOf.{graph_of, variables_of}

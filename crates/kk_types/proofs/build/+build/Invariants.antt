@@ -1,4 +1,4 @@
-use Rattle.std.proofs.Common.{◌≡◌, length, map, take}
+use Rattle.std.proofs.Common.{◌≡◌, map, take}
 use Rattle.kk_syntax.specs.Types.{put, type_at, type_tree}
 use Rattle.kk_unify.specs.GraphOf.{graph_of, variables_of}
 use Rattle.kk_types.specs.Walks.{BuildsEach}

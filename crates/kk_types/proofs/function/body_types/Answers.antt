@@ -1,7 +1,7 @@
-use Rattle.std.proofs.Common.{◌≡◌, ◌++◌, [], map, slice_index_or, ap, sym, ◌∙◌, subst}
+use Rattle.std.proofs.Common.{◌≡◌, ◌++◌, ap, sym, ◌∙◌, subst}
 use Rattle.kk_syntax.specs.Programs.{function_tree, program_tree}
-use Rattle.kk_syntax.specs.Types.{put, type_at, type_tree, variables_below}
-use Rattle.kk_syntax.specs.TypedPrograms.{node_types, typing_of}
+use Rattle.kk_syntax.specs.Types.{variables_below}
+use Rattle.kk_syntax.specs.TypedPrograms.{node_types}
 use Rattle.kk_syntax.specs.Typing.{IsPrincipal}
 use Rattle.kk_unify.specs.GraphOf.{graph_of, variables_of}
 use Rattle.kk_unify.specs.Graphs.{IsPrincipalOf}
@@ -42,7 +42,7 @@ returns-in-Some c =
     let solution = c.in-Some.solution in
     let solves = rw c.in-Some.is at c.in_ok-solution.ensures in
     let variables : variables_of c.expression.new.self.graph ≡ function.variables =
-        walked.same_variables ∙ (c.in_ok-want.ensures.variables ∙ (c.in_ok-nodes.ensures.variables ∙ (c.in_ok-own.ensures.variables ∙ c.new-graph.ensures.variables))) in
+    walked.same_variables ∙ (c.in_ok-want.ensures.variables ∙ (c.in_ok-nodes.ensures.variables ∙ (c.in_ok-own.ensures.variables ∙ c.new-graph.ensures.variables))) in
     let principal = subst (λ n. IsPrincipalOf n last (types_in solution)) variables solves.principal in
     let taken : takings_of c.expression.new.self.taken.items ≡ walked.taken = walked.takes ∙ ap (λ ts. takings_of ts ++ walked.taken) c.new.ensures.items in
     let found = rw (c.deref-in-Some.ensures.value, c.deref-in-Some-2.ensures.value) at c.in_ok-taken-in-Some.ensures in

@@ -1,4 +1,4 @@
-use Rattle.std.proofs.Common.{◌≡◌, ◌+◌, [], ◌∷◌, ◌++◌, refl, add-one, ap, sym, ◌∙◌, subst, arith}
+use Rattle.std.proofs.Common.{◌≡◌, ◌+◌, [], ◌∷◌, ◌++◌, refl, add-one, sym, ◌∙◌, subst, arith}
 use Rattle.kk_syntax.specs.Types.{type_variable, variables_below}
 use Rattle.kk_unify.specs.GraphOf.{graph_of, variables_of}
 use Rattle.kk_types.specs.Walks.{BuildsEach}

@@ -1,4 +1,4 @@
-use Rattle.std.proofs.Common.{◌≡◌, ◌<◌, [], ◌∷◌, ◌++◌, slice_index_or, refl, sym, subst, arith}
+use Rattle.std.proofs.Common.{◌<◌, [], ◌∷◌, slice_index_or, refl, sym, subst}
 use Rattle.std.proofs.lemmas.List.Elements.{All-append, All-cons, All-nil}
 use Rattle.kk_types.specs.declared.scope.Bound.{Bound}
 use Rattle.kk_types.specs.Walks.{AreBoundBelow}

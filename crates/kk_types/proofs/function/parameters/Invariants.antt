@@ -1,4 +1,4 @@
-use Rattle.std.proofs.Common.{◌≡◌, ◌≤◌, ℕ, length, map, take, []}
+use Rattle.std.proofs.Common.{◌≡◌, ℕ, map, take, []}
 use Rattle.kk_syntax.specs.Typing.{with_parameters}
 use Rattle.kk_unify.specs.Graphs.{Assignment}
 use Rattle.kk_types.specs.Walks.{scope_at, AreBelow, AreBoundBelow}

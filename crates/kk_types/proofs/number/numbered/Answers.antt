@@ -1,4 +1,4 @@
-use Rattle.std.proofs.Common.{length, map, slice_index_or, ap, ◌∙◌}
+use Rattle.std.proofs.Common.{length, slice_index_or, ap, ◌∙◌}
 use Rattle.std.proofs.lemmas.List.{take_all}
 use Rattle.kk_syntax.specs.Types.{type_at}
 use Rattle.kk_types.specs.Walks.{takings_of, choices_at}

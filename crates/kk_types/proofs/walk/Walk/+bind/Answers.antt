@@ -1,4 +1,4 @@
-use Rattle.std.proofs.Common.{◌≡◌, ◌++◌, List, [], map, refl, ap, sym, ◌∙◌, subst}
+use Rattle.std.proofs.Common.{[], map, refl, ap, sym, ◌∙◌, subst}
 use Rattle.kk_syntax.specs.Patterns.{pattern_tree, patterns_of}
 use Rattle.kk_syntax.specs.Shapes.{bound, bound_all}
 use Rattle.kk_types.specs.Steps.{BindsEach}
@@ -6,10 +6,12 @@ use Rattle.kk_types.proofs.Patterns.{nothing_bound, variable_tree, constructor_t
 use Rattle.kk_types.proofs.walk.Walk.+bind.Goals as goal
 
 pub loop-part-init : goal.loop-part-init
-loop-part-init t c =
-    ([], binds_none c.args.self.now,
-    ap (λ parts. bound_all (patterns_of (map pattern_tree parts))) c.deref-part-items.ensures.value
-    ∙ sym (ap (λ p. bound (pattern_tree p)) c.in-Constructor.is ∙ ap bound (constructor_tree c.in-Constructor.field-0 c.in-Constructor.parts)))
+loop-part-init t c = (
+  [],
+  binds_none c.args.self.now,
+  ap (λ parts. bound_all (patterns_of (map pattern_tree parts))) c.deref-part-items.ensures.value
+      ∙ sym (ap (λ p. bound (pattern_tree p)) c.in-Constructor.is ∙ ap bound (constructor_tree c.in-Constructor.field-0 c.in-Constructor.parts)),
+)
 
 pub loop-part-preserved : goal.loop-part-preserved
 loop-part-preserved t c =

@@ -1,4 +1,4 @@
-use Rattle.std.proofs.Common.{rules, ◌≡◌, ◌<◌, Bool, true, false, List, [], ◌∷◌, map, get_or, refl, ap, sym, ◌∙◌, subst, arith}
+use Rattle.std.proofs.Common.{rules, true, false, [], ◌∷◌, map, get_or, ap, sym, ◌∙◌, subst, arith}
 use Rattle.std.specs.Prelude.{Ok}
 use Rattle.kk_syntax.specs.declared.program.Pat.TheViews.{the_lemmas}
 use Rattle.kk_syntax.specs.Patterns.{constructor, pattern_tree, patterns_of}
@@ -8,7 +8,7 @@ use Rattle.kk_types.specs.Claims.{typed_as, pattern_at, patterns_at}
 use Rattle.kk_types.specs.Steps.{nodes_of, size_of, Goes, Walked, AnswersInstance}
 use Rattle.kk_types.specs.Walks.{AreBoundBelow, Done, Refused}
 use Rattle.kk_types.proofs.Going.{still_inside, still_bound, goes_reworded}
-use Rattle.kk_types.proofs.Parts.{parts_at, other_length, part_refused, part_goes, parts_done, no_constructor, constructor_not_given, constructor_walked, parts_asked}
+use Rattle.kk_types.proofs.Parts.{parts_at, other_length, part_refused, part_goes, parts_done, constructor_not_given, constructor_walked, parts_asked}
 use Rattle.kk_types.proofs.Patterns.{wildcard_tree, variable_tree, number_tree, constructor_tree}
 use Rattle.kk_types.proofs.Refining.{below_more}
 use Rattle.kk_types.proofs.walk.Walk.+pattern.Goals as goal
@@ -25,8 +25,10 @@ parts-loop-index-init t c =
 pub parts-pattern-requires : goal.parts-pattern-requires
 parts-pattern-requires t c = (
   search (rules, the_lemmas),
-  (still_bound c.args.self.now c.loop-index.self _ _ c.loop-index.invariant c.requires.scope,
-  still_inside c.args.self.now c.loop-index.self _ _ c.loop-index.invariant _ (c.requires.wants c.loop-index.index 0 (omega (arith, c.loop-index-test.true, c.if-parts-wants.false)))),
+  (
+    still_bound c.args.self.now c.loop-index.self _ _ c.loop-index.invariant c.requires.scope,
+    still_inside c.args.self.now c.loop-index.self _ _ c.loop-index.invariant _ (c.requires.wants c.loop-index.index 0 (omega (arith, c.loop-index-test.true, c.if-parts-wants.false))),
+  ),
 )
 
 pub parts-returns-then-not-ok : goal.parts-returns-then-not-ok
@@ -36,7 +38,7 @@ parts-returns-then-not-ok t c =
     let mid = c.loop-index.self in
     let goes = c.loop-index.invariant in
     let walked : Walked mid c.pattern.new.self (pattern_at program mid.scope.items (pattern_tree c.index-parts-index.result) (get_or c.args.wants.now c.loop-index.index 0)) (Ok false) =
-        subst (λ ok. Walked mid c.pattern.new.self (pattern_at program mid.scope.items (pattern_tree c.index-parts-index.result) (get_or c.args.wants.now c.loop-index.index 0)) (Ok ok)) c.if-not-ok.true c.in_ok-ok.ensures in
+    subst (λ ok. Walked mid c.pattern.new.self (pattern_at program mid.scope.items (pattern_tree c.index-parts-index.result) (get_or c.args.wants.now c.loop-index.index 0)) (Ok ok)) c.if-not-ok.true c.in_ok-ok.ensures in
     part_refused program old.scope.items old mid _ c.args.parts.now c.args.wants.now c.loop-index.index c.index-parts-index.result c.loop-index-test.true c.if-parts-wants.false c.index-parts-index.is goes c.pattern.new.self
     (subst (λ bs. Walked mid c.pattern.new.self (pattern_at program bs (pattern_tree c.index-parts-index.result) (get_or c.args.wants.now c.loop-index.index 0)) (Ok false)) goes.same_scope walked)
 
@@ -47,7 +49,7 @@ parts-loop-index-preserved t c =
     let mid = c.loop-index.self in
     let goes = c.loop-index.invariant in
     let walked : Walked mid c.pattern.new.self (pattern_at program mid.scope.items (pattern_tree c.index-parts-index.result) (get_or c.args.wants.now c.loop-index.index 0)) (Ok true) =
-        subst (λ ok. Walked mid c.pattern.new.self (pattern_at program mid.scope.items (pattern_tree c.index-parts-index.result) (get_or c.args.wants.now c.loop-index.index 0)) (Ok ok)) c.if-not-ok.false c.in_ok-ok.ensures in
+    subst (λ ok. Walked mid c.pattern.new.self (pattern_at program mid.scope.items (pattern_tree c.index-parts-index.result) (get_or c.args.wants.now c.loop-index.index 0)) (Ok ok)) c.if-not-ok.false c.in_ok-ok.ensures in
     part_goes program old.scope.items old mid _ c.args.parts.now c.args.wants.now c.loop-index.index c.index-parts-index.result c.loop-index-test.true c.if-parts-wants.false c.index-parts-index.is goes c.pattern.new.self
     (subst (AreBoundBelow (size_of mid)) goes.same_scope (still_bound old mid _ _ goes c.requires.scope))
     (below_more (size_of old) (size_of mid) c.args.wants.now goes.leads.longer c.requires.wants)
@@ -91,9 +93,9 @@ pattern-returns-then-not-ok-2 t c =
     let is = ap pattern_tree c.in-Constructor.is ∙ constructor_tree c.in-Constructor.by c.in-Constructor.parts in
     let parts = patterns_of (map pattern_tree c.in-Constructor.parts.items) in
     let last : Walked c.same.new.self c.parts.new.self (patterns_at program c.same.new.self.scope.items parts instance.parameters.items) (Ok false) =
-        subst (λ ok. Walked c.same.new.self c.parts.new.self (patterns_at program c.same.new.self.scope.items parts instance.parameters.items) (Ok ok)) c.if-not-ok-2.true
-        (subst (λ ws. Walked c.same.new.self c.parts.new.self (patterns_at program c.same.new.self.scope.items parts ws) (Ok c.in_ok-ok-in-Constructor-2.ok)) c.deref-in-Constructor.ensures.value
-        (subst (λ ps. Walked c.same.new.self c.parts.new.self (patterns_at program c.same.new.self.scope.items (patterns_of (map pattern_tree ps)) c.deref-in-Constructor.result.now) (Ok c.in_ok-ok-in-Constructor-2.ok)) c.deref.ensures.value c.in_ok-ok-in-Constructor-2.ensures)) in
+    subst (λ ok. Walked c.same.new.self c.parts.new.self (patterns_at program c.same.new.self.scope.items parts instance.parameters.items) (Ok ok)) c.if-not-ok-2.true
+    (subst (λ ws. Walked c.same.new.self c.parts.new.self (patterns_at program c.same.new.self.scope.items parts ws) (Ok c.in_ok-ok-in-Constructor-2.ok)) c.deref-in-Constructor.ensures.value
+    (subst (λ ps. Walked c.same.new.self c.parts.new.self (patterns_at program c.same.new.self.scope.items (patterns_of (map pattern_tree ps)) c.deref-in-Constructor.result.now) (Ok c.in_ok-ok-in-Constructor-2.ok)) c.deref.ensures.value c.in_ok-ok-in-Constructor-2.ensures)) in
     subst (λ p. Refused (nodes_of old) (pattern_at program old.scope.items p c.args.want)) (sym is)
     (constructor_walked program old c.args.want c.requires.scope c.requires.want c.in-Constructor.by parts mid instance made c.same.new.self c.parts.new.self (Ok false) given last)
 
@@ -121,10 +123,9 @@ pattern-returns-else-not-ok-2 t c =
     let is = ap pattern_tree c.in-Constructor.is ∙ constructor_tree c.in-Constructor.by c.in-Constructor.parts in
     let parts = patterns_of (map pattern_tree c.in-Constructor.parts.items) in
     let last : Walked c.same.new.self c.parts.new.self (patterns_at program c.same.new.self.scope.items parts instance.parameters.items) (Ok true) =
-        subst (λ ok. Walked c.same.new.self c.parts.new.self (patterns_at program c.same.new.self.scope.items parts instance.parameters.items) (Ok ok)) c.if-not-ok-2.false
-        (subst (λ ws. Walked c.same.new.self c.parts.new.self (patterns_at program c.same.new.self.scope.items parts ws) (Ok c.in_ok-ok-in-Constructor-2.ok)) c.deref-in-Constructor.ensures.value
-        (subst (λ ps. Walked c.same.new.self c.parts.new.self (patterns_at program c.same.new.self.scope.items (patterns_of (map pattern_tree ps)) c.deref-in-Constructor.result.now) (Ok c.in_ok-ok-in-Constructor-2.ok)) c.deref.ensures.value c.in_ok-ok-in-Constructor-2.ensures)) in
+    subst (λ ok. Walked c.same.new.self c.parts.new.self (patterns_at program c.same.new.self.scope.items parts instance.parameters.items) (Ok ok)) c.if-not-ok-2.false
+    (subst (λ ws. Walked c.same.new.self c.parts.new.self (patterns_at program c.same.new.self.scope.items parts ws) (Ok c.in_ok-ok-in-Constructor-2.ok)) c.deref-in-Constructor.ensures.value
+    (subst (λ ps. Walked c.same.new.self c.parts.new.self (patterns_at program c.same.new.self.scope.items (patterns_of (map pattern_tree ps)) c.deref-in-Constructor.result.now) (Ok c.in_ok-ok-in-Constructor-2.ok)) c.deref.ensures.value c.in_ok-ok-in-Constructor-2.ensures)) in
     subst (λ p. Walked old c.parts.new.self (pattern_at program old.scope.items p c.args.want) (Ok c.in_ok-ok-in-Constructor-2.ok)) (sym is)
     (subst (λ ok. Walked old c.parts.new.self (pattern_at program old.scope.items (constructor c.in-Constructor.by parts) c.args.want) (Ok ok)) (sym c.if-not-ok-2.false)
     (constructor_walked program old c.args.want c.requires.scope c.requires.want c.in-Constructor.by parts mid instance made c.same.new.self c.parts.new.self (Ok true) given last))
-

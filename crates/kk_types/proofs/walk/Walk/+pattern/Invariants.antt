@@ -1,4 +1,4 @@
-use Rattle.std.proofs.Common.{map, drop}
+use Rattle.std.proofs.Common.{drop}
 use Rattle.kk_syntax.specs.Programs.{program_tree}
 use Rattle.kk_types.specs.Steps.{Goes}
 use Rattle.kk_types.proofs.Parts.{parts_at}

@@ -1,13 +1,13 @@
-use Rattle.std.proofs.Common.{rules, ◌≡◌, ◌≤◌, ◌∷◌, ◌++◌, ◌+◌, true, false, [], length, map, get_or, drop, take, refl, ap, sym, ◌∙◌, subst, arith, ◌<◌, Bool, List}
-use Rattle.std.specs.Prelude.{Ok, Err}
-use Rattle.std.proofs.lemmas.List.{get_or_default, drop_all, drop_more}
+use Rattle.std.proofs.Common.{rules, ◌≤◌, ◌+◌, true, false, [], length, map, get_or, drop, take, refl, ap, sym, ◌∙◌, subst, arith}
+use Rattle.std.specs.Prelude.{Ok}
+use Rattle.std.proofs.lemmas.List.{get_or_default, drop_all}
 use Rattle.kk_syntax.specs.declared.program.Expr.TheViews.{the_lemmas}
 use Rattle.kk_syntax.specs.Programs.{program_tree}
-use Rattle.kk_syntax.specs.Trees.{expr_tree, row_tree, statement_tree, rows_of, trees_of, block_of}
+use Rattle.kk_syntax.specs.Trees.{expr_tree, row_tree, statement_tree, rows_of, trees_of}
 use Rattle.kk_unify.specs.GraphOf.{graph_of, variables_of}
 use Rattle.kk_types.specs.declared.walk.Walk.{Walk}
 use Rattle.kk_types.specs.Claims.{expression_at, expressions_at, pattern_at}
-use Rattle.kk_types.specs.Steps.{nodes_of, size_of, Goes, GoesInto, Walked}
+use Rattle.kk_types.specs.Steps.{nodes_of, size_of, Goes, Walked}
 use Rattle.kk_types.specs.Walks.{AreBelow, AreBoundBelow, Refused, Done}
 use Rattle.kk_types.proofs.Forms.{in_scope, form_not_given, form_walked, condition_refused, positive_refused, branch_walked, scrutinee_refused, match_walked}
 use Rattle.kk_types.proofs.Going.{still_bound, still_inside, goes_reworded}
@@ -85,10 +85,13 @@ expression-rows-requires t c =
     let opened = c.in_ok-node-in-Match.ensures in
     let goes = rw c.if-not-ok.false at c.in_ok-ok-in-Match.ensures in
     let longer : size_of c.args.self.now ≤ size_of c.expression.new.self = omega (arith, opened.opens.longer, goes.leads.longer) in
-    let scope = goes.same_scope ∙ opened.same_scope in
-    (search (rules, the_lemmas),
-    (subst (AreBoundBelow (size_of c.expression.new.self)) (sym scope) (bound_more (size_of c.args.self.now) (size_of c.expression.new.self) c.args.self.now.scope.items longer c.requires.scope),
-    (omega (arith, opened.opens.inside 0 c.in_ok-node-in-Match.node (omega arith), goes.leads.longer), omega (arith, longer))))
+    let scope = goes.same_scope ∙ opened.same_scope in (
+      search (rules, the_lemmas),
+      (
+        subst (AreBoundBelow (size_of c.expression.new.self)) (sym scope) (bound_more (size_of c.args.self.now) (size_of c.expression.new.self) c.args.self.now.scope.items longer c.requires.scope),
+        (omega (arith, opened.opens.inside 0 c.in_ok-node-in-Match.node (omega arith), goes.leads.longer), omega (arith, longer)),
+      ),
+    )
 
 pub expression-returns-else-not-ok : goal.expression-returns-else-not-ok
 expression-returns-else-not-ok t c =
@@ -113,11 +116,14 @@ pub expression-arguments-requires : goal.expression-arguments-requires
 expression-arguments-requires t c =
     let made = rw c.in-Some.is at c.in_ok-instance-in-Apply.ensures in
     let goes = rw c.if-not-ok-2.false at c.in_ok-ok-in-Apply.ensures in
-    let longer : size_of c.args.self.now ≤ size_of c.same.new.self = omega (arith, made.opens.longer, goes.leads.longer) in
-    let scope = goes.same_scope ∙ made.same_scope in
-    (search (rules, the_lemmas),
-    (subst (AreBoundBelow (size_of c.same.new.self)) (sym scope) (bound_more (size_of c.args.self.now) (size_of c.same.new.self) c.args.self.now.scope.items longer c.requires.scope),
-    subst (AreBelow (size_of c.same.new.self)) (sym c.deref-in-Apply-2.ensures.value) (below_more (size_of c.form.new.self) (size_of c.same.new.self) c.in-Some.instance.parameters.items goes.leads.longer made.parameters_inside)))
+    let longer : size_of c.args.self.now ≤ size_of c.same.new.self = omega (arith, made.nodes.opens.longer, goes.leads.longer) in
+    let scope = goes.same_scope ∙ made.same_scope in (
+      search (rules, the_lemmas),
+      (
+        subst (AreBoundBelow (size_of c.same.new.self)) (sym scope) (bound_more (size_of c.args.self.now) (size_of c.same.new.self) c.args.self.now.scope.items longer c.requires.scope),
+        subst (AreBelow (size_of c.same.new.self)) (sym c.deref-in-Apply-2.ensures.value) (below_more (size_of c.form.new.self) (size_of c.same.new.self) c.in-Some.instance.parameters.items goes.leads.longer made.nodes.takes_inside),
+      ),
+    )
 
 pub expression-returns-else-not-ok-2 : goal.expression-returns-else-not-ok-2
 expression-returns-else-not-ok-2 t c =
@@ -231,7 +237,7 @@ rows-returns-then-not-ok t c =
     let goes = c.loop-row.invariant in
     let one = c.row-item.result in
     let first : Walked bound c.pattern.new.self (pattern_at program bound.scope.items (pattern_tree one.pattern) c.args.scrutinee) (Ok false) =
-        subst (λ ok. Walked bound c.pattern.new.self (pattern_at program bound.scope.items (pattern_tree one.pattern) c.args.scrutinee) (Ok ok)) c.if-not-ok.true c.in_ok-ok.ensures in
+    subst (λ ok. Walked bound c.pattern.new.self (pattern_at program bound.scope.items (pattern_tree one.pattern) c.args.scrutinee) (Ok ok)) c.if-not-ok.true c.in_ok-ok.ensures in
     case_refused program old.scope.items c.args.scrutinee c.args.want old mid _ c.args.rows.now c.loop-row.row-index one c.loop-row-test.true c.row-item.is goes
     (subst (λ bs. Refused (nodes_of mid) (case_at program bs c.args.scrutinee c.args.want one)) goes.same_scope
     (pattern_refused program mid bound (pattern_tree one.pattern) (expr_tree one.body) c.args.scrutinee c.args.want (still_bound old mid _ _ goes c.requires.scope) (still_inside old mid _ _ goes c.args.scrutinee c.requires.scrutinee)
@@ -246,9 +252,9 @@ rows-returns-then-not-ok-2 t c =
     let goes = c.loop-row.invariant in
     let one = c.row-item.result in
     let first : Walked bound c.pattern.new.self (pattern_at program bound.scope.items (pattern_tree one.pattern) c.args.scrutinee) (Ok true) =
-        subst (λ ok. Walked bound c.pattern.new.self (pattern_at program bound.scope.items (pattern_tree one.pattern) c.args.scrutinee) (Ok ok)) c.if-not-ok.false c.in_ok-ok.ensures in
+    subst (λ ok. Walked bound c.pattern.new.self (pattern_at program bound.scope.items (pattern_tree one.pattern) c.args.scrutinee) (Ok ok)) c.if-not-ok.false c.in_ok-ok.ensures in
     let second : Walked c.pattern.new.self c.expression.new.self (expression_at program c.pattern.new.self.scope.items (expr_tree one.body) c.args.want) (Ok false) =
-        subst (λ ok. Walked c.pattern.new.self c.expression.new.self (expression_at program c.pattern.new.self.scope.items (expr_tree one.body) c.args.want) (Ok ok)) c.if-not-ok-2.true c.in_ok-ok-2.ensures in
+    subst (λ ok. Walked c.pattern.new.self c.expression.new.self (expression_at program c.pattern.new.self.scope.items (expr_tree one.body) c.args.want) (Ok ok)) c.if-not-ok-2.true c.in_ok-ok-2.ensures in
     case_refused program old.scope.items c.args.scrutinee c.args.want old mid _ c.args.rows.now c.loop-row.row-index one c.loop-row-test.true c.row-item.is goes
     (subst (λ bs. Refused (nodes_of mid) (case_at program bs c.args.scrutinee c.args.want one)) goes.same_scope
     (body_refused program mid bound (pattern_tree one.pattern) (expr_tree one.body) c.args.scrutinee c.args.want (still_bound old mid _ _ goes c.requires.scope) (still_inside old mid _ _ goes c.args.scrutinee c.requires.scrutinee)
@@ -267,9 +273,9 @@ rows-loop-row-preserved t c =
     let first_lt = still_inside old mid _ _ goes c.args.scrutinee c.requires.scrutinee in
     let lt = still_inside old mid _ _ goes c.args.want c.requires.want in
     let first : Walked bound c.pattern.new.self (pattern_at program bound.scope.items (pattern_tree one.pattern) c.args.scrutinee) (Ok true) =
-        subst (λ ok. Walked bound c.pattern.new.self (pattern_at program bound.scope.items (pattern_tree one.pattern) c.args.scrutinee) (Ok ok)) c.if-not-ok.false c.in_ok-ok.ensures in
+    subst (λ ok. Walked bound c.pattern.new.self (pattern_at program bound.scope.items (pattern_tree one.pattern) c.args.scrutinee) (Ok ok)) c.if-not-ok.false c.in_ok-ok.ensures in
     let second : Walked c.pattern.new.self c.expression.new.self (expression_at program c.pattern.new.self.scope.items (expr_tree one.body) c.args.want) (Ok true) =
-        subst (λ ok. Walked c.pattern.new.self c.expression.new.self (expression_at program c.pattern.new.self.scope.items (expr_tree one.body) c.args.want) (Ok ok)) c.if-not-ok-2.false c.in_ok-ok-2.ensures in
+    subst (λ ok. Walked c.pattern.new.self c.expression.new.self (expression_at program c.pattern.new.self.scope.items (expr_tree one.body) c.args.want) (Ok ok)) c.if-not-ok-2.false c.in_ok-ok-2.ensures in
     case_goes program old.scope.items c.args.scrutinee c.args.want old mid _ c.args.rows.now c.loop-row.row-index one c.loop-row-test.true c.row-item.is goes end
     (subst (AreBoundBelow (size_of mid)) goes.same_scope inside) first_lt lt
     (subst (λ bs. Goes mid end (case_at program bs c.args.scrutinee c.args.want one) Done) goes.same_scope

@@ -1,4 +1,4 @@
-use Rattle.std.proofs.Common.{[], ◌∷◌, Some, option_map, map, length, refl, ap, sym, ◌∙◌}
+use Rattle.std.proofs.Common.{[], ◌∷◌, option_map, map, length, refl, ap, ◌∙◌}
 use Rattle.std.specs.Prelude.{slice_get}
 use Rattle.std.proofs.lemmas.Option.{slice_get-map, slice_get_read}
 use Rattle.kk_syntax.specs.declared.typed.Taken.TheVariants.{Call}
