@@ -1,6 +1,6 @@
 -- What is built of a search that has ended is what is answered of the program.
 use Rattle.std.proofs.Common.{◌≡◌, ◌≢◌, ℕ, zero, suc, ◌<◌, ◌≤◌, List, [], ◌∷◌, ◌++◌, length, map, get_or, All, AllPairs, Some, None, refl, ap, sym, ◌∙◌, subst, inl, inr, arith, nat_lt}
-use Rattle.std.specs.Prelude.{slice_get, slice_index_or, sum}
+use Rattle.std.specs.Prelude.{slice_get, slice_index_or, sum, Result, Ok, Err}
 use Rattle.std.proofs.lemmas.Bool.{cases_Bool, ltb-false, cond-true, cond-false}
 use Rattle.std.proofs.lemmas.List.{append-nil, length-map, get_or-map, get_or_default, same_lists}
 use Rattle.std.proofs.lemmas.Option.{slice_get_within, get_or_from_slice_get, slice_get-get_or}
@@ -16,20 +16,23 @@ use Rattle.kk_syntax.specs.Types.{TypeTree, type_at}
 use Rattle.kk_syntax.specs.Typing.{Choice, put_choice, ArePrincipal}
 use Rattle.kk_mono.specs.declared.search.Found.{Found}
 use Rattle.kk_mono.specs.declared.search.Looked.{Looked}
+use Rattle.kk_mono.specs.declared.error.MonoError.{MonoError}
+use Rattle.kk_mono.specs.declared.error.MonoError.TheVariants.{Over, NoMemory}
 use Rattle.kk_mono.specs.Building.{IsBuiltOf, IsBuilt}
 use Rattle.kk_mono.specs.Counts.{too_many_nodes}
-use Rattle.kk_mono.specs.Grounds.{instance_view, instances_of, TakesTypes, AreGiven}
+use Rattle.kk_mono.specs.Grounds.{instance_view, instances_of, TakesTypes, AreGiven, AnswersInstances}
 use Rattle.kk_mono.specs.Instances.{InstanceTree, main_instance, called_in, calls, renamed, origin_in, IsAtTypes, IsInstanceProgram}
 use Rattle.kk_mono.specs.KeyTrees.{KeyTree, keys_in, viewed}
 use Rattle.kk_mono.specs.Labels.{labelled}
-use Rattle.kk_mono.specs.Searching.{function_in, IsLooked, known_in, HasSearched}
-use Rattle.kk_mono.specs.Told.{AreFew}
+use Rattle.kk_mono.specs.Searching.{IsComplete, function_in, IsLooked, known_in, HasSearched}
+use Rattle.kk_mono.specs.Told.{AreFew, IsFound}
 use Rattle.kk_mono.specs.Views.{types_in}
 use Rattle.kk_mono.proofs.Callees.{typing_calls, called_functions}
+use Rattle.kk_mono.proofs.Complete.{complete_of}
 use Rattle.kk_mono.proofs.Labelled.{copied, nodes_renamed}
 use Rattle.kk_mono.proofs.Looks.{known_below}
 use Rattle.kk_mono.proofs.Renamings.{typing_at}
-use Rattle.kk_mono.proofs.Told.{ended, kept_answered, summed_viewed}
+use Rattle.kk_mono.proofs.Told.{ended, kept_answered, nodes_answered, passed_answered, summed_viewed}
 
 -- the instances that are called are by their numbers functions that are called
 origins : (known : List InstanceTree) (ns : List ℕ) (xs : List InstanceTree) → map (slice_get known) ns ≡ map Some xs → map (origin_in known) ns ≡ map (λ (x : InstanceTree). x.function) xs
@@ -102,15 +105,16 @@ some_instance : (xs : List Instance) (i : ℕ) → i < length xs → Instance
 some_instance [] i lt = absurd (omega (arith, lt))
 some_instance (x ∷ xs) i lt = x
 
-module _ (typed : Typed) (principal : ArePrincipal (program_tree typed.program) (typings_of typed)) (found : Found) (searched : HasSearched typed found) where
-  pub keys_below : All (λ (key : KeyTree). key.function < length typed.program.functions.items) (keys_in found.keys)
-  keys_below i key lt =
-      let long = length-map (keys_in found.keys) (viewed (types_in found.types)) in
-      let below = known_below typed principal found i (viewed (types_in found.types) key) searched.searching (omega (arith, long, lt)) in
-      let is : (get_or (known_in found) i (viewed (types_in found.types) key)).function ≡ (get_or (keys_in found.keys) i key).function = ap (λ (x : InstanceTree). x.function) (get_or-map (viewed (types_in found.types)) (keys_in found.keys) i key (viewed (types_in found.types) key) lt) in
-      let count = length-map typed.program.functions.items function_tree in
-      omega (arith, below, is, count)
+-- the function of each instance that is known is one of the program's
+pub keys_below : (typed : Typed) → IsComplete typed → (found : Found) → HasSearched typed found → All (λ (key : KeyTree). key.function < length typed.program.functions.items) (keys_in found.keys)
+keys_below typed complete found searched i key lt =
+    let long = length-map (keys_in found.keys) (viewed (types_in found.types)) in
+    let below = known_below typed complete found i (viewed (types_in found.types) key) searched.searching (omega (arith, long, lt)) in
+    let is : (get_or (known_in found) i (viewed (types_in found.types) key)).function ≡ (get_or (keys_in found.keys) i key).function = ap (λ (x : InstanceTree). x.function) (get_or-map (viewed (types_in found.types)) (keys_in found.keys) i key (viewed (types_in found.types) key) lt) in
+    let count = length-map typed.program.functions.items function_tree in
+    omega (arith, below, is, count)
 
+module _ (typed : Typed) (principal : ArePrincipal (program_tree typed.program) (typings_of typed)) (found : Found) (searched : HasSearched typed found) where
   module _ (none : too_many_nodes (program_tree typed.program).functions ≡ None) (few : AreFew (program_tree typed.program) (keys_in found.keys)) where
     pub all_looked : length found.looked.items ≡ length (keys_in found.keys)
     all_looked =
@@ -132,7 +136,7 @@ module _ (typed : Typed) (principal : ArePrincipal (program_tree typed.program) 
           let here : get_or (known_in found) i (main_instance 0) ≡ viewed (types_in found.types) (get_or (keys_in found.keys) i key) = get_or-map (viewed (types_in found.types)) (keys_in found.keys) i key (main_instance 0) lt in
           let program_count = length-map typed.program.functions.items function_tree in
           is_made (program_tree typed.program) (typings_of typed) principal (types_in found.types) (known_in found) (get_or (keys_in found.keys) i key) (get_or found.looked.items i looked) (get_or given.instances.items i d)
-          (let below = keys_below i key lt in omega (arith, below, program_count))
+          (let below = keys_below typed (complete_of typed principal) found searched i key lt in omega (arith, below, program_count))
           (subst (λ x. IsLooked (program_tree typed.program) (typings_of typed) (types_in found.types) (known_in found) x (get_or found.looked.items i looked)) here (searched.searching.looked i looked seen_in))
           (built.instances.each i key looked d seen_in)
 
@@ -165,7 +169,7 @@ module _ (typed : Typed) (principal : ArePrincipal (program_tree typed.program) 
             let f_is : instance_tree (types_in found.types) (get_or given.instances.items n e) ≡ f =
             ap (λ ts. instance_tree ts (get_or given.instances.items n e)) (sym types_are)
             ∙ (sym (get_or-map (instance_tree (ground_types given.types.items)) given.instances.items n e f within) ∙ get_or_from_slice_get (ground_program given).functions n f f f_found) in
-            let below : x.function < length (program_tree typed.program).functions = subst (λ (y : InstanceTree). y.function < length (program_tree typed.program).functions) x_is (known_below typed principal found n (main_instance 0) searched.searching (slice_get_within (known_in found) n x x_found)) in (
+            let below : x.function < length (program_tree typed.program).functions = subst (λ (y : InstanceTree). y.function < length (program_tree typed.program).functions) x_is (known_below typed (complete_of typed principal) found n (main_instance 0) searched.searching (slice_get_within (known_in found) n x x_found)) in (
               function_in (program_tree typed.program) x.function,
               slice_get-get_or (program_tree typed.program).functions x.function no_function below,
               subst (λ (g : FunctionTree). IsAtTypes (known_in found) x.at (slice_index_or (typings_of typed) x.function []) (function_in (program_tree typed.program) x.function) g) f_is
@@ -206,3 +210,11 @@ module _ (typed : Typed) (principal : ArePrincipal (program_tree typed.program) 
         taken = λ i d lt. subst (λ ts. TakesTypes (typings_of typed) ts (get_or given.instances.items i d)) (sym types_are) (made i d lt).taken;
         once = subst (λ ts. AllPairs (λ one other. one ≢ other) ts) (sym types_are) found.types.once;
       }
+
+-- an answer that rests on the typings as they are given is the program's where they are principal
+pub answered : (typed : Typed) → ArePrincipal (program_tree typed.program) (typings_of typed) → (result : Result Ground MonoError) → IsFound typed result → AnswersInstances typed result
+answered typed principal (Ok given) built = are_given typed principal built.found built.searched built.none built.few given built.built
+answered typed principal (Err (Over limit)) (inl function) = nodes_answered typed.program typed.program.functions.items limit refl function
+answered typed principal (Err (Over limit)) (inr passed) =
+    passed_answered (program_tree typed.program) (typings_of typed) principal (types_in passed.found.types) (keys_in passed.found.keys) (length passed.found.looked.items) passed.searched.searching.searched passed.searched.ends passed.none limit passed.by
+answered typed principal (Err NoMemory) found = tt

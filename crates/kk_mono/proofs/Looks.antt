@@ -17,20 +17,20 @@ use Rattle.kk_syntax.specs.declared.typed.Typed.{Typed}
 use Rattle.kk_syntax.specs.Programs.{FunctionTree, ProgramTree, function_tree, program_tree, no_function}
 use Rattle.kk_syntax.specs.TypedPrograms.{choice_of, node_types, typing_of, typings_of}
 use Rattle.kk_syntax.specs.Types.{TypeTree, unit_type, type_tree, put, type_at}
-use Rattle.kk_syntax.specs.Typing.{Choice, constructing, calling, holding, put_choice, ArePrincipal}
+use Rattle.kk_syntax.specs.Typing.{Choice, constructing, calling, holding, put_choice}
 use Rattle.kk_mono.specs.declared.search.Looked.{Looked}
 use Rattle.kk_mono.specs.declared.search.Found.{Found}
 use Rattle.kk_mono.specs.Instances.{InstanceTree, main_instance, called_in, FirstSights}
 use Rattle.kk_mono.specs.KeyTrees.{KeyTree, keys_in, viewed, keys_called, AreTakenWithin}
 use Rattle.kk_mono.specs.Looking.{Looks}
 use Rattle.kk_mono.specs.Places.{Renumbers}
-use Rattle.kk_mono.specs.Searching.{Searched, function_in, IsLooked, AreLooked, known_in, IsSearching}
+use Rattle.kk_mono.specs.Searching.{Searched, IsComplete, function_in, IsLooked, AreLooked, known_in, IsSearching}
 use Rattle.kk_mono.specs.Tables.{Grows, number_in, AreNumbers}
 use Rattle.kk_mono.specs.Views.{types_in}
 use Rattle.kk_mono.specs.declared.types.Types.{Types}
+use Rattle.kk_mono.proofs.Complete.{instance_below}
 use Rattle.kk_mono.proofs.Keyed.{IsKeyWithin, all_stay, called_within, new_within, sights_viewed, called_viewed}
 use Rattle.kk_mono.proofs.Numbered.{grows_on, unit_of, some_of, within_grown, type_stays, types_stay, numbers_grown, longer, place_within, place_type, places_within, places_types, put_at, put_each_at}
-use Rattle.kk_mono.proofs.Renamings.{instance_below}
 use Rattle.kk_mono.proofs.Searched.{search_starts, search_steps}
 
 -- a choice by other numbers
@@ -119,16 +119,9 @@ function_read program f function lt is = get_or-map function_tree program.functi
 pub typing_read : (typed : Typed) (f : ℕ) (body : BodyTypes) → f < length typed.bodies.items → body ≡ get_or typed.bodies.items f body → slice_index_or (typings_of typed) f [] ≡ typing_of body
 typing_read typed f body lt is = get_or-map typing_of typed.bodies.items f body [] lt ∙ ap typing_of (sym is)
 
-module _ (typed : Typed) (principal : ArePrincipal (program_tree typed.program) (typings_of typed)) where
-  pub main_below : typed.program.main < length (program_tree typed.program).functions
-  main_below =
-      let is_in = typed.program.main_in in
-      let count = typed.program.functions.ok.0 in
-      let seen = length-map typed.program.functions.items function_tree in
-      omega (arith, is_in, count, seen)
-
+module _ (typed : Typed) (complete : IsComplete typed) where
   pub known_below : (found : Found) (i : ℕ) (d : InstanceTree) → IsSearching typed found → i < length (known_in found) → (get_or (known_in found) i d).function < length (program_tree typed.program).functions
-  known_below found i d searching lt = instance_below (program_tree typed.program) main_below (typings_of typed) principal (get_or (known_in found) i d) (searching.searched.each i d lt)
+  known_below found i d searching lt = instance_below typed complete (get_or (known_in found) i d) (searching.searched.each i d lt)
 
   -- the function of the next instance is one of the program's, with its body's types
   pub key_below : (found : Found) (n : ℕ) (key : KeyTree) → IsSearching typed found → slice_get (keys_in found.keys) n ≡ Some key → n < length (known_in found) → key.function < length (program_tree typed.program).functions
@@ -145,10 +138,9 @@ module _ (typed : Typed) (principal : ArePrincipal (program_tree typed.program) 
 
   pub body_within : (found : Found) (n : ℕ) (key : KeyTree) → IsSearching typed found → slice_get (keys_in found.keys) n ≡ Some key → n < length (known_in found) → key.function < length typed.bodies.items
   body_within found n key searching found_at lt =
-      let below = key_below found n key searching found_at lt in
-      let long = principal.length in
-      let seen = length-map typed.bodies.items typing_of in
-      omega (arith, below, long, seen)
+      let below = function_within found n key searching found_at lt in
+      let as_many = complete.as_many in
+      omega (arith, below, as_many)
 
   pub key_types : (found : Found) (n : ℕ) (key : KeyTree) → IsSearching typed found → slice_get (keys_in found.keys) n ≡ Some key → n < length (known_in found) → All (λ k. k < length (types_in found.types)) key.at
   key_types found n key searching found_at lt = subst (λ (k : KeyTree). IsKeyWithin (types_in found.types) k) (get_or_from_slice_get (keys_in found.keys) n key key found_at)

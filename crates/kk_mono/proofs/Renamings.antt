@@ -5,7 +5,7 @@ use Rattle.std.specs.Prelude.{slice_get, slice_index_or, flat_map}
 use Rattle.std.proofs.lemmas.Bool.{cases_lt}
 use Rattle.std.proofs.lemmas.List.{length-map, get_or_past}
 use Rattle.std.proofs.lemmas.List.Elements.{All-weaker, All-head, All-tail, Contains-append_cases}
-use Rattle.std.proofs.lemmas.Option.{slice_get_within, slice_get-get_or, same_Some}
+use Rattle.std.proofs.lemmas.Option.{slice_get-get_or, same_Some}
 use Rattle.kk_syntax.specs.Programs.{FunctionTree, ProgramTree, no_function}
 use Rattle.kk_syntax.specs.Types.{TypeTree, TypeTrees, int32, unit_type, type_variable, named, no_type, type, put, put_each, type_at}
 use Rattle.kk_syntax.specs.Typing.{Choice, constructing, calling, holding, put_choice, Fixes, IsPrincipal, ArePrincipal}
@@ -113,22 +113,6 @@ module _ (program : ProgramTree) where
         called_fits caller.at (slice_index_or typings caller.function []) (calls (at.0).body) (typing_calls program at.0 (slice_index_or typings caller.function []) at.2.typing) x called
     | inr past ↦ let none = subst (λ ys. Contains ys x) (no_calls typings are caller past) called in absurd (let lt = none.1 in omega (arith, lt))
   ]
-
-  called_below : (ts : List TypeTree) (choices : List Choice) (fs : List ℕ) → CallsAre program choices fs → (x : InstanceTree) → Contains (called_at ts choices) x → x.function < length program.functions
-  called_below ts [] fs are x there = absurd (let lt = there.1 in omega (arith, lt))
-  called_below ts (constructing by at ∷ choices) fs are x there = called_below ts choices fs are x there
-  called_below ts (calling f at ∷ choices) fs (rest, is, call, are) x there = elim (Contains-append_cases (record { function = f; at = map (put (type_at ts)) at } ∷ []) (called_at ts choices) x there) [
-    | inl here ↦ subst (λ n. n < length program.functions) (ap (λ (y : InstanceTree). y.function) (only_one _ x here)) (slice_get_within program.functions f call.function call.is)
-    | inr behind ↦ called_below ts choices rest are x behind
-  ]
-  called_below ts (holding of ∷ choices) fs are x there = called_below ts choices fs are x there
-
-  -- the function of an instance is one of the program's
-  pub instance_below : program.main < length program.functions → (typings : List (List Choice)) → ArePrincipal program typings → (x : InstanceTree) → IsInstance program.main typings x → x.function < length program.functions
-  instance_below main_in typings are x main_is = main_in
-  instance_below main_in typings are x (called_is {caller = caller} instance called) =
-      let at = typing_at typings are caller.function (instance_below main_in typings are caller instance) in
-      called_below caller.at (slice_index_or typings caller.function []) (calls (at.0).body) (typing_calls program at.0 (slice_index_or typings caller.function []) at.2.typing) x called
 
   module _ (some others : List (List Choice)) (one : ArePrincipal program some) (two : ArePrincipal program others) where
     pub same_called : (x : InstanceTree) → Fits program x → called_in others x ≡ called_in some x

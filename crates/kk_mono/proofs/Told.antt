@@ -42,6 +42,9 @@ summed_more program keys i key function found within is =
     omega (arith, whole, rest, more, nodes)
 
 -- a function has too many nodes
+pub nodes_told : (program : Program) (slice : List Fun) (limit : Limit) → slice ≡ program.functions.items → Some limit ≡ option_map (told FunctionNodes) (too_many_nodes (map function_tree slice)) → Some limit ≡ option_map (told FunctionNodes) (too_many_nodes (program_tree program).functions)
+nodes_told program slice limit same found = found ∙ ap (λ fs. option_map (told FunctionNodes) (too_many_nodes (map function_tree fs))) same
+
 pub nodes_answered : (program : Program) (slice : List Fun) (limit : Limit) → slice ≡ program.functions.items → Some limit ≡ option_map (told FunctionNodes) (too_many_nodes (map function_tree slice)) → AnswersCounts (program_tree program) (Err limit)
 nodes_answered program slice limit same found = by (too_many_nodes (map function_tree program.functions.items)) refl (found ∙ ap (λ fs. option_map (told FunctionNodes) (too_many_nodes (map function_tree fs))) same)
   where

@@ -6,7 +6,7 @@ use Rattle.kk_syntax.specs.declared.typed.Typed.{Typed}
 use Rattle.kk_syntax.specs.Programs.{FunctionTree, ProgramTree, program_tree, no_function}
 use Rattle.kk_syntax.specs.TypedPrograms.{choice_of, typings_of}
 use Rattle.kk_syntax.specs.Types.{TypeTree, put, type_at}
-use Rattle.kk_syntax.specs.Typing.{Choice, put_choice}
+use Rattle.kk_syntax.specs.Typing.{Choice, constructing, calling, holding, put_choice}
 use Rattle.kk_mono.specs.declared.search.Looked.{Looked}
 use Rattle.kk_mono.specs.declared.search.Found.{Found}
 use Rattle.kk_mono.specs.Instances.{InstanceTree, main_instance, called_in, IsInstance, FirstSights}
@@ -21,6 +21,18 @@ pub record Searched (main : ℕ) (typings : List (List Choice)) (known : List In
   pub in_order : FirstSights (main_instance main ∷ []) (flat_map (called_in typings) (take looked known)) others
   pub each : All (IsInstance main typings) known
   pub within : looked ≤ length known
+
+-- the calls of a typing are of functions below a number
+abbrev pub AreCallsBelow : ℕ → List Choice → Type 0
+AreCallsBelow count [] = Unit {0}
+AreCallsBelow count (constructing by at ∷ choices) = AreCallsBelow count choices
+AreCallsBelow count (calling function at ∷ choices) = (function < count) × AreCallsBelow count choices
+AreCallsBelow count (holding of ∷ choices) = AreCallsBelow count choices
+
+-- each function has its typing, and each call is of one of the functions
+pub record IsComplete (typed : Typed) : Type 0 where
+  pub as_many : length typed.bodies.items ≡ length typed.program.functions.items
+  pub calls : (f : ℕ) → AreCallsBelow (length typed.program.functions.items) (slice_index_or (typings_of typed) f [])
 
 -- a function by its number
 abbrev pub function_in : ProgramTree → ℕ → FunctionTree

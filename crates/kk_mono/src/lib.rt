@@ -10,6 +10,8 @@ mod limits;
 mod numbers;
 mod program;
 mod search;
+#[cfg(test)]
+mod tests;
 mod types;
 
 pub use error::MonoError;

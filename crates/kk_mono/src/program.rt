@@ -2,6 +2,8 @@ ghost use Rattle.kk_syntax.specs.Programs.{program_tree};
 ghost use Rattle.kk_syntax.specs.TypedPrograms.{typings_of};
 ghost use Rattle.kk_syntax.specs.Typing.{ArePrincipal};
 ghost use Rattle.kk_mono.specs.Grounds.{AnswersInstances};
+ghost use Rattle.kk_mono.specs.Searching.{IsComplete};
+ghost use Rattle.kk_mono.specs.Told.{IsFound};
 
 use crate::build::ground;
 use crate::error::MonoError;
@@ -19,6 +21,14 @@ use std::alloc::Global;
 pub fn instances(alloc: Global, typed: &Typed) -> Result<Ground, MonoError>
     requires { ArePrincipal (program_tree typed.now.program) (typings_of typed.now) }
     ensures { AnswersInstances typed.now result }
+{
+    instances_as_typed(alloc, typed)
+}
+
+/// The same, where the program has some typings, principal or not.
+pub fn instances_as_typed(alloc: Global, typed: &Typed) -> Result<Ground, MonoError>
+    requires { IsComplete typed.now }
+    ensures { IsFound typed.now result }
 {
     if let Err(limit) = check_nodes(&typed.program.functions) {
         return Err(MonoError::Over(limit));

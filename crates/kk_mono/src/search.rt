@@ -1,10 +1,7 @@
 ghost use Rattle.std.specs.Prelude.{◌≡◌, ◌+◌, ◌<◌, length, All, IfOk, OnOk};
-ghost use Rattle.kk_syntax.specs.Programs.{program_tree};
-ghost use Rattle.kk_syntax.specs.TypedPrograms.{typings_of};
-ghost use Rattle.kk_syntax.specs.Typing.{ArePrincipal};
 ghost use Rattle.kk_mono.specs.KeyTrees.{keys_in};
 ghost use Rattle.kk_mono.specs.Looking.{Looks};
-ghost use Rattle.kk_mono.specs.Searching.{known_in, IsSearching, HasSearched};
+ghost use Rattle.kk_mono.specs.Searching.{IsComplete, known_in, IsSearching, HasSearched};
 ghost use Rattle.kk_mono.specs.Views.{types_in};
 
 use crate::keys::{Keys, numbers_of_called};
@@ -38,7 +35,7 @@ pub struct Found {
 /// Looks at `main`, and at each instance that is called in one that has been looked at, until all are known, or more than
 /// are allowed.
 pub fn search(alloc: Global, typed: &Typed) -> Result<Found, NoMemory>
-    requires { ArePrincipal (program_tree typed.now.program) (typings_of typed.now) }
+    requires { IsComplete typed.now }
     ensures { IfOk result (λ found. HasSearched typed.now found) }
 {
     let mut found = Found {
@@ -56,7 +53,7 @@ pub fn search(alloc: Global, typed: &Typed) -> Result<Found, NoMemory>
 impl Found {
     // Looks at the next instance.
     fn look(&mut self, alloc: Global, typed: &Typed) -> Result<(), NoMemory>
-        requires principal { ArePrincipal (program_tree typed.now.program) (typings_of typed.now) }
+        requires complete { IsComplete typed.now }
         requires searching { IsSearching typed.now self.old }
         requires left { length self.old.looked.items < length (known_in self.old) }
         ensures searching { OnOk result (IsSearching typed.now self.new) }
