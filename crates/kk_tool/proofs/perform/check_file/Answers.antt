@@ -5,7 +5,7 @@ use Rattle.kk_tool.proofs.perform.check_file.Goals as goal
 
 pub returns-in-Ok-read : goal.returns-in-Ok-read
 returns-in-Ok-read g c = λ input out image.
-    text_accepted _ _ input out image c.args.file.now c.in-Ok.text c.as_slice.result.now (program_tree c.in-Ok-read.field-0.program) c.as_slice.ensures c.in-Ok.ensures.text c.in-Ok.ensures.kept c.in-Ok-read.ensures.program
+    text_accepted _ _ input out image c.args.file.now c.in-Ok.text c.as_slice.result.now (program_tree c.in-Ok-read.field-0.typed.program) c.as_slice.ensures c.in-Ok.ensures.text c.in-Ok.ensures.kept c.in-Ok-read.ensures.program
 
 pub returns : goal.returns
 returns g c = λ input out image.
