@@ -3,6 +3,7 @@ use Rattle.std.specs.Prelude.{ℕ, List}
 pub use Rattle.rv_isa.specs.Processor.{Processor, Ending, going, exited, trapped, Progress, goes, start}
 pub use Rattle.rv_isa.specs.InstructionSet.{go_on}
 pub use Rattle.rv_isa.specs.Execution.{step, run, image_after}
+pub use Rattle.rv_isa.specs.ProcessorMachine.{ExitsWell}
 use Rattle.elf_image.specs.Fields.{entry_of}
 use Rattle.elf_image.specs.Loaded.{loaded_parts}
 

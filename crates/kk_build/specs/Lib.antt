@@ -2,3 +2,4 @@ pub mod Agreement
 pub mod Built
 pub mod ImageAfter
 pub mod Images
+pub mod SourceMeaning

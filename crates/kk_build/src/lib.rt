@@ -12,6 +12,7 @@ ghost use Rattle.kk_build.specs.Agreement.{Agrees, IsBounded};
 ghost use Rattle.kk_build.specs.Built.{IsBuilt, as_run};
 ghost use Rattle.kk_build.specs.Images.{IsImageFile};
 
+pub use cell_runtime::Ending;
 use elf_image::write;
 use kk_back::image;
 use kk_base::{Bytes, NoMemory, Refusal};

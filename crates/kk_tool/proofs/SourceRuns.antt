@@ -5,17 +5,12 @@ use Rattle.kk_base.specs.Sink.{SinkState}
 use Rattle.kk_base.specs.Source.{SourceState}
 use Rattle.kk_base.specs.Trace.{Event, input_of}
 use Rattle.kk_base.proofs.Machines.{trace-mapped}
-use Rattle.kk_syntax.specs.PositionsOf.{PositionTable, all_owned}
-use Rattle.kk_source.specs.Ends.{exit_of}
-use Rattle.kk_source.specs.Notes.{events_of}
-use Rattle.kk_source.specs.SourceAfter.{After, source_after, store_machine, first_state}
-use Rattle.kk_source.specs.State.{Setting, End, ended, heap_full, stack_full}
-use Rattle.rv_isa.specs.ProcessorMachine.{ExitsWell}
+use Rattle.kk_build.specs.SourceMeaning.{PositionTable, all_owned, exit_of, events_of, After, source_after, store_machine, first_state, Setting, End, ended, heap_full, stack_full}
+use Rattle.kk_build.specs.ImageAfter.{ExitsWell, Ending, exited, file_after}
 use Rattle.rv_sim.specs.Devices.{ending_at}
 use Rattle.rv_sim.specs.declared.halt.Halt.{Halt}
 use Rattle.kk_build.specs.Agreement.{Agrees, AgreesOn}
 use Rattle.kk_build.specs.Built.{ProgramTree, as_run}
-use Rattle.kk_build.specs.ImageAfter.{Ending, exited, file_after}
 use Rattle.kk_tool.specs.declared.answer.RunEnd.{RunEnd}
 use Rattle.kk_tool.specs.declared.answer.RunEnd.TheVariants as OfRun
 use Rattle.kk_tool.specs.ImageRuns.{HasDone, RunsImage}

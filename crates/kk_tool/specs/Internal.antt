@@ -1,10 +1,9 @@
 -- What only private functions speak of.
 use Rattle.std.specs.Prelude.{List, All, ℕ, ◌<◌, decimal, flat_map, if◌then◌else◌}
 use Rattle.kk_base.specs.declared.refusal.Refusal.{Refusal}
-use Rattle.kk_source.specs.Ends.{exit_of}
+use Rattle.kk_build.specs.SourceMeaning.{exit_of}
 use Rattle.kk_front.specs.Judgement.{wants_memory}
-use Rattle.rv_isa.specs.ProcessorMachine.{ExitsWell}
-use Rattle.kk_build.specs.ImageAfter.{file_after}
+use Rattle.kk_build.specs.ImageAfter.{ExitsWell, file_after}
 use Rattle.kk_tool.specs.declared.answer.Answer.{Answer}
 use Rattle.kk_tool.specs.declared.answer.Answer.TheVariants.{Refused, NoMemory}
 use Rattle.kk_tool.specs.declared.command.Command.{Command}

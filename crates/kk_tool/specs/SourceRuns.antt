@@ -1,10 +1,7 @@
 -- What the run of an image has done of what its program means, by the store machine of the source.
 use Rattle.std.specs.Prelude.{◌≡◌, ◌<◌, ℕ, List, All, Some}
 use Rattle.kk_base.specs.Trace.{Event, TakesFrom, IsPrefix}
-use Rattle.kk_syntax.specs.PositionsOf.{PositionTable}
-use Rattle.kk_source.specs.Ends.{exit_of}
-use Rattle.kk_source.specs.SourceAfter.{source_after}
-use Rattle.kk_source.specs.State.{Setting, End, ended, heap_full, stack_full}
+use Rattle.kk_build.specs.SourceMeaning.{PositionTable, exit_of, source_after, Setting, End, ended, heap_full, stack_full}
 use Rattle.kk_build.specs.Built.{ProgramTree, as_run}
 use Rattle.rv_sim.specs.declared.halt.Halt.{Halt}
 use Rattle.rv_sim.specs.declared.halt.Halt.TheVariants as OfHalt
