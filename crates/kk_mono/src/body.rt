@@ -19,7 +19,6 @@ pub fn labelled(alloc: Global, labels: &mut Labels, expr: &Expr) -> Result<Expr,
         Expr::Unit => Ok(Expr::Unit),
         Expr::Variable(of) => Ok(Expr::Variable(*of)),
         Expr::ReadByte => Ok(Expr::ReadByte),
-        Expr::PrintText(form, text) => Ok(Expr::PrintText(*form, text.copied(alloc)?)),
         Expr::Apply(form, arguments) => {
             let form = labels.form(*form);
             let arguments = labelled_each(alloc, labels, arguments)?;
@@ -41,6 +40,7 @@ pub fn labelled(alloc: Global, labels: &mut Labels, expr: &Expr) -> Result<Expr,
             let value = labelled_part(alloc, labels, value)?;
             Ok(Expr::Block(statements, value))
         }
+        Expr::PrintText(form, text) => Ok(Expr::PrintText(*form, text.copied(alloc)?)),
     }
 }
 
