@@ -2,13 +2,13 @@
 use Rattle.std.proofs.Common.{inl, inr, List, [], ◌∷◌, map}
 use Rattle.kk_cover.specs.Covered.{Each, IsExample}
 use Rattle.kk_cover.specs.Outlines.{Outline, Outlines, no_outline, outline, Clash, ClashIn}
-use Rattle.kk_cover.specs.Typed.{Values, Typed, TypedIn}
+use Rattle.kk_cover.specs.OfType.{Values, IsPatternOf, ArePatternsOf}
 use Rattle.kk_cover.specs.Narrowing.{IsExampleIn, top}
 
 abbrev pub ones : List Outline → List Outlines
 ones rows = map (λ p. outline p no_outline) rows
 
-pub one_typed : {T : Type 0} (values : Values T) (t : T) (rows : List Outline) → Each (Typed values t) rows → Each (TypedIn values (t ∷ [])) (ones rows)
+pub one_typed : {T : Type 0} (values : Values T) (t : T) (rows : List Outline) → Each (IsPatternOf values t) rows → Each (ArePatternsOf values (t ∷ [])) (ones rows)
 one_typed values t [] typed = tt
 one_typed values t (p ∷ rows) typed = ((typed.0, tt), one_typed values t rows typed.1)
 

@@ -5,4 +5,4 @@ pub mod Outlines
 pub mod Problems
 pub mod Spelled
 pub mod Turned
-pub mod Typed
+pub mod OfType

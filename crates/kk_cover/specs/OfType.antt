@@ -1,7 +1,7 @@
 -- When a pattern is of a type.
 use Rattle.std.specs.Prelude.{◌≡◌, ℕ, zero, suc, Bool, true, false, if◌then◌else◌, ◌==◌, List, [], ◌∷◌, map, Option, Some, None, slice_get, IsTrue, FitsSigned}
 use Rattle.std.specs.Int.{w32}
-use Rattle.kk_syntax.specs.Types.{TypeTree, int32, unit_type, type_variable, named, TypeTrees, no_type, type}
+use Rattle.kk_syntax.specs.Types.{TypeTree, int32, unit_type, type_variable, named, TypeTrees, type_list, put, type_at}
 use Rattle.kk_syntax.specs.Programs.{ConstructorTree, ProgramTree}
 use Rattle.kk_cover.specs.Outlines.{Outline, any, exactly, made, Outlines, no_outline, outline}
 
@@ -14,34 +14,20 @@ pub record Values (T : Type 0) : Type 0 where
 -- A wildcard is of each type. A number is of a type of numbers, and fits into 32 bits. A constructor makes values of the
 -- type, and each part is of its field's type.
 abbrev mutual
-  pub Typed : {T : Type 0} → Values T → T → Outline → Type 0
-  Typed values t any = Unit {0}
-  Typed values t (exactly n) = IsTrue (values.has_numbers t) × FitsSigned w32 n
-  Typed {T} values t (made c parts) = (us : List T) × (values.fields t c ≡ Some us) × TypedIn values us parts
+  pub IsPatternOf : {T : Type 0} → Values T → T → Outline → Type 0
+  IsPatternOf values t any = Unit {0}
+  IsPatternOf values t (exactly n) = IsTrue (values.has_numbers t) × FitsSigned w32 n
+  IsPatternOf {T} values t (made c parts) = (us : List T) × (values.fields t c ≡ Some us) × ArePatternsOf values us parts
 
-  pub TypedIn : {T : Type 0} → Values T → List T → Outlines → Type 0
-  TypedIn values [] no_outline = Unit {0}
-  TypedIn values [] (outline p ps) = ⊥
-  TypedIn values (t ∷ ts) no_outline = ⊥
-  TypedIn values (t ∷ ts) (outline p ps) = Typed values t p × TypedIn values ts ps
-
--- the argument of that number; the last one given is where there is none
-abbrev pub argument : TypeTrees → ℕ → TypeTree → TypeTree
-argument no_type of none = none
-argument (type first rest) zero none = first
-argument (type first rest) (suc of) none = argument rest of none
+  pub ArePatternsOf : {T : Type 0} → Values T → List T → Outlines → Type 0
+  ArePatternsOf values [] no_outline = Unit {0}
+  ArePatternsOf values [] (outline p ps) = ⊥
+  ArePatternsOf values (t ∷ ts) no_outline = ⊥
+  ArePatternsOf values (t ∷ ts) (outline p ps) = IsPatternOf values t p × ArePatternsOf values ts ps
 
 -- a type with arguments put in place of its variables
-abbrev mutual
-  pub with_arguments : TypeTrees → TypeTree → TypeTree
-  with_arguments arguments int32 = int32
-  with_arguments arguments unit_type = unit_type
-  with_arguments arguments (type_variable of) = argument arguments of (type_variable of)
-  with_arguments arguments (named by inner) = named by (with_arguments_in arguments inner)
-
-  pub with_arguments_in : TypeTrees → TypeTrees → TypeTrees
-  with_arguments_in arguments no_type = no_type
-  with_arguments_in arguments (type first rest) = type (with_arguments arguments first) (with_arguments_in arguments rest)
+abbrev pub with_arguments : TypeTrees → TypeTree → TypeTree
+with_arguments arguments = put (type_at (type_list arguments))
 
 -- the types of a constructor's fields, if it is one of the declared type of that number
 abbrev pub fields_of : Option ConstructorTree → ℕ → TypeTrees → Option (List TypeTree)
