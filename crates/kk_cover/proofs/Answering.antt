@@ -22,8 +22,8 @@ one_clashes e (p ∷ rows) clashes = (inl clashes.0, one_clashes e rows clashes.
 
 pub one_example : {T : Type 0} (values : Values T) (t : T) (rows : List Outline) (es : Outlines) → IsExampleIn values (t ∷ []) (ones rows) es → IsExample values t rows (top es)
 one_example values t rows no_outline example = absurd example.typed
-one_example values t rows (outline e no_outline) example = record { typed = example.typed.0; clashes = one_clash e rows example.clashes }
+one_example values t rows (outline e no_outline) example = record { typed = example.typed.0; small = example.small.0; clashes = one_clash e rows example.clashes }
 one_example values t rows (outline e (outline d ds)) example = absurd example.typed.1
 
 pub one_examples : {T : Type 0} (values : Values T) (t : T) (rows : List Outline) (e : Outline) → IsExample values t rows e → IsExampleIn values (t ∷ []) (ones rows) (outline e no_outline)
-one_examples values t rows e example = record { typed = (example.typed, tt); clashes = one_clashes e rows example.clashes }
+one_examples values t rows e example = record { typed = (example.typed, tt); small = (example.small, tt); clashes = one_clashes e rows example.clashes }

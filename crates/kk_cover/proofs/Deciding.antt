@@ -86,7 +86,7 @@ module _ {T : Type 0} (values : Values T) (Sought : Outlines → Type 0) (p : Op
         types = ts;
         wide = omega (arith, wide, width);
         typed = opened_typed values t ts p.rows typed;
-        lifts = λ es example. subst Sought (sym (built-append p.path (Number n) es)) (lifts (outline (exactly n) es) (opened_number values t ts p.rows n es typed lacks (number_asked values t ts p.rows typed number, fits) example));
+        lifts = λ es example. subst Sought (sym (built-append p.path (Number n) es)) (lifts (outline (exactly n) es) (opened_number values t ts p.rows n es typed lacks (number_asked values t ts p.rows typed number) fits example));
       }
 
   leads_made : (program : ProgramTree) → Knows values program → (c d : ℕ) → first_asked p.rows ≡ OfAsked.Constructor c → d < length program.constructors → owner program d ≡ owner program c → Leads values Sought p → Leads values Sought (made_child program p w d)
@@ -118,7 +118,7 @@ module _ {T : Type 0} (values : Values T) (p : OpenProblem) (w : ℕ) (width : p
       at [] wide typed es example = absurd (omega (arith, wide, width))
       at (t ∷ ts) wide typed no_outline example = absurd example.typed
       at (t ∷ ts) wide typed (outline e es) example =
-          closed.covered ts (omega (arith, wide, width)) (opened_typed values t ts p.rows typed) es (opened_down values t ts p.rows e es example.typed.1 example.clashes)
+          closed.covered ts (omega (arith, wide, width)) (opened_typed values t ts p.rows typed) es (opened_down values t ts p.rows e es example.typed.1 example.small.1 example.clashes)
 
   -- a child is closed: there is no example in it
   child_covered : (program : ProgramTree) (d : ℕ) → Closed values (made_child program p w d) → (t : T) (ts vs : List T) → length (t ∷ ts) ≡ p.width → Each (ArePatternsOf values (t ∷ ts)) p.rows → values.fields t d ≡ Some vs → length vs ≡ arity program d → (es : Outlines) → IsExampleIn values (vs ++ ts) (narrowed d (length vs) p.rows) es → ⊥
@@ -139,8 +139,8 @@ module _ {T : Type 0} (values : Values T) (p : OpenProblem) (w : ℕ) (width : p
           let here = knows.within t c c cs cs at_c at_c in
           let member = knows.members t c c cs at_c here.0 refl in
           child_covered program c (child_at c (omega (arith, here.0, whole)) refl) t ts member.0 wide typed member.1 member.2 (join (anys (length member.0)) es)
-          (narrowed_down_any values member.0 ts t c member.1 p.rows es typed example.typed.1 example.clashes)
-      all t ts cs wide typed at_c whole (outline (exactly n) es) example = both_ways (values.has_numbers t) (knows.apart t c cs at_c) example.typed.0.0
+          (narrowed_down_any values member.0 ts t c member.1 p.rows es typed example.typed.1 example.small.1 example.clashes)
+      all t ts cs wide typed at_c whole (outline (exactly n) es) example = both_ways (values.has_numbers t) (knows.apart t c cs at_c) example.typed.0
       all t ts cs wide typed at_c whole (outline (made d ds) es) example =
           let vs = example.typed.0.0 in
           let at_d = example.typed.0.1 in
@@ -148,14 +148,14 @@ module _ {T : Type 0} (values : Values T) (p : OpenProblem) (w : ℕ) (width : p
           let member = knows.members t c d cs at_c here.0 here.1 in
           let len : length vs ≡ arity program d = (let same : member.0 ≡ vs = cc (member.1, at_d) in ap length (sym same) ∙ member.2) in
           child_covered program d (child_at d (omega (arith, here.0, whole)) here.1) t ts vs wide typed at_d len (join ds es)
-          (narrowed_down values vs ts t d at_d p.rows ds es typed example.typed.0.2 example.typed.1 example.clashes)
+          (narrowed_down values vs ts t d at_d p.rows ds es typed example.typed.0.2 example.typed.1 example.small example.clashes)
 
       missing : (t : T) (ts cs : List T) → length (t ∷ ts) ≡ p.width → Each (ArePatternsOf values (t ∷ ts)) p.rows → values.fields t c ≡ Some cs → (d : ℕ) → end ≡ suc d → owner program d ≡ owner program c → has_constructor d p.rows ≡ false → IsCoveredIn values (t ∷ ts) p.rows
       missing t ts cs wide typed at_c d last own lacks no_outline example = absurd example.typed
       missing t ts cs wide typed at_c d last own lacks (outline e es) example =
           let member = knows.members t c d cs at_c (omega (arith, last, most)) own in
           child_covered program d (child_at d (omega (arith, last)) own) t ts member.0 wide typed member.1 member.2 (join (anys (length member.0)) es)
-          (narrowed_lacking values member.0 ts t d member.1 p.rows e es (lacks_constructor d p.rows lacks) example.typed.1 example.clashes)
+          (narrowed_lacking values member.0 ts t d member.1 p.rows e es (lacks_constructor d p.rows lacks) example.typed.1 example.small.1 example.clashes)
 
       at : (ts : List T) → length ts ≡ p.width → Each (ArePatternsOf values ts) p.rows → IsCoveredIn values ts p.rows
       at [] wide typed = absurd (omega (arith, wide, width))

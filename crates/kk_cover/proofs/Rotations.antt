@@ -2,12 +2,12 @@
 use Rattle.std.proofs.Common.{◌≡◌, ◌≤◌, inl, inr, ℕ, List, [], ◌∷◌, ◌++◌, length, map, take, drop, refl, sym, ap, subst, arith, length-append}
 use Rattle.std.proofs.lemmas.List.{take-append-drop, length-take-le}
 use Rattle.kk_cover.specs.Covered.{Each}
-use Rattle.kk_cover.specs.Outlines.{any, exactly, made, Outlines, no_outline, outline, ClashIn}
+use Rattle.kk_cover.specs.Outlines.{any, exactly, made, Outlines, no_outline, outline, HaveSmallNumbers, ClashIn}
 use Rattle.kk_cover.specs.OfType.{Values, ArePatternsOf}
 use Rattle.kk_cover.specs.Narrowing.{IsExampleIn, IsCoveredIn, join, front, back}
 use Rattle.kk_cover.specs.Problems.{OpenProblem}
 use Rattle.kk_cover.specs.Turned.{rotated, leading, first_leading, turned}
-use Rattle.kk_cover.proofs.Joining.{typed_join, typed_front, typed_back, clash_split, clash_left, clash_right}
+use Rattle.kk_cover.proofs.Joining.{typed_join, typed_front, typed_back, small_join, small_front, small_back, clash_split, clash_left, clash_right}
 use Rattle.kk_cover.proofs.Deciding.{Leads, Closed}
 
 each_map : {X Y : Type 0} (f : X → Y) (P : Y → Type 0) (Q : X → Type 0) → ((x : X) → Q x → P (f x)) → (xs : List X) → Each Q xs → Each P (map f xs)
@@ -26,6 +26,9 @@ join_parts : {T : Type 0} (values : Values T) (us ts : List T) (es : Outlines) �
 join_parts values [] ts es a = refl
 join_parts values (u ∷ us) ts no_outline a = absurd a
 join_parts values (u ∷ us) ts (outline e es) a = ap (outline e) (join_parts values us ts es a.1)
+
+rotated_small : (k : ℕ) (es : Outlines) → HaveSmallNumbers es → HaveSmallNumbers (rotated k es)
+rotated_small k es a = small_join (back k es) (front k es) (small_back k es a) (small_front k es a)
 
 module _ {T : Type 0} (values : Values T) (us ts : List T) where
   rotated_typed : (ps : Outlines) → ArePatternsOf values (us ++ ts) ps → ArePatternsOf values (ts ++ us) (rotated (length us) ps)
@@ -53,6 +56,7 @@ module _ {T : Type 0} (values : Values T) (us ts : List T) where
   rows_down : (rows : List Outlines) (es : Outlines) → Each (ArePatternsOf values (us ++ ts)) rows → IsExampleIn values (us ++ ts) rows es → IsExampleIn values (ts ++ us) (map (rotated (length us)) rows) (rotated (length us) es)
   rows_down rows es typed example = record {
     typed = rotated_typed es example.typed;
+    small = rotated_small (length us) es example.small;
     clashes = each_two (rotated (length us)) (ClashIn (rotated (length us) es)) (ArePatternsOf values (us ++ ts)) (ClashIn es) (λ row a b. rotated_clash es row example.typed a b) rows typed example.clashes;
   }
 
@@ -60,6 +64,7 @@ module _ {T : Type 0} (values : Values T) (us ts : List T) where
 rows_up : {T : Type 0} (values : Values T) (us ts : List T) (rows : List Outlines) (es : Outlines) → Each (ArePatternsOf values (us ++ ts)) rows → IsExampleIn values (ts ++ us) (map (rotated (length us)) rows) es → IsExampleIn values (us ++ ts) rows (rotated (length ts) es)
 rows_up values us ts rows es typed example = record {
   typed = rotated_typed values ts us es example.typed;
+  small = rotated_small (length ts) es example.small;
   clashes = each_back_from (rotated (length us)) (ClashIn es) (ArePatternsOf values (us ++ ts)) (ClashIn (rotated (length ts) es)) (λ row a b. unrotated_clash values us ts es row example.typed a b) rows typed example.clashes;
 }
 

@@ -8,7 +8,7 @@ use Rattle.kk_cover.specs.OfType.{Values, IsPatternOf, ArePatternsOf, values_of}
 use Rattle.kk_cover.specs.Narrowing.{IsExampleIn, IsCoveredIn, anys, top}
 use Rattle.kk_cover.specs.Problems.{OpenProblem, built, Settled}
 use Rattle.kk_cover.specs.Turned.{turned, Tells, Picked}
-use Rattle.kk_cover.proofs.Joining.{typed_anys}
+use Rattle.kk_cover.proofs.Joining.{typed_anys, small_anys}
 use Rattle.kk_cover.proofs.Keeping.{each-append, each_front, each_back}
 use Rattle.kk_cover.proofs.Knowing.{knows}
 use Rattle.kk_cover.proofs.Deciding.{Leads, Closed, Decides, settles_leads, settles_closed, decides_next}
@@ -51,6 +51,7 @@ wildcards : {T : Type 0} (values : Values T) (Sought : Outlines → Type 0) (p :
 wildcards {T} values Sought p none leads =
     leads.lifts (anys p.width) (record {
       typed = subst (λ k. ArePatternsOf values leads.types (anys k)) leads.wide (typed_anys values leads.types);
+      small = small_anys p.width;
       clashes = subst (Each (ClashIn (anys p.width))) (sym none) tt;
     })
 

@@ -5,7 +5,7 @@ use Rattle.kk_syntax.specs.declared.program.Program.{Program}
 use Rattle.kk_syntax.specs.declared.program.Row.{Row}
 use Rattle.kk_syntax.specs.Programs.{program_tree}
 use Rattle.kk_syntax.specs.Types.{TypeTree}
-use Rattle.kk_cover.specs.Outlines.{Outline, Clash, pattern_outline}
+use Rattle.kk_cover.specs.Outlines.{Outline, HasSmallNumbers, Clash, pattern_outline}
 use Rattle.kk_cover.specs.OfType.{Values, IsPatternOf, values_of}
 
 -- each element of a list has a property
@@ -13,9 +13,10 @@ abbrev pub Each : {X : Type 0} → (X → Type 0) → List X → Type 0
 Each P [] = Unit {0}
 Each P (x ∷ xs) = P x × Each P xs
 
--- an example for rows at a type: a pattern of that type that clashes with each row
+-- an example for rows at a type: a pattern of that type that clashes with each row, and whose numbers fit into 32 bits
 pub record IsExample {T : Type 0} (values : Values T) (t : T) (rows : List Outline) (e : Outline) : Type 0 where
   pub typed : IsPatternOf values t e
+  pub small : HasSmallNumbers e
   pub clashes : Each (Clash e) rows
 
 -- rows are covered at a type where there is no example

@@ -1,6 +1,5 @@
 -- When a pattern is of a type.
-use Rattle.std.specs.Prelude.{◌≡◌, ℕ, zero, suc, Bool, true, false, if◌then◌else◌, ◌==◌, List, [], ◌∷◌, map, Option, Some, None, slice_get, IsTrue, FitsSigned}
-use Rattle.std.specs.Int.{w32}
+use Rattle.std.specs.Prelude.{◌≡◌, ℕ, Bool, true, false, if◌then◌else◌, ◌==◌, List, [], ◌∷◌, map, Option, Some, None, slice_get, IsTrue}
 use Rattle.kk_syntax.specs.Types.{TypeTree, int32, unit_type, type_variable, named, TypeTrees, type_list, put, type_at}
 use Rattle.kk_syntax.specs.Programs.{ConstructorTree, ProgramTree}
 use Rattle.kk_cover.specs.Outlines.{Outline, any, exactly, made, Outlines, no_outline, outline}
@@ -11,12 +10,12 @@ pub record Values (T : Type 0) : Type 0 where
   pub has_numbers : T → Bool
   pub fields : T → ℕ → Option (List T)
 
--- A wildcard is of each type. A number is of a type of numbers, and fits into 32 bits. A constructor makes values of the
--- type, and each part is of its field's type.
+-- A wildcard is of each type. A number is of a type of numbers. A constructor makes values of the type, and each part is of
+-- its field's type.
 abbrev mutual
   pub IsPatternOf : {T : Type 0} → Values T → T → Outline → Type 0
   IsPatternOf values t any = Unit {0}
-  IsPatternOf values t (exactly n) = IsTrue (values.has_numbers t) × FitsSigned w32 n
+  IsPatternOf values t (exactly n) = IsTrue (values.has_numbers t)
   IsPatternOf {T} values t (made c parts) = (us : List T) × (values.fields t c ≡ Some us) × ArePatternsOf values us parts
 
   pub ArePatternsOf : {T : Type 0} → Values T → List T → Outlines → Type 0
