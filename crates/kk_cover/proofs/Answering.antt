@@ -2,13 +2,13 @@
 use Rattle.std.proofs.Common.{inl, inr, List, [], ◌∷◌, map}
 use Rattle.kk_cover.specs.Covered.{Each, IsExample}
 use Rattle.kk_cover.specs.Outlines.{Outline, Outlines, no_outline, outline, Clash, ClashIn}
-use Rattle.kk_cover.specs.Typed.{Values, Typed, TypedIn}
+use Rattle.kk_cover.specs.OfType.{Values, IsPatternOf, ArePatternsOf}
 use Rattle.kk_cover.specs.Narrowing.{IsExampleIn, top}
 
 abbrev pub ones : List Outline → List Outlines
 ones rows = map (λ p. outline p no_outline) rows
 
-pub one_typed : {T : Type 0} (values : Values T) (t : T) (rows : List Outline) → Each (Typed values t) rows → Each (TypedIn values (t ∷ [])) (ones rows)
+pub one_typed : {T : Type 0} (values : Values T) (t : T) (rows : List Outline) → Each (IsPatternOf values t) rows → Each (ArePatternsOf values (t ∷ [])) (ones rows)
 one_typed values t [] typed = tt
 one_typed values t (p ∷ rows) typed = ((typed.0, tt), one_typed values t rows typed.1)
 
@@ -22,8 +22,8 @@ one_clashes e (p ∷ rows) clashes = (inl clashes.0, one_clashes e rows clashes.
 
 pub one_example : {T : Type 0} (values : Values T) (t : T) (rows : List Outline) (es : Outlines) → IsExampleIn values (t ∷ []) (ones rows) es → IsExample values t rows (top es)
 one_example values t rows no_outline example = absurd example.typed
-one_example values t rows (outline e no_outline) example = record { typed = example.typed.0; clashes = one_clash e rows example.clashes }
+one_example values t rows (outline e no_outline) example = record { typed = example.typed.0; small = example.small.0; clashes = one_clash e rows example.clashes }
 one_example values t rows (outline e (outline d ds)) example = absurd example.typed.1
 
 pub one_examples : {T : Type 0} (values : Values T) (t : T) (rows : List Outline) (e : Outline) → IsExample values t rows e → IsExampleIn values (t ∷ []) (ones rows) (outline e no_outline)
-one_examples values t rows e example = record { typed = (example.typed, tt); clashes = one_clashes e rows example.clashes }
+one_examples values t rows e example = record { typed = (example.typed, tt); small = (example.small, tt); clashes = one_clashes e rows example.clashes }

@@ -1,28 +1,47 @@
 -- Patterns of several positions, put behind one another and taken apart: their types and their clashes.
 use Rattle.std.proofs.Common.{◌⊎◌, inl, inr, ℕ, zero, suc, List, [], ◌∷◌, ◌++◌, length}
-use Rattle.kk_cover.specs.Outlines.{Outline, any, exactly, made, Outlines, no_outline, outline, Clash, ClashIn}
-use Rattle.kk_cover.specs.Typed.{Values, TypedIn}
+use Rattle.kk_cover.specs.Outlines.{Outline, any, exactly, made, Outlines, no_outline, outline, HaveSmallNumbers, Clash, ClashIn}
+use Rattle.kk_cover.specs.OfType.{Values, ArePatternsOf}
 use Rattle.kk_cover.specs.Narrowing.{join, anys, front, back}
 
-pub typed_join : {T : Type 0} (values : Values T) (us ts : List T) (qs ps : Outlines) → TypedIn values us qs → TypedIn values ts ps → TypedIn values (us ++ ts) (join qs ps)
+pub typed_join : {T : Type 0} (values : Values T) (us ts : List T) (qs ps : Outlines) → ArePatternsOf values us qs → ArePatternsOf values ts ps → ArePatternsOf values (us ++ ts) (join qs ps)
 typed_join values [] ts no_outline ps a b = b
 typed_join values [] ts (outline q qs) ps a b = absurd a
 typed_join values (u ∷ us) ts no_outline ps a b = absurd a
 typed_join values (u ∷ us) ts (outline q qs) ps a b = (a.0, typed_join values us ts qs ps a.1 b)
 
-pub typed_front : {T : Type 0} (values : Values T) (us ts : List T) (es : Outlines) → TypedIn values (us ++ ts) es → TypedIn values us (front (length us) es)
+pub typed_front : {T : Type 0} (values : Values T) (us ts : List T) (es : Outlines) → ArePatternsOf values (us ++ ts) es → ArePatternsOf values us (front (length us) es)
 typed_front values [] ts es a = tt
 typed_front values (u ∷ us) ts no_outline a = absurd a
 typed_front values (u ∷ us) ts (outline e es) a = (a.0, typed_front values us ts es a.1)
 
-pub typed_back : {T : Type 0} (values : Values T) (us ts : List T) (es : Outlines) → TypedIn values (us ++ ts) es → TypedIn values ts (back (length us) es)
+pub typed_back : {T : Type 0} (values : Values T) (us ts : List T) (es : Outlines) → ArePatternsOf values (us ++ ts) es → ArePatternsOf values ts (back (length us) es)
 typed_back values [] ts es a = a
 typed_back values (u ∷ us) ts no_outline a = absurd a
 typed_back values (u ∷ us) ts (outline e es) a = typed_back values us ts es a.1
 
-pub typed_anys : {T : Type 0} (values : Values T) (us : List T) → TypedIn values us (anys (length us))
+pub typed_anys : {T : Type 0} (values : Values T) (us : List T) → ArePatternsOf values us (anys (length us))
 typed_anys values [] = tt
 typed_anys values (u ∷ us) = (tt, typed_anys values us)
+
+-- the numbers of parts
+pub small_join : (qs ps : Outlines) → HaveSmallNumbers qs → HaveSmallNumbers ps → HaveSmallNumbers (join qs ps)
+small_join no_outline ps a b = b
+small_join (outline q qs) ps a b = (a.0, small_join qs ps a.1 b)
+
+pub small_front : (k : ℕ) (es : Outlines) → HaveSmallNumbers es → HaveSmallNumbers (front k es)
+small_front zero es a = tt
+small_front (suc k) no_outline a = tt
+small_front (suc k) (outline e es) a = (a.0, small_front k es a.1)
+
+pub small_back : (k : ℕ) (es : Outlines) → HaveSmallNumbers es → HaveSmallNumbers (back k es)
+small_back zero es a = a
+small_back (suc k) no_outline a = tt
+small_back (suc k) (outline e es) a = small_back k es a.1
+
+pub small_anys : (k : ℕ) → HaveSmallNumbers (anys k)
+small_anys zero = tt
+small_anys (suc k) = (tt, small_anys k)
 
 -- nothing clashes with wildcards
 pub any_clash : (e : Outline) → Clash e any → ⊥
@@ -37,7 +56,7 @@ anys_clash (suc k) no_outline b = b
 anys_clash (suc k) (outline e es) b = elim b [ inl h ↦ any_clash e h | inr h ↦ anys_clash k es h ]
 
 -- a clash with two parts, one behind the other, is one with the first or one with the second
-pub clash_split : {T : Type 0} (values : Values T) (us : List T) (qs ps es : Outlines) → TypedIn values us qs → ClashIn es (join qs ps) → ClashIn (front (length us) es) qs ⊎ ClashIn (back (length us) es) ps
+pub clash_split : {T : Type 0} (values : Values T) (us : List T) (qs ps es : Outlines) → ArePatternsOf values us qs → ClashIn es (join qs ps) → ClashIn (front (length us) es) qs ⊎ ClashIn (back (length us) es) ps
 clash_split values [] no_outline ps es a b = inr b
 clash_split values [] (outline q qs) ps es a b = absurd a
 clash_split values (u ∷ us) no_outline ps es a b = absurd a
@@ -47,7 +66,7 @@ clash_split values (u ∷ us) (outline q qs) ps (outline e es) a b = elim b [
   | inr h ↦ elim (clash_split values us qs ps es a.1 h) [ inl g ↦ inl (inr g) | inr g ↦ inr g ]
 ]
 
-pub clash_left : {T : Type 0} (values : Values T) (us : List T) (ds qs es ps : Outlines) → TypedIn values us ds → TypedIn values us qs → ClashIn ds qs → ClashIn (join ds es) (join qs ps)
+pub clash_left : {T : Type 0} (values : Values T) (us : List T) (ds qs es ps : Outlines) → ArePatternsOf values us ds → ArePatternsOf values us qs → ClashIn ds qs → ClashIn (join ds es) (join qs ps)
 clash_left values [] no_outline qs es ps a b h = absurd h
 clash_left values [] (outline d ds) qs es ps a b h = absurd a
 clash_left values (u ∷ us) no_outline qs es ps a b h = absurd a
@@ -57,7 +76,7 @@ clash_left values (u ∷ us) (outline d ds) (outline q qs) es ps a b h = elim h 
   | inr g ↦ inr (clash_left values us ds qs es ps a.1 b.1 g)
 ]
 
-pub clash_right : {T : Type 0} (values : Values T) (us : List T) (ds qs es ps : Outlines) → TypedIn values us ds → TypedIn values us qs → ClashIn es ps → ClashIn (join ds es) (join qs ps)
+pub clash_right : {T : Type 0} (values : Values T) (us : List T) (ds qs es ps : Outlines) → ArePatternsOf values us ds → ArePatternsOf values us qs → ClashIn es ps → ClashIn (join ds es) (join qs ps)
 clash_right values [] no_outline no_outline es ps a b h = h
 clash_right values [] no_outline (outline q qs) es ps a b h = absurd b
 clash_right values [] (outline d ds) qs es ps a b h = absurd a

@@ -6,7 +6,7 @@ use Rattle.std.proofs.lemmas.Option.{slice_get_within, slice_get-get_or, get_or_
 use Rattle.std.specs.List.{slice_get}
 use Rattle.kk_syntax.specs.Types.{TypeTree, int32, unit_type, type_variable, named, TypeTrees}
 use Rattle.kk_syntax.specs.Programs.{ConstructorTree, ProgramTree}
-use Rattle.kk_cover.specs.Typed.{values_of, fields_of, fields_at, with_arguments, is_int32}
+use Rattle.kk_cover.specs.OfType.{values_of, fields_of, fields_at, with_arguments, is_int32}
 use Rattle.kk_cover.specs.Problems.{no_constructor, owner, arity}
 use Rattle.kk_cover.proofs.Deciding.{Knows}
 
@@ -27,7 +27,7 @@ declared (Some constructor) by arguments us is = pick (constructor.of_type == by
 owner_is : (program : ProgramTree) (c : ℕ) (constructor : ConstructorTree) → slice_get program.constructors c ≡ Some constructor → owner program c ≡ constructor.of_type
 owner_is program c constructor there = ap (λ (x : ConstructorTree). x.of_type) (get_or_from_slice_get program.constructors c constructor no_constructor there)
 
-fields_made : (o : Option ConstructorTree) (constructor : ConstructorTree) (by : ℕ) (arguments : TypeTrees) → o ≡ Some constructor → constructor.of_type ≡ by → fields_of o by arguments ≡ Some (map (with_arguments arguments) constructor.fields)
+pub fields_made : (o : Option ConstructorTree) (constructor : ConstructorTree) (by : ℕ) (arguments : TypeTrees) → o ≡ Some constructor → constructor.of_type ≡ by → fields_of o by arguments ≡ Some (map (with_arguments arguments) constructor.fields)
 fields_made o constructor by arguments there owned =
     ap (λ x. fields_of x by arguments) there
     ∙ ap (λ b. cond b (Some (map (with_arguments arguments) constructor.fields)) None) (eq-eqb constructor.of_type by owned)

@@ -12,4 +12,5 @@ pub mod Searching
 pub mod Slots
 pub mod Stacks
 pub mod Texts
+pub mod TypedRows
 pub mod Walking

@@ -4,11 +4,11 @@ use Rattle.kk_syntax.specs.Types.{TypeTree}
 use Rattle.kk_syntax.specs.Programs.{ProgramTree}
 use Rattle.kk_cover.specs.Covered.{Each, IsExample, IsCovered}
 use Rattle.kk_cover.specs.Outlines.{Outline, Outlines, ClashIn}
-use Rattle.kk_cover.specs.Typed.{Values, Typed, TypedIn, values_of}
+use Rattle.kk_cover.specs.OfType.{Values, IsPatternOf, ArePatternsOf, values_of}
 use Rattle.kk_cover.specs.Narrowing.{IsExampleIn, IsCoveredIn, anys, top}
 use Rattle.kk_cover.specs.Problems.{OpenProblem, built, Settled}
 use Rattle.kk_cover.specs.Turned.{turned, Tells, Picked}
-use Rattle.kk_cover.proofs.Joining.{typed_anys}
+use Rattle.kk_cover.proofs.Joining.{typed_anys, small_anys}
 use Rattle.kk_cover.proofs.Keeping.{each-append, each_front, each_back}
 use Rattle.kk_cover.proofs.Knowing.{knows}
 use Rattle.kk_cover.proofs.Deciding.{Leads, Closed, Decides, settles_leads, settles_closed, decides_next}
@@ -22,7 +22,7 @@ Exists program p ts = (es : Outlines) × IsExampleIn (values_of program) ts p.ro
 -- what the open problems say of a problem
 abbrev pub Decided : ProgramTree → OpenProblem → List OpenProblem → Type 0
 Decided program p ps =
-    (ts : List TypeTree) → length ts ≡ p.width → Each (TypedIn (values_of program) ts) p.rows
+    (ts : List TypeTree) → length ts ≡ p.width → Each (ArePatternsOf (values_of program) ts) p.rows
     → Decides (values_of program) (λ es. Exists program p ts) (IsCoveredIn (values_of program) ts p.rows) ps
 
 -- a problem may be turned
@@ -50,7 +50,8 @@ goes_on program p q before after settled decided ts wide typed =
 wildcards : {T : Type 0} (values : Values T) (Sought : Outlines → Type 0) (p : OpenProblem) → p.rows ≡ [] → Leads values Sought p → Sought (built p.path (anys p.width))
 wildcards {T} values Sought p none leads =
     leads.lifts (anys p.width) (record {
-      typed = subst (λ k. TypedIn values leads.types (anys k)) leads.wide (typed_anys values leads.types);
+      typed = subst (λ k. ArePatternsOf values leads.types (anys k)) leads.wide (typed_anys values leads.types);
+      small = small_anys p.width;
       clashes = subst (Each (ClashIn (anys p.width))) (sym none) tt;
     })
 
@@ -67,7 +68,7 @@ pub record OnTheWay (program : ProgramTree) (rows : List Outline) (t : TypeTree)
   pub exists : Exists program p leads.types
 
 abbrev pub Going : ProgramTree → List Outline → OpenProblem → Type 0
-Going program rows p = (t : TypeTree) → Each (Typed (values_of program) t) rows → OnTheWay program rows t p
+Going program rows p = (t : TypeTree) → Each (IsPatternOf (values_of program) t) rows → OnTheWay program rows t p
 
 abbrev pub first_problem : List Outline → OpenProblem
 first_problem rows = record { path = []; rows = ones rows; width = 1 }
@@ -83,7 +84,7 @@ sets_out program rows tells t typed = record {
   exists = tells (t ∷ []) refl (one_typed (values_of program) t rows typed);
 }
 
-pub nothing_left : (program : ProgramTree) (rows : List Outline) → Tells program (first_problem rows) true → (t : TypeTree) → Each (Typed (values_of program) t) rows → IsCovered (values_of program) t rows
+pub nothing_left : (program : ProgramTree) (rows : List Outline) → Tells program (first_problem rows) true → (t : TypeTree) → Each (IsPatternOf (values_of program) t) rows → IsCovered (values_of program) t rows
 nothing_left program rows tells t typed e example =
     tells (t ∷ []) refl (one_typed (values_of program) t rows typed) _ (one_examples (values_of program) t rows e example)
 
@@ -100,13 +101,13 @@ all_closed program [] tells = tt
 all_closed program (p ∷ ps) tells = (record { covered = tells.0 }, all_closed program ps tells.1)
 
 -- one of what a problem on the way comes down to is not covered
-pub picks_none : (program : ProgramTree) (rows : List Outline) (p : OpenProblem) (children : List OpenProblem) → Settled program p [] children → Each (λ q. Tells program q true) children → Going program rows p → (t : TypeTree) → Each (Typed (values_of program) t) rows → ⊥
+pub picks_none : (program : ProgramTree) (rows : List Outline) (p : OpenProblem) (children : List OpenProblem) → Settled program p [] children → Each (λ q. Tells program q true) children → Going program rows p → (t : TypeTree) → Each (IsPatternOf (values_of program) t) rows → ⊥
 picks_none program rows p children settled tells going t typed =
     let way = going t typed in
     let closed = settles_closed (values_of program) program (knows program) p settled.more settled.settles (subst (Each (Closed (values_of program))) settled.grown (all_closed program children tells)) in
     closed.covered way.leads.types way.leads.wide way.leads.typed way.exists.0 way.exists.1
 
-pub arrives : (program : ProgramTree) (rows : List Outline) (p : OpenProblem) (e : Outline) → p.rows ≡ [] → e ≡ top (built p.path (anys p.width)) → Going program rows p → (t : TypeTree) → Each (Typed (values_of program) t) rows → IsExample (values_of program) t rows e
+pub arrives : (program : ProgramTree) (rows : List Outline) (p : OpenProblem) (e : Outline) → p.rows ≡ [] → e ≡ top (built p.path (anys p.width)) → Going program rows p → (t : TypeTree) → Each (IsPatternOf (values_of program) t) rows → IsExample (values_of program) t rows e
 arrives program rows p e none is going t typed =
     subst (IsExample (values_of program) t rows) (sym is)
     (wildcards (values_of program) (λ es. IsExample (values_of program) t rows (top es)) p none (going t typed).leads)

@@ -5,17 +5,18 @@ use Rattle.kk_syntax.specs.declared.program.Program.{Program}
 use Rattle.kk_syntax.specs.declared.program.Row.{Row}
 use Rattle.kk_syntax.specs.Programs.{program_tree}
 use Rattle.kk_syntax.specs.Types.{TypeTree}
-use Rattle.kk_cover.specs.Outlines.{Outline, Clash, pattern_outline}
-use Rattle.kk_cover.specs.Typed.{Values, Typed, values_of}
+use Rattle.kk_cover.specs.Outlines.{Outline, HasSmallNumbers, Clash, pattern_outline}
+use Rattle.kk_cover.specs.OfType.{Values, IsPatternOf, values_of}
 
 -- each element of a list has a property
 abbrev pub Each : {X : Type 0} → (X → Type 0) → List X → Type 0
 Each P [] = Unit {0}
 Each P (x ∷ xs) = P x × Each P xs
 
--- an example for rows at a type: a pattern of that type that clashes with each row
+-- an example for rows at a type: a pattern of that type that clashes with each row, and whose numbers fit into 32 bits
 pub record IsExample {T : Type 0} (values : Values T) (t : T) (rows : List Outline) (e : Outline) : Type 0 where
-  pub typed : Typed values t e
+  pub typed : IsPatternOf values t e
+  pub small : HasSmallNumbers e
   pub clashes : Each (Clash e) rows
 
 -- rows are covered at a type where there is no example
@@ -30,4 +31,4 @@ row_outlines rows = map (λ row. pattern_outline row.pattern) rows
 abbrev pub Answers : Program → List Row → Option Pat → Type 0
 Answers program rows found =
     let values = values_of (program_tree program) in
-    (t : TypeTree) → Each (Typed values t) (row_outlines rows) → MatchOption found (IsCovered values t (row_outlines rows)) (λ example. IsExample values t (row_outlines rows) (pattern_outline example))
+    (t : TypeTree) → Each (IsPatternOf values t) (row_outlines rows) → MatchOption found (IsCovered values t (row_outlines rows)) (λ example. IsExample values t (row_outlines rows) (pattern_outline example))

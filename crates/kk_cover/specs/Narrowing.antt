@@ -1,12 +1,13 @@
 -- Rows of several patterns, one for each position, and what is left of them once the first position is known.
 use Rattle.std.specs.Prelude.{ℕ, ◌==◌, zero, suc, Bool, true, false, List, [], ◌∷◌, Option, None, Some}
 use Rattle.kk_cover.specs.Covered.{Each}
-use Rattle.kk_cover.specs.Outlines.{Outline, any, exactly, made, Outlines, no_outline, outline, ClashIn}
-use Rattle.kk_cover.specs.Typed.{Values, TypedIn}
+use Rattle.kk_cover.specs.Outlines.{Outline, any, exactly, made, Outlines, no_outline, outline, HaveSmallNumbers, ClashIn}
+use Rattle.kk_cover.specs.OfType.{Values, ArePatternsOf}
 
 -- an example for rows of several positions
 pub record IsExampleIn {T : Type 0} (values : Values T) (ts : List T) (rows : List Outlines) (es : Outlines) : Type 0 where
-  pub typed : TypedIn values ts es
+  pub typed : ArePatternsOf values ts es
+  pub small : HaveSmallNumbers es
   pub clashes : Each (ClashIn es) rows
 
 abbrev pub IsCoveredIn : {T : Type 0} → Values T → List T → List Outlines → Type 0

@@ -1,5 +1,6 @@
 -- What patterns ask of values, and when two patterns clash.
-use Rattle.std.specs.Prelude.{◌≢◌, ◌⊎◌, ℕ, ℤ, List, [], ◌∷◌}
+use Rattle.std.specs.Prelude.{◌≢◌, ◌⊎◌, ℕ, ℤ, List, [], ◌∷◌, FitsSigned}
+use Rattle.std.specs.Int.{w32}
 use Rattle.kk_syntax.specs.declared.program.Pat.{Pat}
 use Rattle.kk_syntax.specs.Patterns.{Pattern, anything, variable, exactly as number, constructor, Patterns, no_part, part, pattern_tree}
 
@@ -34,6 +35,17 @@ pattern_outline pattern = outline_of (pattern_tree pattern)
 abbrev pub outline_list : List Outline → Outlines
 outline_list [] = no_outline
 outline_list (p ∷ ps) = outline p (outline_list ps)
+
+-- each number that is asked for fits into 32 bits
+abbrev mutual
+  pub HasSmallNumbers : Outline → Type 0
+  HasSmallNumbers any = Unit {0}
+  HasSmallNumbers (exactly n) = FitsSigned w32 n
+  HasSmallNumbers (made by parts) = HaveSmallNumbers parts
+
+  pub HaveSmallNumbers : Outlines → Type 0
+  HaveSmallNumbers no_outline = Unit {0}
+  HaveSmallNumbers (outline first rest) = HasSmallNumbers first × HaveSmallNumbers rest
 
 -- Two patterns clash where, at a position that both reach, they have different constructors or different numbers. (A
 -- number and a constructor differ too. No type has both.)

@@ -5,7 +5,7 @@ use Rattle.kk_syntax.specs.Programs.{ProgramTree}
 use Rattle.kk_syntax.specs.Types.{TypeTree}
 use Rattle.kk_cover.specs.Covered.{Each}
 use Rattle.kk_cover.specs.Outlines.{any, exactly, made, Outlines, no_outline, outline}
-use Rattle.kk_cover.specs.Typed.{TypedIn, values_of}
+use Rattle.kk_cover.specs.OfType.{ArePatternsOf, values_of}
 use Rattle.kk_cover.specs.Narrowing.{IsExampleIn, IsCoveredIn, join, front, back}
 use Rattle.kk_cover.specs.Problems.{OpenProblem}
 
@@ -29,7 +29,7 @@ turned p = record { path = p.path; rows = map (rotated (first_leading p.rows)) p
 -- whether the rows of a problem are covered, at all types at which they are typed; else there is an example
 abbrev pub Tells : ProgramTree → OpenProblem → Bool → Type 0
 Tells program p covered =
-    (ts : List TypeTree) → length ts ≡ p.width → Each (TypedIn (values_of program) ts) p.rows
+    (ts : List TypeTree) → length ts ≡ p.width → Each (ArePatternsOf (values_of program) ts) p.rows
     → MatchBool covered (IsCoveredIn (values_of program) ts p.rows) ((es : Outlines) × IsExampleIn (values_of program) ts p.rows es)
 
 -- a problem of some that is not covered, where those behind it are

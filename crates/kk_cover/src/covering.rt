@@ -5,7 +5,7 @@ ghost use Rattle.kk_cover.specs.Matches.{matches, matches_of_all, matches_of_row
 
 use crate::finding;
 use kk_base::NoMemory;
-use kk_syntax::{Expr, Pat, Program, Row, Statement};
+use kk_syntax::{Expr, Pat, Program, Row, Statement, Typed};
 use std::alloc::Global;
 use thiserror::Error;
 
@@ -20,12 +20,13 @@ pub enum CoverError {
     NoMemory,
 }
 
-/// Whether each match of a program is covered. If not, the first function that has another, and an example.
+/// Whether each match of a typed program is covered. If not, the first function that has another, and an example.
 ///
 /// The recursion is as deep as the program.
-pub fn cover(alloc: Global, program: &Program) -> Result<(), CoverError>
-    ensures { AnswersProgram program.now result }
+pub fn cover(alloc: Global, typed: &Typed) -> Result<(), CoverError>
+    ensures { AnswersProgram typed.now.program result }
 {
+    let program = &typed.program;
     for (number, function) in program.functions.iter().enumerate() {
         match first(alloc, program, &function.body) {
             Ok(None) => {}

@@ -4,6 +4,7 @@
 mod covering;
 mod example;
 mod finding;
+mod law;
 mod problem;
 mod row;
 mod rows;
@@ -16,4 +17,5 @@ mod turning;
 
 pub use covering::{CoverError, cover};
 pub use finding::uncovered;
+pub use law::typed_matches_have_typed_rows;
 pub use spelling::example_text;

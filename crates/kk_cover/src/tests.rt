@@ -1,6 +1,6 @@
 use crate::{CoverError, cover, example_text, uncovered};
 use kk_base::Name;
-use kk_syntax::{Constructor, Expr, Fun, Pat, Program, Row, Ty};
+use kk_syntax::{Constructor, Expr, Fun, Pat, Program, Row, Ty, Typed};
 use std::alloc::{AllocError, Global};
 use std::test::Fail;
 
@@ -47,12 +47,6 @@ const THREE: Piece = Piece::Number(3);
 /// The rows of a match, each a pattern.
 type Rows = &'static [&'static [Piece]];
 
-/// `Nil -> 0; Cons(x, Nil) -> x`
-const LAST: Rows = &[&[NIL], &[CONS, ANY, NIL]];
-
-/// `_ -> 0`
-const ALL: Rows = &[&[ANY]];
-
 /// The pattern of these pieces.
 fn pattern(alloc: Global, pieces: &[Piece]) -> Result<Pat, AllocError> {
     let mut stack = Vec::new(alloc);
@@ -73,39 +67,16 @@ fn pattern(alloc: Global, pieces: &[Piece]) -> Result<Pat, AllocError> {
     Ok(stack.pop().unwrap_or(Pat::Wildcard))
 }
 
-/// The rows of these patterns. The first has this body.
-fn rows(alloc: Global, patterns: Rows, body: Expr) -> Result<Vec<Row>, AllocError> {
-    let mut bodies = vec![in alloc; body]?;
+/// The rows of a match with these patterns.
+fn rows(alloc: Global, patterns: Rows) -> Result<Vec<Row>, AllocError> {
     let mut rows = Vec::new(alloc);
     for pieces in patterns {
         rows.push(Row {
             pattern: pattern(alloc, pieces)?,
-            body: bodies.pop().unwrap_or(Expr::Unit),
+            body: Expr::Unit,
         })?;
     }
     Ok(rows)
-}
-
-/// A match, a match as its scrutinee, and a match as the body of its first row.
-fn nested(alloc: Global, matches: [Rows; 3]) -> Result<Expr, AllocError> {
-    let [outer, inner, body] = matches;
-    let inner = Expr::Match(
-        Box::new(alloc, Expr::Unit)?,
-        rows(alloc, inner, Expr::Unit)?,
-    );
-    let body = Expr::Match(Box::new(alloc, Expr::Unit)?, rows(alloc, body, Expr::Unit)?);
-    Ok(Expr::Match(Box::new(alloc, inner)?, rows(alloc, outer, body)?))
-}
-
-fn function(alloc: Global, body: Expr) -> Fun {
-    Fun {
-        name: Name::new(String::new(alloc)),
-        at: 0,
-        variables: 0,
-        parameters: Vec::new(alloc),
-        result: Ty::Unit,
-        body,
-    }
 }
 
 /// The types of a constructor's fields.
@@ -129,8 +100,8 @@ fn fields(alloc: Global, name: &str) -> Result<Vec<Ty>, AllocError> {
     Ok(fields)
 }
 
-/// A function whose matches are covered, and one with these matches.
-fn program(alloc: Global, matches: [Rows; 3]) -> Result<Program, AllocError> {
+/// A program of one function, with this body.
+fn typed(alloc: Global, body: Expr) -> Result<Typed, AllocError> {
     let mut constructors = Vec::new(alloc);
     for (name, of_type) in CONSTRUCTORS {
         constructors.push(Constructor {
@@ -141,70 +112,62 @@ fn program(alloc: Global, matches: [Rows; 3]) -> Result<Program, AllocError> {
             fields: fields(alloc, name)?,
         })?;
     }
-    let covered = nested(alloc, [ALL, ALL, ALL])?;
-    let functions = vec![in alloc;
-        function(alloc, covered),
-        function(alloc, nested(alloc, matches)?),
-    ]?;
-    Ok(Program {
-        types: Vec::new(alloc),
-        constructors,
-        functions,
-        main: 0,
+    let function = Fun {
+        name: Name::new(String::new(alloc)),
+        at: 0,
+        variables: 0,
+        parameters: Vec::new(alloc),
+        result: Ty::Unit,
+        body,
+    };
+    Ok(Typed {
+        program: Program {
+            types: Vec::new(alloc),
+            constructors,
+            functions: vec![in alloc; function]?,
+            main: 0,
+        },
+        bodies: Vec::new(alloc),
     })
 }
 
-/// Matches, and the example for the first that is not covered; no text where all are.
-const CASES: [([Rows; 3], &[u8]); 14] = [
-    // Nested constructors, and the first one that leaves something uncovered.
-    ([LAST, ALL, ALL], b"Cons(_, Cons(_, _))"),
-    ([&[&[CONS, ANY, ANY]], ALL, ALL], b"Nil"),
+/// The rows of a match, and the example for it; no text where it is covered.
+const CASES: [(Rows, &[u8]); 8] = [
+    (&[&[NIL], &[CONS, ANY, NIL]], b"Cons(_, Cons(_, _))"),
+    (&[&[NIL], &[CONS, ZERO, ANY]], b"Cons(1, _)"),
     (
-        [
-            &[&[NIL], &[CONS, ANY, NIL], &[CONS, ANY, CONS, ANY, ANY]],
-            ALL,
-            ALL,
-        ],
-        b"",
-    ),
-    // Numbers, with and without `_`.
-    ([&[&[ZERO]], ALL, ALL], b"1"),
-    ([&[&[THREE], &[ONE], &[ZERO]], ALL, ALL], b"2"),
-    ([&[&[THREE], &[ANY]], ALL, ALL], b""),
-    ([&[&[NIL], &[CONS, ZERO, ANY]], ALL, ALL], b"Cons(1, _)"),
-    // `bool`, alone and in pairs.
-    ([&[&[TRUE]], ALL, ALL], b"False"),
-    ([&[&[TRUE], &[FALSE]], ALL, ALL], b""),
-    (
-        [&[&[PAIR, TRUE, ANY], &[PAIR, ANY, FALSE]], ALL, ALL],
+        &[&[PAIR, TRUE, ANY], &[PAIR, ANY, FALSE]],
         b"Pair(False, True)",
     ),
-    // A type without constructors may have a match without rows; where no row looks, the example is `_`.
-    ([&[], ALL, ALL], b"_"),
-    // Outer before inner, and the scrutinee before the rows.
-    ([&[&[ZERO]], LAST, &[&[TRUE]]], b"1"),
-    ([ALL, LAST, &[&[TRUE]]], b"Cons(_, Cons(_, _))"),
-    ([ALL, ALL, &[&[TRUE]]], b"False"),
+    (&[&[TRUE]], b"False"),
+    (&[&[THREE], &[ONE], &[ZERO]], b"2"),
+    (&[&[THREE], &[ANY]], b""),
+    // `()`, which no row looks at.
+    (&[&[ANY]], b""),
+    // A type without values.
+    (&[], b"_"),
 ];
 
 #[test]
-fn the_first_match_that_is_not_covered_has_an_example(rt: HostRuntime) -> Result<(), Fail> {
+fn a_match_that_is_not_covered_has_an_example(rt: HostRuntime) -> Result<(), Fail> {
     let alloc = rt.alloc();
-    for (matches, expected) in CASES {
-        let program = program(alloc, matches)?;
-        match cover(alloc, &program) {
+    for (patterns, expected) in CASES {
+        let scrutinee = Box::new(alloc, Expr::Unit)?;
+        let typed = typed(alloc, Expr::Match(scrutinee, rows(alloc, patterns)?))?;
+        match cover(alloc, &typed) {
             Ok(()) => assert!(rt; expected.is_empty()),
-            Err(CoverError::NotCovered { function, example }) => {
-                let text = example_text(alloc, &program, &example)?;
-                assert_eq!(rt; function, 1);
+            Err(
+                CoverError::NotCovered {
+                    example,
+                    function: _,
+                },
+            ) => {
+                let text = example_text(alloc, &typed.program, &example)?;
                 assert_eq!(rt; text.as_slice(), expected);
             }
             Err(CoverError::NoMemory) => assert!(rt; false, "no memory"),
         }
     }
-    let program = program(alloc, [ALL, ALL, ALL])?;
-    let last = rows(alloc, LAST, Expr::Unit)?;
-    assert!(rt; uncovered(alloc, &program, &last)?.is_some());
     Ok(())
 }
 
@@ -237,7 +200,7 @@ fn twenty_pairs_of_positions_far_apart_are_decided_at_once(rt: HostRuntime) -> R
             rows.push(far_apart(alloc, first, pieces)?)?;
         }
     }
-    let program = program(alloc, [ALL, ALL, ALL])?;
-    assert!(rt; uncovered(alloc, &program, &rows)?.is_none());
+    let typed = typed(alloc, Expr::Unit)?;
+    assert!(rt; uncovered(alloc, &typed.program, &rows)?.is_none());
     Ok(())
 }

@@ -7,14 +7,14 @@ use Rattle.kk_cover.proofs.covering.cover.Goals as goal
 
 pub loop-number-preserved : goal.loop-number-preserved
 loop-number-preserved c =
-    let lt : c.loop-number.number < length c.args.program.now.functions.items = rw c.deref-function-items.ensures.value at c.loop-number-test.true in
-    functions_more c.args.program.now c.loop-number.number c.function-item.result lt (rw c.deref-function-items.ensures.value at c.function-item.is) c.loop-number.invariant
+    let lt : c.loop-number.number < length c.args.typed.now.program.functions.items = rw c.deref-function-items.ensures.value at c.loop-number-test.true in
+    functions_more c.args.typed.now.program c.loop-number.number c.function-item.result lt (rw c.deref-function-items.ensures.value at c.function-item.is) c.loop-number.invariant
     (rw c.in-Ok-None.field-0-is at c.in-Ok-None.ensures)
 
 pub returns-in-Ok : goal.returns-in-Ok
 returns-in-Ok c =
-    let lt : c.loop-number.number < length c.args.program.now.functions.items = rw c.deref-function-items.ensures.value at c.loop-number-test.true in
+    let lt : c.loop-number.number < length c.args.typed.now.program.functions.items = rw c.deref-function-items.ensures.value at c.loop-number-test.true in
     let found =
-    function_at c.args.program.now c.loop-number.number c.function-item.result c.in-Ok-Some.example lt (rw c.deref-function-items.ensures.value at c.function-item.is) c.loop-number.invariant
+    function_at c.args.typed.now.program c.loop-number.number c.function-item.result c.in-Ok-Some.example lt (rw c.deref-function-items.ensures.value at c.function-item.is) c.loop-number.invariant
     (rw c.in-Ok-Some.field-0-is at c.in-Ok-Some.ensures) in
-    subst (λ k. IsFirstFunction (program_tree c.args.program.now) k (pattern_outline c.in-Ok-Some.example)) (sym c.in-Ok.ensures.1) found
+    subst (λ k. IsFirstFunction (program_tree c.args.typed.now.program) k (pattern_outline c.in-Ok-Some.example)) (sym c.in-Ok.ensures.1) found

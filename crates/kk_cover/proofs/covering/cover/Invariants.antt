@@ -5,4 +5,4 @@ use Rattle.kk_cover.specs.Matches.{IsFunctionCovered}
 use Rattle.kk_cover.proofs.covering.cover.Given as goal
 
 abbrev pub invariant-loop-number : goal.invariant-loop-number
-invariant-loop-number l = Each (IsFunctionCovered (program_tree l.program)) (take l.number (program_tree l.program).functions)
+invariant-loop-number l = Each (IsFunctionCovered (program_tree l.typed.program)) (take l.number (program_tree l.typed.program).functions)
