@@ -14,6 +14,10 @@ pub record Outside : Type 0 where
   pub out : SinkState
   pub image : List ℕ
 
+-- the outside that these are
+abbrev pub outside : StoreState → SourceState → SinkState → List ℕ → Outside
+outside files input out image = record { files = files; input = input; out = out; image = image }
+
 -- each file is as it was, and no call of the store failed
 pub record KeepsFiles (before after : StoreState) : Type 0 where
   pub files : SameFiles before.files after.files

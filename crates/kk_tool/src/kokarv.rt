@@ -1,5 +1,6 @@
 ghost use Rattle.std.specs.Prelude.{◌≡◌, false, map, string_bytes};
 ghost use Rattle.kk_tool.specs.Answers.{Answers, Ends, EndsWith, Faultless, is_fault_status};
+ghost use Rattle.kk_tool.specs.Outside.{outside};
 ghost use Rattle.kk_tool.specs.Requests.{request_of};
 
 use crate::answer::Answer;
@@ -59,10 +60,7 @@ fn answer_words<'a, F: Store, I: Source, O: Sink>(
     out: &mut O,
     image: &mut Bytes,
 ) -> Answer<'a>
-    ensures { Answers
-        (record { files = F.state files.old; input = I.state input.old; out = O.state out.old; image = image.old })
-        (record { files = F.state files.new; input = I.state input.new; out = O.state out.new; image = image.new })
-        (request_of (map string_bytes words.now)) result }
+    ensures { Answers (outside (F.state files.old) (I.state input.old) (O.state out.old) image.old) (outside (F.state files.new) (I.state input.new) (O.state out.new) image.new) (request_of (map string_bytes words.now)) result }
 {
     match command_in(alloc, words) {
         Ok(Some(command)) => perform(alloc, command, files, input, out, image),

@@ -15,7 +15,7 @@ ghost use Rattle.kk_tool.specs.Requests.{Request, check, build, run, file_of};
 ghost use Rattle.kk_tool.specs.Internal.{request_read};
 ghost use Rattle.kk_tool.specs.ImageRuns.{RunsImage};
 ghost use Rattle.kk_tool.specs.SourceRuns.{halt_for};
-ghost use Rattle.kk_tool.specs.Outside.{KeepsFiles};
+ghost use Rattle.kk_tool.specs.Outside.{KeepsFiles, outside};
 
 use crate::answer::{Answer, RunEnd, wants_memory};
 use crate::command::{Command, Sizes};
@@ -35,10 +35,7 @@ pub fn perform<'a, F: Store, I: Source, O: Sink>(
     out: &mut O,
     image: &mut Bytes,
 ) -> Answer<'a>
-    ensures { Answers
-        (record { files = F.state files.old; input = I.state input.old; out = O.state out.old; image = image.old })
-        (record { files = F.state files.new; input = I.state input.new; out = O.state out.new; image = image.new })
-        (Some (request_read command.entry)) result }
+    ensures { Answers (outside (F.state files.old) (I.state input.old) (O.state out.old) image.old) (outside (F.state files.new) (I.state input.new) (O.state out.new) image.new) (Some (request_read command.entry)) result }
 {
     match command {
         Command::Check { file } => check_file(alloc, file, files),
@@ -51,10 +48,7 @@ pub fn perform<'a, F: Store, I: Source, O: Sink>(
 
 /// Judges the text in a file.
 fn check_file<'a, F: Store>(alloc: Global, file: &'a str, files: &mut F) -> Answer<'a>
-    ensures { (input : SourceState) (out : SinkState) (image : List ℕ) → Answers
-        (record { files = F.state files.old; input = input; out = out; image = image })
-        (record { files = F.state files.new; input = input; out = out; image = image })
-        (Some (check file.now)) result }
+    ensures { (input : SourceState) (out : SinkState) (image : List ℕ) → Answers (outside (F.state files.old) input out image) (outside (F.state files.new) input out image) (Some (check file.now)) result }
 {
     let text = match read_text(alloc, file, files) {
         Ok(text) => text,
@@ -75,10 +69,7 @@ fn build_file<'a, F: Store>(
     files: &mut F,
     image: &mut Bytes,
 ) -> Answer<'a>
-    ensures { (input : SourceState) (output : SinkState) → Answers
-        (record { files = F.state files.old; input = input; out = output; image = image.old })
-        (record { files = F.state files.new; input = input; out = output; image = image.new })
-        (Some (build file.now out.now sizes.cells sizes.depth)) result }
+    ensures { (input : SourceState) (output : SinkState) → Answers (outside (F.state files.old) input output image.old) (outside (F.state files.new) input output image.new) (Some (build file.now out.now sizes.cells sizes.depth)) result }
 {
     match build_image(alloc, file, sizes, files, image) {
         Ok(()) => match files.write(out, image.as_slice()) {
@@ -101,10 +92,7 @@ fn run_file<'a, F: Store, I: Source, O: Sink>(
     out: &mut O,
     image: &mut Bytes,
 ) -> Answer<'a>
-    ensures { Answers
-        (record { files = F.state files.old; input = I.state input.old; out = O.state out.old; image = image.old })
-        (record { files = F.state files.new; input = I.state input.new; out = O.state out.new; image = image.new })
-        (Some (run file.now sizes.cells sizes.depth steps)) result }
+    ensures { Answers (outside (F.state files.old) (I.state input.old) (O.state out.old) image.old) (outside (F.state files.new) (I.state input.new) (O.state out.new) image.new) (Some (run file.now sizes.cells sizes.depth steps)) result }
 {
     match build_image(alloc, file, sizes, files, image) {
         Ok(()) => match run_image(alloc, image.as_slice(), steps, input, out) {
@@ -124,10 +112,7 @@ fn run_file<'a, F: Store, I: Source, O: Sink>(
 fn read_text<'a, F: Store>(alloc: Global, file: &'a str, files: &mut F) -> Result<Bytes, Answer<'a>>
     ensures text { IfOk result (λ text. HasText file.now text (F.state files.old)) }
     ensures kept { OnOk result (KeepsFiles (F.state files.old) (F.state files.new)) }
-    ensures err { IfErr result (λ answer. (input : SourceState) (out : SinkState) (image : List ℕ) (request : Request) → file_of request ≡ file.now → Answers
-        (record { files = F.state files.old; input = input; out = out; image = image })
-        (record { files = F.state files.new; input = input; out = out; image = image })
-        (Some request) answer) }
+    ensures err { IfErr result (λ answer. (input : SourceState) (out : SinkState) (image : List ℕ) (request : Request) → file_of request ≡ file.now → Answers (outside (F.state files.old) input out image) (outside (F.state files.new) input out image) (Some request) answer) }
 {
     let at_most = most_read();
     match files.read(alloc, file, at_most) {
@@ -154,10 +139,7 @@ fn build_image<'a, F: Store>(
 ) -> Result<(), Answer<'a>>
     ensures built { OnOk result (IsImageOfFile file.now sizes.cells sizes.depth (F.state files.old) image.new) }
     ensures kept { OnOk result (KeepsFiles (F.state files.old) (F.state files.new)) }
-    ensures err { IfErr result (λ answer. (input : SourceState) (out : SinkState) (request : Request) → file_of request ≡ file.now → Answers
-        (record { files = F.state files.old; input = input; out = out; image = image.old })
-        (record { files = F.state files.new; input = input; out = out; image = image.new })
-        (Some request) answer) }
+    ensures err { IfErr result (λ answer. (input : SourceState) (out : SinkState) (request : Request) → file_of request ≡ file.now → Answers (outside (F.state files.old) input out image.old) (outside (F.state files.new) input out image.new) (Some request) answer) }
 {
     let text = match read_text(alloc, file, files) {
         Ok(text) => text,
