@@ -113,3 +113,11 @@ module _ (program : ProgramTree) (function : FunctionTree) where
     module _ (d : List NodeTree) (taken : List Taking) (walked : Leads c d taken (expression_at program scope function.body want) Done) where
       pub body_leads : Leads c d taken typing Done
       body_leads = then_leads c c d [] taken typing (expression_at program scope function.body want) Done entered walked
+
+      -- no types obey the graph behind the body, and so there is no typing
+      pub body_unsolved : NoneObeys d → IsTypable program function → ⊥
+      body_unsolved = unsolved c begun d taken body_leads
+
+      -- the principal types of that graph are the principal typing
+      pub body_solved : (types : Assignment) → IsPrincipalOf function.variables d types → IsPrincipal program function (choices_at types taken)
+      body_solved = solved c begun d taken body_leads

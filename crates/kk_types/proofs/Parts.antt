@@ -1,5 +1,5 @@
 -- A walk over patterns whose variables are bound.
-use Rattle.std.proofs.Common.{◌≡◌, ◌<◌, ◌≤◌, ◌+◌, ℕ, Bool, true, false, Option, None, List, [], ◌∷◌, length, map, get_or, drop, drop_of_length-le, refl, ap, sym, ◌∙◌, subst, arith}
+use Rattle.std.proofs.Common.{◌≡◌, ◌<◌, ◌≤◌, ◌+◌, ℕ, Bool, true, false, Option, Some, None, List, [], ◌∷◌, length, map, get_or, drop, drop_of_length-le, refl, ap, sym, ◌∙◌, subst, arith}
 use Rattle.std.specs.Prelude.{Result, Ok}
 use Rattle.std.proofs.lemmas.List.{drop_more, length-map}
 use Rattle.std.proofs.lemmas.List.Elements.{All-drop}
@@ -14,7 +14,7 @@ use Rattle.kk_types.specs.declared.instance.Instance.{Instance}
 use Rattle.kk_types.specs.declared.scope.Bound.{Bound}
 use Rattle.kk_types.specs.declared.walk.Walk.{Walk}
 use Rattle.kk_types.specs.Claims.{typed_as, both, pattern_at, patterns_at}
-use Rattle.kk_types.specs.Steps.{nodes_of, size_of, Goes, Walked, Instantiates}
+use Rattle.kk_types.specs.Steps.{nodes_of, size_of, Goes, Walked, AnswersInstance, Instantiates}
 use Rattle.kk_types.specs.Walks.{AreBelow, AreBoundBelow, scope_at, Claim, Done, Refused, IsOf}
 use Rattle.kk_types.proofs.Going.{refused_after, goes_on, goes_first, walked_behind}
 use Rattle.kk_types.proofs.Locals.{scoped_of, node_of, nodes_of_claim}
@@ -103,3 +103,20 @@ parts_asked a b d scheme chosen_ instance want wants bound made given are = (
   subst (AreBoundBelow (size_of d)) (sym (given.same_scope ∙ made.same_scope)) (bound_more (size_of a) (size_of d) a.scope.items (omega (arith, made.nodes.opens.longer, given.leads.longer)) bound),
   subst (AreBelow (size_of d)) (sym are) (below_more (size_of b) (size_of d) instance.parameters.items given.leads.longer made.nodes.takes_inside),
 )
+
+-- a constructor and its parts, as they are in memory
+module _ (program : ProgramTree) (a : Walk) (want : ℕ) (bound : AreBoundBelow (size_of a) a.scope.items) (lt : want < size_of a) (c : ℕ) (p : Pattern) (parts : List Pat) (is : p ≡ constructor c (patterns_of (map pattern_tree parts))) (b : Walk) (found : Option Instance) (instance : Instance) (some : found ≡ Some instance) (answers : AnswersInstance (constructor_scheme program c) (λ ts. constructing c ts ∷ []) a b (Ok found)) (d : Walk) (given : Bool) (gives : Walked b d (typed_as want (λ r. r instance.result)) (Ok given)) where
+  made : Instantiates (constructor_scheme program c) (λ ts. constructing c ts ∷ []) a b instance
+  made = subst (λ o. AnswersInstance (constructor_scheme program c) (λ ts. constructing c ts ∷ []) a b (Ok o)) some answers
+
+  pub not_of_type : given ≡ false → Refused (nodes_of a) (pattern_at program a.scope.items p want)
+  not_of_type fails =
+      subst (λ q. Refused (nodes_of a) (pattern_at program a.scope.items q want)) (sym is)
+      (constructor_not_given program a want bound lt c (patterns_of (map pattern_tree parts)) b instance made d (subst (λ ok. Walked b d (typed_as want (λ r. r instance.result)) (Ok ok)) fails gives))
+
+  pub of_type : given ≡ true → (e : Walk) (ps : List Pat) (wants : List ℕ) (ok : Bool) → ps ≡ parts → wants ≡ instance.parameters.items → Walked d e (patterns_at program d.scope.items (patterns_of (map pattern_tree ps)) wants) (Ok ok) → Walked a e (pattern_at program a.scope.items p want) (Ok ok)
+  of_type holds e ps wants ok same are walked =
+      subst (λ q. Walked a e (pattern_at program a.scope.items q want) (Ok ok)) (sym is)
+      (constructor_walked program a want bound lt c (patterns_of (map pattern_tree parts)) b instance made d e (Ok ok) (subst (λ o. Walked b d (typed_as want (λ r. r instance.result)) (Ok o)) holds gives)
+      (subst (λ ws. Walked d e (patterns_at program d.scope.items (patterns_of (map pattern_tree parts)) ws) (Ok ok)) are
+      (subst (λ qs. Walked d e (patterns_at program d.scope.items (patterns_of (map pattern_tree qs)) wants) (Ok ok)) same walked)))

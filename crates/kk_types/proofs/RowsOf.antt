@@ -1,5 +1,5 @@
 -- A walk over the rows of a match.
-use Rattle.std.proofs.Common.{◌≡◌, ◌<◌, ◌≤◌, ◌+◌, ℕ, true, false, List, [], ◌∷◌, ◌++◌, length, map, get_or, take, drop, drop_of_length-le, refl, ap, sym, ◌∙◌, subst, arith}
+use Rattle.std.proofs.Common.{◌≡◌, ◌<◌, ◌≤◌, ◌+◌, ℕ, Bool, true, false, List, [], ◌∷◌, ◌++◌, length, map, get_or, take, drop, drop_of_length-le, refl, ap, sym, ◌∙◌, subst, arith}
 use Rattle.std.specs.Prelude.{Ok}
 use Rattle.std.proofs.lemmas.List.{drop_more}
 use Rattle.std.proofs.lemmas.List.Elements.{All-nil, All-cons}
@@ -18,7 +18,7 @@ use Rattle.kk_types.specs.declared.walk.Walk.{Walk}
 use Rattle.kk_types.specs.Claims.{both, expression_at, rows_at, pattern_at}
 use Rattle.kk_types.specs.Steps.{nodes_of, size_of, Goes, Walked, BindsEach}
 use Rattle.kk_types.specs.Walks.{Taking, holding_at, takings_of, choices_at, AreBelow, IsTakenBelow, AreTakenBelow, AreBoundBelow, scope_at, Claim, Leads, Done, Refused, IsOf, Opens}
-use Rattle.kk_types.proofs.Going.{takes_then, refused_after, goes_on, goes_first}
+use Rattle.kk_types.proofs.Going.{still_inside, still_bound, takes_then, refused_after, goes_on, goes_first}
 use Rattle.kk_types.proofs.Locals.{node_of, both_of, expression_of, rows_of_claim}
 use Rattle.kk_types.proofs.Refining.{head_of, tail_of, scope_agrees, Chooses, opens_leads, then_leads, refused_behind, first_refused}
 
@@ -162,3 +162,44 @@ module _ (program : ProgramTree) (bounds : List Bound) (scrutinee want : ℕ) wh
 -- no row is left
 pub cases_done : (program : ProgramTree) (bounds : List Bound) (scrutinee want : ℕ) (a b : Walk) (Whole : Claim) (rows : List Row) (i : ℕ) → length rows ≤ i → Goes a b Whole (cases_at program bounds scrutinee want (drop i rows)) → Goes a b Whole Done
 cases_done program bounds scrutinee want a b Whole rows i none goes = subst (λ rs. Goes a b Whole (cases_at program bounds scrutinee want rs)) (drop_of_length-le rows none) goes
+
+-- a turn of the loop over the rows of a match
+module _ (program : ProgramTree) (old mid : Walk) (Whole : Claim) (rows : List Row) (i : ℕ) (one : Row) (lt : i < length rows) (is : one ≡ get_or rows i one) (scrutinee want : ℕ) (inside : AreBoundBelow (size_of old) old.scope.items) (first_lt : scrutinee < size_of old) (less : want < size_of old) (goes : Goes old mid Whole (cases_at program old.scope.items scrutinee want (drop i rows))) (after : Walk) (binds : BindsEach mid after (bound (pattern_tree one.pattern))) (patterned_ : Walk) (matches : Bool) (walked : Walked after patterned_ (pattern_at program after.scope.items (pattern_tree one.pattern) scrutinee) (Ok matches)) where
+  abbrev case_here : Claim
+  case_here = case_at program mid.scope.items scrutinee want one
+
+  inside_here : AreBoundBelow (size_of mid) mid.scope.items
+  inside_here = still_bound old mid Whole (cases_at program old.scope.items scrutinee want (drop i rows)) goes inside
+
+  scrutinee_here : scrutinee < size_of mid
+  scrutinee_here = still_inside old mid Whole (cases_at program old.scope.items scrutinee want (drop i rows)) goes scrutinee first_lt
+
+  want_here : want < size_of mid
+  want_here = still_inside old mid Whole (cases_at program old.scope.items scrutinee want (drop i rows)) goes want less
+
+  refused_here : Refused (nodes_of mid) case_here → Refused (nodes_of old) Whole
+  refused_here refused = case_refused program old.scope.items scrutinee want old mid Whole rows i one lt is goes (subst (λ bs. Refused (nodes_of mid) (case_at program bs scrutinee want one)) goes.same_scope refused)
+
+  pub pattern_fails : matches ≡ false → Refused (nodes_of old) Whole
+  pattern_fails fails =
+      refused_here
+      (pattern_refused program mid after (pattern_tree one.pattern) (expr_tree one.body) scrutinee want inside_here scrutinee_here want_here binds patterned_
+      (subst (λ ok. Walked after patterned_ (pattern_at program after.scope.items (pattern_tree one.pattern) scrutinee) (Ok ok)) fails walked))
+
+  module _ (holds : matches ≡ true) (ended : Walk) (typed : Bool) (second : Walked patterned_ ended (expression_at program patterned_.scope.items (expr_tree one.body) want) (Ok typed)) where
+    matched_here : Walked after patterned_ (pattern_at program after.scope.items (pattern_tree one.pattern) scrutinee) (Ok true)
+    matched_here = subst (λ ok. Walked after patterned_ (pattern_at program after.scope.items (pattern_tree one.pattern) scrutinee) (Ok ok)) holds walked
+
+    pub body_fails : typed ≡ false → Refused (nodes_of old) Whole
+    body_fails fails =
+        refused_here
+        (body_refused program mid after (pattern_tree one.pattern) (expr_tree one.body) scrutinee want inside_here scrutinee_here want_here binds patterned_ matched_here ended
+        (subst (λ ok. Walked patterned_ ended (expression_at program patterned_.scope.items (expr_tree one.body) want) (Ok ok)) fails second))
+
+    pub row_goes : typed ≡ true → (end : Walk) → nodes_of end ≡ nodes_of ended → variables_of end.graph ≡ variables_of ended.graph → end.taken.items ≡ ended.taken.items → end.scope.items ≡ take (length old.scope.items) ended.scope.items → Goes old end Whole (cases_at program old.scope.items scrutinee want (drop (i + 1) rows))
+    row_goes done end same_graph same_variables same_taken cut =
+        case_goes program old.scope.items scrutinee want old mid Whole rows i one lt is goes end (subst (AreBoundBelow (size_of mid)) goes.same_scope inside_here) scrutinee_here want_here
+        (subst (λ bs. Goes mid end (case_at program bs scrutinee want one) Done) goes.same_scope
+        (row_done program mid after (pattern_tree one.pattern) (expr_tree one.body) scrutinee want inside_here scrutinee_here want_here binds patterned_ matched_here ended end
+        (subst (λ ok. Walked patterned_ ended (expression_at program patterned_.scope.items (expr_tree one.body) want) (Ok ok)) done second) same_graph same_variables same_taken
+        (cut ∙ ap (λ n. take n ended.scope.items) (sym (ap length goes.same_scope)))))

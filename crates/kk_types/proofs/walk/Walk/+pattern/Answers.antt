@@ -1,14 +1,14 @@
-use Rattle.std.proofs.Common.{rules, true, false, [], ◌∷◌, map, get_or, ap, sym, ◌∙◌, subst, arith}
+use Rattle.std.proofs.Common.{rules, true, false, [], ◌∷◌, get_or, ap, sym, ◌∙◌, subst, arith}
 use Rattle.std.specs.Prelude.{Ok}
 use Rattle.kk_syntax.specs.declared.program.Pat.TheViews.{the_lemmas}
-use Rattle.kk_syntax.specs.Patterns.{constructor, pattern_tree, patterns_of}
+use Rattle.kk_syntax.specs.Patterns.{pattern_tree}
 use Rattle.kk_syntax.specs.Programs.{program_tree}
 use Rattle.kk_syntax.specs.Typing.{constructing, constructor_scheme}
-use Rattle.kk_types.specs.Claims.{typed_as, pattern_at, patterns_at}
+use Rattle.kk_types.specs.Claims.{typed_as, pattern_at}
 use Rattle.kk_types.specs.Steps.{nodes_of, size_of, Goes, Walked, AnswersInstance}
-use Rattle.kk_types.specs.Walks.{AreBoundBelow, Done, Refused}
+use Rattle.kk_types.specs.Walks.{AreBoundBelow, Done}
 use Rattle.kk_types.proofs.Going.{still_inside, still_bound, goes_reworded}
-use Rattle.kk_types.proofs.Parts.{parts_at, other_length, part_refused, part_goes, parts_done, constructor_not_given, constructor_walked, parts_asked}
+use Rattle.kk_types.proofs.Parts.{parts_at, other_length, part_refused, part_goes, parts_done, not_of_type, of_type, parts_asked}
 use Rattle.kk_types.proofs.Patterns.{wildcard_tree, variable_tree, number_tree, constructor_tree}
 use Rattle.kk_types.proofs.Refining.{below_more}
 use Rattle.kk_types.proofs.walk.Walk.+pattern.Goals as goal
@@ -61,16 +61,7 @@ parts-returns t c =
 
 pub pattern-returns-then-not-ok : goal.pattern-returns-then-not-ok
 pattern-returns-then-not-ok t c =
-    let program = program_tree c.args.program.now in
-    let old = c.args.self.now in
-    let mid = c.constructor.new.self in
-    let instance = c.in-Some.instance in
-    let made = subst (λ found. AnswersInstance (constructor_scheme program c.in-Constructor.by) (λ ts. constructing c.in-Constructor.by ts ∷ []) old mid (Ok found)) c.in-Some.is c.in_ok-instance-in-Constructor.ensures in
-    let given : Walked mid c.same.new.self (typed_as c.args.want (λ r. r instance.result)) (Ok false) = subst (λ ok. Walked mid c.same.new.self (typed_as c.args.want (λ r. r instance.result)) (Ok ok)) c.if-not-ok.true c.in_ok-ok-in-Constructor.ensures in
-    let is = ap pattern_tree c.in-Constructor.is ∙ constructor_tree c.in-Constructor.by c.in-Constructor.parts in
-    let parts = patterns_of (map pattern_tree c.in-Constructor.parts.items) in
-    subst (λ p. Refused (nodes_of old) (pattern_at program old.scope.items p c.args.want)) (sym is)
-    (constructor_not_given program old c.args.want c.requires.scope c.requires.want c.in-Constructor.by parts mid instance made c.same.new.self given)
+    not_of_type (program_tree c.args.program.now) c.args.self.now c.args.want c.requires.scope c.requires.want c.in-Constructor.by (pattern_tree c.args.pattern.now) c.in-Constructor.parts.items (ap pattern_tree c.in-Constructor.is ∙ constructor_tree c.in-Constructor.by c.in-Constructor.parts) c.constructor.new.self _ c.in-Some.instance c.in-Some.is c.in_ok-instance-in-Constructor.ensures c.same.new.self c.in_ok-ok-in-Constructor.ok c.in_ok-ok-in-Constructor.ensures c.if-not-ok.true
 
 pub pattern-parts-requires : goal.pattern-parts-requires
 pattern-parts-requires t c = (
@@ -84,20 +75,8 @@ pattern-parts-requires t c = (
 
 pub pattern-returns-then-not-ok-2 : goal.pattern-returns-then-not-ok-2
 pattern-returns-then-not-ok-2 t c =
-    let program = program_tree c.args.program.now in
-    let old = c.args.self.now in
-    let mid = c.constructor.new.self in
-    let instance = c.in-Some.instance in
-    let made = subst (λ found. AnswersInstance (constructor_scheme program c.in-Constructor.by) (λ ts. constructing c.in-Constructor.by ts ∷ []) old mid (Ok found)) c.in-Some.is c.in_ok-instance-in-Constructor.ensures in
-    let given : Walked mid c.same.new.self (typed_as c.args.want (λ r. r instance.result)) (Ok true) = subst (λ ok. Walked mid c.same.new.self (typed_as c.args.want (λ r. r instance.result)) (Ok ok)) c.if-not-ok.false c.in_ok-ok-in-Constructor.ensures in
-    let is = ap pattern_tree c.in-Constructor.is ∙ constructor_tree c.in-Constructor.by c.in-Constructor.parts in
-    let parts = patterns_of (map pattern_tree c.in-Constructor.parts.items) in
-    let last : Walked c.same.new.self c.parts.new.self (patterns_at program c.same.new.self.scope.items parts instance.parameters.items) (Ok false) =
-    subst (λ ok. Walked c.same.new.self c.parts.new.self (patterns_at program c.same.new.self.scope.items parts instance.parameters.items) (Ok ok)) c.if-not-ok-2.true
-    (subst (λ ws. Walked c.same.new.self c.parts.new.self (patterns_at program c.same.new.self.scope.items parts ws) (Ok c.in_ok-ok-in-Constructor-2.ok)) c.deref-in-Constructor.ensures.value
-    (subst (λ ps. Walked c.same.new.self c.parts.new.self (patterns_at program c.same.new.self.scope.items (patterns_of (map pattern_tree ps)) c.deref-in-Constructor.result.now) (Ok c.in_ok-ok-in-Constructor-2.ok)) c.deref.ensures.value c.in_ok-ok-in-Constructor-2.ensures)) in
-    subst (λ p. Refused (nodes_of old) (pattern_at program old.scope.items p c.args.want)) (sym is)
-    (constructor_walked program old c.args.want c.requires.scope c.requires.want c.in-Constructor.by parts mid instance made c.same.new.self c.parts.new.self (Ok false) given last)
+    subst (λ ok. Walked c.args.self.now c.parts.new.self (pattern_at (program_tree c.args.program.now) c.args.self.now.scope.items (pattern_tree c.args.pattern.now) c.args.want) (Ok ok)) c.if-not-ok-2.true
+    (of_type (program_tree c.args.program.now) c.args.self.now c.args.want c.requires.scope c.requires.want c.in-Constructor.by (pattern_tree c.args.pattern.now) c.in-Constructor.parts.items (ap pattern_tree c.in-Constructor.is ∙ constructor_tree c.in-Constructor.by c.in-Constructor.parts) c.constructor.new.self _ c.in-Some.instance c.in-Some.is c.in_ok-instance-in-Constructor.ensures c.same.new.self c.in_ok-ok-in-Constructor.ok c.in_ok-ok-in-Constructor.ensures c.if-not-ok.false c.parts.new.self c.deref.result.now c.deref-in-Constructor.result.now c.in_ok-ok-in-Constructor-2.ok c.deref.ensures.value c.deref-in-Constructor.ensures.value c.in_ok-ok-in-Constructor-2.ensures)
 
 pub pattern-returns-in-Wildcard : goal.pattern-returns-in-Wildcard
 pattern-returns-in-Wildcard t c =
@@ -114,18 +93,4 @@ pattern-returns-in-Number t c =
 
 pub pattern-returns-else-not-ok-2 : goal.pattern-returns-else-not-ok-2
 pattern-returns-else-not-ok-2 t c =
-    let program = program_tree c.args.program.now in
-    let old = c.args.self.now in
-    let mid = c.constructor.new.self in
-    let instance = c.in-Some.instance in
-    let made = subst (λ found. AnswersInstance (constructor_scheme program c.in-Constructor.by) (λ ts. constructing c.in-Constructor.by ts ∷ []) old mid (Ok found)) c.in-Some.is c.in_ok-instance-in-Constructor.ensures in
-    let given : Walked mid c.same.new.self (typed_as c.args.want (λ r. r instance.result)) (Ok true) = subst (λ ok. Walked mid c.same.new.self (typed_as c.args.want (λ r. r instance.result)) (Ok ok)) c.if-not-ok.false c.in_ok-ok-in-Constructor.ensures in
-    let is = ap pattern_tree c.in-Constructor.is ∙ constructor_tree c.in-Constructor.by c.in-Constructor.parts in
-    let parts = patterns_of (map pattern_tree c.in-Constructor.parts.items) in
-    let last : Walked c.same.new.self c.parts.new.self (patterns_at program c.same.new.self.scope.items parts instance.parameters.items) (Ok true) =
-    subst (λ ok. Walked c.same.new.self c.parts.new.self (patterns_at program c.same.new.self.scope.items parts instance.parameters.items) (Ok ok)) c.if-not-ok-2.false
-    (subst (λ ws. Walked c.same.new.self c.parts.new.self (patterns_at program c.same.new.self.scope.items parts ws) (Ok c.in_ok-ok-in-Constructor-2.ok)) c.deref-in-Constructor.ensures.value
-    (subst (λ ps. Walked c.same.new.self c.parts.new.self (patterns_at program c.same.new.self.scope.items (patterns_of (map pattern_tree ps)) c.deref-in-Constructor.result.now) (Ok c.in_ok-ok-in-Constructor-2.ok)) c.deref.ensures.value c.in_ok-ok-in-Constructor-2.ensures)) in
-    subst (λ p. Walked old c.parts.new.self (pattern_at program old.scope.items p c.args.want) (Ok c.in_ok-ok-in-Constructor-2.ok)) (sym is)
-    (subst (λ ok. Walked old c.parts.new.self (pattern_at program old.scope.items (constructor c.in-Constructor.by parts) c.args.want) (Ok ok)) (sym c.if-not-ok-2.false)
-    (constructor_walked program old c.args.want c.requires.scope c.requires.want c.in-Constructor.by parts mid instance made c.same.new.self c.parts.new.self (Ok true) given last))
+    of_type (program_tree c.args.program.now) c.args.self.now c.args.want c.requires.scope c.requires.want c.in-Constructor.by (pattern_tree c.args.pattern.now) c.in-Constructor.parts.items (ap pattern_tree c.in-Constructor.is ∙ constructor_tree c.in-Constructor.by c.in-Constructor.parts) c.constructor.new.self _ c.in-Some.instance c.in-Some.is c.in_ok-instance-in-Constructor.ensures c.same.new.self c.in_ok-ok-in-Constructor.ok c.in_ok-ok-in-Constructor.ensures c.if-not-ok.false c.parts.new.self c.deref.result.now c.deref-in-Constructor.result.now c.in_ok-ok-in-Constructor-2.ok c.deref.ensures.value c.deref-in-Constructor.ensures.value c.in_ok-ok-in-Constructor-2.ensures

@@ -1,4 +1,4 @@
-use Rattle.std.proofs.Common.{rules, ◌≤◌, ◌+◌, true, false, [], length, map, get_or, drop, take, refl, ap, sym, ◌∙◌, subst, arith}
+use Rattle.std.proofs.Common.{rules, ◌≤◌, ◌+◌, true, false, [], map, get_or, drop, take, refl, ap, sym, ◌∙◌, subst, arith}
 use Rattle.std.specs.Prelude.{Ok}
 use Rattle.std.proofs.lemmas.List.{get_or_default, drop_all}
 use Rattle.kk_syntax.specs.declared.program.Expr.TheViews.{the_lemmas}
@@ -6,17 +6,16 @@ use Rattle.kk_syntax.specs.Programs.{program_tree}
 use Rattle.kk_syntax.specs.Trees.{expr_tree, row_tree, statement_tree, rows_of, trees_of}
 use Rattle.kk_unify.specs.GraphOf.{graph_of, variables_of}
 use Rattle.kk_types.specs.declared.walk.Walk.{Walk}
-use Rattle.kk_types.specs.Claims.{expression_at, expressions_at, pattern_at}
+use Rattle.kk_types.specs.Claims.{expression_at, expressions_at}
 use Rattle.kk_types.specs.Steps.{nodes_of, size_of, Goes, Walked}
-use Rattle.kk_types.specs.Walks.{AreBelow, AreBoundBelow, Refused, Done}
+use Rattle.kk_types.specs.Walks.{AreBelow, AreBoundBelow, Refused}
 use Rattle.kk_types.proofs.Forms.{in_scope, form_not_given, form_walked, condition_refused, positive_refused, branch_walked, scrutinee_refused, match_walked}
-use Rattle.kk_types.proofs.Going.{still_bound, still_inside, goes_reworded}
+use Rattle.kk_types.proofs.Going.{still_bound, goes_reworded}
 use Rattle.kk_types.proofs.Listing.{left_of, too_many, argument_walked, argument_refused}
 use Rattle.kk_types.proofs.Refining.{below_more, bound_more}
 use Rattle.kk_types.proofs.Stating.{into_first, none_stated, statement_refused, statement_walked, block_walked}
 use Rattle.kk_types.proofs.Views.{variable_tree, apply_is, branch_is, match_is, block_is, of_unit, of_number}
-use Rattle.kk_syntax.specs.Patterns.{pattern_tree}
-use Rattle.kk_types.proofs.RowsOf.{cases_at, case_at, cases_done, case_refused, case_goes, pattern_refused, body_refused, row_done}
+use Rattle.kk_types.proofs.RowsOf.{cases_at, cases_done, pattern_fails, body_fails, row_goes}
 use Rattle.kk_types.proofs.walk.Walk.+walk.Goals as goal
 
 pub arguments-returns-then-arguments-wants : goal.arguments-returns-then-arguments-wants
@@ -230,57 +229,17 @@ rows-loop-row-init t c =
 
 pub rows-returns-then-not-ok : goal.rows-returns-then-not-ok
 rows-returns-then-not-ok t c =
-    let program = program_tree c.args.program.now in
-    let old = c.args.self.now in
-    let mid = c.loop-row.self in
-    let bound = c.bind.new.self in
-    let goes = c.loop-row.invariant in
-    let one = c.row-item.result in
-    let first : Walked bound c.pattern.new.self (pattern_at program bound.scope.items (pattern_tree one.pattern) c.args.scrutinee) (Ok false) =
-    subst (λ ok. Walked bound c.pattern.new.self (pattern_at program bound.scope.items (pattern_tree one.pattern) c.args.scrutinee) (Ok ok)) c.if-not-ok.true c.in_ok-ok.ensures in
-    case_refused program old.scope.items c.args.scrutinee c.args.want old mid _ c.args.rows.now c.loop-row.row-index one c.loop-row-test.true c.row-item.is goes
-    (subst (λ bs. Refused (nodes_of mid) (case_at program bs c.args.scrutinee c.args.want one)) goes.same_scope
-    (pattern_refused program mid bound (pattern_tree one.pattern) (expr_tree one.body) c.args.scrutinee c.args.want (still_bound old mid _ _ goes c.requires.scope) (still_inside old mid _ _ goes c.args.scrutinee c.requires.scrutinee)
-    (still_inside old mid _ _ goes c.args.want c.requires.want) c.in_ok-bind.ensures c.pattern.new.self first))
+    pattern_fails (program_tree c.args.program.now) c.args.self.now c.loop-row.self _ c.args.rows.now c.loop-row.row-index c.row-item.result c.loop-row-test.true c.row-item.is c.args.scrutinee c.args.want c.requires.scope c.requires.scrutinee c.requires.want c.loop-row.invariant c.bind.new.self c.in_ok-bind.ensures c.pattern.new.self c.in_ok-ok.ok c.in_ok-ok.ensures c.if-not-ok.true
 
 pub rows-returns-then-not-ok-2 : goal.rows-returns-then-not-ok-2
 rows-returns-then-not-ok-2 t c =
-    let program = program_tree c.args.program.now in
-    let old = c.args.self.now in
-    let mid = c.loop-row.self in
-    let bound = c.bind.new.self in
-    let goes = c.loop-row.invariant in
-    let one = c.row-item.result in
-    let first : Walked bound c.pattern.new.self (pattern_at program bound.scope.items (pattern_tree one.pattern) c.args.scrutinee) (Ok true) =
-    subst (λ ok. Walked bound c.pattern.new.self (pattern_at program bound.scope.items (pattern_tree one.pattern) c.args.scrutinee) (Ok ok)) c.if-not-ok.false c.in_ok-ok.ensures in
-    let second : Walked c.pattern.new.self c.expression.new.self (expression_at program c.pattern.new.self.scope.items (expr_tree one.body) c.args.want) (Ok false) =
-    subst (λ ok. Walked c.pattern.new.self c.expression.new.self (expression_at program c.pattern.new.self.scope.items (expr_tree one.body) c.args.want) (Ok ok)) c.if-not-ok-2.true c.in_ok-ok-2.ensures in
-    case_refused program old.scope.items c.args.scrutinee c.args.want old mid _ c.args.rows.now c.loop-row.row-index one c.loop-row-test.true c.row-item.is goes
-    (subst (λ bs. Refused (nodes_of mid) (case_at program bs c.args.scrutinee c.args.want one)) goes.same_scope
-    (body_refused program mid bound (pattern_tree one.pattern) (expr_tree one.body) c.args.scrutinee c.args.want (still_bound old mid _ _ goes c.requires.scope) (still_inside old mid _ _ goes c.args.scrutinee c.requires.scrutinee)
-    (still_inside old mid _ _ goes c.args.want c.requires.want) c.in_ok-bind.ensures c.pattern.new.self first c.expression.new.self second))
+    body_fails (program_tree c.args.program.now) c.args.self.now c.loop-row.self _ c.args.rows.now c.loop-row.row-index c.row-item.result c.loop-row-test.true c.row-item.is c.args.scrutinee c.args.want c.requires.scope c.requires.scrutinee c.requires.want c.loop-row.invariant c.bind.new.self c.in_ok-bind.ensures c.pattern.new.self c.in_ok-ok.ok c.in_ok-ok.ensures c.if-not-ok.false c.expression.new.self c.in_ok-ok-2.ok c.in_ok-ok-2.ensures c.if-not-ok-2.true
 
 pub rows-loop-row-preserved : goal.rows-loop-row-preserved
 rows-loop-row-preserved t c =
-    let program = program_tree c.args.program.now in
-    let old = c.args.self.now in
-    let mid = c.loop-row.self in
-    let bound = c.bind.new.self in
-    let goes = c.loop-row.invariant in
-    let one = c.row-item.result in
     let end : Walk = record c.expression.new.self { scope = c.truncate.new.self } in
-    let inside = still_bound old mid _ _ goes c.requires.scope in
-    let first_lt = still_inside old mid _ _ goes c.args.scrutinee c.requires.scrutinee in
-    let lt = still_inside old mid _ _ goes c.args.want c.requires.want in
-    let first : Walked bound c.pattern.new.self (pattern_at program bound.scope.items (pattern_tree one.pattern) c.args.scrutinee) (Ok true) =
-    subst (λ ok. Walked bound c.pattern.new.self (pattern_at program bound.scope.items (pattern_tree one.pattern) c.args.scrutinee) (Ok ok)) c.if-not-ok.false c.in_ok-ok.ensures in
-    let second : Walked c.pattern.new.self c.expression.new.self (expression_at program c.pattern.new.self.scope.items (expr_tree one.body) c.args.want) (Ok true) =
-    subst (λ ok. Walked c.pattern.new.self c.expression.new.self (expression_at program c.pattern.new.self.scope.items (expr_tree one.body) c.args.want) (Ok ok)) c.if-not-ok-2.false c.in_ok-ok-2.ensures in
-    case_goes program old.scope.items c.args.scrutinee c.args.want old mid _ c.args.rows.now c.loop-row.row-index one c.loop-row-test.true c.row-item.is goes end
-    (subst (AreBoundBelow (size_of mid)) goes.same_scope inside) first_lt lt
-    (subst (λ bs. Goes mid end (case_at program bs c.args.scrutinee c.args.want one) Done) goes.same_scope
-    (row_done program mid bound (pattern_tree one.pattern) (expr_tree one.body) c.args.scrutinee c.args.want inside first_lt lt c.in_ok-bind.ensures c.pattern.new.self first c.expression.new.self end second refl refl refl
-    (c.truncate.ensures.items ∙ ap (λ n. take n c.expression.new.self.scope.items) (c.len-outer.ensures ∙ (c.args.self.now.scope.ok.0 ∙ sym (ap length goes.same_scope))))))
+    row_goes (program_tree c.args.program.now) c.args.self.now c.loop-row.self _ c.args.rows.now c.loop-row.row-index c.row-item.result c.loop-row-test.true c.row-item.is c.args.scrutinee c.args.want c.requires.scope c.requires.scrutinee c.requires.want c.loop-row.invariant c.bind.new.self c.in_ok-bind.ensures c.pattern.new.self c.in_ok-ok.ok c.in_ok-ok.ensures c.if-not-ok.false c.expression.new.self c.in_ok-ok-2.ok c.in_ok-ok-2.ensures c.if-not-ok-2.false end refl refl refl
+    (c.truncate.ensures.items ∙ ap (λ n. take n c.expression.new.self.scope.items) (c.len-outer.ensures ∙ c.args.self.now.scope.ok.0))
 
 pub rows-returns : goal.rows-returns
 rows-returns t c =
