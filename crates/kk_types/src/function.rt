@@ -1,10 +1,11 @@
-ghost use Rattle.std.specs.Prelude.{◌≡◌, ℕ, [], map, IfOk, OnOk, MatchOption};
+ghost use Rattle.std.specs.Prelude.{◌≡◌, ℕ, [], map, IfOk, OnOk, MatchOption, IfSome};
 ghost use Rattle.kk_syntax.specs.Programs.{function_tree, program_tree};
 ghost use Rattle.kk_syntax.specs.Types.{variables_below};
 ghost use Rattle.kk_syntax.specs.TypedPrograms.{typing_of};
 ghost use Rattle.kk_syntax.specs.Typing.{IsPrincipal, IsTypable, with_parameters};
 ghost use Rattle.kk_unify.specs.GraphOf.{graph_of, variables_of};
 ghost use Rattle.kk_unify.specs.Graphs.{Assignment};
+ghost use Rattle.kk_types.specs.Checks.{HasNodes};
 ghost use Rattle.kk_types.specs.Walks.{scope_at, AreBelow, AreBoundBelow, BuildsEach};
 
 use crate::build::{build, build_each};
@@ -22,9 +23,10 @@ pub fn body_types(
     program: &Program,
     function: &Fun,
 ) -> Result<Option<BodyTypes>, NoMemory>
-    ensures { IfOk result (λ found. MatchOption found
+    ensures typed { IfOk result (λ found. MatchOption found
         (¬ IsTypable (program_tree program.now) (function_tree function.now))
         (λ types. IsPrincipal (program_tree program.now) (function_tree function.now) (typing_of types))) }
+    ensures nodes { IfOk result (λ found. IfSome found HasNodes) }
 {
     let mut graph = Graph::new(alloc, function.variables);
     let own = own_variables(alloc, &mut graph, function.variables)?;

@@ -1,4 +1,4 @@
-ghost use Rattle.std.specs.Prelude.{◌≡◌, ◌<◌, List, length, map, slice_index_or, IfOk};
+ghost use Rattle.std.specs.Prelude.{◌≡◌, ◌<◌, ℕ, List, length, map, slice_index_or, IfOk};
 ghost use Rattle.kk_syntax.specs.Types.{TypeTree, type_at};
 ghost use Rattle.kk_syntax.specs.TypedPrograms.{choice_of};
 ghost use Rattle.kk_types.specs.Walks.{taking_of, takings_of, choice_at, choices_at, AreBelow, IsTakenBelow, AreTakenBelow};
@@ -17,8 +17,9 @@ pub fn small(number: usize) -> Result<u32, NoMemory>
 /// The same, with other numbers for nodes.
 pub fn numbered(alloc: Global, taken: &[Taken], numbers: &[u32]) -> Result<Vec<Taken>, NoMemory>
     requires { AreTakenBelow (length numbers.now) (takings_of taken.now) }
-    ensures { IfOk result (λ found. (types : List TypeTree) → map (choice_of types) found.items
+    ensures types { IfOk result (λ found. (types : List TypeTree) → map (choice_of types) found.items
         ≡ choices_at (λ i. type_at types (slice_index_or numbers.now i 0)) (takings_of taken.now)) }
+    ensures inside { IfOk result (λ found. (size : ℕ) → AreBelow size numbers.now → AreTakenBelow size (takings_of found.items)) }
 {
     let mut found = Vec::new(alloc);
     for one in taken {
@@ -30,8 +31,9 @@ pub fn numbered(alloc: Global, taken: &[Taken], numbers: &[u32]) -> Result<Vec<T
 
 fn numbered_one(alloc: Global, taken: &Taken, numbers: &[u32]) -> Result<Taken, NoMemory>
     requires { IsTakenBelow (length numbers.now) (taking_of taken.now) }
-    ensures { IfOk result (λ found. (types : List TypeTree) → choice_of types found
+    ensures types { IfOk result (λ found. (types : List TypeTree) → choice_of types found
         ≡ choice_at (λ i. type_at types (slice_index_or numbers.now i 0)) (taking_of taken.now)) }
+    ensures inside { IfOk result (λ found. (size : ℕ) → AreBelow size numbers.now → IsTakenBelow size (taking_of found)) }
 {
     match taken {
         Taken::Construct(by, at) => Ok(Taken::Construct(*by, numbered_each(alloc, at, numbers)?)),
