@@ -11,10 +11,12 @@ use Rattle.kk_borrow.specs.declared.position.Position.{Position}
 use Rattle.kk_borrow.specs.Sets.{PositionSet, arity_of, owned_in}
 use Rattle.kk_borrow.specs.declared.rule.Rule.{Rule}
 use Rattle.kk_borrow.specs.Rules.{RuleTree, rule_tree, rule_trees, Has, Keeps}
-use Rattle.kk_borrow.specs.Standings.{WaitingTable, waiting_at, told_at, with_owned, with_waiting, Told, InProgram, Follows}
+use Rattle.kk_borrow.specs.declared.standing.Standings.{Standings}
+use Rattle.kk_borrow.specs.Standings.{WaitingTable, ownerships, waitings, waiting_at, told_at, with_owned, with_waiting, work, Told, InProgram, Follows}
 use Rattle.kk_borrow.proofs.Placed.{all_left, all_right}
+use Rattle.kk_borrow.proofs.Rows.{waits_in_rows, waits_in_row}
 use Rattle.kk_borrow.proofs.Tables.{owned_told, lent_told, grown_told, grown_within, grown_more, grown_has}
-use Rattle.kk_borrow.proofs.Waiting.{at_same, at_other}
+use Rattle.kk_borrow.proofs.Waiting.{at_same, at_other, less_lent}
 
 abbrev rule : List Position → Position → RuleTree
 rule premises conclusion = record { premises = premises; conclusion = conclusion }
@@ -212,3 +214,23 @@ read_concluded program table later waiting waits queue rest r none is later_is w
     (subst (λ qs. Follows program table waiting (rule_trees queue ++ rule_tree r ∷ []) (with_owned table r.conclusion) (with_waiting waiting r.conclusion []) qs) (sym rest_is)
     (from_memory program table (with_owned table r.conclusion) waiting (with_waiting waiting r.conclusion []) (rule_trees queue) (rule_trees queue ++ waiting_at waiting r.conclusion.function r.conclusion.parameter) (rule_tree r) (rule [] r.conclusion) (whole r [] none)
     (conclusion_lent program table waiting (rule_trees queue) r.conclusion told is f_in i_in))))
+
+-- the table of waiting rules has a position that is lent
+pub lent_there : (standings : Standings) (p : Position) → is_lent (ownerships standings) p.function p.parameter ≡ true → (p.function < length (waitings standings)) × (p.parameter < length (get_or (waitings standings) p.function []))
+lent_there standings p lent =
+    let rows = standings.rows.items in
+    (waits_in_rows (λ row. row.items) rows p.function p.parameter lent, waits_in_row (λ row. row.items) rows p.function p.parameter lent)
+
+-- a rule in memory that waits for its last premise: the same sets agree, and less work is left
+pub waits_follow : (before after : Standings) (queue : List Rule) (r shorter : Rule) (p : Position) → r.premises.items ≡ shorter.premises.items ++ p ∷ [] → shorter.conclusion ≡ r.conclusion → told_at (ownerships before) p ≡ Some Lent
+    → ownerships after ≡ ownerships before → waitings after ≡ with_waiting (waitings before) p (waiting_at (waitings before) p.function p.parameter ++ rule_tree shorter ∷ []) → (program : ProgramTree) → Told program (ownerships before)
+    → Follows program (ownerships before) (waitings before) (rule_trees queue ++ rule_tree r ∷ []) (ownerships after) (waitings after) (rule_trees queue)
+waits_follow before after queue r shorter p parts same is owns waits program told =
+    let there = lent_there before p (at_lent (ownerships before) p is) in
+    read_lent program (ownerships before) (ownerships after) (waitings before) (waitings after) queue r shorter p parts same owns waits there.0 there.1 told
+
+pub waits_less : (before after : Standings) (queue : List Rule) (r shorter : Rule) (p : Position) → r.premises.items ≡ shorter.premises.items ++ p ∷ [] → told_at (ownerships before) p ≡ Some Lent
+    → waitings after ≡ with_waiting (waitings before) p (waiting_at (waitings before) p.function p.parameter ++ rule_tree shorter ∷ []) → work (waitings after) (rule_trees queue) < work (waitings before) (rule_trees queue ++ rule_tree r ∷ [])
+waits_less before after queue r shorter p parts is waits =
+    let there = lent_there before p (at_lent (ownerships before) p is) in
+    less_lent (waitings before) (waitings after) p (rule_trees queue) (rule_tree r) (rule_tree shorter) parts waits there.0 there.1

@@ -1,10 +1,8 @@
 use Rattle.std.proofs.Common.{Result, Ok, Err, OnOk, inl, inr, refl, sym}
 use Rattle.std.proofs.lemmas.Result.{on_ok_weaker}
-use Rattle.kk_borrow.specs.Rules.{rule_tree, rule_trees}
 use Rattle.kk_borrow.specs.Standings.{ownerships, waitings}
-use Rattle.kk_borrow.proofs.Rows.{waits_in_rows, waits_in_row}
-use Rattle.kk_borrow.proofs.Steps.{at_lent, read_owned, read_lent, read_unknown, read_known, read_concluded}
-use Rattle.kk_borrow.proofs.Waiting.{less_lent, nothing_left}
+use Rattle.kk_borrow.proofs.Steps.{at_lent, read_owned, read_unknown, read_known, read_concluded, lent_there, waits_follow, waits_less}
+use Rattle.kk_borrow.proofs.Waiting.{nothing_left}
 use Rattle.kk_borrow.proofs.apply.Goals as goal
 
 both_ok : {T E : Type 0} (P Q : Type 0) (r : Result T E) → OnOk r P → OnOk r Q → OnOk r (P × Q)
@@ -26,35 +24,18 @@ wait-requires c =
 
 pub returns-in-Some-Lent-clause-follows : goal.returns-in-Some-Lent-clause-follows
 returns-in-Some-Lent-clause-follows c =
-    let standings = c.args.standings.now in
-    let rows = standings.rows.items in
-    let p = c.in-Some.premise in
-    let shorter = record c.args.rule { premises = c.pop.new.self } in
     let parts = rw c.in-Some.is at c.pop.ensures.items in
     let is = rw (c.in-Some-Lent.is, c.in-Some-Lent.field-0-is) at c.ownership.ensures in
-    let lent = at_lent (ownerships standings) p (sym is) in
     on_ok_weaker c.wait.result
-    (λ both program told.
-    read_lent program (ownerships standings) (ownerships c.wait.new.self) (waitings standings) (waitings c.wait.new.self) c.args.rules.now.items c.args.rule shorter p parts refl both.0 both.1
-    (waits_in_rows (λ row. row.items) rows p.function p.parameter lent)
-    (waits_in_row (λ row. row.items) rows p.function p.parameter lent)
-    told)
+    (λ both program told. waits_follow c.args.standings.now c.wait.new.self c.args.rules.now.items c.args.rule (record c.args.rule { premises = c.pop.new.self }) c.in-Some.premise parts refl (sym is) both.0 both.1 program told)
     (both_ok _ _ c.wait.result c.wait.ensures.ownerships c.wait.ensures.waitings)
 
 pub returns-in-Some-Lent-clause-less : goal.returns-in-Some-Lent-clause-less
 returns-in-Some-Lent-clause-less c =
-    let standings = c.args.standings.now in
-    let rows = standings.rows.items in
-    let p = c.in-Some.premise in
-    let shorter = record c.args.rule { premises = c.pop.new.self } in
     let parts = rw c.in-Some.is at c.pop.ensures.items in
     let is = rw (c.in-Some-Lent.is, c.in-Some-Lent.field-0-is) at c.ownership.ensures in
-    let lent = at_lent (ownerships standings) p (sym is) in
     on_ok_weaker c.wait.result
-    (λ waits.
-    less_lent (waitings standings) (waitings c.wait.new.self) p (rule_trees c.args.rules.now.items) (rule_tree c.args.rule) (rule_tree shorter) parts waits
-    (waits_in_rows (λ row. row.items) rows p.function p.parameter lent)
-    (waits_in_row (λ row. row.items) rows p.function p.parameter lent))
+    (λ waits. waits_less c.args.standings.now c.wait.new.self c.args.rules.now.items c.args.rule (record c.args.rule { premises = c.pop.new.self }) c.in-Some.premise parts (sym is) waits)
     c.wait.ensures.waitings
 
 pub returns-in-Some-clause-follows : goal.returns-in-Some-clause-follows
@@ -72,19 +53,16 @@ own-requires c =
 pub returns-in-Some-Lent-ownership-clause-follows : goal.returns-in-Some-Lent-ownership-clause-follows
 returns-in-Some-Lent-ownership-clause-follows c =
     let standings = c.args.standings.now in
-    let rows = standings.rows.items in
     let p = c.args.rule.conclusion in
     let none = rw c.in-None.is at c.pop.ensures.cases in
     let is = rw (c.in-Some-Lent-ownership.is, c.in-Some-Lent-ownership.field-0-is) at c.ownership-in-None.ensures in
     let lent = at_lent (ownerships standings) p (sym is) in
+    let there = lent_there standings p lent in
     on_ok_weaker c.own.result
     (λ all program told.
     read_concluded program (ownerships standings) (ownerships c.own.new.self) (waitings standings) (waitings c.own.new.self) c.args.rules.now.items c.own.new.rules.items c.args.rule
     (nothing_left c.args.rule.premises.items c.args.rule.premises.len c.args.rule.premises.ok.0 none.0)
-    lent all.0 all.1.0 all.1.1
-    (waits_in_rows (λ row. row.items) rows p.function p.parameter lent)
-    (waits_in_row (λ row. row.items) rows p.function p.parameter lent)
-    told)
+    lent all.0 all.1.0 all.1.1 there.0 there.1 told)
     (both_ok _ _ c.own.result c.own.ensures.ownerships (both_ok _ _ c.own.result c.own.ensures.waitings c.own.ensures.rules))
 
 pub returns-in-Some-Owned-ownership-clause-follows : goal.returns-in-Some-Owned-ownership-clause-follows
