@@ -20,11 +20,12 @@ use Rattle.kk_mono.specs.declared.error.MonoError.{MonoError}
 use Rattle.kk_mono.specs.declared.error.MonoError.TheVariants.{Over, NoMemory}
 use Rattle.kk_mono.specs.Building.{IsBuiltOf, IsBuilt}
 use Rattle.kk_mono.specs.Counts.{too_many_nodes}
-use Rattle.kk_mono.specs.Grounds.{instance_view, instances_of, TakesTypes, AreGiven, AnswersInstances}
+use Rattle.kk_mono.specs.Grounds.{instance_view, instances_of, TakesTypes, NamesTypes, AreGiven, AnswersInstances}
 use Rattle.kk_mono.specs.Instances.{InstanceTree, main_instance, called_in, calls, renamed, origin_in, IsAtTypes, IsInstanceProgram}
-use Rattle.kk_mono.specs.KeyTrees.{KeyTree, keys_in, viewed}
+use Rattle.kk_mono.specs.KeyTrees.{KeyTree, keys_in, viewed, AreTakenWithin}
 use Rattle.kk_mono.specs.Labels.{labelled}
 use Rattle.kk_mono.specs.Searching.{IsComplete, function_in, IsLooked, known_in, HasSearched}
+use Rattle.kk_mono.specs.Tables.{AreInOrder}
 use Rattle.kk_mono.specs.Told.{AreFew, IsFound}
 use Rattle.kk_mono.specs.Views.{types_in}
 use Rattle.kk_mono.proofs.Callees.{typing_calls, called_functions}
@@ -51,10 +52,11 @@ record IsMade (program : ProgramTree) (typings : List (List Choice)) (types : Li
   view : instance_view types made ≡ x
   at_types : IsAtTypes known x.at (slice_index_or typings x.function []) (function_in program x.function) (instance_tree types made)
   taken : TakesTypes typings types made
+  within : NamesTypes types made
 
 module _ (program : ProgramTree) (typings : List (List Choice)) (principal : ArePrincipal program typings) (types : List TypeTree) (known : List InstanceTree) where
-  is_made : (key : KeyTree) (looked : Looked) (made : Instance) → key.function < length program.functions → IsLooked program typings types known (viewed types key) looked → IsBuiltOf (function_in program key.function) key looked made → IsMade program typings types known (viewed types key) made
-  is_made key looked made below seen built = record {
+  is_made : (key : KeyTree) (looked : Looked) (made : Instance) → key.function < length program.functions → All (λ n. n < length types) key.at → IsLooked program typings types known (viewed types key) looked → IsBuiltOf (function_in program key.function) key looked made → IsMade program typings types known (viewed types key) made
+  is_made key looked made below at_in seen built = record {
     view = view;
     at_types = record {
       no_variables = refl;
@@ -66,6 +68,12 @@ module _ (program : ProgramTree) (typings : List (List Choice)) (principal : Are
     taken =
         ap (map (choice_of types)) built.taken
         ∙ (seen.taken ∙ (λ i. map (put_choice (type_at (sym view i).at)) (slice_index_or typings (sym view i).function [])));
+    within = record {
+      arguments = subst (All (λ n. n < length types)) (sym built.arguments) at_in;
+      parameters = subst (All (λ n. n < length types)) (sym built.parameters) seen.parameters.within;
+      result = let is = built.result in let least = seen.result_within in omega (arith, is, least);
+      taken = subst (All (AreTakenWithin types)) (sym built.taken) seen.taken_within;
+    };
   }
     where
       view : instance_view types made ≡ viewed types key
@@ -137,6 +145,7 @@ module _ (typed : Typed) (principal : ArePrincipal (program_tree typed.program) 
           let program_count = length-map typed.program.functions.items function_tree in
           is_made (program_tree typed.program) (typings_of typed) principal (types_in found.types) (known_in found) (get_or (keys_in found.keys) i key) (get_or found.looked.items i looked) (get_or given.instances.items i d)
           (let below = keys_below typed (complete_of typed principal) found searched i key lt in omega (arith, below, program_count))
+          (searched.searching.within i key lt)
           (subst (λ x. IsLooked (program_tree typed.program) (typings_of typed) (types_in found.types) (known_in found) x (get_or found.looked.items i looked)) here (searched.searching.looked i looked seen_in))
           (built.instances.each i key looked d seen_in)
 
@@ -209,6 +218,8 @@ module _ (typed : Typed) (principal : ArePrincipal (program_tree typed.program) 
         };
         taken = λ i d lt. subst (λ ts. TakesTypes (typings_of typed) ts (get_or given.instances.items i d)) (sym types_are) (made i d lt).taken;
         once = subst (λ ts. AllPairs (λ one other. one ≢ other) ts) (sym types_are) found.types.once;
+        earlier = subst AreInOrder (sym built.types) found.types.in_order;
+        within = λ i d lt. subst (λ ts. NamesTypes ts (get_or given.instances.items i d)) (sym types_are) (made i d lt).within;
       }
 
 -- an answer that rests on the typings as they are given is the program's where they are principal

@@ -1,5 +1,5 @@
 -- What is answered of a typed program: its instances, or the limit that it passes first.
-use Rattle.std.specs.Prelude.{◌≡◌, ◌≢◌, List, [], map, AllPairs, All, slice_index_or, Result, Ok, Err}
+use Rattle.std.specs.Prelude.{◌≡◌, ◌≢◌, ◌<◌, List, [], length, map, AllPairs, All, slice_index_or, Result, Ok, Err}
 use Rattle.kk_syntax.specs.declared.typed.Typed.{Typed}
 use Rattle.kk_syntax.specs.declared.ground.Ground.{Ground}
 use Rattle.kk_syntax.specs.declared.ground.Instance.{Instance}
@@ -10,6 +10,8 @@ use Rattle.kk_syntax.specs.Types.{TypeTree, type_at}
 use Rattle.kk_syntax.specs.Typing.{Choice, put_choice}
 use Rattle.kk_mono.specs.Counts.{AnswersCounts, IsSmall}
 use Rattle.kk_mono.specs.Instances.{InstanceTree, IsInstanceProgram}
+use Rattle.kk_mono.specs.KeyTrees.{AreTakenWithin}
+use Rattle.kk_mono.specs.Tables.{AreInOrder}
 use Rattle.kk_mono.specs.declared.error.MonoError.{MonoError}
 use Rattle.kk_mono.specs.declared.error.MonoError.TheVariants.{Over, NoMemory}
 
@@ -25,13 +27,23 @@ abbrev pub TakesTypes : List (List Choice) → List TypeTree → Instance → Ty
 TakesTypes typings types instance =
     map (choice_of types) instance.taken.items ≡ map (put_choice (type_at (map (type_at types) instance.arguments.items))) (slice_index_or typings instance.function [])
 
--- the instances of a program that keeps its limits; no type is there twice
+-- each type that an instance names, by its number, is one of these
+pub record NamesTypes (types : List TypeTree) (instance : Instance) : Type 0 where
+  pub arguments : All (λ n. n < length types) instance.arguments.items
+  pub parameters : All (λ n. n < length types) instance.parameters.items
+  pub result : instance.result < length types
+  pub taken : All (AreTakenWithin types) instance.taken.items
+
+-- The instances of a program that keeps its limits. In their table no type is there twice, and the arguments of each are types before it; each type that
+-- an instance names is there.
 pub record AreGiven (typed : Typed) (given : Ground) : Type 0 where
   pub counts : AnswersCounts (program_tree typed.program) (Ok tt)
   pub instances : IsInstanceProgram (program_tree typed.program) (typings_of typed) (instances_of given) (ground_program given)
   pub small : IsSmall (ground_program given)
   pub taken : All (TakesTypes (typings_of typed) (ground_types given.types.items)) given.instances.items
   pub once : AllPairs (λ one other. one ≢ other) (ground_types given.types.items)
+  pub earlier : AreInOrder given.types.items
+  pub within : All (NamesTypes (ground_types given.types.items)) given.instances.items
 
 -- an answer is the program's instances, or the limit that it passes first; want of memory may come at any time
 abbrev pub AnswersInstances : Typed → Result Ground MonoError → Type 0
