@@ -201,14 +201,9 @@ statements-loop-statement-init t c = none_stated (program_tree c.args.program.no
 
 pub statements-returns-then-not-ok : goal.statements-returns-then-not-ok
 statements-returns-then-not-ok t c last want lt =
-    let program = program_tree c.args.program.now in
-    let a = c.args.self.now in
-    let b = c.loop-statement.self in
-    let s = c.statement-item.result in
-    let i = c.loop-statement.statement-index in
-    let goes = into_first program a (map statement_tree c.args.statements.now) b c.args.statements.now i s c.loop-statement-test.true c.statement-item.is c.loop-statement.invariant in
-    let walked = rw c.if-not-ok.true at c.in_ok-ok.ensures in
-    statement_refused program a (map statement_tree c.args.statements.now) b c.take.new.self c.expression.new.self s.binder (expr_tree s.value) (map statement_tree (drop (i + 1) c.args.statements.now)) c.in_ok-node.node goes c.in_ok-node.ensures last want lt walked
+    statement_refused (program_tree c.args.program.now) c.args.self.now (map statement_tree c.args.statements.now) c.loop-statement.self c.take.new.self c.expression.new.self c.statement-item.result.binder (expr_tree c.statement-item.result.value) (map statement_tree (drop (c.loop-statement.statement-index + 1) c.args.statements.now)) c.in_ok-node.node
+    (into_first (program_tree c.args.program.now) c.args.self.now (map statement_tree c.args.statements.now) c.loop-statement.self c.args.statements.now c.loop-statement.statement-index c.statement-item.result c.loop-statement-test.true c.statement-item.is c.loop-statement.invariant)
+    c.in_ok-node.ensures last want lt (rw c.if-not-ok.true at c.in_ok-ok.ensures)
 
 pub statements-loop-statement-preserved : goal.statements-loop-statement-preserved
 statements-loop-statement-preserved t c =
