@@ -3,4 +3,4 @@
 
 mod form;
 
-pub use form::{Arm, Block, Core, CoreFunction, Last, Operation, Step};
+pub use form::{Arm, Block, Core, CoreFunction, Last, Step};
