@@ -3,6 +3,7 @@ use Rattle.std.specs.Prelude.{ℕ, ◌+◌, max, Bool, not, ◌==◌, List, [], 
 use Rattle.std.specs.List.{list_any}
 use Rattle.kk_syntax.specs.declared.program.Binder.{Binder}
 use Rattle.kk_syntax.specs.declared.program.Binder.TheVariants as OfBinder
+use Rattle.kk_syntax.specs.declared.program.Form.{Form}
 use Rattle.kk_syntax.specs.Patterns.{Pattern, anything, variable as pattern_variable, exactly, constructor, Patterns, no_part, part}
 use Rattle.kk_syntax.specs.Trees.{Tree, variable, apply, branch, match, sequence, Trees, no_tree, tree, Rows, no_row, row, StatementTree}
 use Rattle.kk_syntax.specs.Programs.{FunctionTree, ProgramTree}
@@ -121,3 +122,25 @@ abbrev mutual
   pub tails_of_rows : Rows → List Tree
   tails_of_rows no_row = []
   tails_of_rows (row pattern body rest) = tails body ++ tails_of_rows rest
+
+-- What is gathered from an expression in the order of the text: at a form from the form, before its arguments; at a match
+-- from its rows, before its parts. Calls and matches are gathered so.
+pub record Gathers (A : Type 0) : Type 0 where
+  pub at_form : Form → List A
+  pub at_rows : Rows → List A
+
+abbrev mutual
+  pub gathered : {A : Type 0} → Gathers A → Tree → List A
+  gathered from (variable of) = []
+  gathered from (apply form arguments) = from.at_form form ++ gathered_all from arguments
+  gathered from (branch condition positive negative) = gathered from condition ++ (gathered from positive ++ gathered from negative)
+  gathered from (match scrutinee rows) = from.at_rows rows ++ (gathered from scrutinee ++ gathered_rows from rows)
+  gathered from (sequence binder first rest) = gathered from first ++ gathered from rest
+
+  pub gathered_all : {A : Type 0} → Gathers A → Trees → List A
+  gathered_all from no_tree = []
+  gathered_all from (tree first rest) = gathered from first ++ gathered_all from rest
+
+  pub gathered_rows : {A : Type 0} → Gathers A → Rows → List A
+  gathered_rows from no_row = []
+  gathered_rows from (row pattern body rest) = gathered from body ++ gathered_rows from rest
