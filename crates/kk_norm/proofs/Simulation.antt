@@ -6,21 +6,19 @@ use Rattle.std.proofs.lemmas.Option.{slice_get-map}
 use Rattle.kk_base.specs.Machines.{Machine}
 use Rattle.kk_syntax.specs.declared.program.Form.{Form}
 use Rattle.kk_syntax.specs.declared.program.Form.TheVariants.{Unary, Binary, Print, Construct, Call}
-use Rattle.kk_syntax.specs.Trees.{Tree, number, unit as unit_tree, variable, read_byte, print_text, apply, branch as if_tree, match, sequence, Trees, tree}
+use Rattle.kk_syntax.specs.Trees.{Tree, variable, apply, branch as if_tree, match, sequence, Trees, tree}
 use Rattle.kk_syntax.specs.declared.program.Binder.{Binder}
 use Rattle.kk_syntax.specs.declared.program.Binder.TheVariants as OfBinder
 use Rattle.kk_syntax.specs.Shapes.{free, nodes_of, without, is_among, bound_by, variable_of}
 use Rattle.kk_syntax.specs.Programs.{FunctionTree}
 use Rattle.kk_syntax.specs.PositionsOf.{is_lent}
 use Rattle.kk_source.specs.Notes.{Note}
-use Rattle.kk_source.specs.State.{Setting, Value, unit, constant, Store, Environment, Frame, arguments, branches, rows, statement, call, End, stack_full, Control, expression, stopped, Configuration, State}
+use Rattle.kk_source.specs.State.{Setting, Value, unit, constant, Store, Environment, Frame, arguments, branches, rows, statement, call, End, stack_full, Control, expression, stopped, Configuration}
 use Rattle.kk_source.specs.Live.{value_of, awaited}
-use Rattle.kk_source.specs.Step.{Action, calls, print_step, unary_result, binary_result, argument, is_true, integer_of, piece_of, bind_parameters, call_frames, lent_places, at_end, in_body, form_step, call_step, push_step}
-use Rattle.kk_source.specs.SourceAfter.{performed}
+use Rattle.kk_source.specs.Step.{bind_parameters, call_frames, lent_places, at_end, in_body, form_step, call_step, push_step}
 use Rattle.kk_core.specs.Codes.{Code, give, tail_call, branch, FunctionCode}
-use Rattle.kk_core.specs.CoreStates.{Join, CallFrame, CoreConfiguration, CoreState}
+use Rattle.kk_core.specs.CoreStates.{Join, CallFrame, CoreConfiguration}
 use Rattle.kk_core.specs.CoreMachine as Core
-use Rattle.kk_core.specs.CoreMachine.{core_performed}
 use Rattle.kk_norm.specs.Names.{Names}
 use Rattle.kk_norm.specs.Normalized.{Then, final, next, size, atom, after, within, joined, finish, finish_call, code, normal_function}
 use Rattle.kk_norm.specs.NoCells.{NoCells, MakesNoCell, IsPlain}
@@ -29,6 +27,10 @@ use Rattle.kk_norm.proofs.Variables.{same_number, Stands, stands_left, stands_ri
 use Rattle.kk_norm.proofs.Waits.{ArePlainWithin, Goal, returns, goes_on, goal_of, Fresh, fresh_less, MakesNothing, Waits, waits_move, waits_nowhere, calls_are}
 use Rattle.kk_norm.proofs.Delivery.{source_at, core_at, AtTree, Related}
 use Rattle.kk_norm.proofs.Delivery as Delivery
+use Rattle.kk_source.specs.SourceAfter.{State}
+use Rattle.kk_source.specs.Actions.{Action, calls, print_step, performed}
+use Rattle.kk_source.specs.FormEffects.{unary_result, binary_result, argument, is_true, integer_of, piece_of}
+use Rattle.kk_core.specs.CoreMachine.{CoreState}
 
 -- each expression has a node
 pub some_nodes : (e : Tree) → 1 ≤ nodes_of e

@@ -3,15 +3,15 @@ use Rattle.std.proofs.Common.{◌≡◌, ℕ, ◌+◌, ◌*◌, ◌<◌, ◌≤�
 use Rattle.kk_base.specs.Machines.{Machine}
 use Rattle.kk_base.specs.Simulations.{Reaches, Simulates}
 use Rattle.kk_base.proofs.Simulations.{simulates_until_ended}
-use Rattle.kk_syntax.specs.Trees.{Tree, number, unit as unit_tree, variable, read_byte, print_text, apply, branch as if_tree, match, sequence, no_tree, tree}
+use Rattle.kk_syntax.specs.Trees.{Tree, variable, apply, branch as if_tree, match, sequence, no_tree, tree}
 use Rattle.kk_syntax.specs.Shapes.{free, free_all, nodes_of, variable_of}
 use Rattle.kk_source.specs.Notes.{Note}
-use Rattle.kk_source.specs.State.{Setting, Value, integer, unit, Store, Environment, Frame, arguments, branches, rows, statement, call, End, ended, Control, expression, value, stopped, State, end_at}
+use Rattle.kk_source.specs.State.{Setting, Value, integer, unit, Store, Environment, Frame, arguments, branches, rows, statement, call, End, ended, Control, expression, value, stopped, end_at}
 use Rattle.kk_source.specs.Live.{value_of}
-use Rattle.kk_source.specs.Step.{piece_of, byte_value, is_true, bind, form_step}
-use Rattle.kk_source.specs.SourceAfter.{performed, step}
+use Rattle.kk_source.specs.Step.{bind, form_step}
+use Rattle.kk_source.specs.SourceAfter.{step, State}
 use Rattle.kk_core.specs.Codes.{Code, give, branch}
-use Rattle.kk_core.specs.CoreStates.{Join, CallFrame, CoreState, core_end_at}
+use Rattle.kk_core.specs.CoreStates.{Join, CallFrame, core_end_at}
 use Rattle.kk_norm.specs.Names.{Names, name_of, named}
 use Rattle.kk_norm.specs.Normalized.{Then, next, size, size_all, atom, atoms, within, joined, finish, code, code_all}
 use Rattle.kk_norm.specs.NoCells.{NoCells}
@@ -22,6 +22,9 @@ use Rattle.kk_norm.proofs.Delivery.{source_at, core_at, AtTree, AtValue, At, Rel
 use Rattle.kk_norm.proofs.Delivery as Delivery
 use Rattle.kk_norm.proofs.Simulation.{some_nodes, makes_nothing_of, acts_nothing, acts_alone}
 use Rattle.kk_norm.proofs.Simulation as Forms
+use Rattle.kk_source.specs.FormEffects.{piece_of, byte_value, is_true}
+use Rattle.kk_source.specs.Actions.{performed}
+use Rattle.kk_core.specs.CoreMachine.{CoreState}
 
 one_list : (held : List ℕ) (a : ℕ) (xs : List ℕ) → held ++ (a ∷ xs) ≡ (held ++ a ∷ []) ++ xs
 one_list held a xs = sym (append_assoc held (a ∷ []) xs)

@@ -6,11 +6,11 @@ use Rattle.kk_syntax.specs.declared.program.Form.TheVariants.{Unary, Binary, Pri
 use Rattle.kk_syntax.specs.Shapes.{variable_of}
 use Rattle.kk_syntax.specs.Types.{TypeTree}
 use Rattle.kk_syntax.specs.PlainTyping.{Signature, Scope, type_in, with_binder, bool, IsFormTyped, HasType, HaveTypes}
-use Rattle.kk_syntax.specs.Trees.{Tree, number, unit, variable, read_byte, print_text, apply, branch, match, sequence, Trees, no_tree, tree}
+use Rattle.kk_syntax.specs.Trees.{Tree, variable, apply, branch, match, sequence, Trees, no_tree, tree}
 use Rattle.kk_core.specs.Codes as Core
-use Rattle.kk_core.specs.Codes.{Operation, Code, give, tail_call, compute, use_of, inside}
+use Rattle.kk_core.specs.Codes.{Code, give, tail_call, compute, use_of, inside}
 use Rattle.kk_core.specs.CoreTyping as Typed
-use Rattle.kk_core.specs.CoreTyping.{IsOperationTyped, HasCodeType}
+use Rattle.kk_core.specs.CoreTyping.{HasCodeType}
 use Rattle.kk_core.specs.Needed.{read_by}
 use Rattle.kk_core.specs.Sizes.{AreBound, Ordered}
 use Rattle.kk_norm.specs.Names.{Names, name_of, named}

@@ -7,14 +7,15 @@ use Rattle.kk_base.specs.Machines.{step_unless, trace, state, ending_after}
 use Rattle.kk_base.proofs.Machines.{trace_ended, state_ended}
 use Rattle.kk_syntax.specs.declared.program.Form.{Form}
 use Rattle.kk_syntax.specs.declared.program.Form.TheVariants.{Unary, Binary, Print, Construct, Call}
-use Rattle.kk_syntax.specs.Trees.{Tree, number, unit as unit_tree, variable, read_byte, print_text, apply, branch, match, sequence, no_tree, tree}
+use Rattle.kk_syntax.specs.Trees.{Tree, variable, apply, branch, match, sequence, no_tree, tree}
 use Rattle.kk_syntax.specs.Programs.{FunctionTree}
 use Rattle.kk_syntax.specs.PositionsOf.{is_lent}
-use Rattle.kk_source.specs.State.{Setting, Value, Environment, Frame, arguments, branches, rows, statement, call, End, heap_full, stack_full, Control, expression, value, stopped, Configuration, State}
+use Rattle.kk_source.specs.State.{Setting, Value, Environment, Frame, arguments, branches, rows, statement, call, End, heap_full, stack_full, Control, expression, value, stopped, Configuration}
 use Rattle.kk_source.specs.Notes.{Note}
 use Rattle.kk_source.specs.Live.{held_by_all, live}
-use Rattle.kk_source.specs.Step.{Action, builds, calls, at_end, at_new_place, in_body, lent_places, call_frames, construct_step, push_step, call_step, form_step, expression_step, value_step, step_at, step_of}
-use Rattle.kk_source.specs.SourceAfter.{performed, step, ending_of, store_machine, HasRoom}
+use Rattle.kk_source.specs.Step.{at_end, at_new_place, in_body, lent_places, call_frames, construct_step, push_step, call_step, form_step, expression_step, value_step, step_at, step_of}
+use Rattle.kk_source.specs.SourceAfter.{step, ending_of, store_machine, HasRoom, State}
+use Rattle.kk_source.specs.Actions.{Action, builds, calls, performed}
 
 -- the same, or a stop where the other goes on
 data Follows : Action → Action → Type 0 where

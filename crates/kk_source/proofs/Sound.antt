@@ -10,12 +10,14 @@ use Rattle.kk_syntax.specs.declared.program.Form.TheVariants.{Unary, Binary, Pri
 use Rattle.kk_syntax.specs.Programs.{FunctionTree}
 use Rattle.kk_syntax.specs.PositionsOf.{is_lent}
 use Rattle.kk_syntax.specs.Patterns.{Pattern, anything, variable, exactly, constructor, Patterns, no_part, part}
-use Rattle.kk_syntax.specs.Trees.{Tree, number, unit as unit_tree, variable as variable_tree, read_byte, print_text, apply, branch, match, sequence, no_tree, tree, Rows, no_row, row}
+use Rattle.kk_syntax.specs.Trees.{Tree, variable as variable_tree, apply, branch, match, sequence, no_tree, tree, Rows, no_row, row}
 use Rattle.kk_source.specs.State.{Value, integer, unit, constant, place, Cell, Store, Environment, Frame, arguments, branches, rows, statement, call, heap_full, stack_full, Control, expression, value, stopped, Configuration, Setting, start}
 use Rattle.kk_source.specs.Live.{value_of, fields_in, fields_at}
 use Rattle.kk_source.specs.Matching.{is_integer, fields_made_by, fields_under, and_then, matched, matched_all, Chosen, chosen_or, first_match}
-use Rattle.kk_source.specs.Step.{Action, goes, puts, takes, builds, calls, at_expression, at_value, at_end, truth, unary_result, number_result, argument, print_step, byte_value, bind, bind_parameters, lent_places, at_new_place, in_body, construct_step, push_step, call_step, form_step, expression_step, choice_step, value_step, step_at, step_of}
+use Rattle.kk_source.specs.Step.{at_expression, at_value, at_end, bind, bind_parameters, lent_places, at_new_place, in_body, construct_step, push_step, call_step, form_step, expression_step, choice_step, value_step, step_at, step_of}
 use Rattle.kk_source.specs.Sound.{Within, AllWithin, BoundWithin, FrameWithin, FramesWithin, ControlWithin, IsOlder, Sound}
+use Rattle.kk_source.specs.Actions.{Action, goes, puts, takes, builds, calls, print_step}
+use Rattle.kk_source.specs.FormEffects.{truth, unary_result, number_result, argument, byte_value}
 
 -- of a longer store
 pub within_more : (n m : ℕ) (v : Value) → n ≤ m → Within n v → Within m v

@@ -4,10 +4,11 @@ use Rattle.std.specs.List.{flat_map}
 use Rattle.kk_base.specs.Trace.{output, input as taken, input_end, TakesFrom}
 use Rattle.kk_base.specs.Machines.{step_unless, trace, state}
 use Rattle.kk_base.proofs.Machines.{trace_ended, state_ended}
-use Rattle.kk_source.specs.State.{Setting, End, Configuration, State}
+use Rattle.kk_source.specs.State.{Setting, End, Configuration}
 use Rattle.kk_source.specs.Notes.{Note, seen, built, called, events_of}
-use Rattle.kk_source.specs.Step.{Action, goes, puts, takes, builds, calls, step_of}
-use Rattle.kk_source.specs.SourceAfter.{performed, step, ending_of, store_machine}
+use Rattle.kk_source.specs.Step.{step_of}
+use Rattle.kk_source.specs.SourceAfter.{step, ending_of, store_machine, State}
+use Rattle.kk_source.specs.Actions.{Action, goes, puts, takes, builds, calls, performed}
 
 abbrev at : Configuration → List ℕ → State
 at machine input = record { machine = machine; input = input }

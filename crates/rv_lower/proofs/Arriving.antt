@@ -8,7 +8,7 @@ use Rattle.kk_syntax.specs.Types.{TypeTree}
 use Rattle.kk_syntax.specs.PlainTyping.{Signature, Scope}
 use Rattle.kk_source.specs.State.{Store, Environment}
 use Rattle.kk_core.specs.Codes.{Code, ProgramCode}
-use Rattle.kk_core.specs.CoreStates.{CoreSetting, Join, CallFrame, CoreState}
+use Rattle.kk_core.specs.CoreStates.{CoreSetting, Join, CallFrame}
 use Rattle.kk_core.specs.CoreTyping.{AreCodesTyped, AreSmall}
 use Rattle.rv_isa.specs.declared.asm.Action.TheVariants.{Label}
 use Rattle.rv_isa.specs.Processor.{Ending}
@@ -28,6 +28,7 @@ use Rattle.rv_lower.proofs.Operating.{core_at}
 use Rattle.rv_lower.proofs.Orders.{lead_within}
 use Rattle.rv_lower.proofs.Runs.{Target, line_cost}
 use Rattle.rv_lower.proofs.Runs as Runs
+use Rattle.kk_core.specs.CoreMachine.{CoreState}
 
 -- A program in core form and its assembler code, the constants of which stand from `first` on; what is lent; and how much room there is. `moves` is how many moves may
 -- stand before a line.

@@ -5,7 +5,6 @@ use Rattle.kk_syntax.specs.Types.{TypeTree}
 use Rattle.kk_syntax.specs.PlainTyping.{bool}
 use Rattle.kk_source.specs.State.{Value, Store, Environment, ended as core_ended}
 use Rattle.kk_source.specs.Live.{value_of}
-use Rattle.kk_source.specs.Step.{is_true}
 use Rattle.kk_core.specs.Codes.{Code, give, branch, use_of, inside}
 use Rattle.kk_core.specs.CoreStates.{Join, CallFrame, stopped}
 use Rattle.rv_isa.specs.declared.asm.Action.TheVariants.{Label, Jump, Return}
@@ -26,6 +25,7 @@ use Rattle.rv_lower.proofs.Operating.{core_at, seen_step, is_true_of}
 use Rattle.rv_lower.proofs.Orders.{order_rises, split_at, behind_label, continues_lower}
 use Rattle.rv_lower.proofs.Arriving.{LoweredProgram, target, setting, Here, Goes, Wait, Follow, by_lines, arrives, stays, finds}
 use Rattle.rv_lower.proofs.Jumping as Jumping
+use Rattle.kk_source.specs.FormEffects.{is_true}
 
 -- the lines of a branch, by their parts
 record Parts (base : ℕ) (x label : ℕ) (whole left before part other after : List Line) : Type 0 where

@@ -4,10 +4,9 @@ use Rattle.kk_syntax.specs.Types.{TypeTree, int32, unit_type, type_variable, nam
 use Rattle.kk_syntax.specs.PlainTyping.{Signature, Scope, type_in}
 use Rattle.kk_source.specs.State.{Value, integer, unit, Environment}
 use Rattle.kk_source.specs.Live.{value_of}
-use Rattle.kk_source.specs.Step.{truth}
 use Rattle.kk_source.specs.Ends.{exit_of}
 use Rattle.kk_core.specs.Codes.{Code, give, tail_call, branch, case, compute, use_of, unpack, inside}
-use Rattle.kk_core.specs.CoreStates.{Join, CallFrame, CoreControl, running, stopped, CoreState}
+use Rattle.kk_core.specs.CoreStates.{Join, CallFrame, CoreControl, running, stopped}
 use Rattle.kk_core.specs.CoreTyping.{HasCodeType}
 use Rattle.kk_core.specs.Sizes.{forms, Ordered}
 use Rattle.rv_isa.specs.declared.asm.Action.TheVariants.{Label}
@@ -22,6 +21,8 @@ use Rattle.rv_world.specs.World.{World}
 use Rattle.rv_lower.specs.Lines.{acts, unit_word}
 use Rattle.rv_lower.specs.Lowered.{Goal, returns, joins, CodeLines}
 use Rattle.rv_lower.proofs.Words.{truth_word}
+use Rattle.kk_source.specs.FormEffects.{truth}
+use Rattle.kk_core.specs.CoreMachine.{CoreState}
 
 -- ---- values
 

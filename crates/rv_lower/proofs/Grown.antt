@@ -1,6 +1,6 @@
 -- Code that grows: the lines and the texts of parts make those of the whole.
 use Rattle.std.proofs.Common.{◌≡◌, ℕ, ◌+◌, ◌<◌, ◌≤◌, get_or, take, List, [], ◌∷◌, ◌++◌, length, map, refl, sym, ap, subst, ◌∙◌, arith, append_assoc, append-nil, length-append}
-use Rattle.kk_core.specs.Codes.{Operation, Code, give, tail_call, branch, case, inside, Arms, Piece, computes, uses, unpacks, runs, put, plug}
+use Rattle.kk_core.specs.Codes.{Code, give, tail_call, branch, case, inside, Arms, Piece, computes, uses, unpacks, runs, put, plug}
 use Rattle.std.proofs.lemmas.List.{map-append, take_more}
 use Rattle.kk_core.specs.declared.form.Block.{Block}
 use Rattle.kk_core.specs.declared.form.Last.{Last}

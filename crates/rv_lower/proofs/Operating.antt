@@ -11,11 +11,10 @@ use Rattle.kk_syntax.specs.PlainTyping.{Signature, Scope, type_in, bool, binary_
 use Rattle.kk_source.specs.State.{Value, integer, unit, constant, Store, Environment}
 use Rattle.kk_source.specs.Live.{value_of}
 use Rattle.kk_source.specs.Notes.{events_of}
-use Rattle.kk_source.specs.Step.{truth, is_true, integer_of, unary_result, number_result, binary_result, byte_value, piece_of}
-use Rattle.kk_core.specs.Codes.{Operation, number, unit as unit_operation, read_byte, print_text, apply, Code, compute}
-use Rattle.kk_core.specs.CoreStates.{CoreSetting, Join, CallFrame, running, CoreConfiguration, CoreState}
-use Rattle.kk_core.specs.CoreMachine.{CoreAction, print_step, core_performed, core_step}
-use Rattle.kk_core.specs.CoreTyping.{HaveTypes, IsOperationTyped}
+use Rattle.kk_core.specs.Codes.{Code, compute}
+use Rattle.kk_core.specs.CoreStates.{CoreSetting, Join, CallFrame, running, CoreConfiguration}
+use Rattle.kk_core.specs.CoreMachine.{core_step, CoreState}
+use Rattle.kk_core.specs.CoreTyping.{HaveTypes}
 use Rattle.rv_isa.specs.Arithmetic.{signed}
 use Rattle.rv_isa.specs.AsmCode.{Line}
 use Rattle.cell_runtime.specs.Prints.{put_of}
@@ -26,6 +25,7 @@ use Rattle.rv_lower.proofs.Following.{IsWordOf, Holds, AreBelow}
 use Rattle.rv_lower.proofs.Calls.{as_many_arguments}
 use Rattle.rv_lower.proofs.Performing as Performing
 use Rattle.rv_lower.proofs.Runs.{Target}
+use Rattle.kk_source.specs.FormEffects.{truth, is_true, integer_of, unary_result, number_result, binary_result, byte_value, piece_of}
 
 -- the core machine at a code
 abbrev pub core_at : Code → Environment → List Join → List CallFrame → Store → List ℕ → CoreState

@@ -10,9 +10,7 @@ use Rattle.kk_syntax.specs.declared.program.Form.TheVariants.{Unary, Binary, Pri
 use Rattle.kk_syntax.specs.Shapes.{is_among as is_bound}
 use Rattle.kk_syntax.specs.Types.{TypeTree}
 use Rattle.kk_syntax.specs.PlainTyping.{Signature, Scope, IsFormTyped}
-use Rattle.kk_source.specs.Step.{piece_of}
-use Rattle.kk_core.specs.Codes.{Operation, number, unit, read_byte, print_text, apply}
-use Rattle.kk_core.specs.CoreTyping.{HaveTypes, IsOperationTyped}
+use Rattle.kk_core.specs.CoreTyping.{HaveTypes}
 use Rattle.kk_core.specs.Needed.{read_by}
 use Rattle.kk_core.specs.Sizes.{AreBound}
 use Rattle.rv_isa.specs.declared.asm.Action.{Action}
@@ -29,6 +27,7 @@ use Rattle.rv_isa.specs.WellFormed.{is_written, is_alive, is_alive_behind, most_
 use Rattle.rv_lower.specs.Lines.{computes, sets, copies_to, acts, unit_word, constant_word, choice_of, copies, temporaries, MakesTruth, Compares, ComparesNot, BinaryLines, PrintLines, FormLines, OperationLines}
 use Rattle.rv_lower.proofs.Formed.{Each, Readable, Good, HasRoom, weaker, room_more, to_variable, to_temporary, good_computes, readable_small, readable_more, readable_bound, readable_here, good_copies, good_hands, none_some, some_same}
 use Rattle.rv_lower.proofs.AbsentLabels.{HasNo, has_no_append}
+use Rattle.kk_source.specs.FormEffects.{piece_of}
 
 -- Lines lead from code before which C is alive to code before which B is alive: there are at most n of them.
 pub record Leads (B C : ℕ → Type 0) (n : ℕ) (own : List Line) : Type 0 where

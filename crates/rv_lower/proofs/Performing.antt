@@ -13,7 +13,6 @@ use Rattle.kk_syntax.specs.declared.operator.PrintForm.{PrintForm}
 use Rattle.kk_syntax.specs.Types.{TypeTree, int32, unit_type}
 use Rattle.kk_syntax.specs.PlainTyping.{bool, binary_type}
 use Rattle.kk_source.specs.State.{Value, integer, unit}
-use Rattle.kk_source.specs.Step.{truth, number_result, byte_value, piece_of}
 use Rattle.kk_source.specs.Arithmetic.{negation_of, sum_of, difference_of, product_of, quotient_of, remainder_of}
 use Rattle.rv_isa.specs.declared.asm.Action.{Action}
 use Rattle.rv_isa.specs.declared.asm.Operation.{Operation as AsmOperation}
@@ -39,6 +38,7 @@ use Rattle.rv_lower.proofs.Printing.{int_printed, few_steps_of, text_found}
 use Rattle.rv_lower.proofs.Following.{IsWordOf, frame_at, turn_at}
 use Rattle.rv_lower.proofs.Runs.{Target}
 use Rattle.rv_lower.proofs.Runs as Runs
+use Rattle.kk_source.specs.FormEffects.{truth, number_result, byte_value, piece_of}
 
 -- ---- cells
 

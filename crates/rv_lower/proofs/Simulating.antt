@@ -12,9 +12,9 @@ use Rattle.kk_source.specs.State.{Value, Store, Environment, stack_full}
 use Rattle.kk_source.specs.Live.{value_of}
 use Rattle.kk_source.specs.Ends.{exit_of}
 use Rattle.kk_source.specs.Step.{bind_parameters, lent_places}
-use Rattle.kk_core.specs.Codes.{Operation, number, unit as unit_operation, read_byte, print_text, apply, Code, give, tail_call, branch, case, compute, use_of, unpack, inside, FunctionCode}
-use Rattle.kk_core.specs.CoreStates.{Join, CallFrame, CoreControl, running, stopped, CoreConfiguration, CoreState}
-use Rattle.kk_core.specs.CoreMachine.{call_step, tail_step}
+use Rattle.kk_core.specs.Codes.{Code, give, tail_call, branch, case, compute, use_of, unpack, inside, FunctionCode}
+use Rattle.kk_core.specs.CoreStates.{Join, CallFrame, CoreControl, running, stopped, CoreConfiguration}
+use Rattle.kk_core.specs.CoreMachine.{call_step, tail_step, CoreState}
 use Rattle.rv_isa.specs.declared.asm.Action.TheVariants.{Call as CallLine, TailCall}
 use Rattle.rv_isa.specs.Processor.{Ending, exited}
 use Rattle.rv_isa.specs.AsmCode.{Line, Lines}

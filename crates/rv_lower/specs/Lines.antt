@@ -8,8 +8,6 @@ use Rattle.kk_syntax.specs.declared.operator.PrintForm.{PrintForm}
 use Rattle.kk_syntax.specs.declared.operator.PrintForm.TheVariants as OfPrint
 use Rattle.kk_syntax.specs.declared.program.Form.{Form}
 use Rattle.kk_syntax.specs.declared.program.Form.TheVariants.{Unary, Binary, Print, Construct, Call}
-use Rattle.kk_source.specs.Step.{piece_of}
-use Rattle.kk_core.specs.Codes.{Operation, number, unit, read_byte, print_text, apply}
 use Rattle.rv_isa.specs.declared.asm.Action.{Action}
 use Rattle.rv_isa.specs.declared.asm.Operation.{Operation as AsmOperation}
 use Rattle.rv_isa.specs.declared.asm.Operation.TheVariants as Op
@@ -22,6 +20,7 @@ use Rattle.rv_isa.specs.declared.immediate.ShiftAmount.{ShiftAmount}
 use Rattle.rv_isa.specs.declared.routine.Routine.{Routine}
 use Rattle.rv_isa.specs.Arithmetic.{signed}
 use Rattle.rv_isa.specs.AsmCode.{Line}
+use Rattle.kk_source.specs.FormEffects.{piece_of}
 
 -- an operation on values, whose word a value takes
 abbrev pub computes : AsmOperation → List ℕ → ℕ → Line

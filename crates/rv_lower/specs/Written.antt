@@ -1,6 +1,6 @@
 -- What was written of a function's assembler code.
 use Rattle.std.specs.Prelude.{◌≡◌, ℕ, ◌+◌, ◌*◌, ◌≤◌, List, [], ◌∷◌, ◌++◌, Option, Some, None, map, length}
-use Rattle.kk_core.specs.Codes.{Operation, Code, Piece, plug, FunctionCode}
+use Rattle.kk_core.specs.Codes.{Code, Piece, plug, FunctionCode}
 use Rattle.kk_core.specs.CoreTyping.{all_forms}
 use Rattle.kk_core.specs.Sizes.{forms}
 use Rattle.rv_isa.specs.AsmCode.{Line, Lines, line_of}

@@ -3,13 +3,13 @@
 ghost use Rattle.std.specs.Prelude.{◌≡◌, ◌≤◌, [], ◌∷◌, map, length, OnOk, IfOk};
 ghost use Rattle.kk_syntax.specs.declared.program.Form.TheVariants.{Unary, Binary, Print, Construct, Call};
 ghost use Rattle.kk_syntax.specs.declared.operator.BinaryOperator.TheVariants.{Divide, Equal, NotEqual};
-ghost use Rattle.kk_source.specs.Step.{piece_of};
 ghost use Rattle.kk_core.specs.Codes.{operation_of};
 ghost use Rattle.rv_isa.specs.declared.asm.Operation.TheVariants.{Register};
 ghost use Rattle.rv_isa.specs.declared.asm.RegisterOperation.TheVariants.{Slt};
 ghost use Rattle.rv_isa.specs.Frames.{only_of};
 ghost use Rattle.rv_lower.specs.Lines.{choice_of, constant_word, registers, Compares, ComparesWithOne, ComparesNot, BinaryLines, FormLines, PrintLines};
 ghost use Rattle.rv_lower.specs.Written.{pair_of, short_line, Wrote, WroteLines, WrotePrint, WroteOperation};
+ghost use Rattle.kk_source.specs.FormEffects.{piece_of};
 
 use crate::line::{Reads, Short, act, binary, constant, copy, set, unary};
 use crate::lowering::Lowering;
