@@ -1,6 +1,6 @@
 use crate::program::lower_function;
 use kk_base::NoMemory;
-use kk_core::{Block, CoreFunction, Last, Operation, Step};
+use kk_core::{Block, CoreFunction, Last, Step};
 use kk_syntax::{BinaryOperator, Form, PrintForm};
 use rv_isa::{Action, AsmFunction, Operation as AsmOperation, RegisterOperation};
 use std::alloc::Global;
@@ -9,18 +9,12 @@ use std::test::Fail;
 /// The code of a function that prints 2 - 3.
 fn printed_difference(alloc: Global) -> Result<AsmFunction, NoMemory> {
     let mut steps = Vec::new(alloc);
-    steps.push(Step::Let(0, Operation::Number(2)))?;
-    steps.push(Step::Let(1, Operation::Number(3)))?;
+    steps.push(Step::Let(0, Form::Number(2), Vec::new(alloc)))?;
+    steps.push(Step::Let(1, Form::Number(3), Vec::new(alloc)))?;
     let numbers = Vec::from_slice(alloc, &[0, 1])?;
-    steps.push(Step::Let(
-        2,
-        Operation::Apply(Form::Binary(BinaryOperator::Subtract), numbers),
-    ))?;
+    steps.push(Step::Let(2, Form::Binary(BinaryOperator::Subtract), numbers))?;
     let difference = Vec::from_slice(alloc, &[2])?;
-    steps.push(Step::Let(
-        3,
-        Operation::Apply(Form::Print(PrintForm::PrintLine), difference),
-    ))?;
+    steps.push(Step::Let(3, Form::Print(PrintForm::PrintLine), difference))?;
     let body = Block {
         steps,
         last: Last::Return(3),
@@ -30,7 +24,7 @@ fn printed_difference(alloc: Global) -> Result<AsmFunction, NoMemory> {
         variables: 4,
         body,
     };
-    let (lowered, _texts) = lower_function(alloc, &function, Vec::new(alloc))?;
+    let (lowered, _texts) = lower_function(alloc, &[], &function, Vec::new(alloc))?;
     Ok(lowered)
 }
 
