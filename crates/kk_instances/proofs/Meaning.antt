@@ -15,7 +15,7 @@ use Rattle.kk_source.specs.SourceAfter.{ending_of, store_machine, first_state, S
 use Rattle.kk_mono.specs.Instances.{InstanceTree, main_instance, called_at, calls, renamed, origin_in, IsAtTypes, IsInstanceProgram}
 use Rattle.kk_instances.specs.Meaning.{positions_in, setting_of, MeansTheSame}
 use Rattle.kk_instances.proofs.Called.{Every, IsThere, there_too, each_found}
-use Rattle.kk_instances.proofs.Typed.{tree_typed}
+use Rattle.kk_instances.proofs.Renamed.{tree_typed}
 use Rattle.kk_instances.proofs.Runs.{renamed_state, same_ending, IsAlike, MachineCalls, SameRun, same_run}
 
 -- what is at a place of a list that is made of another
