@@ -84,11 +84,8 @@ module _ (new : ℕ → ℕ) where
 
   same_call_frames : (frames : List Frame) → call_frames (renamed_frames frames) ≡ call_frames frames
   same_call_frames [] = refl
-  same_call_frames (arguments form values left environment ∷ older) = same_call_frames older
-  same_call_frames (branches positive negative environment ∷ older) = same_call_frames older
-  same_call_frames (rows of environment ∷ older) = same_call_frames older
-  same_call_frames (statement awaited rest environment ∷ older) = same_call_frames older
   same_call_frames (call lent ∷ older) = ap suc (same_call_frames older)
+  same_call_frames (frame ∷ older) = same_call_frames older
 
   -- the row that is taken stays
   same_choice : (store : Store) (of : Rows) (v : Value) (environment : Environment) → first_match store (renamed_rows new of) v environment ≡ option_map renamed_choice (first_match store of v environment)
@@ -244,11 +241,7 @@ module _ (program instances : ProgramTree) (texts : program.texts ≡ instances.
     is = ap (λ (b : Tree). goes (at_expression b (bind_parameters 0 vs []) (renamed_machine new (record from { frames = call lent ∷ older })))) same;
     only = record { control = body; frames = frames };
   }
-  entry_follows f function made vs [] from instance same body frames machine = push_follows f function made vs [] from instance same body frames machine
-  entry_follows f function made vs (arguments form values left environment ∷ older) from instance same body frames machine = push_follows f function made vs (arguments form values left environment ∷ older) from instance same body frames machine
-  entry_follows f function made vs (branches positive negative environment ∷ older) from instance same body frames machine = push_follows f function made vs (branches positive negative environment ∷ older) from instance same body frames machine
-  entry_follows f function made vs (rows of environment ∷ older) from instance same body frames machine = push_follows f function made vs (rows of environment ∷ older) from instance same body frames machine
-  entry_follows f function made vs (statement awaited rest environment ∷ older) from instance same body frames machine = push_follows f function made vs (statement awaited rest environment ∷ older) from instance same body frames machine
+  entry_follows f function made vs older from instance same body frames machine = push_follows f function made vs older from instance same body frames machine
 
   call_follows : (f : ℕ) (vs : List Value) (older : List Frame) (from : Configuration) → P f → FramesCall P older → MachineCalls P from → Follows (call_step new_setting (new f) (slice_get program.functions (new f)) vs (renamed_frames new older) (renamed_machine new from)) (call_step old_setting f (slice_get instances.functions f) vs older from)
   call_follows f vs older from instance frames machine =
