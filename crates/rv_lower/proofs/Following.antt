@@ -9,7 +9,7 @@ use Rattle.kk_source.specs.FormEffects.{truth}
 use Rattle.kk_core.specs.Codes.{Code, give, tail_call, branch, case, compute, use_of, unpack, inside}
 use Rattle.kk_core.specs.CoreStates.{Join, CallFrame, CoreControl, running, stopped, CoreState}
 use Rattle.kk_core.specs.CoreTyping.{HasCodeType}
-use Rattle.kk_core.specs.Sizes.{forms, Ordered}
+use Rattle.kk_core.specs.Sizes.{forms, most_forms, Ordered}
 use Rattle.rv_isa.specs.declared.asm.Action.TheVariants.{Label}
 use Rattle.rv_isa.specs.Arithmetic.{signed}
 use Rattle.rv_isa.specs.Processor.{Ending, exited}
@@ -51,10 +51,6 @@ abbrev pub one_more : ℕ → TypeTree → Scope
 one_more x t = record { variable = x; type = t } ∷ []
 
 -- ---- codes
-
--- The most forms of a function's body.
-abbrev pub most_forms : ℕ
-most_forms = 961
 
 -- ---- turns and steps
 

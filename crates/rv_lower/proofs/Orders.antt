@@ -6,13 +6,13 @@ use Rattle.kk_source.specs.State.{Environment}
 use Rattle.kk_core.specs.Codes.{Code, give, tail_call, branch, case, compute, use_of, unpack, inside}
 use Rattle.kk_core.specs.CoreStates.{Join, CallFrame}
 use Rattle.kk_core.specs.CoreTyping.{HasCodeType}
-use Rattle.kk_core.specs.Sizes.{forms, Ordered}
+use Rattle.kk_core.specs.Sizes.{forms, most_forms, Ordered}
 use Rattle.rv_isa.specs.declared.asm.Action.TheVariants.{Label}
 use Rattle.rv_isa.specs.AsmCode.{Line}
 use Rattle.rv_isa.specs.Frames.{Frame}
 use Rattle.rv_lower.specs.Lines.{Texts, acts}
 use Rattle.rv_lower.specs.Lowered.{Goal, returns, joins, CodeLines}
-use Rattle.rv_lower.proofs.Following.{one_more, lead, most_forms, Placed, Continues, AllWait}
+use Rattle.rv_lower.proofs.Following.{one_more, lead, Placed, Continues, AllWait}
 
 pub lead_within : (code : Code) → lead code ≤ forms code
 lead_within (give x) = omega arith
