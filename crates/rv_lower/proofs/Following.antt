@@ -6,7 +6,7 @@ use Rattle.kk_source.specs.State.{Value, integer, unit, Environment}
 use Rattle.kk_source.specs.Live.{value_of}
 use Rattle.kk_source.specs.Ends.{exit_of}
 use Rattle.kk_source.specs.FormEffects.{truth}
-use Rattle.kk_core.specs.Codes.{Code, give, tail_call, branch, case, compute, use_of, unpack, inside}
+use Rattle.kk_core.specs.Codes.{Code, use_of, inside}
 use Rattle.kk_core.specs.CoreStates.{Join, CallFrame, CoreControl, running, stopped, CoreState}
 use Rattle.kk_core.specs.CoreTyping.{HasCodeType}
 use Rattle.kk_core.specs.Sizes.{forms, most_forms, Ordered}
@@ -63,14 +63,9 @@ turn_at whole left cells into fs world = go (record { frames = frame_at whole le
 
 -- the steps of the core machine before the next one that a line does
 abbrev pub lead : Code → ℕ
-lead (give x) = 0
-lead (tail_call f arguments) = 0
-lead (branch x positive negative) = 0
-lead (case x arms) = 0
-lead (compute x form arguments rest) = 0
 lead (use_of x rest) = suc (lead rest)
-lead (unpack x c fields rest) = 0
 lead (inside x block rest) = suc (lead block)
+lead code = 0
 
 abbrev pub lead_of : CoreControl → ℕ
 lead_of (running code environment inner) = lead code

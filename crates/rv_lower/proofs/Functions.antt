@@ -14,7 +14,7 @@ use Rattle.rv_lower.specs.Lines.{Texts}
 use Rattle.rv_lower.specs.Lowered.{returns, from_to, IsFunctionLowered, AreFunctionsLowered}
 use Rattle.rv_lower.proofs.Formed.{Each, Readable, Good, HasRoom, all_each}
 use Rattle.rv_lower.proofs.Operations.{AreFew, only_bound}
-use Rattle.rv_lower.proofs.Codes.{Fits, ordered_up, code_fits}
+use Rattle.rv_lower.proofs.Codes.{Fits, order_rises, code_fits}
 
 -- the numbers of parameters
 below_less : (n v : ℕ) → is_bound (below n) v ≡ true → v < n
@@ -75,7 +75,7 @@ module _ (signatures : List Signature) (few_parameters : AreFew signatures) (tex
   }
     where
       up : function.parameters ≤ function.variables
-      up = ordered_up signatures few_parameters function.variables texts true (with_parameters 0 signature.parameters []) function.body signature.result (below function.parameters) function.parameters function.variables typed.body typed.ordered
+      up = order_rises signatures true (with_parameters 0 signature.parameters []) function.body signature.result (below function.parameters) function.parameters function.variables typed.body typed.ordered
 
       room : HasRoom function.variables (below function.parameters)
       room = record { room = let few = small.variables in omega (arith, few); low = λ v is. let less = below_less function.parameters v is in let le = up in omega (arith, less, le) }
