@@ -39,6 +39,10 @@ fn call(alloc: Global, function: u32) -> Expr {
     Expr::Apply(Form::Call(function), Vec::new(alloc))
 }
 
+fn unit(alloc: Global) -> Expr {
+    Expr::Apply(Form::Unit, Vec::new(alloc))
+}
+
 /// The call of a function in the only row of a match.
 fn in_row(alloc: Global, function: u32) -> Result<Expr, AllocError> {
     let mut rows = Vec::new(alloc);
@@ -46,7 +50,7 @@ fn in_row(alloc: Global, function: u32) -> Result<Expr, AllocError> {
         pattern: Pat::Wildcard,
         body: call(alloc, function),
     })?;
-    Ok(Expr::Match(Box::new(alloc, Expr::Unit)?, rows))
+    Ok(Expr::Match(Box::new(alloc, unit(alloc))?, rows))
 }
 
 fn statement(value: Expr) -> Statement {
@@ -89,7 +93,7 @@ fn function(
         variables: 1,
         parameters: written,
         result: Ty::Unit,
-        body: Expr::Block(statements, Box::new(alloc, Expr::Unit)?),
+        body: Expr::Block(statements, Box::new(alloc, unit(alloc))?),
     };
     Ok((fun, BodyTypes { nodes, taken }))
 }
@@ -114,6 +118,7 @@ fn typed(
         types: Vec::new(alloc),
         constructors: Vec::new(alloc),
         functions,
+        texts: Vec::new(alloc),
         main: 0,
     };
     Ok(Some(Typed { program, bodies }))
