@@ -10,6 +10,7 @@ use Rattle.kk_source.specs.State.{Store, Environment}
 use Rattle.kk_core.specs.Codes.{Code, ProgramCode}
 use Rattle.kk_core.specs.CoreStates.{CoreSetting, Join, CallFrame, CoreState}
 use Rattle.kk_core.specs.CoreTyping.{AreCodesTyped, AreSmall}
+use Rattle.kk_core.specs.Sizes.{most_forms}
 use Rattle.rv_isa.specs.declared.asm.Action.TheVariants.{Label}
 use Rattle.rv_isa.specs.Processor.{Ending}
 use Rattle.rv_isa.specs.AsmCode.{Line, Lines}
@@ -23,7 +24,7 @@ use Rattle.rv_lower.specs.Lowered.{AreFunctionsLowered}
 use Rattle.rv_lower.specs.Written.{texts_of}
 use Rattle.rv_lower.specs.Meaning.{core_cost, core_outside, setting_of_core}
 use Rattle.rv_lower.proofs.Labels.{found_label, label_found}
-use Rattle.rv_lower.proofs.Following.{most_forms, turn_at, lead, lead_of, Stands, Continues, AllWait, follows, StandsFor, Related}
+use Rattle.rv_lower.proofs.Following.{turn_at, lead, lead_of, Stands, Continues, AllWait, follows, StandsFor, Related}
 use Rattle.rv_lower.proofs.Calls.{Callable, callable}
 use Rattle.rv_lower.proofs.Operating.{core_at}
 use Rattle.rv_lower.proofs.Orders.{lead_within}

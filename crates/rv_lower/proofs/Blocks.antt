@@ -23,7 +23,8 @@ use Rattle.rv_lower.proofs.Following.{IsWordOf, SameBelow, one_more, turn_at, le
 use Rattle.rv_lower.proofs.Environments.{holds_same, stands_at, stands_same, continues_same, receives}
 use Rattle.rv_lower.proofs.Performing.{put_same, put_other}
 use Rattle.rv_lower.proofs.Operating.{core_at, seen_step, is_true_of}
-use Rattle.rv_lower.proofs.Orders.{order_rises, split_at, behind_label, continues_lower}
+use Rattle.rv_lower.proofs.Codes.{order_rises}
+use Rattle.rv_lower.proofs.Orders.{split_at, behind_label, continues_lower}
 use Rattle.rv_lower.proofs.Arriving.{LoweredProgram, texts, target, setting, Here, Goes, Wait, Follow, by_lines, arrives, stays, finds}
 use Rattle.rv_lower.proofs.Jumping as Jumping
 

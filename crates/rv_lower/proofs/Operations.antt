@@ -13,7 +13,7 @@ use Rattle.kk_syntax.specs.Types.{TypeTree}
 use Rattle.kk_syntax.specs.PlainTyping.{Signature, Scope, IsFormTyped}
 use Rattle.kk_source.specs.FormEffects.{piece_of}
 use Rattle.kk_core.specs.CoreTyping.{HaveTypes}
-use Rattle.kk_core.specs.Sizes.{AreBound}
+use Rattle.kk_core.specs.Sizes.{AreBound, most_parameters}
 use Rattle.rv_isa.specs.declared.asm.Action.{Action}
 use Rattle.rv_isa.specs.declared.asm.Action.TheVariants as OfAction
 use Rattle.rv_isa.specs.declared.asm.Operation.{Operation as AsmOperation}
@@ -55,9 +55,9 @@ as_many scope [] ts is = ap length (sym is)
 as_many scope (x ∷ xs) [] is = absurd is
 as_many scope (x ∷ xs) (t ∷ ts) is = ap suc (as_many scope xs ts is.1)
 
--- the functions have at most eight parameters
+-- the functions have as few parameters as they may
 abbrev pub AreFew : List Signature → Type 0
-AreFew signatures = (f : ℕ) (signature : Signature) → slice_get signatures f ≡ Some signature → length signature.parameters ≤ 8
+AreFew signatures = (f : ℕ) (signature : Signature) → slice_get signatures f ≡ Some signature → length signature.parameters ≤ most_parameters
 
 module _ (base : ℕ) (bound : List ℕ) (has : HasRoom base bound) where
   -- what may be read with the temporaries below a limit

@@ -28,7 +28,8 @@ use Rattle.rv_lower.specs.Lines.{acts, copies, temporaries}
 use Rattle.rv_lower.proofs.Following.{SameBelow, one_more, frame_at, turn_at, lead, lead_of, Continues, Waits, StandsFor}
 use Rattle.rv_lower.proofs.Environments.{stands_at, stands_same, continues_same, receives}
 use Rattle.rv_lower.proofs.Calls.{words_read, arguments_have, arguments_less, as_many_arguments, Copied, copied, Callable, Entered, enters}
-use Rattle.rv_lower.proofs.Orders.{order_rises, split_at, tail_result, as_many_wait}
+use Rattle.rv_lower.proofs.Codes.{order_rises}
+use Rattle.rv_lower.proofs.Orders.{split_at, tail_result, as_many_wait}
 use Rattle.rv_lower.proofs.Arriving.{LoweredProgram, texts, target, setting, upper, lower, pace, Passing, AreRelated, Run, Goes, Here, Wait, Follow, by_lines, arrives, called}
 use Rattle.rv_lower.proofs.Blocks.{at_give, at_use, at_inside, at_branch}
 use Rattle.rv_lower.proofs.Operating.{core_at, seen_performed, seen_step, IsNoCall, Done, form_done}

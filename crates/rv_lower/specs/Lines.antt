@@ -125,9 +125,12 @@ pub record Texts : Type 0 where
 
 -- a form on variables, whose value variable x takes
 abbrev pub FormLines : ℕ → Texts → ℕ → Form → List ℕ → List Line → Type 0
-FormLines base texts x (Number value) arguments lines = (word : ℕ) × (signed word ≡ value) × (word < 2 ^ 32) × (lines ≡ sets word x ∷ [])
+FormLines base texts x (Number value) arguments lines =
+    (word : ℕ) × (signed word ≡ value) × (word < 2 ^ 32) × (lines ≡ sets word x ∷ [])
 FormLines base texts x Nothing arguments lines = lines ≡ sets unit_word x ∷ []
-FormLines base texts x ReadByte arguments lines = lines ≡ record { action = Action.Routine Routine.ReadByte; args = []; into = Some x } ∷ []
+FormLines base texts x ReadByte arguments lines =
+    lines ≡ record { action = Action.Routine Routine.ReadByte; args = []; into = Some x } ∷ []
 FormLines base texts x (PrintText form text) arguments lines =
-    (print : List Line) × PrintLines base texts.constants (piece_of form (text_at texts.literals text)) print × (lines ≡ print ++ sets unit_word x ∷ [])
+    (print : List Line) × PrintLines base texts.constants (piece_of form (text_at texts.literals text)) print
+    × (lines ≡ print ++ sets unit_word x ∷ [])
 FormLines base texts x form arguments lines = AppliedLines base x form arguments lines
