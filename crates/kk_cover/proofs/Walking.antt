@@ -13,7 +13,7 @@ use Rattle.kk_syntax.specs.Shapes.{gathered_rows}
 use Rattle.kk_syntax.specs.Trees.{RowTree, rows_of, expr_tree, row_tree}
 use Rattle.kk_syntax.proofs.Views.{match_tree, row_tree_is}
 use Rattle.kk_cover.specs.Covered.{Each, row_outlines}
-use Rattle.kk_cover.specs.Outlines.{Outline, outline_of, pattern_outline}
+use Rattle.kk_syntax.specs.Outlines.{Outline, outline_of, pattern_outline}
 use Rattle.kk_cover.specs.Matches.{asked_by, of_matches, matches, match_rows, IsMatchCovered, IsMatchExample, IsFirstExample, IsFunctionCovered, IsFirstFunction}
 use Rattle.kk_cover.proofs.Keeping.{each-append}
 

@@ -6,7 +6,7 @@ use Rattle.std.proofs.lemmas.Grind.{flat_map-append}
 use Rattle.kk_base.specs.Trace.{Event, TakesFrom, IsPrefix}
 use Rattle.kk_base.specs.Machines.{Machine, step_unless, trace, state, ending_after, mapped}
 use Rattle.kk_base.proofs.Machines.{trace-mapped}
-use Rattle.kk_source.specs.State.{Setting, End, Value}
+use Rattle.kk_source.specs.State.{Setting, End, Value, Configuration}
 use Rattle.kk_source.specs.Notes.{events_of}
 use Rattle.kk_source.specs.Live.{is_live, Reached}
 use Rattle.kk_source.specs.Step.{step_of}
@@ -24,7 +24,7 @@ state-mapped events seen machine zero s = refl
 state-mapped events seen machine (suc n) s = state-mapped events seen machine n (machine.step s).1
 
 -- sound states lead to sound ones
-performed_sound : (action : Action) (input : List ℕ) → LeadsTo Sound action → Sound (performed action input).1.machine
+performed_sound : (action : Action Configuration) (input : List ℕ) → LeadsTo Sound action → Sound (performed action input).1.machine
 performed_sound (goes to) input s = s
 performed_sound (puts piece to) input s = s
 performed_sound (takes to) [] s = s None
