@@ -2,12 +2,11 @@ ghost use Rattle.std.specs.Prelude.{◌≡◌, IfOk};
 ghost use Rattle.rv_isa.specs.AsmCode.{line_of, asm_functions};
 ghost use Rattle.rv_isa.specs.WellFormed.{AreWellFormed};
 
-use crate::liveness::copy_of;
-use crate::{assign, valid};
 use kk_base::NoMemory;
 use rv_isa::{
     Action, Asm, AsmFunction, Item, Operation, Register, RegisterOperation, Statement, Way,
 };
+use rv_regs::{assign, valid};
 use std::alloc::Global;
 use std::test::Fail;
 
@@ -19,7 +18,7 @@ fn statement(
 ) -> Result<Statement, NoMemory>
     ensures { IfOk result (λ s. line_of s ≡ record { action = action; args = args.now; into = into }) }
 {
-    let args = copy_of(alloc, args)?;
+    let args = Vec::from_slice(alloc, args)?;
     Ok(Statement { action, args, into })
 }
 
@@ -33,7 +32,7 @@ fn sum_of_two(alloc: Global) -> Result<Asm, NoMemory>
     let mut code = Vec::new(alloc);
     code.push(first)?;
     code.push(second)?;
-    let params = copy_of(alloc, &[0, 1])?;
+    let params = Vec::from_slice(alloc, &[0, 1])?;
     let mut functions = Vec::new(alloc);
     functions.push(AsmFunction { params, code })?;
     Ok(Asm {

@@ -1,8 +1,6 @@
-ghost use Rattle.std.specs.Prelude.{None, length, nat_le};
-
-use super::*;
 use elf_image::Image;
-use kk_base::{Next, Put, Sink, Source};
+use kk_memio::{MemSink, MemSource};
+use rv_sim::{Halt, Machine};
 use std::alloc::{AllocError, Global};
 use std::test::Fail;
 
@@ -27,91 +25,6 @@ const EXIT: u32 = 0x05d0_0893;
 
 /// The program that exits with 5 after three instructions.
 const EXIT_5: [u32; 3] = [0x0050_0513, EXIT, ECALL];
-
-/// A source that fails at one of its calls.
-#[derive(Drop)]
-struct Tape {
-    bytes: &'static [u8],
-    at: usize,
-    calls: u64,
-    fails_at: u64,
-    faults: u64,
-}
-
-impl Tape {
-    fn new(bytes: &'static [u8], fails_at: u64) -> Tape {
-        Tape {
-            bytes,
-            at: 0,
-            calls: 0,
-            fails_at,
-            faults: 0,
-        }
-    }
-}
-
-impl Source for Tape {
-    ghost state = { λ tape. record { left = None; ended = nat_le (length tape.bytes.now) tape.at; faults = tape.faults } };
-
-    fn next(&mut self) -> Next {
-        self.calls = self.calls.saturating_add(1);
-        if self.calls == self.fails_at {
-            self.faults = self.faults.saturating_add(1);
-            return Next::Failed;
-        }
-        match self.bytes.get(self.at) {
-            Some(byte) => {
-                self.at = self.at.saturating_add(1);
-                Next::Byte(*byte)
-            }
-            None => Next::End,
-        }
-    }
-}
-
-/// A sink that fails at one of its calls, where it takes one byte.
-#[derive(Drop)]
-struct Paper {
-    bytes: Vec<u8>,
-    calls: u64,
-    fails_at: u64,
-    faults: u64,
-}
-
-impl Paper {
-    fn new(alloc: Global, fails_at: u64) -> Paper {
-        Paper {
-            bytes: Vec::new(alloc),
-            calls: 0,
-            fails_at,
-            faults: 0,
-        }
-    }
-}
-
-impl Sink for Paper {
-    ghost state = { λ paper. record { held = None; faults = paper.faults } };
-
-    fn put(&mut self, piece: &[u8]) -> Put {
-        self.calls = self.calls.saturating_add(1);
-        let fails = self.calls == self.fails_at;
-        let taken = if fails {
-            &piece[..piece.len().min(1)]
-        } else {
-            piece
-        };
-        let faults = self.faults;
-        if self.bytes.extend_from_slice(taken).is_err() {
-            self.faults = faults.saturating_add(1);
-            return Put::Failed(0);
-        }
-        if fails {
-            self.faults = faults.saturating_add(1);
-            return Put::Failed(taken.len());
-        }
-        Put::All
-    }
-}
 
 /// A part of a file: where it begins, what may be done in it, its words, and how many addresses it has.
 #[derive(Clone, Copy)]
@@ -184,21 +97,23 @@ fn machine(alloc: Global, flags: u32, words: &[u32], size: u32) -> Result<Machin
 }
 
 /// A run, or `None` where a device has failed before or the steps cannot be counted.
-fn run(machine: &mut Machine, steps: u64, input: &mut Tape, out: &mut Paper) -> Option<Halt> {
+fn run(
+    machine: &mut Machine,
+    steps: u64,
+    input: &mut MemSource,
+    out: &mut MemSink,
+) -> Option<Halt> {
     if machine.faulted() || machine.executed().checked_add(steps).is_none() {
         return None;
     }
     Some(machine.run(steps, input, out))
 }
 
-/// A run of up to 100 steps, with no input, and with devices that do not fail.
-fn run_alone(alloc: Global, machine: &mut Machine) -> Option<Halt> {
-    run(
-        machine,
-        100,
-        &mut Tape::new(b"", 0),
-        &mut Paper::new(alloc, 0),
-    )
+/// A run with no input, and with devices that do not fail.
+fn run_alone(alloc: Global, machine: &mut Machine, steps: u64) -> Result<Option<Halt>, Fail> {
+    let mut input = MemSource::new(alloc, b"", &[])?;
+    let mut out = MemSink::new(alloc, 0, &[])?;
+    Ok(run(machine, steps, &mut input, &mut out))
 }
 
 #[test]
@@ -212,12 +127,7 @@ fn budgets(rt: HostRuntime) -> Result<(), Fail> {
     ];
     for (steps, expected, executed) in cases {
         let mut machine = machine(rt.alloc(), 5, &EXIT_5, 8)?;
-        let halt = run(
-            &mut machine,
-            steps,
-            &mut Tape::new(b"", 0),
-            &mut Paper::new(rt.alloc(), 0),
-        );
+        let halt = run_alone(rt.alloc(), &mut machine, steps)?;
         assert_eq!(rt; halt, Some(expected));
         assert_eq!(rt; machine.executed(), executed);
         assert!(rt; !machine.faulted());
@@ -228,34 +138,19 @@ fn budgets(rt: HostRuntime) -> Result<(), Fail> {
 #[test]
 fn several_runs_are_one(rt: HostRuntime) -> Result<(), Fail> {
     let mut machine = machine(rt.alloc(), 5, &EXIT_5, 8)?;
-    let mut input = Tape::new(b"", 0);
-    let mut out = Paper::new(rt.alloc(), 0);
-    assert_eq!(rt;
-        run(&mut machine, 1, &mut input, &mut out),
-        Some(Halt::StepsSpent)
-    );
-    assert_eq!(rt;
-        run(&mut machine, 0, &mut input, &mut out),
-        Some(Halt::StepsSpent)
-    );
-    assert_eq!(rt;
-        run(&mut machine, 1, &mut input, &mut out),
-        Some(Halt::StepsSpent)
-    );
-    assert_eq!(rt; machine.executed(), 2);
-    assert_eq!(rt;
-        run(&mut machine, 7, &mut input, &mut out),
-        Some(Halt::Exit(5))
-    );
-    assert_eq!(rt;
-        run(&mut machine, 0, &mut input, &mut out),
-        Some(Halt::Exit(5))
-    );
-    assert_eq!(rt;
-        run(&mut machine, 7, &mut input, &mut out),
-        Some(Halt::Exit(5))
-    );
-    assert_eq!(rt; machine.executed(), 3);
+    let cases = [
+        (1, Halt::StepsSpent, 1),
+        (0, Halt::StepsSpent, 1),
+        (1, Halt::StepsSpent, 2),
+        (7, Halt::Exit(5), 3),
+        (0, Halt::Exit(5), 3),
+        (7, Halt::Exit(5), 3),
+    ];
+    for (steps, expected, executed) in cases {
+        let halt = run_alone(rt.alloc(), &mut machine, steps)?;
+        assert_eq!(rt; halt, Some(expected));
+        assert_eq!(rt; machine.executed(), executed);
+    }
     Ok(())
 }
 
@@ -326,18 +221,11 @@ fn traps(rt: HostRuntime) -> Result<(), Fail> {
     ];
     for (words, size, expected, executed) in cases {
         let mut machine = machine(rt.alloc(), 5, words, size)?;
-        let mut input = Tape::new(b"", 0);
-        let mut out = Paper::new(rt.alloc(), 0);
-        assert_eq!(rt;
-            run(&mut machine, 100, &mut input, &mut out),
-            Some(expected)
-        );
-        assert_eq!(rt; machine.executed(), executed);
-        assert_eq!(rt;
-            run(&mut machine, 100, &mut input, &mut out),
-            Some(expected)
-        );
-        assert_eq!(rt; machine.executed(), executed);
+        for _ in 0..2 {
+            let halt = run_alone(rt.alloc(), &mut machine, 100)?;
+            assert_eq!(rt; halt, Some(expected));
+            assert_eq!(rt; machine.executed(), executed);
+        }
     }
     Ok(())
 }
@@ -364,7 +252,8 @@ fn lone_texts(rt: HostRuntime) -> Result<(), Fail> {
     ];
     for (flags, words, expected, executed) in cases {
         let mut machine = loaded(rt.alloc(), &[text(flags, words)])?;
-        assert_eq!(rt; run_alone(rt.alloc(), &mut machine), Some(expected));
+        let halt = run_alone(rt.alloc(), &mut machine, 100)?;
+        assert_eq!(rt; halt, Some(expected));
         assert_eq!(rt; machine.executed(), executed);
     }
     Ok(())
@@ -397,7 +286,8 @@ fn parts_with_gaps(rt: HostRuntime) -> Result<(), Fail> {
             part(0x1_1000, &[42], 4),
         ];
         let mut machine = loaded(rt.alloc(), &segments)?;
-        assert_eq!(rt; run_alone(rt.alloc(), &mut machine), Some(expected));
+        let halt = run_alone(rt.alloc(), &mut machine, 100)?;
+        assert_eq!(rt; halt, Some(expected));
     }
     Ok(())
 }
@@ -427,18 +317,12 @@ fn reads(rt: HostRuntime) -> Result<(), Fail> {
     ];
     for (words, bytes, fails_at, expected, executed) in cases {
         let mut machine = machine(rt.alloc(), 5, words, 8)?;
-        let mut input = Tape::new(bytes, fails_at);
-        assert_eq!(rt;
-            run(
-                &mut machine,
-                100,
-                &mut input,
-                &mut Paper::new(rt.alloc(), 0)
-            ),
-            Some(expected)
-        );
+        let mut input = MemSource::new(rt.alloc(), bytes, &[fails_at])?;
+        let mut out = MemSink::new(rt.alloc(), 0, &[])?;
+        let halt = run(&mut machine, 100, &mut input, &mut out);
+        assert_eq!(rt; halt, Some(expected));
         assert_eq!(rt; machine.executed(), executed);
-        assert_eq!(rt; machine.faulted(), input.faults == 1);
+        assert_eq!(rt; machine.faulted(), expected == Halt::InputFault);
     }
     Ok(())
 }
@@ -459,23 +343,23 @@ fn writes(rt: HostRuntime) -> Result<(), Fail> {
         EXIT,
         ECALL,
     ];
-    let cases: [(&[u32], u64, Halt, u64, &'static [u8]); 5] = [
-        (&three, 0, Halt::Exit(3), 7, b"\x93\x08\x00"),
-        (&none, 1, Halt::Exit(0), 6, b""),
-        (&twice, 0, Halt::Exit(3), 9, b"\x93\x08\x00\x93\x08\x00"),
-        (&twice, 2, Halt::OutputFault, 6, b"\x93\x08\x00\x93"),
+    // The words, how many bytes the sink takes, and what comes of the run.
+    let cases: [(&[u32], usize, Halt, u64, &'static [u8]); 5] = [
+        (&three, 3, Halt::Exit(3), 7, b"\x93\x08\x00"),
+        (&none, 0, Halt::Exit(0), 6, b""),
+        (&twice, 6, Halt::Exit(3), 9, b"\x93\x08\x00\x93\x08\x00"),
+        (&twice, 4, Halt::OutputFault, 6, b"\x93\x08\x00\x93"),
         (&three, 1, Halt::OutputFault, 4, b"\x93"),
     ];
-    for (words, fails_at, expected, executed, bytes) in cases {
+    for (words, room, expected, executed, bytes) in cases {
         let mut machine = machine(rt.alloc(), 5, words, 8)?;
-        let mut out = Paper::new(rt.alloc(), fails_at);
-        assert_eq!(rt;
-            run(&mut machine, 100, &mut Tape::new(b"", 0), &mut out),
-            Some(expected)
-        );
+        let mut input = MemSource::new(rt.alloc(), b"", &[])?;
+        let mut out = MemSink::new(rt.alloc(), room, &[])?;
+        let halt = run(&mut machine, 100, &mut input, &mut out);
+        assert_eq!(rt; halt, Some(expected));
         assert_eq!(rt; machine.executed(), executed);
-        assert_eq!(rt; machine.faulted(), out.faults == 1);
-        assert_eq!(rt; out.bytes.as_slice(), bytes);
+        assert_eq!(rt; machine.faulted(), expected == Halt::OutputFault);
+        assert_eq!(rt; out.held_bytes(), bytes);
     }
     Ok(())
 }
@@ -514,7 +398,7 @@ fn free_cells(rt: HostRuntime) -> Result<(), Fail> {
     ];
     for (words, cells, expected) in cases {
         let mut machine = machine(rt.alloc(), 5, words, 8)?;
-        let _halt = run_alone(rt.alloc(), &mut machine);
+        run_alone(rt.alloc(), &mut machine, 100)?;
         assert_eq!(rt; machine.free_cells(cells), expected);
     }
     Ok(())

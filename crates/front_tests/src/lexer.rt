@@ -1,4 +1,4 @@
-use crate::list::tokens;
+use kk_lexer::tokens;
 use kk_syntax::{LocatedToken, Token};
 use std::alloc::{AllocError, Global};
 use std::test::Fail;
@@ -84,46 +84,17 @@ fn counted(
     Ok(line)
 }
 
-static LONG_TEXTS: [(&str, (&str, u32), &str, &str); 33] = [
-    ("\"", ("a", 255), "\"", "1"),
+static LONG_TEXTS: [(&str, (&str, u32), &str, &str); 9] = [
+    ("\"", ("\\n", 255), "\"", "1"),
     (
         "x \"",
         ("a", 256),
         "\"",
         "the string at byte 2 has more than 255 bytes",
     ),
-    ("\"", ("\\n", 255), "\"", "1"),
-    (
-        "\"",
-        ("\\n", 256),
-        "\"",
-        "the string at byte 0 has more than 255 bytes",
-    ),
-    (
-        "\"",
-        ("a", 256),
-        "\n\"",
-        "the string at byte 0 is not closed",
-    ),
     ("\"", ("a", 256), "\\q\"", "byte 257 begins no token"),
-    (
-        "",
-        ("/*", 32_768),
-        "",
-        "the comment at byte 0 is not closed",
-    ),
-    ("", ("/**/", 16_384), "", "0"),
     ("/*", ("/**/", 16_383), "*/", "0"),
-    ("", ("/", 65_536), "", "0"),
-    ("", (" ", 65_536), "", "0"),
-    ("", ("\n", 65_536), "", "0"),
-    ("", ("\t", 65_536), "", "0"),
-    ("", ("\r", 65_536), "", "0"),
-    ("", ("A", 65_536), "", "1"),
-    ("", (";", 65_536), "", "65536"),
-    ("", (">", 65_536), "", "65536"),
     ("", ("-1", 32_768), "", "65535"),
-    ("", ("*", 65_536), "", "65536"),
     // From byte 1 on each two bytes open a comment within the last.
     (
         "",
@@ -131,29 +102,9 @@ static LONG_TEXTS: [(&str, (&str, u32), &str, &str); 33] = [
         "",
         "the comment at byte 1 is not closed",
     ),
-    ("", ("a", 65_536), "", "1"),
     ("a", ("-b", 32_767), "'", "1"),
-    ("A", ("'", 65_535), "", "1"),
-    ("", ("_", 65_536), "", "1"),
-    ("", ("0", 65_536), "", "1"),
-    (
-        "",
-        ("9", 65_536),
-        "",
-        "the number at byte 0 does not fit in 32 bits",
-    ),
-    ("0x", ("0", 65_534), "", "1"),
     ("-", ("0_", 32_767), "0", "1"),
-    (
-        "\"",
-        ("a", 65_535),
-        "",
-        "the string at byte 0 is not closed",
-    ),
-    ("", ("\"\"", 32_768), "", "32768"),
-    ("", ("-", 65_536), "", "65536"),
     ("", ("=", 65_536), "", "32768"),
-    ("", ("é", 32_768), "", "byte 0 begins no token"),
 ];
 
 #[test]
@@ -165,39 +116,26 @@ fn reads_long_texts(rt: HostRuntime) -> Result<(), Fail> {
     Ok(())
 }
 
-static TEXTS: [(&str, &str); 88] = [
+static TEXTS: [(&str, &str); 46] = [
     ("", ""),
-    (" \t\r\n", ""),
     ("x'", "Name(x') "),
     ("x''y", "Name(x'') Name(y) "),
     ("a-b", "Name(a-b) "),
     ("a-1", "Name(a) Symbol(Minus) Number(1) "),
-    ("a1-b2-c'", "Name(a1-b2-c') "),
     ("a--b", "Name(a) Symbol(Minus) Symbol(Minus) Name(b) "),
     ("a_-b", "Name(a_) Symbol(Minus) Name(b) "),
     ("a-_b", "Name(a) Symbol(Minus) Wildcard "),
-    ("x'-y", "Name(x') Symbol(Minus) Name(y) "),
     ("aB_1 Bc-d'", "Name(aB_1) Constructor(Bc-d') "),
     (
         "if iff if' If",
         "Keyword(If) Name(iff) Name(if') Constructor(If) ",
     ),
-    ("if-then", "Name(if-then) "),
     ("_ _x1 _A_ __", "Wildcard Wildcard Wildcard Wildcard "),
-    ("_x1-y", "Wildcard Symbol(Minus) Name(y) "),
-    ("_'", "byte 1 begins no token"),
-    ("'", "byte 0 begins no token"),
     ("007", "Number(7) "),
     ("1_000", "Number(1000) "),
     ("1__0", "Number(1) Wildcard "),
-    ("1_", "Number(1) Wildcard "),
-    ("12ab", "Number(12) Name(ab) "),
-    ("0x", "Number(0) Name(x) "),
-    ("0xFf", "Number(255) "),
-    ("0x1_0", "Number(1) Wildcard "),
     ("0x_1", "Number(0) Name(x_1) "),
     ("0X1", "Number(0) Constructor(X1) "),
-    ("2147483647", "Number(2147483647) "),
     ("2147483648", "the number at byte 0 does not fit in 32 bits"),
     (
         "99999999999999999999999999",
@@ -205,46 +143,25 @@ static TEXTS: [(&str, &str); 88] = [
     ),
     ("-2147483648", "Number(-2147483648) "),
     (
-        " -2147483649",
-        "the number at byte 1 does not fit in 32 bits",
-    ),
-    (
         "x -2147483648",
         "the number at byte 3 does not fit in 32 bits",
     ),
-    ("-0", "Number(0) "),
     ("-1_0", "Number(-10) "),
     ("--1", "Symbol(Minus) Number(-1) "),
-    ("-x", "Symbol(Minus) Name(x) "),
     ("x -1", "Name(x) Symbol(Minus) Number(1) "),
-    ("2 -1", "Number(2) Symbol(Minus) Number(1) "),
-    ("\"\" -1", "String([]) Symbol(Minus) Number(1) "),
     (")-1", "Symbol(CloseParenthesis) Symbol(Minus) Number(1) "),
-    ("(-1", "Symbol(OpenParenthesis) Number(-1) "),
     ("then -1", "Keyword(Then) Number(-1) "),
-    (">-1", "Symbol(Greater) Number(-1) "),
     ("1--1", "Number(1) Symbol(Minus) Number(-1) "),
-    ("x\n-1", "Name(x) Number(-1) "),
     ("x\n/* y */ -1", "Name(x) Number(-1) "),
     ("x /* \n */ -1", "Name(x) Number(-1) "),
-    ("x /* y */ -1", "Name(x) Symbol(Minus) Number(1) "),
-    ("x\n(-1", "Name(x) Symbol(OpenParenthesis) Number(-1) "),
-    ("\"ab\"", "String([97, 98]) "),
     (
         "\"\\n\\r\\t\\\\\\\"\\'\"",
         "String([10, 13, 9, 92, 34, 39]) ",
     ),
     ("\"//\"\"/*\"", "String([47, 47]) String([47, 42]) "),
-    ("\"\t\r'\"", "String([9, 13, 39]) "),
-    ("\"é\"", "String([195, 169]) "),
     ("\"\\q\"", "byte 1 begins no token"),
-    ("\"\\", "byte 1 begins no token"),
-    ("\"\\\n\"", "byte 1 begins no token"),
-    ("x \"ab", "the string at byte 2 is not closed"),
     ("\"ab\n\"", "the string at byte 0 is not closed"),
     ("\"\\\"", "the string at byte 0 is not closed"),
-    ("\"\\n", "the string at byte 0 is not closed"),
-    ("\\", "byte 0 begins no token"),
     (
         "(){},;:.",
         "Symbol(OpenParenthesis) Symbol(CloseParenthesis) Symbol(OpenBrace) Symbol(CloseBrace) \
@@ -268,24 +185,13 @@ static TEXTS: [(&str, &str); 88] = [
         "Symbol(Greater) Symbol(Greater) Symbol(Minus) Symbol(Arrow) ",
     ),
     ("&& ||", "Symbol(AndAnd) Symbol(OrOr) "),
-    ("&", "byte 0 begins no token"),
     ("|||", "byte 2 begins no token"),
-    ("|", "byte 0 begins no token"),
     ("@", "byte 0 begins no token"),
-    ("é", "byte 0 begins no token"),
     ("a // b /* c", "Name(a) "),
-    ("/* /* */", "the comment at byte 0 is not closed"),
-    ("a // b\nc", "Name(a) Name(c) "),
-    ("/* a */ b", "Name(b) "),
-    ("/**/ a", "Name(a) "),
     ("/* /* a */ b */ c", "Name(c) "),
-    ("/* \" // */ a", "Name(a) "),
     ("/*/ */ a", "Name(a) "),
-    ("a /* /* */", "the comment at byte 2 is not closed"),
     ("/*/", "the comment at byte 0 is not closed"),
-    ("/* *", "the comment at byte 0 is not closed"),
     ("/*/*/ */", "the comment at byte 0 is not closed"),
-    ("*/", "Symbol(Star) Symbol(Slash) "),
 ];
 
 #[test]
@@ -297,16 +203,11 @@ fn reads_texts(rt: HostRuntime) -> Result<(), Fail> {
     Ok(())
 }
 
-static PLACES: [(&str, &str); 11] = [
-    ("", "0 1:1"),
-    ("\n", "1 2:1"),
-    ("ab cd", "0 1:1, 3 1:4, 5 1:6"),
+static PLACES: [(&str, &str); 6] = [
     ("\ta\t\tb", "1 1:9, 4 1:25, 5 1:26"),
-    ("1234567\tb", "0 1:1, 8 1:9, 9 1:10"),
     ("12345678\tb", "0 1:1, 9 1:17, 10 1:18"),
     ("a\r\n\tb\n", "0 1:1, 4 2:9, 6 3:1"),
     ("\"a\tb\"c", "0 1:1, 5 1:11, 6 1:12"),
-    ("/*\t*/c", "5 1:11, 6 1:12"),
     ("/*\n\n*/c\n// d\n", "6 3:3, 13 5:1"),
     ("a-1 -1", "0 1:1, 1 1:2, 2 1:3, 4 1:5, 5 1:6, 6 1:7"),
 ];

@@ -1,5 +1,5 @@
-use crate::list::laid_out;
 use kk_base::Span;
+use kk_layout::laid_out;
 use kk_syntax::{Keyword, LocatedToken, Symbol, Token, Tokens};
 use std::alloc::{AllocError, Global};
 use std::test::Fail;

@@ -1,9 +1,9 @@
 ghost use Rattle.std.specs.Prelude.{◌≡◌};
 ghost use Rattle.kk_unify.specs.GraphOf.{variables_of};
 
-use crate::{Graph, Solution};
 use kk_base::NoMemory;
 use kk_syntax::TypeNode;
+use kk_unify::{Graph, Solution};
 use std::alloc::{AllocError, Global};
 use std::test::Fail;
 

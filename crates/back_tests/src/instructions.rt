@@ -1,6 +1,6 @@
 // Words and values worked out by hand from the manual.
 
-use crate::{
+use rv_isa::{
     Act, BranchOffset, Immediate, Instr, JumpOffset, Register, ShiftAmount, UpperImmediate, decode,
     effect, encode,
 };

@@ -1,5 +1,5 @@
-use crate::{each_list_is_parsed, parse};
 use kk_base::{Name, Span};
+use kk_parser::{each_list_is_parsed, parse};
 use kk_syntax::{Declaration, Keyword, LocatedToken, Symbol, Token, Tokens};
 use std::alloc::{AllocError, Global};
 use std::test::Fail;

@@ -1,4 +1,4 @@
-use super::*;
+use elf_image::{Image, read, write};
 use kk_base::Bytes;
 use std::alloc::{AllocError, Global};
 use std::test::Fail;
