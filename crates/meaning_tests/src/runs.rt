@@ -6,8 +6,8 @@
 mod builder;
 mod programs;
 
-use crate::{Meaning, Turn};
 use builder::{positions, program};
+use kk_meaning::{Meaning, Turn};
 use std::alloc::Global;
 use std::test::Fail;
 

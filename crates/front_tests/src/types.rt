@@ -1,9 +1,9 @@
-use crate::check;
 use kk_base::Name;
 use kk_syntax::{
     BinaryOperator, Binder, Constructor, Expr, Form, Fun, Pat, PrintForm, Program, Row, Statement,
     Ty, TypeDecl, UnaryOperator,
 };
+use kk_types::check;
 use std::alloc::{AllocError, Global};
 use std::test::Fail;
 

@@ -1,5 +1,5 @@
-use crate::owned;
 use kk_base::{Name, NoMemory};
+use kk_borrow::owned;
 use kk_syntax::{
     BinaryOperator, Binder, Expr, Form, Fun, Ownership, Pat, PrintForm, Program, Row, Statement, Ty,
 };

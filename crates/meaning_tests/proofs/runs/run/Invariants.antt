@@ -1,7 +1,7 @@
 use Rattle.std.proofs.Common.{◌-◌}
 use denote.Text.{Utf8}
 use denote.Shadow.{shadow}
-use Rattle.kk_meaning.proofs.tests.run.Given as goal
+use Rattle.meaning_tests.proofs.runs.run.Given as goal
 
 abbrev pub invariant-loop-steps : goal.invariant-loop-steps
 invariant-loop-steps l = shadow (Utf8 l.end)
