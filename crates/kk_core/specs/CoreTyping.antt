@@ -1,8 +1,8 @@
 -- The types of programs in core form without type variables and without cells; and how large the programs are.
 use Rattle.std.specs.Prelude.{◌≡◌, ◌+◌, ◌≤◌, ℕ, List, [], ◌∷◌, length, Bool, true, false, Some, slice_get}
-use Rattle.kk_syntax.specs.Types.{TypeTree, int32, unit_type}
+use Rattle.kk_syntax.specs.Types.{TypeTree, unit_type}
 use Rattle.kk_syntax.specs.PlainTyping.{Signature, Scope, type_in, with_parameters, bool, IsFormTyped}
-use Rattle.kk_core.specs.Codes.{Operation, number, unit, read_byte, print_text, apply, Code, give, tail_call, branch, case, compute, use_of, unpack, inside, FunctionCode, ProgramCode}
+use Rattle.kk_core.specs.Codes.{Code, give, tail_call, branch, case, compute, use_of, unpack, inside, FunctionCode, ProgramCode}
 use Rattle.kk_core.specs.Sizes.{forms, IsOrdered}
 
 -- variables have these types, one after the other
@@ -10,14 +10,6 @@ abbrev pub HaveTypes : Scope → List ℕ → List TypeTree → Type 0
 HaveTypes scope [] ts = ts ≡ []
 HaveTypes scope (x ∷ xs) [] = ⊥
 HaveTypes scope (x ∷ xs) (t ∷ ts) = (type_in scope x ≡ Some t) × HaveTypes scope xs ts
-
-abbrev pub IsOperationTyped : List Signature → Scope → Operation → TypeTree → Type 0
-IsOperationTyped signatures scope (number value) t = t ≡ int32
-IsOperationTyped signatures scope unit t = t ≡ unit_type
-IsOperationTyped signatures scope read_byte t = t ≡ int32
-IsOperationTyped signatures scope (print_text form text) t = t ≡ unit_type
-IsOperationTyped signatures scope (apply form arguments) t =
-    (ts : List TypeTree) × HaveTypes scope arguments ts × IsFormTyped signatures form ts t
 
 -- A code gives a value of a type. A tail call stands only where its value is the function's: no block inside has one.
 -- There is no case, and nothing is unpacked.
@@ -28,11 +20,12 @@ HasCodeType signatures tail scope (tail_call f arguments) t =
 HasCodeType signatures tail scope (branch x positive negative) t =
     (type_in scope x ≡ Some bool) × HasCodeType signatures tail scope positive t × HasCodeType signatures tail scope negative t
 HasCodeType signatures tail scope (case x arms) t = ⊥
-HasCodeType signatures tail scope (compute x operation rest) t =
-    (s : TypeTree) × IsOperationTyped signatures scope operation s × HasCodeType signatures tail (record { variable = x; type = s } ∷ scope) rest t
+HasCodeType signatures tail scope (compute x form arguments rest) t =
+    (s : TypeTree) × (ts : List TypeTree) × HaveTypes scope arguments ts × IsFormTyped signatures form ts s
+    × HasCodeType signatures tail (record { variable = x; type = s } ∷ scope) rest t
 HasCodeType signatures tail scope (use_of x rest) t =
     (s : TypeTree) × (type_in scope x ≡ Some s) × HasCodeType signatures tail scope rest t
-HasCodeType signatures tail scope (unpack x fields rest) t = ⊥
+HasCodeType signatures tail scope (unpack x c fields rest) t = ⊥
 HasCodeType signatures tail scope (inside x block rest) t =
     (s : TypeTree) × HasCodeType signatures false scope block s × HasCodeType signatures tail (record { variable = x; type = s } ∷ scope) rest t
 

@@ -9,8 +9,8 @@ use Rattle.kk_syntax.specs.Trees.{Tree, number, unit, variable, read_byte, print
 use Rattle.kk_syntax.specs.Types.{TypeTree, unit_type, type_variable, named, TypeTrees, types_of, type_list, put, put_each, type_at, variables_below}
 use Rattle.kk_syntax.specs.Typing.{Scope, Scheme, Choice, holding, variables_of_type, scheme_in, constructor_scheme, chosen_at, IsPatternTyped, ArePatternsTyped, IsTypedBy, AreTypedBy, AreRowsTypedBy, IsTyping}
 use Rattle.kk_cover.specs.Covered.{Each}
-use Rattle.kk_cover.specs.Outlines.{Outline, outline_of, outlines_of}
-use Rattle.kk_cover.specs.OfType.{IsPatternOf, ArePatternsOf, fields_of, fields_at, is_int32, values_of}
+use Rattle.kk_syntax.specs.Outlines.{Outline, outline_of, outlines_of}
+use Rattle.kk_syntax.specs.OfType.{IsPatternOf, ArePatternsOf, fields_of, fields_at, is_int32, values_of}
 use Rattle.kk_cover.specs.Matches.{asked_by, matches, matches_of_all, matches_of_rows}
 use Rattle.kk_cover.specs.TypedRows.{AreOfChosenType}
 use Rattle.kk_cover.proofs.Keeping.{each-append}

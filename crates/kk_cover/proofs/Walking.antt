@@ -13,7 +13,7 @@ use Rattle.kk_syntax.specs.declared.program.Program.{Program}
 use Rattle.kk_syntax.specs.Programs.{ProgramTree, function_tree, program_tree}
 use Rattle.kk_syntax.specs.Trees.{Tree, match, RowTree, StatementTree, block_of, rows_of, expr_step, row_step, statement_step, expr_tree, row_tree, statement_tree}
 use Rattle.kk_cover.specs.Covered.{Each, row_outlines}
-use Rattle.kk_cover.specs.Outlines.{Outline, outline_of, pattern_outline}
+use Rattle.kk_syntax.specs.Outlines.{Outline, outline_of, pattern_outline}
 use Rattle.kk_cover.specs.Matches.{asked_by, matches, matches_of_rows, matches_of_statements, match_rows, IsMatchCovered, IsMatchExample, IsFirstExample, IsFunctionCovered, IsFirstFunction}
 use Rattle.kk_cover.proofs.Keeping.{each-append}
 

@@ -10,8 +10,8 @@ use Rattle.kk_syntax.specs.Types.{TypeTree}
 use Rattle.kk_cover.specs.declared.covering.CoverError.{CoverError}
 use Rattle.kk_cover.specs.declared.covering.CoverError.TheVariants.{NotCovered, NoMemory}
 use Rattle.kk_cover.specs.Covered.{Each, IsExample, IsCovered, row_outlines}
-use Rattle.kk_cover.specs.Outlines.{Outline, outline_of, pattern_outline}
-use Rattle.kk_cover.specs.OfType.{IsPatternOf, values_of}
+use Rattle.kk_syntax.specs.Outlines.{Outline, outline_of, pattern_outline}
+use Rattle.kk_syntax.specs.OfType.{IsPatternOf, values_of}
 
 -- the rows of a match: what their patterns ask
 abbrev pub asked_by : Rows → List Outline

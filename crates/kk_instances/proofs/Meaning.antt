@@ -10,8 +10,8 @@ use Rattle.kk_syntax.specs.Programs.{FunctionTree, ProgramTree, no_function, bod
 use Rattle.kk_syntax.specs.PlainTyping.{Signature, signature_of, with_parameters, AreClosed, IsClosed, HasClosedTypes, HasType, IsFunctionTyped, IsTyped}
 use Rattle.kk_syntax.specs.Typing.{Choice}
 use Rattle.kk_syntax.proofs.Closed.{put_closed, put_all_closed}
-use Rattle.kk_source.specs.State.{State, call, expression}
-use Rattle.kk_source.specs.SourceAfter.{ending_of, store_machine, first_state}
+use Rattle.kk_source.specs.State.{call, expression}
+use Rattle.kk_source.specs.SourceAfter.{ending_of, store_machine, first_state, State}
 use Rattle.kk_mono.specs.Instances.{InstanceTree, main_instance, called_at, calls, renamed, origin_in, IsAtTypes, IsInstanceProgram}
 use Rattle.kk_instances.specs.Meaning.{positions_in, setting_of, MeansTheSame}
 use Rattle.kk_instances.proofs.Renamed.{TreeCalls}

@@ -10,18 +10,20 @@ use Rattle.kk_syntax.specs.declared.program.Form.TheVariants.{Unary, Binary, Pri
 use Rattle.kk_syntax.specs.declared.positions.Ownership.{Ownership}
 use Rattle.kk_syntax.specs.declared.positions.Ownership.TheVariants.{Owned}
 use Rattle.kk_syntax.specs.PositionsOf.{PositionTable, lends}
-use Rattle.kk_syntax.specs.Trees.{Tree, number, unit as unit_tree, variable, read_byte, print_text, apply, branch, match, sequence, no_tree, tree, Rows, no_row, row}
+use Rattle.kk_syntax.specs.Trees.{Tree, variable, apply, branch, match, sequence, no_tree, tree, Rows, no_row, row}
 use Rattle.kk_syntax.specs.Programs.{FunctionTree, ProgramTree}
-use Rattle.kk_source.specs.State.{Setting, Value, Store, Environment, Frame, arguments, branches, rows, statement, call, End, heap_full, stack_full, Control, expression, value, stopped, end_at, Configuration, State}
+use Rattle.kk_source.specs.State.{Setting, Value, Store, Environment, Frame, arguments, branches, rows, statement, call, End, heap_full, stack_full, Control, expression, value, stopped, end_at, Configuration}
 use Rattle.kk_source.specs.Notes.{Note}
 use Rattle.kk_source.specs.Live.{value_of, held, held_by_all, live}
 use Rattle.kk_source.specs.Matching.{Chosen, matched, chosen_or, first_match}
-use Rattle.kk_source.specs.Step.{Action, goes, puts, takes, builds, calls, at_expression, at_end, at_new_place, is_true, piece_of, print_step, argument, integer_of, lent_places, bind_parameters, call_frames, construct_step, push_step, call_step, form_step, expression_step, choice_step, value_step, step_at, step_of}
-use Rattle.kk_source.specs.SourceAfter.{performed, step, ending_of, store_machine}
+use Rattle.kk_source.specs.Step.{at_expression, at_end, at_new_place, lent_places, bind_parameters, call_frames, construct_step, push_step, call_step, form_step, expression_step, choice_step, value_step, step_at, step_of}
+use Rattle.kk_source.specs.SourceAfter.{step, ending_of, store_machine, State}
 use Rattle.kk_source.proofs.Sound.{LeadsTo}
 use Rattle.kk_mono.specs.Instances.{renamed, renamed_all, renamed_rows, renamed_form}
 use Rattle.kk_instances.specs.Meaning.{setting_of}
 use Rattle.kk_instances.proofs.Renamed.{FormCalls, TreeCalls, TreesCall, RowsCall, same_free, same_free_all, same_free_rows}
+use Rattle.kk_source.specs.Actions.{Action, goes, puts, takes, builds, calls, print_step, performed}
+use Rattle.kk_source.specs.FormEffects.{is_true, piece_of, argument, integer_of}
 
 -- ---- states whose calls are by new numbers
 

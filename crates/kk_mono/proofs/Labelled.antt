@@ -2,9 +2,9 @@
 use Rattle.std.proofs.Common.{◌≡◌, ℕ, List, [], ◌∷◌, ◌++◌, length, map, take, drop, refl, sym, ap, ◌∙◌, subst, append_assoc, arith}
 use Rattle.std.proofs.lemmas.List.{length-map, take-append-drop, take-map, drop-map, take_at, drop_at}
 use Rattle.kk_syntax.specs.declared.program.Form.{Form}
-use Rattle.kk_syntax.specs.declared.program.Form.TheVariants.{Unary, Binary, Print, Construct, Call}
+use Rattle.kk_syntax.specs.declared.program.Form.TheVariants.{Call}
 use Rattle.kk_syntax.specs.Shapes.{nodes_of, nodes_of_all, nodes_of_rows}
-use Rattle.kk_syntax.specs.Trees.{Tree, number, unit, variable, read_byte, print_text, apply, branch, match, sequence, Trees, no_tree, tree, Rows, no_row, row}
+use Rattle.kk_syntax.specs.Trees.{Tree, variable, apply, branch, match, sequence, Trees, no_tree, tree, Rows, no_row, row}
 use Rattle.kk_mono.specs.Instances.{called_by, calls, calls_of_all, calls_of_rows, renamed_form, renamed, renamed_all, renamed_rows}
 use Rattle.kk_mono.specs.Labels.{behind, labelled_form, labelled, labelled_all, labelled_rows}
 
@@ -65,13 +65,10 @@ module _ (origin : ℕ → ℕ) where
   none_left (n ∷ labels) are = cc
 
   form_copied : (form : Form) (labels more : List ℕ) → map origin labels ≡ called_by form → IsCopiedForm form labels (labelled_form (labels ++ more) form)
-  form_copied (Unary operator) labels more are = (refl, none_left labels are)
-  form_copied (Binary operator) labels more are = (refl, none_left labels are)
-  form_copied (Print form) labels more are = (refl, none_left labels are)
-  form_copied (Construct c) labels more are = (refl, none_left labels are)
   form_copied (Call f) [] more are = cc
   form_copied (Call f) (n ∷ []) more are = (let same : origin n ≡ f = cc in ap Call same, refl)
   form_copied (Call f) (n ∷ (m ∷ labels)) more are = cc
+  form_copied _ labels more are = (refl, none_left labels are)
 
   -- the two branches of an `if`
   record Branches : Type 0 where
@@ -92,11 +89,7 @@ module _ (origin : ℕ → ℕ) where
 
   mutual
     pub copied : (t : Tree) (labels more : List ℕ) → map origin labels ≡ calls t → IsCopy t labels (labelled (labels ++ more) t)
-    copied (number value) labels more are = (refl, none_left labels are)
-    copied unit labels more are = (refl, none_left labels are)
     copied (variable of) labels more are = (refl, none_left labels are)
-    copied read_byte labels more are = (refl, none_left labels are)
-    copied (print_text form text) labels more are = (refl, none_left labels are)
     copied (apply form es) labels more are =
         let parts = both_are (λ ls. labelled_form ls form) (λ ls. labelled_all ls es) (IsCopiedForm form) (IsCopyOfAll es) (called_by form) (calls_of_all es) (form_copied form) (all_copied es) labels more are in
         ((λ i. apply (parts.3.0 i) (parts.4.0 i)), (λ i. parts.3.1 i ++ parts.4.1 i) ∙ sym parts.2)
@@ -125,11 +118,7 @@ module _ (origin : ℕ → ℕ) where
 -- copies have the nodes of what they copy
 mutual
   pub nodes_renamed : (new : ℕ → ℕ) (t : Tree) → nodes_of (renamed new t) ≡ nodes_of t
-  nodes_renamed new (number value) = refl
-  nodes_renamed new unit = refl
   nodes_renamed new (variable of) = refl
-  nodes_renamed new read_byte = refl
-  nodes_renamed new (print_text form text) = refl
   nodes_renamed new (apply form arguments) = omega (arith, all_nodes_renamed new arguments)
   nodes_renamed new (branch condition positive negative) = omega (arith, nodes_renamed new condition, nodes_renamed new positive, nodes_renamed new negative)
   nodes_renamed new (match scrutinee rows) = omega (arith, nodes_renamed new scrutinee, row_nodes_renamed new rows)

@@ -3,16 +3,16 @@ use Rattle.std.proofs.Common.{◌≡◌, ℕ, ◌+◌, ◌<◌, List, [], ◌∷
 use Rattle.std.specs.Prelude.{flat_map}
 use Rattle.std.proofs.lemmas.List.{append-nil, length-append, drop-drop, take-map, map_push, map_more}
 use Rattle.kk_syntax.specs.declared.program.Expr.{Expr}
-use Rattle.kk_syntax.specs.declared.program.Expr.TheVariants.{Apply, If, Match, Block, rolls-Apply, rolls-If, rolls-Match}
-use Rattle.kk_syntax.specs.declared.program.Expr.TheFolds.{fold-roll-Expr, fold_out-Row, fold_out-Statement}
+use Rattle.kk_syntax.specs.declared.program.Expr.TheVariants.{Apply, If, Match, Block}
 use Rattle.kk_syntax.specs.declared.program.Form.{Form}
 use Rattle.kk_syntax.specs.declared.program.Pat.{Pat}
 use Rattle.kk_syntax.specs.declared.program.Row.{Row}
 use Rattle.kk_syntax.specs.declared.program.Statement.{Statement}
 use Rattle.kk_syntax.specs.Patterns.{pattern_tree}
-use Rattle.kk_syntax.specs.Trees.{Tree, RowTree, StatementTree, tree, row, sequence, apply, branch, match, trees_of, rows_of, block_of, expr_step, row_step, statement_step, expr_tree, row_tree, statement_tree}
-use Rattle.kk_syntax.proofs.Blocks.{block_tree}
-use Rattle.kk_mono.specs.Instances.{called_by, calls, calls_of_all, calls_of_rows}
+use Rattle.kk_syntax.specs.Trees.{Tree, RowTree, StatementTree, tree, row, sequence, apply, branch, match, trees_of, rows_of, block_of, expr_tree, row_tree, statement_tree}
+use Rattle.kk_syntax.proofs.Gathered.{gathered_each, gathered_each_row, gathered_block}
+use Rattle.kk_syntax.proofs.Views.{apply_tree, match_tree, block_tree, apply_is, branch_is, match_is, block_is, row_tree_is, statement_tree_is}
+use Rattle.kk_mono.specs.Instances.{called_by, gathers_calls, calls}
 use Rattle.kk_mono.specs.Labels.{behind, labelled_form, labelled, labelled_all, labelled_rows, labelled_each, row_calls, labelled_row, statement_calls, labelled_statement}
 
 pub behind_both : (labels xs ys : List ℕ) → behind (behind labels xs) ys ≡ behind labels (xs ++ ys)
@@ -48,18 +48,6 @@ module _ {X : Type 0} (called : X → List ℕ) (change : List ℕ → X → X) 
       )
 
 -- lists of their own types
-all_calls : (ts : List Tree) → calls_of_all (trees_of ts) ≡ flat_map calls ts
-all_calls [] = refl
-all_calls (t ∷ ts) = ap (λ fs. calls t ++ fs) (all_calls ts)
-
-rows_calls : (rs : List RowTree) → calls_of_rows (rows_of rs) ≡ flat_map row_calls rs
-rows_calls [] = refl
-rows_calls (r ∷ rs) = ap (λ fs. calls r.body ++ fs) (rows_calls rs)
-
-block_calls : (ss : List StatementTree) (last : Tree) → calls (block_of ss last) ≡ flat_map statement_calls ss ++ calls last
-block_calls [] last = refl
-block_calls (s ∷ ss) last = ap (λ fs. calls s.value ++ fs) (block_calls ss last) ∙ sym (append_assoc (calls s.value) (flat_map statement_calls ss) (calls last))
-
 all_labelled : (labels : List ℕ) (ts : List Tree) → labelled_all labels (trees_of ts) ≡ trees_of (labelled_each calls labelled labels ts)
 all_labelled labels [] = refl
 all_labelled labels (t ∷ ts) = ap (λ us. tree (labelled labels t) us) (all_labelled (behind labels (calls t)) ts)
@@ -76,21 +64,12 @@ block_labelled labels (s ∷ ss) last =
     ∙ ap (λ ls. block_of (labelled_each statement_calls labelled_statement (behind labels (calls s.value)) ss) (labelled ls last)) (behind_both labels (calls s.value) (flat_map statement_calls ss)))
 
 -- expressions in memory
-apply_tree : (form : Form) (arguments : _) → expr_tree (Apply form arguments) ≡ apply form (trees_of (map expr_tree arguments.items))
-apply_tree form arguments = ap expr_tree (sym (rolls-Apply form arguments)) ∙ fold-roll-Expr Tree RowTree StatementTree expr_step row_step statement_step _
-
-branch_tree : (condition positive negative : _) → expr_tree (If condition positive negative) ≡ branch (expr_tree condition.value) (expr_tree positive.value) (expr_tree negative.value)
-branch_tree condition positive negative = ap expr_tree (sym (rolls-If condition positive negative)) ∙ fold-roll-Expr Tree RowTree StatementTree expr_step row_step statement_step _
-
-match_tree : (scrutinee rows : _) → expr_tree (Match scrutinee rows) ≡ match (expr_tree scrutinee.value) (rows_of (map row_tree rows.items))
-match_tree scrutinee rows = ap expr_tree (sym (rolls-Match scrutinee rows)) ∙ fold-roll-Expr Tree RowTree StatementTree expr_step row_step statement_step _
-
 module _ (labels : List ℕ) (expr : Expr) where
   pub apply_labelled : (form copied : Form) (arguments copies : Vec Expr Global) (es : List Expr) (then last : List ℕ) → expr ≡ Apply form arguments → es ≡ arguments.items → copied ≡ labelled_form labels form → then ≡ behind labels (called_by form)
       → map expr_tree copies.items ≡ labelled_each calls labelled then (map expr_tree es) → last ≡ behind then (flat_map calls (map expr_tree es))
       → (expr_tree (Apply copied copies) ≡ labelled labels (expr_tree expr)) × (last ≡ behind labels (calls (expr_tree expr)))
   apply_labelled form copied arguments copies es then last is es_are form_is then_is copies_are last_is =
-      let whole : expr_tree expr ≡ apply form (trees_of (map expr_tree es)) = ap expr_tree is ∙ (apply_tree form arguments ∙ ap (λ xs. apply form (trees_of (map expr_tree xs))) (sym es_are)) in (
+      let whole : expr_tree expr ≡ apply form (trees_of (map expr_tree es)) = apply_is expr form arguments es is es_are in (
         apply_tree copied copies
             ∙ (ap (λ f. apply f (trees_of (map expr_tree copies.items))) form_is
             ∙ (ap (λ ts. apply (labelled_form labels form) (trees_of ts)) copies_are
@@ -100,14 +79,14 @@ module _ (labels : List ℕ) (expr : Expr) where
         last_is
             ∙ (ap (λ ls. behind ls (flat_map calls (map expr_tree es))) then_is
             ∙ (behind_both labels (called_by form) (flat_map calls (map expr_tree es))
-            ∙ ap (behind labels) (ap (λ fs. called_by form ++ fs) (sym (all_calls (map expr_tree es))) ∙ ap calls (sym whole)))),
+            ∙ ap (behind labels) (ap (λ fs. called_by form ++ fs) (sym (gathered_each gathers_calls (map expr_tree es))) ∙ ap calls (sym whole)))),
       )
 
   pub branch_labelled : (condition positive negative : Box Expr Global) (first second third : Expr) (then else last : List ℕ) → expr ≡ If condition positive negative → first ≡ condition.value → second ≡ positive.value → third ≡ negative.value
       → then ≡ behind labels (calls (expr_tree first)) → else ≡ behind then (calls (expr_tree second)) → last ≡ behind else (calls (expr_tree third)) → last ≡ behind labels (calls (expr_tree expr))
   branch_labelled condition positive negative first second third then else last is first_is second_is third_is then_is else_is last_is =
       let whole : expr_tree expr ≡ branch (expr_tree first) (expr_tree second) (expr_tree third) =
-      ap expr_tree is ∙ (branch_tree condition positive negative ∙ (λ i. branch (expr_tree (sym first_is i)) (expr_tree (sym second_is i)) (expr_tree (sym third_is i)))) in
+      branch_is expr first second third condition positive negative is first_is second_is third_is in
       last_is
       ∙ (ap (λ ls. behind ls (calls (expr_tree third))) (else_is ∙ ap (λ ls. behind ls (calls (expr_tree second))) then_is)
       ∙ (behind_both (behind labels (calls (expr_tree first))) (calls (expr_tree second)) (calls (expr_tree third))
@@ -118,8 +97,7 @@ module _ (labels : List ℕ) (expr : Expr) where
       → map row_tree copies.items ≡ labelled_each row_calls labelled_row then (map row_tree rs) → last ≡ behind then (flat_map row_calls (map row_tree rs))
       → (expr_tree (Match copied copies) ≡ labelled labels (expr_tree expr)) × (last ≡ behind labels (calls (expr_tree expr)))
   match_labelled e scrutinee copied rows copies rs then last is e_is rs_are copied_is then_is copies_are last_is =
-      let whole : expr_tree expr ≡ match (expr_tree e) (rows_of (map row_tree rs)) =
-      ap expr_tree is ∙ (match_tree scrutinee rows ∙ (λ i. match (expr_tree (sym e_is i)) (rows_of (map row_tree (sym rs_are i))))) in (
+      let whole : expr_tree expr ≡ match (expr_tree e) (rows_of (map row_tree rs)) = match_is expr e rs scrutinee rows is e_is rs_are in (
         match_tree copied copies
             ∙ (ap (λ t. match t (rows_of (map row_tree copies.items))) copied_is
             ∙ (ap (λ ts. match (labelled labels (expr_tree e)) (rows_of ts)) copies_are
@@ -129,15 +107,14 @@ module _ (labels : List ℕ) (expr : Expr) where
         last_is
             ∙ (ap (λ ls. behind ls (flat_map row_calls (map row_tree rs))) then_is
             ∙ (behind_both labels (calls (expr_tree e)) (flat_map row_calls (map row_tree rs))
-            ∙ ap (behind labels) (ap (λ fs. calls (expr_tree e) ++ fs) (sym (rows_calls (map row_tree rs))) ∙ ap calls (sym whole)))),
+            ∙ ap (behind labels) (ap (λ fs. calls (expr_tree e) ++ fs) (sym (gathered_each_row gathers_calls (map row_tree rs))) ∙ ap calls (sym whole)))),
       )
 
   pub block_copied : (e : Expr) (statements copies : Vec Statement Global) (value copied : Box Expr Global) (ss : List Statement) (then last : List ℕ) → expr ≡ Block statements value → ss ≡ statements.items → e ≡ value.value
       → map statement_tree copies.items ≡ labelled_each statement_calls labelled_statement labels (map statement_tree ss) → then ≡ behind labels (flat_map statement_calls (map statement_tree ss)) → expr_tree copied.value ≡ labelled then (expr_tree e) → last ≡ behind then (calls (expr_tree e))
       → (expr_tree (Block copies copied) ≡ labelled labels (expr_tree expr)) × (last ≡ behind labels (calls (expr_tree expr)))
   block_copied e statements copies value copied ss then last is ss_are e_is copies_are then_is copied_is last_is =
-      let whole : expr_tree expr ≡ block_of (map statement_tree ss) (expr_tree e) =
-      ap expr_tree is ∙ (block_tree statements value ∙ (λ i. block_of (map statement_tree (sym ss_are i)) (expr_tree (sym e_is i)))) in (
+      let whole : expr_tree expr ≡ block_of (map statement_tree ss) (expr_tree e) = block_is expr e ss statements value is ss_are e_is in (
         block_tree copies copied
             ∙ (ap (λ ts. block_of ts (expr_tree copied.value)) copies_are
             ∙ (ap (block_of (labelled_each statement_calls labelled_statement labels (map statement_tree ss))) (copied_is ∙ ap (λ ls. labelled ls (expr_tree e)) then_is)
@@ -145,25 +122,19 @@ module _ (labels : List ℕ) (expr : Expr) where
         last_is
             ∙ (ap (λ ls. behind ls (calls (expr_tree e))) then_is
             ∙ (behind_both labels (flat_map statement_calls (map statement_tree ss)) (calls (expr_tree e))
-            ∙ ap (behind labels) (sym (block_calls (map statement_tree ss) (expr_tree e)) ∙ ap calls (sym whole)))),
+            ∙ ap (behind labels) (sym (gathered_block gathers_calls (map statement_tree ss) (expr_tree e)) ∙ ap calls (sym whole)))),
       )
-
-row_is : (r : Row) → row_tree r ≡ record { pattern = pattern_tree r.pattern; body = expr_tree r.body }
-row_is r = fold_out-Row Tree RowTree StatementTree expr_step row_step statement_step r
-
-statement_is : (s : Statement) → statement_tree s ≡ record { binder = s.binder; value = expr_tree s.value }
-statement_is s = fold_out-Statement Tree RowTree StatementTree expr_step row_step statement_step s
 
 pub row_copied : (labels after : List ℕ) (r : Row) (p : Pat) (e : Expr) → pattern_tree p ≡ pattern_tree r.pattern → expr_tree e ≡ labelled labels (expr_tree r.body) → after ≡ behind labels (calls (expr_tree r.body))
     → (row_tree (record { pattern = p; body = e }) ≡ labelled_row labels (row_tree r)) × (after ≡ behind labels (row_calls (row_tree r)))
 row_copied labels after r p e pattern_is body_is after_is = (
-  row_is (record { pattern = p; body = e }) ∙ ((λ i. record { pattern = pattern_is i; body = body_is i }) ∙ ap (labelled_row labels) (sym (row_is r))),
-  after_is ∙ ap (λ x. behind labels (row_calls x)) (sym (row_is r)),
+  row_tree_is (record { pattern = p; body = e }) ∙ ((λ i. record { pattern = pattern_is i; body = body_is i }) ∙ ap (labelled_row labels) (sym (row_tree_is r))),
+  after_is ∙ ap (λ x. behind labels (row_calls x)) (sym (row_tree_is r)),
 )
 
 pub statement_copied : (labels after : List ℕ) (s : Statement) (e : Expr) → expr_tree e ≡ labelled labels (expr_tree s.value) → after ≡ behind labels (calls (expr_tree s.value))
     → (statement_tree (record { binder = s.binder; value = e }) ≡ labelled_statement labels (statement_tree s)) × (after ≡ behind labels (statement_calls (statement_tree s)))
 statement_copied labels after s e value_is after_is = (
-  statement_is (record { binder = s.binder; value = e }) ∙ ((λ i. record { binder = s.binder; value = value_is i }) ∙ ap (labelled_statement labels) (sym (statement_is s))),
-  after_is ∙ ap (λ x. behind labels (statement_calls x)) (sym (statement_is s)),
+  statement_tree_is (record { binder = s.binder; value = e }) ∙ ((λ i. record { binder = s.binder; value = value_is i }) ∙ ap (labelled_statement labels) (sym (statement_tree_is s))),
+  after_is ∙ ap (λ x. behind labels (statement_calls x)) (sym (statement_tree_is s)),
 )

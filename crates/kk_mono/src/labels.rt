@@ -41,7 +41,14 @@ impl Labels {
     {
         match form {
             Form::Call(function) => Form::Call(self.take(function)),
-            Form::Unary(_) | Form::Binary(_) | Form::Print(_) | Form::Construct(_) => form,
+            Form::Number(_)
+            | Form::Unit
+            | Form::ReadByte
+            | Form::PrintText(_, _)
+            | Form::Unary(_)
+            | Form::Binary(_)
+            | Form::Print(_)
+            | Form::Construct(_) => form,
         }
     }
 }

@@ -14,7 +14,7 @@ ghost use Rattle.kk_norm.specs.Normalized.{normal_function, normal_program};
 use crate::writer::Writer;
 use kk_base::NoMemory;
 use kk_core::{Core, CoreFunction};
-use kk_syntax::{Ground, Instance};
+use kk_syntax::{Ground, Instance, copied_texts};
 use std::alloc::Global;
 
 /// The core form of a program of instances, of which the first is `main`. It keeps the program's meaning, is typed and is
@@ -28,7 +28,12 @@ pub fn normal(alloc: Global, given: &Ground) -> Result<Core, NoMemory>
     ensures means { IfOk result (λ core. IsNormalForm (ground_program given.now) (core_code core)) }
 {
     let functions = all_functions(alloc, given)?;
-    Ok(Core { functions, main: 0 })
+    let texts = copied_texts(alloc, &given.texts)?;
+    Ok(Core {
+        functions,
+        texts,
+        main: 0,
+    })
 }
 
 fn all_functions(alloc: Global, given: &Ground) -> Result<Vec<CoreFunction>, NoMemory>

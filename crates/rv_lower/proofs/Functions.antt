@@ -10,6 +10,7 @@ use Rattle.kk_core.specs.Sizes.{forms, below}
 use Rattle.rv_isa.specs.AsmCode.{Lines}
 use Rattle.rv_isa.specs.Frames.{is_among}
 use Rattle.rv_isa.specs.WellFormed.{most_values, AreDistinct, IsWellFormed, AreWellFormed, all_lines}
+use Rattle.rv_lower.specs.Lines.{Texts}
 use Rattle.rv_lower.specs.Lowered.{returns, from_to, IsFunctionLowered, AreFunctionsLowered}
 use Rattle.rv_lower.proofs.Formed.{Each, Readable, Good, HasRoom, all_each}
 use Rattle.rv_lower.proofs.Operations.{AreFew, only_bound}
@@ -57,7 +58,7 @@ record IsFunctionFormed (function : FunctionCode) (lines : Lines) : Type 0 where
   pub formed : IsWellFormed lines
   pub few : length lines.code ≤ 12 * forms function.body
 
-module _ (signatures : List Signature) (few_parameters : AreFew signatures) (texts : List (List ℕ)) where
+module _ (signatures : List Signature) (few_parameters : AreFew signatures) (texts : Texts) where
   function_formed : (function : FunctionCode) (signature : Signature) (lines : Lines) → IsCodeTyped signatures function signature → IsFunctionSmall function → IsFunctionLowered texts function lines
       → IsFunctionFormed function lines
   function_formed function signature lines typed small lowered = record {
@@ -118,7 +119,7 @@ few_of signatures (function ∷ functions) (first ∷ own) typed small zero sign
 few_of signatures (function ∷ functions) (first ∷ own) typed small (suc f) signature is = few_of signatures functions own typed.1 small.1 f signature is
 
 -- the functions of a typed and small program, however they are lowered
-pub lowered_formed : (code : ProgramCode) (texts : List (List ℕ)) (each : List Lines) → IsCoreTyped code → IsSmall code → AreFunctionsLowered texts code.functions each
+pub lowered_formed : (code : ProgramCode) (texts : Texts) (each : List Lines) → IsCoreTyped code → IsSmall code → AreFunctionsLowered texts code.functions each
     → AreWellFormed each × (all_lines each ≤ 12 * all_forms code.functions) × (length each ≡ length code.functions)
 lowered_formed code texts each typed small lowered =
     let all = functions_formed typed.signatures (few_of typed.signatures code.functions typed.signatures typed.functions small.functions) texts code.functions typed.signatures each typed.functions small.functions lowered in

@@ -3,7 +3,7 @@ use Rattle.kk_syntax.proofs.Blocks.{block_tree}
 use Rattle.kk_syntax.specs.declared.program.Row.{Row}
 use Rattle.kk_syntax.specs.Trees.{expr_tree, row_tree, rows_of, statement_tree}
 use Rattle.kk_cover.specs.Covered.{row_outlines}
-use Rattle.kk_cover.specs.Outlines.{Outline}
+use Rattle.kk_syntax.specs.Outlines.{Outline}
 use Rattle.kk_cover.specs.Matches.{matches, matches_of_rows, matches_of_statements, match_rows}
 use Rattle.kk_cover.proofs.Pushing.{on_ok}
 use Rattle.kk_cover.proofs.Walking.{matches_block, matches_match, found_match, found_block, pushed_rows}
