@@ -143,9 +143,9 @@ static CASES: [Case; 5] = [
     },
 ];
 
-/// Takes the newest expression, or a number if there is none.
+/// Takes the newest expression, or a variable if there is none.
 fn pop(exprs: &mut Vec<Expr>) -> Expr {
-    exprs.pop().unwrap_or(Expr::Number(0))
+    exprs.pop().unwrap_or(Expr::Variable(0))
 }
 
 fn block(alloc: Global, binder: Binder, exprs: &mut Vec<Expr>) -> Result<Expr, NoMemory> {
@@ -188,7 +188,7 @@ fn expression(alloc: Global, parts: &[Part]) -> Result<Expr, NoMemory> {
     let mut exprs = Vec::new(alloc);
     for part in parts {
         let expr = match *part {
-            Part::Number => Expr::Number(1),
+            Part::Number => Expr::Apply(Form::Number(1), Vec::new(alloc)),
             Part::Variable(of) => Expr::Variable(of),
             Part::Apply(form, count) => {
                 let at = exprs.len().saturating_sub(count);
@@ -230,6 +230,7 @@ fn program(alloc: Global, bodies: Vec<Expr>, main: Expr) -> Result<Program, NoMe
         functions,
         types: Vec::new(alloc),
         constructors: Vec::new(alloc),
+        texts: Vec::new(alloc),
     })
 }
 
@@ -280,7 +281,7 @@ fn chain(alloc: Global, forwards: bool, builds: bool) -> Result<Vec<bool>, NoMem
         };
         bodies.push(body)?;
     }
-    are_owned(alloc, bodies, Expr::Unit)
+    are_owned(alloc, bodies, Expr::Apply(Form::Unit, Vec::new(alloc)))
 }
 
 #[test]
