@@ -15,13 +15,18 @@ fn expression(alloc: Global, words: &str) -> Result<Expr, Fail> {
         let expr = of_word(alloc, word, &mut exprs)?;
         exprs.push(expr)?;
     }
-    Ok(exprs.pop().unwrap_or(Expr::Unit))
+    Ok(exprs.pop().unwrap_or(leaf(alloc, Form::Unit)))
+}
+
+/// A form without arguments.
+fn leaf(alloc: Global, form: Form) -> Expr {
+    Expr::Apply(form, Vec::new(alloc))
 }
 
 fn of_word(alloc: Global, word: &str, exprs: &mut Vec<Expr>) -> Result<Expr, Fail> {
     match word {
-        "()" => Ok(Expr::Unit),
-        "read-byte" => Ok(Expr::ReadByte),
+        "()" => Ok(leaf(alloc, Form::Unit)),
+        "read-byte" => Ok(leaf(alloc, Form::ReadByte)),
         "unpair" => unpair(alloc, exprs),
         "if" => {
             let negative = pop(alloc, exprs)?;
@@ -54,12 +59,12 @@ fn of_numbered(alloc: Global, word: &str, exprs: &mut Vec<Expr>) -> Result<Expr,
             return apply(Form::Call(function.parse()?), count.parse()?, exprs);
         }
     }
-    Ok(Expr::Number(word.parse()?))
+    Ok(leaf(alloc, Form::Number(word.parse()?)))
 }
 
 /// The newest expression; `()` where there is none.
 fn pop(alloc: Global, exprs: &mut Vec<Expr>) -> Result<Box<Expr>, Fail> {
-    Ok(Box::new(alloc, exprs.pop().unwrap_or(Expr::Unit))?)
+    Ok(Box::new(alloc, exprs.pop().unwrap_or(leaf(alloc, Form::Unit)))?)
 }
 
 fn apply(form: Form, count: usize, exprs: &mut Vec<Expr>) -> Result<Expr, Fail> {
@@ -69,15 +74,15 @@ fn apply(form: Form, count: usize, exprs: &mut Vec<Expr>) -> Result<Expr, Fail> 
 
 fn block(alloc: Global, binder: Binder, exprs: &mut Vec<Expr>) -> Result<Expr, Fail> {
     let last = pop(alloc, exprs)?;
-    let value = exprs.pop().unwrap_or(Expr::Unit);
+    let value = exprs.pop().unwrap_or(leaf(alloc, Form::Unit));
     let statements = vec![in alloc; Statement { binder, value }]?;
     Ok(Expr::Block(statements, last))
 }
 
 /// `SCRUTINEE match { Pair(x8, 7) => BODY, _ => OTHER }`: the scrutinee, the body, and the other one.
 fn unpair(alloc: Global, exprs: &mut Vec<Expr>) -> Result<Expr, Fail> {
-    let other = exprs.pop().unwrap_or(Expr::Unit);
-    let body = exprs.pop().unwrap_or(Expr::Unit);
+    let other = exprs.pop().unwrap_or(leaf(alloc, Form::Unit));
+    let body = exprs.pop().unwrap_or(leaf(alloc, Form::Unit));
     let parts = vec![in alloc; Pat::Variable(8), Pat::Number(7)]?;
     let first = Row {
         pattern: Pat::Constructor(2, parts),
@@ -174,6 +179,7 @@ fn answer(alloc: Global, texts: &str) -> Result<String, Fail> {
         types: vec![in alloc; declared(alloc, 0), declared(alloc, 2), declared(alloc, 1)]?,
         constructors: constructors(alloc)?,
         functions,
+        texts: Vec::new(alloc),
         main: 0,
     };
     match check(alloc, &program) {
