@@ -1,6 +1,6 @@
 use crate::{CoverError, cover, example_text, uncovered};
 use kk_base::Name;
-use kk_syntax::{Constructor, Expr, Fun, Pat, Program, Row, Ty, Typed};
+use kk_syntax::{Constructor, Expr, Form, Fun, Pat, Program, Row, Ty, Typed};
 use std::alloc::{AllocError, Global};
 use std::test::Fail;
 
@@ -67,13 +67,17 @@ fn pattern(alloc: Global, pieces: &[Piece]) -> Result<Pat, AllocError> {
     Ok(stack.pop().unwrap_or(Pat::Wildcard))
 }
 
+fn unit(alloc: Global) -> Expr {
+    Expr::Apply(Form::Unit, Vec::new(alloc))
+}
+
 /// The rows of a match with these patterns.
 fn rows(alloc: Global, patterns: Rows) -> Result<Vec<Row>, AllocError> {
     let mut rows = Vec::new(alloc);
     for pieces in patterns {
         rows.push(Row {
             pattern: pattern(alloc, pieces)?,
-            body: Expr::Unit,
+            body: unit(alloc),
         })?;
     }
     Ok(rows)
@@ -125,6 +129,7 @@ fn typed(alloc: Global, body: Expr) -> Result<Typed, AllocError> {
             types: Vec::new(alloc),
             constructors,
             functions: vec![in alloc; function]?,
+            texts: Vec::new(alloc),
             main: 0,
         },
         bodies: Vec::new(alloc),
@@ -152,7 +157,7 @@ const CASES: [(Rows, &[u8]); 8] = [
 fn a_match_that_is_not_covered_has_an_example(rt: HostRuntime) -> Result<(), Fail> {
     let alloc = rt.alloc();
     for (patterns, expected) in CASES {
-        let scrutinee = Box::new(alloc, Expr::Unit)?;
+        let scrutinee = Box::new(alloc, unit(alloc))?;
         let typed = typed(alloc, Expr::Match(scrutinee, rows(alloc, patterns)?))?;
         match cover(alloc, &typed) {
             Ok(()) => assert!(rt; expected.is_empty()),
@@ -187,7 +192,7 @@ fn far_apart(alloc: Global, first: usize, pieces: (Piece, Piece)) -> Result<Row,
     chain.push(ANY)?;
     Ok(Row {
         pattern: pattern(alloc, &chain)?,
-        body: Expr::Unit,
+        body: unit(alloc),
     })
 }
 
@@ -200,7 +205,7 @@ fn twenty_pairs_of_positions_far_apart_are_decided_at_once(rt: HostRuntime) -> R
             rows.push(far_apart(alloc, first, pieces)?)?;
         }
     }
-    let typed = typed(alloc, Expr::Unit)?;
+    let typed = typed(alloc, unit(alloc))?;
     assert!(rt; uncovered(alloc, &typed.program, &rows)?.is_none());
     Ok(())
 }
