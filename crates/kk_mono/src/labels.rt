@@ -1,4 +1,4 @@
-ghost use Rattle.std.specs.Prelude.{◌≡◌, ◌≤◌, drop, length, slice_index_or, vec_len};
+ghost use Rattle.std.specs.Prelude.{◌≡◌, drop, slice_index_or};
 ghost use Rattle.kk_mono.specs.Labels.{left_in, labelled_form, behind};
 ghost use Rattle.kk_mono.specs.Instances.{called_by};
 
