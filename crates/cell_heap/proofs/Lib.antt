@@ -6,8 +6,9 @@ pub mod Counting
 pub mod Leaving
 pub mod Turns
 pub mod GivingUp
-pub mod OneEnd
 pub mod Waits
+pub mod Orders
+pub mod InTurns
 pub mod Choosing
 pub mod Borders
 pub mod Held
