@@ -91,8 +91,7 @@ as_given (opened {x = x} {heap = heap} {end = end} {gave = gave} {body = body} i
     let first = first_waits there in
     let same : first.0 ≡ body = body_of (first.0) body (sym first.2 ∙ is) in
     let later = as_given rest plain first.1 first.4 in
-    let sum = later.1 in
-    (
+    let sum = later.1 in (
       later.0,
       omega arith,
       subst (λ ps. GivesUp ps plain gave later.0 end) (sym (first.3 ∙ ap (λ b. references b ++ first.1) same)) later.2,

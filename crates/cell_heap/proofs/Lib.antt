@@ -17,3 +17,5 @@ pub mod Counted
 pub mod FreeCells
 pub mod Sound
 pub mod Credits
+pub mod Blocks
+pub mod Dropping

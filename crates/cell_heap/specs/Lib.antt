@@ -7,3 +7,5 @@ pub mod Turns
 pub mod Counts
 pub mod Sound
 pub mod FreeCells
+pub mod Blocks
+pub mod Known

@@ -1,14 +1,17 @@
 //! Laws of cells. Each is a function that does nothing; what its contract says is proved.
 
-ghost use Rattle.std.specs.Prelude.{◌≡◌, ◌↔◌, ◌<◌, ℕ, ◌+◌, ◌*◌, List, [], Some, length};
+ghost use Rattle.std.specs.Prelude.{◌≡◌, ◌↔◌, ◌<◌, ℕ, ◌+◌, ◌*◌, ◌^◌, List, [], Some, length};
 ghost use Rattle.cell_heap.specs.Cells.{Heap, occurs};
 ghost use Rattle.cell_heap.specs.Turns.{Turns, Work, work_of, turns};
 ghost use Rattle.cell_heap.specs.Pool.{Pool, places};
 ghost use Rattle.cell_heap.specs.GivingUp.{GivesUp};
 ghost use Rattle.cell_heap.specs.Counts.{credit};
 ghost use Rattle.cell_heap.specs.Sound.{ArePlaced, IsSound};
-ghost use Rattle.cell_heap.specs.View.{View};
-ghost use Rattle.cell_heap.specs.Memory.{Memory};
+ghost use Rattle.cell_heap.specs.View.{Link, View};
+ghost use Rattle.cell_heap.specs.Memory.{word, Memory, IsNoCount};
+ghost use Rattle.cell_heap.specs.Blocks.{Cells, load, store, view_of, seen_cells, drop_cells, merged_cells};
+ghost use Rattle.cell_heap.specs.Known.{HoldsCells, SameRoots, IsOwnWord};
+ghost use Rattle.rv_isa.specs.Bytes.{with_number};
 ghost use Rattle.cell_heap.specs.FreeCells.{ListsFree};
 ghost use Rattle.rv_isa.specs.FreeCells.{free_list};
 ghost use Rattle.rv_isa.specs.Processor.{Processor};
@@ -51,4 +54,20 @@ pub fn giving_up_is_paid()
 /// Where memory has the cells of a view, the free cells of the image are exactly the view's free cells, each once.
 pub fn free_cells_are_listed()
     ensures { (pool : Pool) (view : View) (s : Processor) → Memory pool view s → ListsFree view.heap (free_list pool.cells s) }
+{}
+
+/// A word that a program loads of a block of its own is there, and may be loaded.
+pub fn loads_are_in_memory()
+    ensures { (pool : Pool) (cells : Cells) (links : List Link) (s : Processor) (at offset loaded : ℕ) → HoldsCells pool cells links s → load at offset cells ≡ Some loaded → IsOwnWord cells at offset s × (word s.memory (at + offset) ≡ loaded) × (loaded < 2 ^ 32) }
+{}
+
+/// Where a program stores a word in a block of its own it may be stored, and memory has the blocks then.
+pub fn stores_keep_blocks()
+    ensures may { (pool : Pool) (cells next : Cells) (links : List Link) (s : Processor) (at offset stored : ℕ) → HoldsCells pool cells links s → store at offset stored cells ≡ Some next → IsOwnWord cells at offset s }
+    ensures keeps { (pool : Pool) (cells next : Cells) (links : List Link) (s t : Processor) (at offset stored : ℕ) → HoldsCells pool cells links s → SameRoots s t → store at offset stored cells ≡ Some next → stored < 2 ^ 32 → t.memory ≡ with_number (at + offset) 4 stored s.memory → HoldsCells pool next links t }
+{}
+
+/// Where a reference was given up by the routine's turns, and counts alone have changed, memory has the blocks that are left.
+pub fn drops_keep_blocks()
+    ensures { (pool : Pool) (cells : Cells) (links : List Link) (s t : Processor) (reference : ℕ) (work : Work) → HoldsCells pool cells links s → drop_cells pool reference cells ≡ Some work → Memory pool (record (view_of cells links) { heap = work.heap; frees = work.frees }) t → ((x : ℕ) → IsNoCount (seen_cells cells) x → t.memory x ≡ s.memory x) → HoldsCells pool (merged_cells work cells) links t }
 {}
