@@ -2,16 +2,16 @@
 -- that waits for the value.
 use Rattle.std.proofs.Common.{◌≡◌, ℕ, suc, ◌+◌, ◌<◌, ◌≤◌, true, false, List, [], ◌∷◌, ◌++◌, length, Option, Some, map, refl, ap, ◌∙◌, arith}
 use Rattle.kk_syntax.specs.declared.program.Form.{Form}
-use Rattle.kk_syntax.specs.declared.program.Form.TheVariants.{Unary, Binary, Print, Construct, Call}
+use Rattle.kk_syntax.specs.declared.program.Form.TheVariants.{Construct}
 use Rattle.kk_syntax.specs.Trees.{Tree, Trees, no_tree, tree}
 use Rattle.kk_syntax.specs.Shapes.{free, free_all, nodes_of, nodes_of_all, without}
 use Rattle.kk_source.specs.State.{Value, Environment, Frame, arguments, branches, rows, statement, call}
 use Rattle.kk_source.specs.Live.{value_of, awaited}
 use Rattle.kk_source.specs.Step.{call_frames}
-use Rattle.kk_core.specs.Codes.{Code, branch}
+use Rattle.kk_core.specs.Codes.{Code}
 use Rattle.kk_core.specs.CoreStates.{Join, CallFrame}
 use Rattle.kk_norm.specs.Names.{Names, named}
-use Rattle.kk_norm.specs.Normalized.{Then, final, next, size, size_all, atom, atoms, after, within, joined, finish, code, code_all}
+use Rattle.kk_norm.specs.Normalized.{Then, final, next, size, size_all, atom, atoms, after, within, joined, finish, code, code_all, choice_code}
 use Rattle.std.specs.Prelude.{slice_get}
 use Rattle.kk_syntax.specs.Programs.{FunctionTree}
 use Rattle.kk_norm.specs.NoCells.{NoCells, NoCellsAll, IsPlain}
@@ -53,10 +53,7 @@ fresh_less (final false) (join ∷ joins) m n top le fresh = (omega (arith, fres
 -- no construction
 abbrev pub MakesNothing : Form → Type 0
 MakesNothing (Construct c) = ⊥
-MakesNothing (Unary operator) = Unit {0}
-MakesNothing (Binary operator) = Unit {0}
-MakesNothing (Print form) = Unit {0}
-MakesNothing (Call f) = Unit {0}
+MakesNothing form = Unit {0}
 
 -- Where an expression goes on behind its part: where its own value goes, the names, the number of its next variable, and
 -- that of what comes after the expression.
@@ -86,7 +83,7 @@ pub record ArgumentsWait (most : ℕ) (form : Form) (vs : List Value) (es : Tree
 
 pub record BranchesWait (most : ℕ) (positive negative : Tree) (environment : Environment) (rest : Code) (a : ℕ) (joins : List Join) (core : Environment) (low high : ℕ) (Later : Goal → ℕ → Type 0) : Type 0 where
   pub at : Place
-  pub rest_is : rest ≡ joined at.k (at.n + size positive + size negative) (branch a (code (within at.k) at.names at.n positive) (code (within at.k) at.names (at.n + size positive) negative))
+  pub rest_is : rest ≡ joined at.k (at.n + size positive + size negative) (choice_code (within at.k) at.names at.n a positive negative)
   pub stands : Stands at.names environment core low (free positive ++ free negative)
   pub plain_positive : NoCells positive
   pub plain_negative : NoCells negative
