@@ -5,8 +5,6 @@ use Rattle.kk_source.specs.Ends.{exit_of}
 use Rattle.kk_source.specs.State.{Setting}
 use Rattle.kk_source.specs.SourceAfter.{store_machine, first_state}
 use Rattle.rv_isa.specs.ProcessorMachine.{ImageAgrees, ImageKeepsUp}
-use Rattle.rv_place.specs.Images.{outside_lines}
-use Rattle.kk_back.specs.Images.{step_instructions}
 use Rattle.elf_image.specs.Loaded.{reason_of}
 use Rattle.kk_build.specs.ImageAfter.{file_after}
 
@@ -20,10 +18,10 @@ pub record Agrees (file : List ℕ) (setting : Setting) : Type 0 where
   pub loads : reason_of file ≡ None
   pub agrees : (input : List ℕ) → All (λ byte. byte < 256) input → AgreesOn file setting input
 
--- within how many instructions the image does what the program does in n steps: so many for each step, which is at most two of the core form; and
--- those before and behind the code of `main`
+-- within how many instructions the image does what the program does in n steps: so many for each step, and those before and behind the code of
+-- `main`
 abbrev pub instructions_within : ℕ → ℕ
-instructions_within n = 2 * step_instructions * n + outside_lines
+instructions_within n = 3080 * n + 17
 
 -- the image in a file keeps that bound on every input of bytes
 abbrev pub IsBounded : List ℕ → Setting → Type 0
