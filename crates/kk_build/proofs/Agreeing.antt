@@ -10,8 +10,8 @@ use Rattle.kk_syntax.specs.Programs.{ProgramTree}
 use Rattle.kk_syntax.specs.Shapes.{greatest_nodes}
 use Rattle.kk_source.specs.Ends.{exit_of}
 use Rattle.kk_source.specs.Notes.{Note, events_of}
-use Rattle.kk_source.specs.State.{Setting, State, End, ended, heap_full, stack_full}
-use Rattle.kk_source.specs.SourceAfter.{step, ending_of, store_machine, first_state}
+use Rattle.kk_source.specs.State.{Setting, End, ended, heap_full, stack_full}
+use Rattle.kk_source.specs.SourceAfter.{step, ending_of, store_machine, first_state, State}
 use Rattle.kk_core.specs.Codes.{ProgramCode}
 use Rattle.kk_core.specs.CoreStates.{CoreSetting, core_first_state}
 use Rattle.kk_core.specs.CoreMachine.{core_machine}

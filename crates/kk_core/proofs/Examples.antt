@@ -7,17 +7,17 @@ use Rattle.kk_base.specs.Trace.{output}
 use Rattle.kk_base.specs.Machines.{trace, ending_after}
 use Rattle.kk_syntax.specs.declared.operator.BinaryOperator.TheVariants.{Add, Subtract, Multiply, Equal}
 use Rattle.kk_syntax.specs.declared.operator.PrintForm.TheVariants.{PrintLine}
-use Rattle.kk_syntax.specs.declared.program.Form.TheVariants.{Binary, Print, Call}
+use Rattle.kk_syntax.specs.declared.program.Form.TheVariants.{Number, Binary, Print, Call}
 use Rattle.kk_syntax.specs.PositionsOf.{all_owned}
 use Rattle.kk_source.specs.State.{ended, stack_full}
 use Rattle.kk_source.specs.Notes.{seen, called}
-use Rattle.kk_core.specs.Codes.{number, apply, give, branch, compute, FunctionCode}
+use Rattle.kk_core.specs.Codes.{give, branch, compute, FunctionCode}
 use Rattle.kk_core.specs.CoreStates.{CoreSetting, core_first_state}
 use Rattle.kk_core.specs.CoreMachine.{core_machine}
 
 abbrev setting : List FunctionCode → ℕ → ℕ → CoreSetting
 setting functions main depth = record {
-  code = record { functions = functions; main = main };
+  code = record { functions = functions; texts = []; main = main };
   positions = all_owned;
   cells = 8;
   depth = depth;
@@ -30,9 +30,9 @@ arithmetic =
     (record {
       parameters = 0;
       variables = 6;
-      body = compute 0 (number (pos 1)) (compute 1 (number (pos 2)) (compute 2 (number (pos 3))
-          (compute 3 (apply (Binary Multiply) (1 ∷ 2 ∷ [])) (compute 4 (apply (Binary Add) (0 ∷ 3 ∷ []))
-          (compute 5 (apply (Print PrintLine) (4 ∷ [])) (give 5))))));
+      body = compute 0 (Number (pos 1)) [] (compute 1 (Number (pos 2)) [] (compute 2 (Number (pos 3)) []
+          (compute 3 (Binary Multiply) (1 ∷ 2 ∷ []) (compute 4 (Binary Add) (0 ∷ 3 ∷ [])
+          (compute 5 (Print PrintLine) (4 ∷ []) (give 5))))));
     } ∷ [])
     0 1
 
@@ -54,10 +54,10 @@ abbrev sum : FunctionCode
 sum = record {
   parameters = 1;
   variables = 8;
-  body = compute 1 (number (pos 0)) (compute 2 (apply (Binary Equal) (0 ∷ 1 ∷ []))
-      (branch 2 (compute 3 (number (pos 0)) (give 3))
-      (compute 4 (number (pos 1)) (compute 5 (apply (Binary Subtract) (0 ∷ 4 ∷ []))
-      (compute 6 (apply (Call 0) (5 ∷ [])) (compute 7 (apply (Binary Add) (0 ∷ 6 ∷ [])) (give 7)))))));
+  body = compute 1 (Number (pos 0)) [] (compute 2 (Binary Equal) (0 ∷ 1 ∷ [])
+      (branch 2 (compute 3 (Number (pos 0)) [] (give 3))
+      (compute 4 (Number (pos 1)) [] (compute 5 (Binary Subtract) (0 ∷ 4 ∷ [])
+      (compute 6 (Call 0) (5 ∷ []) (compute 7 (Binary Add) (0 ∷ 6 ∷ []) (give 7)))))));
 }
 
 abbrev deep : ℕ → CoreSetting
@@ -66,7 +66,7 @@ deep depth =
     (sum ∷ record {
       parameters = 0;
       variables = 3;
-      body = compute 0 (number (pos 2)) (compute 1 (apply (Call 0) (0 ∷ [])) (compute 2 (apply (Print PrintLine) (1 ∷ [])) (give 2)));
+      body = compute 0 (Number (pos 2)) [] (compute 1 (Call 0) (0 ∷ []) (compute 2 (Print PrintLine) (1 ∷ []) (give 2)));
     } ∷ [])
     1 depth
 

@@ -1,10 +1,7 @@
 -- The core form of a program as mathematics: no pointers, no capacities.
-use Rattle.std.specs.Prelude.{ℕ, ℤ, List, [], ◌∷◌, map}
-use Rattle.kk_syntax.specs.declared.operator.PrintForm.{PrintForm}
+use Rattle.std.specs.Prelude.{ℕ, List, [], ◌∷◌, map}
 use Rattle.kk_syntax.specs.declared.program.Form.{Form}
 use Rattle.kk_syntax.specs.Patterns.{Pattern, pattern_tree}
-use Rattle.kk_core.specs.declared.form.Operation.{Operation as CoreOperation}
-use Rattle.kk_core.specs.declared.form.Operation.TheVariants as OfOperation
 use Rattle.kk_core.specs.declared.form.Arm.{Arm}
 use Rattle.kk_core.specs.declared.form.Block.{Block}
 use Rattle.kk_core.specs.declared.form.Last.{Last}
@@ -14,22 +11,15 @@ use Rattle.kk_core.specs.declared.form.Last.TheFolds.{fold-Block, fold-Last, fol
 use Rattle.kk_core.specs.declared.form.CoreFunction.{CoreFunction}
 use Rattle.kk_core.specs.declared.form.Core.{Core}
 
--- What is computed: a number; `()`; a read of a byte of the input; a print of a string's bytes; or a form on variables.
-pub data Operation : Type 0 where
-  number : (value : ℤ) → Operation
-  unit : Operation
-  read_byte : Operation
-  print_text : (form : PrintForm) → (text : List ℕ) → Operation
-  apply : (form : Form) → (arguments : List ℕ) → Operation
-
 -- A code, which is what a block does from one of its steps on.
 -- give: it ends with the value of a variable.
 -- tail_call: it ends as the call of a function on variables.
 -- branch: it goes on as the first code where the variable is `True`, and else as the second.
 -- case: it goes on as the first arm whose pattern matches the value of the variable.
--- compute: the variable takes the value of the operation, and the rest comes.
+-- compute: the variable takes the value of the form on variables, and the rest comes.
 -- use_of: the variable is still of use, and the rest comes.
--- unpack: the variables `fields` take the fields of the cell that the variable names, and the rest comes.
+-- unpack: the variables `fields` take the fields of the cell that the variable names, which that constructor made, and the
+-- rest comes.
 -- inside: a block is run, the variable takes its value, and the rest comes.
 mutual
   pub data Code : Type 0 where
@@ -37,9 +27,9 @@ mutual
     tail_call : (function : ℕ) → (arguments : List ℕ) → Code
     branch : (on : ℕ) → (positive : Code) → (negative : Code) → Code
     case : (on : ℕ) → (arms : Arms) → Code
-    compute : (variable : ℕ) → (operation : Operation) → (rest : Code) → Code
+    compute : (variable : ℕ) → (form : Form) → (arguments : List ℕ) → (rest : Code) → Code
     use_of : (variable : ℕ) → (rest : Code) → Code
-    unpack : (variable : ℕ) → (fields : List ℕ) → (rest : Code) → Code
+    unpack : (variable : ℕ) → (constructor : ℕ) → (fields : List ℕ) → (rest : Code) → Code
     inside : (variable : ℕ) → (block : Code) → (rest : Code) → Code
 
   pub data Arms : Type 0 where
@@ -48,16 +38,16 @@ mutual
 
 -- a step of a block by itself
 pub data Piece : Type 0 where
-  computes : (variable : ℕ) → (operation : Operation) → Piece
+  computes : (variable : ℕ) → (form : Form) → (arguments : List ℕ) → Piece
   uses : (variable : ℕ) → Piece
-  unpacks : (variable : ℕ) → (fields : List ℕ) → Piece
+  unpacks : (variable : ℕ) → (constructor : ℕ) → (fields : List ℕ) → Piece
   runs : (variable : ℕ) → (block : Code) → Piece
 
 -- a step, and what comes behind it
 abbrev pub put : Piece → Code → Code
-put (computes x operation) rest = compute x operation rest
+put (computes x form arguments) rest = compute x form arguments rest
 put (uses x) rest = use_of x rest
-put (unpacks x fields) rest = unpack x fields rest
+put (unpacks x c fields) rest = unpack x c fields rest
 put (runs x block) rest = inside x block rest
 
 -- steps, and what comes behind them
@@ -75,14 +65,7 @@ abbrev pub arms_of : List ArmCode → Arms
 arms_of [] = no_arm
 arms_of (a ∷ as_well) = arm a.pattern a.body (arms_of as_well)
 
--- an operation, an arm, a block, how it ends and a step as such codes, those of their parts given
-abbrev pub operation_of : CoreOperation → Operation
-operation_of (OfOperation.Number value) = number value
-operation_of OfOperation.Unit = unit
-operation_of OfOperation.ReadByte = read_byte
-operation_of (OfOperation.PrintText form text) = print_text form text
-operation_of (OfOperation.Apply form arguments) = apply form arguments.items
-
+-- an arm, a block, how it ends and a step as such codes, those of their parts given
 abbrev pub arm_step : Arm-F Code Piece ArmCode Code → ArmCode
 arm_step a = record { pattern = pattern_tree a.pattern; body = a.body }
 
@@ -96,9 +79,9 @@ last_step (If x positive negative) = branch x positive.value negative.value
 last_step (Case x arms) = case x (arms_of arms.items)
 
 abbrev pub step_step : Step-F Code Piece ArmCode Code → Piece
-step_step (Let x operation) = computes x (operation_of operation)
+step_step (Let x form arguments) = computes x form arguments.items
 step_step (Use x) = uses x
-step_step (Open x fields) = unpacks x fields.items
+step_step (Open x c fields) = unpacks x c fields.items
 step_step (Inside x block) = runs x block
 
 -- a block, how it ends, a step and an arm as such codes
@@ -121,13 +104,14 @@ pub record FunctionCode : Type 0 where
   pub variables : ℕ
   pub body : Code
 
--- the functions, each by its number, from 0, and which of them is `main`
+-- the functions and the string literals that are printed, each by its number, from 0, and which function is `main`
 pub record ProgramCode : Type 0 where
   pub functions : List FunctionCode
+  pub texts : List (List ℕ)
   pub main : ℕ
 
 abbrev pub function_code : CoreFunction → FunctionCode
 function_code function = record { parameters = function.parameters; variables = function.variables; body = block_code function.body }
 
 abbrev pub core_code : Core → ProgramCode
-core_code core = record { functions = map function_code core.functions.items; main = core.main }
+core_code core = record { functions = map function_code core.functions.items; texts = core.texts.items; main = core.main }

@@ -1,34 +1,21 @@
 -- The steps of the core machine. It tells the same notes as the store machine: each event, the live places at each
 -- construction with fields, and the call frames at each call that is no tail call.
-use Rattle.std.specs.Prelude.{ℕ, suc, nat_le, List, [], ◌∷◌, ◌++◌, map, length, Option, Some, None, if◌then◌else◌, slice_get}
-use Rattle.std.specs.Fmt.{signed_decimal}
-use Rattle.kk_base.specs.Trace.{Event, output, input as taken, input_end}
+use Rattle.std.specs.Prelude.{ℕ, suc, List, [], ◌∷◌, ◌++◌, map, length, Option, Some, None, if◌then◌else◌, slice_get}
+use Rattle.kk_base.specs.Trace.{Event}
 use Rattle.kk_base.specs.Machines.{Machine, weighing, mapped}
 use Rattle.kk_syntax.specs.declared.program.Form.{Form}
-use Rattle.kk_syntax.specs.declared.program.Form.TheVariants.{Unary, Binary, Print, Construct, Call}
 use Rattle.kk_syntax.specs.Shapes.{without}
 use Rattle.kk_syntax.specs.PositionsOf.{is_lent}
-use Rattle.kk_source.specs.State.{Value, integer, unit, constant, place, Store, Environment, End, ended, heap_full, stack_full}
+use Rattle.kk_source.specs.State.{Value, place, Store, Environment, End, ended, heap_full, stack_full}
 use Rattle.kk_source.specs.Live.{value_of, fields_of, live}
 use Rattle.kk_source.specs.Matching.{matched}
-use Rattle.kk_source.specs.Notes.{Note, seen, built, called, events_of}
-use Rattle.kk_source.specs.Step.{unary_result, binary_result, argument, is_true, integer_of, piece_of, byte_value, bind_parameters, lent_places}
-use Rattle.kk_core.specs.Codes.{Operation, number, unit as unit_operation, read_byte, print_text, apply, Code, give, tail_call, branch, case, compute, use_of, unpack, inside, Arms, no_arm, arm, FunctionCode}
+use Rattle.kk_source.specs.Notes.{Note, events_of}
+use Rattle.kk_source.specs.Actions.{Action, goes, build_step, enter_step, performed}
+use Rattle.kk_source.specs.FormEffects.{is_true, form_effect, effect_step}
+use Rattle.kk_source.specs.Step.{bind_parameters, lent_places}
+use Rattle.kk_core.specs.Codes.{Code, give, tail_call, branch, case, compute, use_of, unpack, inside, Arms, no_arm, arm, FunctionCode}
 use Rattle.kk_core.specs.Needed.{needed}
 use Rattle.kk_core.specs.CoreStates.{CoreSetting, Join, CallFrame, CoreControl, running, stopped, CoreConfiguration, CoreState, core_end_at}
-
--- What a step does.
--- goes: it leads to a machine.
--- puts: it also puts a piece on the output, which is not empty.
--- takes: it takes the next byte of the input, or meets its end; what it has got decides the machine that it leads to.
--- builds: it is a construction with fields, and has found so many places live.
--- calls: it is a call that is no tail call, and has found so many call frames.
-pub data CoreAction : Type 0 where
-  goes : (to : CoreConfiguration) → CoreAction
-  puts : (piece : List ℕ) → (to : CoreConfiguration) → CoreAction
-  takes : (to : Option ℕ → CoreConfiguration) → CoreAction
-  builds : (found : ℕ) → (to : CoreConfiguration) → CoreAction
-  calls : (found : ℕ) → (to : CoreConfiguration) → CoreAction
 
 -- ---- what the machine still holds
 
@@ -60,11 +47,6 @@ bound_then x v rest environment joins c = at_code rest (record { variable = x; v
 abbrev pub at_end : End → CoreConfiguration → CoreConfiguration
 at_end end c = record c { control = stopped end }
 
--- a print puts its piece at once, and no bytes are not put; its value is `()`
-abbrev pub print_step : List ℕ → (Value → CoreConfiguration) → CoreAction
-print_step [] to = goes (to unit)
-print_step (byte ∷ bytes) to = puts (byte ∷ bytes) (to unit)
-
 -- the variables bound to the fields of a cell, in their order
 abbrev pub bind_fields : List ℕ → List Value → Environment → Environment
 bind_fields [] vs environment = environment
@@ -81,13 +63,13 @@ first_arm store no_arm v = None
 first_arm store (arm pattern body rest) v = arm_if body (matched store pattern v []) (first_arm store rest v)
 
 -- at the arm that is taken; where none matches the machine stays
-abbrev pub case_step : Option Code → Environment → List Join → CoreConfiguration → CoreAction
+abbrev pub case_step : Option Code → Environment → List Join → CoreConfiguration → Action CoreConfiguration
 case_step None environment joins from = goes from
 case_step (Some body) environment joins from = goes (at_code body environment joins from)
 
 -- At the end of a block inside its variable takes the value. At the end of a function's body the function that waits
 -- takes it, or the run ends with that of the first one.
-abbrev pub give_step : Value → List Join → List CallFrame → Environment → CoreConfiguration → CoreAction
+abbrev pub give_step : Value → List Join → List CallFrame → Environment → CoreConfiguration → Action CoreConfiguration
 give_step v (join ∷ joins) frames environment from = goes (bound_then join.variable v join.rest environment joins from)
 give_step v [] (frame ∷ older) environment from =
     goes (bound_then frame.variable v frame.rest frame.environment frame.joins (record from { frames = older }))
@@ -98,55 +80,37 @@ abbrev pub in_code : FunctionCode → List Value → CoreConfiguration → CoreC
 in_code function values from = at_code function.body (bind_parameters 0 values []) [] from
 
 -- a tail call enters the body; where there is no such function the machine stays
-abbrev pub tail_step : Option FunctionCode → List Value → CoreConfiguration → CoreAction
+abbrev pub tail_step : Option FunctionCode → List Value → CoreConfiguration → Action CoreConfiguration
 tail_step None values from = goes from
 tail_step (Some function) values from = goes (in_code function values from)
 
 module _ (setting : CoreSetting) where
-  -- A construction. One with fields stops with a full heap exactly where as many places are live as there are cells; else
-  -- its value is a new place. The live places are those of its fields, of what comes then and of all that waits.
-  abbrev pub construct_step : ℕ → List Value → List Value → (Value → CoreConfiguration) → CoreConfiguration → CoreAction
-  construct_step c [] held to from = goes (to (constant c))
-  construct_step c (v ∷ vs) held to from =
-      let found = live from.store ((v ∷ vs) ++ held) in
-      builds found
-      (if nat_le setting.cells found then at_end heap_full from else record (to (place (length from.store))) { store = from.store ++ record { made_by = c; fields = v ∷ vs } ∷ [] })
+  -- A construction with fields stops with a full heap exactly where as many places are live as there are cells; else its
+  -- value is a new place. The live places are those of its fields, of what comes then and of all that waits.
+  abbrev pub construct_step : ℕ → List Value → List Value → (Value → CoreConfiguration) → CoreConfiguration → Action CoreConfiguration
+  construct_step c fields held to from =
+      build_step setting.cells (live from.store (fields ++ held)) (at_end heap_full from)
+      (record (to (place (length from.store))) { store = from.store ++ record { made_by = c; fields = fields } ∷ [] })
 
   -- A call that is no tail call. It stops with a full stack exactly where as many call frames stand as the stack has: the
   -- running one, and those of the functions that wait. Else the running function waits, and the body is entered. Where
   -- there is no such function the machine stays.
-  abbrev pub call_step : ℕ → Option FunctionCode → List Value → (List Value → CallFrame) → CoreConfiguration → CoreAction
+  abbrev pub call_step : ℕ → Option FunctionCode → List Value → (List Value → CallFrame) → CoreConfiguration → Action CoreConfiguration
   call_step f None values waiting from = goes from
   call_step f (Some function) values waiting from =
-      let found = suc (length from.frames) in
-      calls found
-      (if nat_le setting.depth found then at_end stack_full from else in_code function values (record from { frames = waiting (lent_places (is_lent setting.positions f) 0 values) ∷ from.frames }))
+      enter_step setting.depth (suc (length from.frames)) (at_end stack_full from)
+      (in_code function values (record from { frames = waiting (lent_places (is_lent setting.positions f) 0 values) ∷ from.frames }))
 
   -- a form on values, whose value a variable takes, and the rest comes
-  abbrev pub form_step : Form → List Value → ℕ → Code → Environment → List Join → CoreConfiguration → CoreAction
-  form_step (Unary operator) values x rest environment joins from =
-      goes (bound_then x (unary_result operator (argument 0 values)) rest environment joins from)
-  form_step (Binary operator) values x rest environment joins from =
-      goes (bound_then x (binary_result operator (argument 0 values) (argument 1 values)) rest environment joins from)
-  form_step (Print form) values x rest environment joins from =
-      print_step (piece_of form (signed_decimal (integer_of (argument 0 values)))) (λ v. bound_then x v rest environment joins from)
-  form_step (Construct c) values x rest environment joins from =
-      construct_step c values (held_for x rest joins environment ++ held_by_frames from.frames) (λ v. bound_then x v rest environment joins from) from
-  form_step (Call f) values x rest environment joins from =
-      call_step f (slice_get setting.code.functions f) values (λ lent. record { variable = x; rest = rest; joins = joins; environment = environment; lent = lent }) from
-
-  abbrev pub operation_step : Operation → ℕ → Code → Environment → List Join → CoreConfiguration → CoreAction
-  operation_step (number n) x rest environment joins from = goes (bound_then x (integer n) rest environment joins from)
-  operation_step unit_operation x rest environment joins from = goes (bound_then x unit rest environment joins from)
-  operation_step read_byte x rest environment joins from =
-      takes (λ byte. bound_then x (byte_value byte) rest environment joins from)
-  operation_step (print_text form text) x rest environment joins from =
-      print_step (piece_of form text) (λ v. bound_then x v rest environment joins from)
-  operation_step (apply form arguments) x rest environment joins from =
-      form_step form (map (value_of environment) arguments) x rest environment joins from
+  abbrev pub form_step : Form → List Value → ℕ → Code → Environment → List Join → CoreConfiguration → Action CoreConfiguration
+  form_step form values x rest environment joins from =
+      effect_step (λ v. bound_then x v rest environment joins from)
+      (λ c fields. construct_step c fields (held_for x rest joins environment ++ held_by_frames from.frames) (λ v. bound_then x v rest environment joins from) from)
+      (λ f arguments. call_step f (slice_get setting.code.functions f) arguments (λ lent. record { variable = x; rest = rest; joins = joins; environment = environment; lent = lent }) from)
+      (form_effect setting.code.texts form values)
 
   -- the step at a code
-  abbrev pub code_step : Code → Environment → List Join → CoreConfiguration → CoreAction
+  abbrev pub code_step : Code → Environment → List Join → CoreConfiguration → Action CoreConfiguration
   code_step (give x) environment joins from = give_step (value_of environment x) joins from.frames environment from
   code_step (tail_call f arguments) environment joins from =
       tail_step (slice_get setting.code.functions f) (map (value_of environment) arguments) from
@@ -154,32 +118,25 @@ module _ (setting : CoreSetting) where
       goes (at_code (if is_true (value_of environment x) then positive else negative) environment joins from)
   code_step (case x arms) environment joins from =
       case_step (first_arm from.store arms (value_of environment x)) environment joins from
-  code_step (compute x operation rest) environment joins from = operation_step operation x rest environment joins from
+  code_step (compute x form arguments rest) environment joins from =
+      form_step form (map (value_of environment) arguments) x rest environment joins from
   code_step (use_of x rest) environment joins from = goes (at_code rest environment joins from)
-  code_step (unpack x fields rest) environment joins from =
+  code_step (unpack x c fields rest) environment joins from =
       goes (at_code rest (bind_fields fields (fields_of from.store (value_of environment x)) environment) joins from)
   code_step (inside x block rest) environment joins from =
       goes (at_code block environment (record { variable = x; rest = rest } ∷ joins) from)
 
   -- the step of a machine, by what it is at; at its end it stays
-  abbrev pub core_step_at : CoreControl → CoreConfiguration → CoreAction
+  abbrev pub core_step_at : CoreControl → CoreConfiguration → Action CoreConfiguration
   core_step_at (running code environment joins) c = code_step code environment joins c
   core_step_at (stopped by) c = goes c
 
-  abbrev pub core_step_of : CoreConfiguration → CoreAction
+  abbrev pub core_step_of : CoreConfiguration → Action CoreConfiguration
   core_step_of c = core_step_at c.control c
 
--- what a step tells, and the state after it; where no input is left, a read meets its end, and it stays so
-abbrev pub core_performed : CoreAction → List ℕ → List Note × CoreState
-core_performed (goes to) input = ([], record { machine = to; input = input })
-core_performed (puts piece to) input = (seen (output piece) ∷ [], record { machine = to; input = input })
-core_performed (takes to) (byte ∷ rest) = (seen (taken byte) ∷ [], record { machine = to (Some byte); input = rest })
-core_performed (takes to) [] = (seen input_end ∷ [], record { machine = to None; input = [] })
-core_performed (builds found to) input = (built found ∷ [], record { machine = to; input = input })
-core_performed (calls found to) input = (called found ∷ [], record { machine = to; input = input })
-
+-- what a step tells, and the state after it
 abbrev pub core_step : CoreSetting → CoreState → List Note × CoreState
-core_step setting s = core_performed (core_step_of setting s.machine) s.input
+core_step setting s = performed (core_step_of setting s.machine) s.input
 
 -- how a state has ended, if it has
 abbrev pub core_ending_of : CoreState → Option End

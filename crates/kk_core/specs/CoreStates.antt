@@ -3,6 +3,7 @@
 use Rattle.std.specs.Prelude.{ℕ, List, [], Option, Some, None, slice_index_or}
 use Rattle.kk_syntax.specs.PositionsOf.{PositionTable}
 use Rattle.kk_source.specs.State.{Value, Store, Environment, End}
+use Rattle.kk_source.specs.Actions.{WithInput}
 use Rattle.kk_core.specs.Codes.{Code, give, FunctionCode, ProgramCode}
 
 -- what is run: a program in core form, the positions that are lent, and so many cells in the heap and call frames in the
@@ -40,9 +41,8 @@ pub record CoreConfiguration : Type 0 where
   pub store : Store
 
 -- the machine, and what is left of the input
-pub record CoreState : Type 0 where
-  pub machine : CoreConfiguration
-  pub input : List ℕ
+abbrev pub CoreState : Type 0
+CoreState = WithInput CoreConfiguration
 
 -- what stands behind the last function, where no program looks
 abbrev pub no_code : FunctionCode

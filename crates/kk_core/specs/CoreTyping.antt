@@ -1,23 +1,15 @@
 -- The types of programs in core form without type variables and without cells; and how large the programs are.
 use Rattle.std.specs.Prelude.{◌≡◌, ◌+◌, ◌≤◌, ℕ, List, [], ◌∷◌, length, Bool, true, false, Some, slice_get}
-use Rattle.kk_syntax.specs.Types.{TypeTree, int32, unit_type}
+use Rattle.kk_syntax.specs.Types.{TypeTree, unit_type}
 use Rattle.kk_syntax.specs.PlainTyping.{Signature, Scope, type_in, with_parameters, bool, IsFormTyped}
-use Rattle.kk_core.specs.Codes.{Operation, number, unit, read_byte, print_text, apply, Code, give, tail_call, branch, case, compute, use_of, unpack, inside, FunctionCode, ProgramCode}
-use Rattle.kk_core.specs.Sizes.{forms, IsOrdered}
+use Rattle.kk_core.specs.Codes.{Code, give, tail_call, branch, case, compute, use_of, unpack, inside, FunctionCode, ProgramCode}
+use Rattle.kk_core.specs.Sizes.{forms, IsOrdered, most_parameters, most_variables, most_forms, most_instances, most_program_forms}
 
 -- variables have these types, one after the other
 abbrev pub HaveTypes : Scope → List ℕ → List TypeTree → Type 0
 HaveTypes scope [] ts = ts ≡ []
 HaveTypes scope (x ∷ xs) [] = ⊥
 HaveTypes scope (x ∷ xs) (t ∷ ts) = (type_in scope x ≡ Some t) × HaveTypes scope xs ts
-
-abbrev pub IsOperationTyped : List Signature → Scope → Operation → TypeTree → Type 0
-IsOperationTyped signatures scope (number value) t = t ≡ int32
-IsOperationTyped signatures scope unit t = t ≡ unit_type
-IsOperationTyped signatures scope read_byte t = t ≡ int32
-IsOperationTyped signatures scope (print_text form text) t = t ≡ unit_type
-IsOperationTyped signatures scope (apply form arguments) t =
-    (ts : List TypeTree) × HaveTypes scope arguments ts × IsFormTyped signatures form ts t
 
 -- A code gives a value of a type. A tail call stands only where its value is the function's: no block inside has one.
 -- There is no case, and nothing is unpacked.
@@ -28,11 +20,12 @@ HasCodeType signatures tail scope (tail_call f arguments) t =
 HasCodeType signatures tail scope (branch x positive negative) t =
     (type_in scope x ≡ Some bool) × HasCodeType signatures tail scope positive t × HasCodeType signatures tail scope negative t
 HasCodeType signatures tail scope (case x arms) t = ⊥
-HasCodeType signatures tail scope (compute x operation rest) t =
-    (s : TypeTree) × IsOperationTyped signatures scope operation s × HasCodeType signatures tail (record { variable = x; type = s } ∷ scope) rest t
+HasCodeType signatures tail scope (compute x form arguments rest) t =
+    (s : TypeTree) × (ts : List TypeTree) × HaveTypes scope arguments ts × IsFormTyped signatures form ts s
+    × HasCodeType signatures tail (record { variable = x; type = s } ∷ scope) rest t
 HasCodeType signatures tail scope (use_of x rest) t =
     (s : TypeTree) × (type_in scope x ≡ Some s) × HasCodeType signatures tail scope rest t
-HasCodeType signatures tail scope (unpack x fields rest) t = ⊥
+HasCodeType signatures tail scope (unpack x c fields rest) t = ⊥
 HasCodeType signatures tail scope (inside x block rest) t =
     (s : TypeTree) × HasCodeType signatures false scope block s × HasCodeType signatures tail (record { variable = x; type = s } ∷ scope) rest t
 
@@ -55,12 +48,11 @@ pub record IsCoreTyped (code : ProgramCode) : Type 0 where
   pub functions : AreCodesTyped signatures code.functions signatures
   pub main : slice_get signatures code.main ≡ Some (record { parameters = []; result = unit_type })
 
--- a function of a program within the limits: at most 8 parameters and 480 nodes in its body make at most 488 variables
--- and 961 forms
+-- a function of a program within the limits
 pub record IsFunctionSmall (function : FunctionCode) : Type 0 where
-  pub parameters : function.parameters ≤ 8
-  pub variables : function.variables ≤ 488
-  pub forms : forms function.body ≤ 961
+  pub parameters : function.parameters ≤ most_parameters
+  pub variables : function.variables ≤ most_variables
+  pub forms : forms function.body ≤ most_forms
 
 abbrev pub AreSmall : List FunctionCode → Type 0
 AreSmall [] = Unit {0}
@@ -71,10 +63,10 @@ abbrev pub all_forms : List FunctionCode → ℕ
 all_forms [] = 0
 all_forms (function ∷ functions) = forms function.body + all_forms functions
 
--- A program is within the limits: `main` is its first function, each function is, and so are all together: 8,192 nodes make
--- at most 17,408 forms, with one more for each of at most 1,024 functions.
+-- A program is within the limits: `main` is its first function, each function is, the functions are few, and so are all
+-- forms together.
 pub record IsSmall (code : ProgramCode) : Type 0 where
   pub main : code.main ≡ 0
   pub functions : AreSmall code.functions
-  pub few : length code.functions ≤ 1024
-  pub all : all_forms code.functions ≤ 17408
+  pub few : length code.functions ≤ most_instances
+  pub all : all_forms code.functions ≤ most_program_forms

@@ -1,14 +1,7 @@
 -- The variables that a code needs: those that it reads and has not bound itself.
 use Rattle.std.specs.Prelude.{ℕ, List, [], ◌∷◌, ◌++◌}
 use Rattle.kk_syntax.specs.Shapes.{without}
-use Rattle.kk_core.specs.Codes.{Operation, number, unit, read_byte, print_text, apply, Code, give, tail_call, branch, case, compute, use_of, unpack, inside, Arms, no_arm, arm}
-
-abbrev pub read_by : Operation → List ℕ
-read_by (number value) = []
-read_by unit = []
-read_by read_byte = []
-read_by (print_text form text) = []
-read_by (apply form arguments) = arguments
+use Rattle.kk_core.specs.Codes.{Code, give, tail_call, branch, case, compute, use_of, unpack, inside, Arms, no_arm, arm}
 
 -- the variables that a code needs, where what comes after its end needs some; as often as they are read
 abbrev mutual
@@ -17,9 +10,9 @@ abbrev mutual
   needed later (tail_call f arguments) = arguments ++ later
   needed later (branch x positive negative) = x ∷ (needed later positive ++ needed later negative)
   needed later (case x arms) = x ∷ needed_by_arms later arms
-  needed later (compute x operation rest) = read_by operation ++ without (x ∷ []) (needed later rest)
+  needed later (compute x form arguments rest) = arguments ++ without (x ∷ []) (needed later rest)
   needed later (use_of x rest) = x ∷ needed later rest
-  needed later (unpack x fields rest) = x ∷ without fields (needed later rest)
+  needed later (unpack x c fields rest) = x ∷ without fields (needed later rest)
   needed later (inside x block rest) = needed (without (x ∷ []) (needed later rest)) block
 
   pub needed_by_arms : List ℕ → Arms → List ℕ

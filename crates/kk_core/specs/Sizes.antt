@@ -1,8 +1,33 @@
--- The shape of a code: how long it is, and that its variables are in order.
-use Rattle.std.specs.Prelude.{◌≡◌, ℕ, zero, suc, ◌+◌, ◌≤◌, List, [], ◌∷◌, ◌++◌, true}
+-- The shape of a code: how long it is, how long it can be, and that its variables are in order.
+use Rattle.std.specs.Prelude.{◌≡◌, ℕ, zero, suc, ◌+◌, ◌*◌, ◌≤◌, List, [], ◌∷◌, ◌++◌, true}
+use Rattle.kk_base.specs.declared.limit.LimitKind.TheVariants.{Parameters, FunctionNodes, Instances, ProgramNodes}
+use Rattle.kk_base.specs.Limits.{greatest_of}
 use Rattle.kk_syntax.specs.Shapes.{is_among}
 use Rattle.kk_core.specs.Codes.{Code, give, tail_call, branch, case, compute, use_of, unpack, inside, Arms, no_arm, arm, FunctionCode}
-use Rattle.kk_core.specs.Needed.{read_by}
+
+-- the limits of a program: the parameters of a function, the nodes of its body, the functions, and all nodes together
+abbrev pub most_parameters : ℕ
+most_parameters = greatest_of Parameters
+
+abbrev pub most_nodes : ℕ
+most_nodes = greatest_of FunctionNodes
+
+abbrev pub most_instances : ℕ
+most_instances = greatest_of Instances
+
+abbrev pub most_program_nodes : ℕ
+most_program_nodes = greatest_of ProgramNodes
+
+-- what they make of its core form: a node binds at most one variable, and makes at most two forms, with one more for each
+-- function
+abbrev pub most_variables : ℕ
+most_variables = most_nodes + most_parameters
+
+abbrev pub most_forms : ℕ
+most_forms = 2 * most_nodes + 1
+
+abbrev pub most_program_forms : ℕ
+most_program_forms = 2 * most_program_nodes + most_instances
 
 -- the number of forms in a code
 abbrev mutual
@@ -11,9 +36,9 @@ abbrev mutual
   forms (tail_call f arguments) = 1
   forms (branch x positive negative) = forms positive + forms negative + 1
   forms (case x arms) = forms_of_arms arms + 1
-  forms (compute x operation rest) = forms rest + 1
+  forms (compute x form arguments rest) = forms rest + 1
   forms (use_of x rest) = forms rest + 1
-  forms (unpack x fields rest) = forms rest + 1
+  forms (unpack x c fields rest) = forms rest + 1
   forms (inside x block rest) = forms block + forms rest + 1
 
   pub forms_of_arms : Arms → ℕ
@@ -38,9 +63,9 @@ abbrev mutual
   Ordered bound low (tail_call f arguments) high = AreBound bound arguments × (low ≤ high)
   Ordered bound low (branch x positive negative) high = (middle : ℕ) × (is_among bound x ≡ true) × Ordered bound low positive middle × Ordered bound middle negative high
   Ordered bound low (case x arms) high = (is_among bound x ≡ true) × OrderedArms bound low arms high
-  Ordered bound low (compute x operation rest) high = AreBound bound (read_by operation) × (low ≤ x) × Ordered (x ∷ bound) (x + 1) rest high
+  Ordered bound low (compute x form arguments rest) high = AreBound bound arguments × (low ≤ x) × Ordered (x ∷ bound) (x + 1) rest high
   Ordered bound low (use_of x rest) high = (is_among bound x ≡ true) × Ordered bound low rest high
-  Ordered bound low (unpack x fields rest) high = (middle : ℕ) × (is_among bound x ≡ true) × Rise low fields middle × Ordered (fields ++ bound) middle rest high
+  Ordered bound low (unpack x c fields rest) high = (middle : ℕ) × (is_among bound x ≡ true) × Rise low fields middle × Ordered (fields ++ bound) middle rest high
   Ordered bound low (inside x block rest) high = Ordered bound low block x × Ordered (x ∷ bound) (x + 1) rest high
 
   pub OrderedArms : List ℕ → ℕ → Arms → ℕ → Type 0

@@ -1,12 +1,14 @@
 ghost use Rattle.std.specs.Prelude.{◌<◌, vec_len};
 
-use kk_syntax::{Form, Pat, PrintForm, StringLiteral};
+use kk_syntax::{Form, Pat, StringLiteral};
 
 /// A program in core form.
 #[derive(Debug, Drop)]
 pub struct Core {
     /// The functions, in the order of the program that it was made of: a call names one by its number, from 0.
     pub functions: Vec<CoreFunction>,
+    /// The string literals that are printed: a print of one names it by its number, from 0.
+    pub texts: Vec<StringLiteral>,
     /// The number of `main`.
     pub main: u32,
     pub ghost main_in: { main < vec_len functions },
@@ -35,12 +37,14 @@ pub struct Block {
 #[cycle(block)]
 #[derive(Debug, Drop)]
 pub enum Step {
-    /// The variable takes the value of the operation.
-    Let(u32, Operation),
+    /// The variable takes the value of the form on the variables behind it: of a number or another form without
+    /// arguments, an operator, a print, a construction, or a call that is no tail call.
+    Let(u32, Form, Vec<u32>),
     /// The variable is still of use here. Nothing is done.
     Use(u32),
-    /// The variables take the fields of the cell that the first one names, in their order.
-    Open(u32, Vec<u32>),
+    /// The variables behind the constructor's number take the fields of the cell that the first one names, in their
+    /// order. The constructor has made that cell.
+    Open(u32, u32, Vec<u32>),
     /// The variable takes the value of the block, which is run first.
     Inside(u32, Block),
 }
@@ -66,18 +70,4 @@ pub enum Last {
 pub struct Arm {
     pub pattern: Pat,
     pub body: Block,
-}
-
-/// What is computed.
-#[derive(Debug, Drop)]
-pub enum Operation {
-    Number(i32),
-    /// `()`
-    Unit,
-    /// The next byte of the input, or -1 at its end.
-    ReadByte,
-    /// A print of a string literal.
-    PrintText(PrintForm, StringLiteral),
-    /// A form on variables: an operator, a print of a number, a construction, or a call that is no tail call.
-    Apply(Form, Vec<u32>),
 }

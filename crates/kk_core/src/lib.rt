@@ -1,6 +1,8 @@
 //! The core form of a program: its intermediate results have names, in the order in which they are computed.
 #![tactic(auto)]
 
+mod decisions;
 mod form;
 
-pub use form::{Arm, Block, Core, CoreFunction, Last, Operation, Step};
+pub use decisions::{Answer, Decisions, Edge, Node};
+pub use form::{Arm, Block, Core, CoreFunction, Last, Step};

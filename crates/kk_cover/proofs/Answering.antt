@@ -1,8 +1,8 @@
 -- A match as rows of one position.
 use Rattle.std.proofs.Common.{inl, inr, List, [], ◌∷◌, map}
 use Rattle.kk_cover.specs.Covered.{Each, IsExample}
-use Rattle.kk_cover.specs.Outlines.{Outline, Outlines, no_outline, outline, Clash, ClashIn}
-use Rattle.kk_cover.specs.OfType.{Values, IsPatternOf, ArePatternsOf}
+use Rattle.kk_syntax.specs.Outlines.{Outline, Outlines, no_outline, outline, Clash, ClashIn}
+use Rattle.kk_syntax.specs.OfType.{Values, IsPatternOf, ArePatternsOf}
 use Rattle.kk_cover.specs.Narrowing.{IsExampleIn, top}
 
 abbrev pub ones : List Outline → List Outlines

@@ -7,8 +7,8 @@ use Rattle.kk_cover.specs.declared.problem.Asked.TheVariants as OfAsked
 use Rattle.kk_cover.specs.declared.problem.Head.{Head}
 use Rattle.kk_cover.specs.declared.problem.Head.TheVariants.{Free, Number, Constructor}
 use Rattle.kk_cover.specs.Covered.{Each}
-use Rattle.kk_cover.specs.Outlines.{any, exactly, made, Outlines, no_outline, outline, ClashIn}
-use Rattle.kk_cover.specs.OfType.{Values, ArePatternsOf}
+use Rattle.kk_syntax.specs.Outlines.{any, exactly, made, Outlines, no_outline, outline, ClashIn}
+use Rattle.kk_syntax.specs.OfType.{Values, ArePatternsOf}
 use Rattle.kk_cover.specs.Narrowing.{IsExampleIn, IsCoveredIn, join, anys, front, back, narrowed, opened}
 use Rattle.kk_cover.specs.Problems.{OpenProblem, plug, built, child, has_blank, has_constructor, first_asked, LacksNumber, owner, arity, made_child, children, IsEnough, StepsTo, Settles}
 use Rattle.kk_cover.proofs.Keeping.{each-append, each_front, each_back}

@@ -4,7 +4,7 @@ use Rattle.std.proofs.lemmas.List.{get_or_past}
 use Rattle.kk_syntax.specs.Programs.{ConstructorTree, ProgramTree}
 use Rattle.kk_cover.specs.declared.problem.Asked.{Asked}
 use Rattle.kk_cover.specs.declared.problem.Asked.TheVariants as OfAsked
-use Rattle.kk_cover.specs.Outlines.{Outline, any, exactly, made, Outlines, no_outline, outline}
+use Rattle.kk_syntax.specs.Outlines.{Outline, any, exactly, made, Outlines, no_outline, outline}
 use Rattle.kk_cover.specs.Turned.{rotated, first_leading, turned}
 use Rattle.kk_cover.specs.Narrowing.{join, front, back, anys, kept, narrow, narrowed, open_row, opened}
 use Rattle.kk_cover.specs.Problems.{OpenProblem, asked, or_else, first_asked, no_constructor, owner, arity, made_child, children, StepsTo, Settles}

@@ -1,7 +1,7 @@
 -- Patterns of several positions, put behind one another and taken apart: their types and their clashes.
 use Rattle.std.proofs.Common.{◌⊎◌, inl, inr, ℕ, zero, suc, List, [], ◌∷◌, ◌++◌, length}
-use Rattle.kk_cover.specs.Outlines.{Outline, any, exactly, made, Outlines, no_outline, outline, HaveSmallNumbers, Clash, ClashIn}
-use Rattle.kk_cover.specs.OfType.{Values, ArePatternsOf}
+use Rattle.kk_syntax.specs.Outlines.{Outline, any, exactly, made, Outlines, no_outline, outline, HaveSmallNumbers, Clash, ClashIn}
+use Rattle.kk_syntax.specs.OfType.{Values, ArePatternsOf}
 use Rattle.kk_cover.specs.Narrowing.{join, anys, front, back}
 
 pub typed_join : {T : Type 0} (values : Values T) (us ts : List T) (qs ps : Outlines) → ArePatternsOf values us qs → ArePatternsOf values ts ps → ArePatternsOf values (us ++ ts) (join qs ps)

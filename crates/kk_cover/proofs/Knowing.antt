@@ -6,7 +6,7 @@ use Rattle.std.proofs.lemmas.Option.{slice_get_within, slice_get-get_or, get_or_
 use Rattle.std.specs.List.{slice_get}
 use Rattle.kk_syntax.specs.Types.{TypeTree, int32, unit_type, type_variable, named, TypeTrees}
 use Rattle.kk_syntax.specs.Programs.{ConstructorTree, ProgramTree}
-use Rattle.kk_cover.specs.OfType.{values_of, fields_of, fields_at, with_arguments, is_int32}
+use Rattle.kk_syntax.specs.OfType.{values_of, fields_of, fields_at, with_arguments, is_int32}
 use Rattle.kk_cover.specs.Problems.{no_constructor, owner, arity}
 use Rattle.kk_cover.proofs.Deciding.{Knows}
 

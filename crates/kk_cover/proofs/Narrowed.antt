@@ -4,8 +4,8 @@ use Rattle.std.proofs.lemmas.Bool.{both_ways}
 use Rattle.kk_cover.specs.declared.problem.Asked.{Asked}
 use Rattle.kk_cover.specs.declared.problem.Asked.TheVariants.{Nothing, Number, Constructor}
 use Rattle.kk_cover.specs.Covered.{Each}
-use Rattle.kk_cover.specs.Outlines.{Outline, any, exactly, made, Outlines, no_outline, outline, HasSmallNumbers, HaveSmallNumbers, Clash, ClashIn}
-use Rattle.kk_cover.specs.OfType.{Values, IsPatternOf, ArePatternsOf}
+use Rattle.kk_syntax.specs.Outlines.{Outline, any, exactly, made, Outlines, no_outline, outline, HasSmallNumbers, HaveSmallNumbers, Clash, ClashIn}
+use Rattle.kk_syntax.specs.OfType.{Values, IsPatternOf, ArePatternsOf}
 use Rattle.kk_cover.specs.Narrowing.{IsExampleIn, join, anys, front, back, narrow, narrowed, open_row, opened}
 use Rattle.kk_cover.specs.Problems.{is_blank, has_blank, has_constructor, asks_for, asked, or_else, first_asked, LacksNumber}
 use Rattle.kk_cover.proofs.Joining.{typed_join, typed_front, typed_back, typed_anys, small_join, small_front, small_back, small_anys}

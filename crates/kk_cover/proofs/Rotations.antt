@@ -2,8 +2,8 @@
 use Rattle.std.proofs.Common.{◌≡◌, ◌≤◌, inl, inr, ℕ, List, [], ◌∷◌, ◌++◌, length, map, take, drop, refl, sym, ap, subst, arith, length-append}
 use Rattle.std.proofs.lemmas.List.{take-append-drop, length-take-le}
 use Rattle.kk_cover.specs.Covered.{Each}
-use Rattle.kk_cover.specs.Outlines.{any, exactly, made, Outlines, no_outline, outline, HaveSmallNumbers, ClashIn}
-use Rattle.kk_cover.specs.OfType.{Values, ArePatternsOf}
+use Rattle.kk_syntax.specs.Outlines.{any, exactly, made, Outlines, no_outline, outline, HaveSmallNumbers, ClashIn}
+use Rattle.kk_syntax.specs.OfType.{Values, ArePatternsOf}
 use Rattle.kk_cover.specs.Narrowing.{IsExampleIn, IsCoveredIn, join, front, back}
 use Rattle.kk_cover.specs.Problems.{OpenProblem}
 use Rattle.kk_cover.specs.Turned.{rotated, leading, first_leading, turned}

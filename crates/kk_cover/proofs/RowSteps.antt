@@ -2,8 +2,8 @@
 use Rattle.std.proofs.Common.{◌≡◌, inl, inr, ℕ, ℤ, false, ◌==◌, List, ◌∷◌, ◌++◌, length, Some, sym, subst}
 use Rattle.std.proofs.lemmas.Bool.{both_ways, eqb-true, eq-eqb, cases_eq}
 use Rattle.kk_cover.specs.declared.problem.Asked.TheVariants.{Nothing}
-use Rattle.kk_cover.specs.Outlines.{Outline, any, exactly, made, Outlines, no_outline, outline, ClashIn}
-use Rattle.kk_cover.specs.OfType.{Values, ArePatternsOf}
+use Rattle.kk_syntax.specs.Outlines.{Outline, any, exactly, made, Outlines, no_outline, outline, ClashIn}
+use Rattle.kk_syntax.specs.OfType.{Values, ArePatternsOf}
 use Rattle.kk_cover.specs.Narrowing.{join, anys, front, back, narrow, open_row}
 use Rattle.kk_cover.specs.Problems.{asks_for, asked, LacksNumber}
 use Rattle.kk_cover.proofs.Joining.{typed_join, typed_anys, any_clash, anys_clash, clash_split, clash_left, clash_right}

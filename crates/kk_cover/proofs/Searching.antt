@@ -3,8 +3,8 @@ use Rattle.std.proofs.Common.{◌≡◌, true, false, List, [], ◌∷◌, ◌++
 use Rattle.kk_syntax.specs.Types.{TypeTree}
 use Rattle.kk_syntax.specs.Programs.{ProgramTree}
 use Rattle.kk_cover.specs.Covered.{Each, IsExample, IsCovered}
-use Rattle.kk_cover.specs.Outlines.{Outline, Outlines, ClashIn}
-use Rattle.kk_cover.specs.OfType.{Values, IsPatternOf, ArePatternsOf, values_of}
+use Rattle.kk_syntax.specs.Outlines.{Outline, Outlines, ClashIn}
+use Rattle.kk_syntax.specs.OfType.{Values, IsPatternOf, ArePatternsOf, values_of}
 use Rattle.kk_cover.specs.Narrowing.{IsExampleIn, IsCoveredIn, anys, top}
 use Rattle.kk_cover.specs.Problems.{OpenProblem, built, Settled}
 use Rattle.kk_cover.specs.Turned.{turned, Tells, Picked}

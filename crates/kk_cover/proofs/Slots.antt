@@ -7,7 +7,7 @@ use Rattle.kk_syntax.specs.declared.program.Pat.TheFolds.{fold-roll-Pat}
 use Rattle.kk_syntax.specs.Patterns.{Pattern, patterns_of, pattern_step, pattern_tree}
 use Rattle.kk_cover.specs.declared.problem.Slot.{Slot}
 use Rattle.kk_cover.specs.declared.problem.Slot.TheVariants.{Any}
-use Rattle.kk_cover.specs.Outlines.{Outline, any, exactly, made, outline, outline_of, outlines_of, outline_list, pattern_outline}
+use Rattle.kk_syntax.specs.Outlines.{Outline, any, exactly, made, outline, outline_of, outlines_of, outline_list, pattern_outline}
 use Rattle.kk_cover.specs.Narrowing.{join, anys, front, back}
 use Rattle.kk_cover.specs.Turned.{rotated}
 use Rattle.kk_cover.specs.Problems.{slot_outline, row_view}

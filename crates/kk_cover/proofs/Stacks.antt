@@ -4,7 +4,7 @@ use Rattle.std.proofs.lemmas.List.{map-append, take_more}
 use Rattle.kk_cover.specs.declared.problem.Head.{Head}
 use Rattle.kk_cover.specs.declared.problem.Problem.{Problem}
 use Rattle.kk_syntax.specs.declared.program.Pat.{Pat}
-use Rattle.kk_cover.specs.Outlines.{Outline, Outlines, no_outline, outline, outline_list, pattern_outline}
+use Rattle.kk_syntax.specs.Outlines.{Outline, Outlines, no_outline, outline, outline_list, pattern_outline}
 use Rattle.kk_cover.specs.Narrowing.{join, front, back, top}
 use Rattle.kk_cover.specs.Problems.{problem_view, plug, built, stacked_on, stacked}
 use Rattle.kk_cover.proofs.Deciding.{built-append}

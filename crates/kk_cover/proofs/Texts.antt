@@ -4,7 +4,7 @@ use Rattle.std.proofs.lemmas.Bool.{both_ways}
 use Rattle.std.specs.Prelude.{codes}
 use Rattle.kk_syntax.specs.declared.program.Pat.{Pat}
 use Rattle.kk_syntax.specs.Programs.{ProgramTree}
-use Rattle.kk_cover.specs.Outlines.{outline_list, pattern_outline}
+use Rattle.kk_syntax.specs.Outlines.{outline_list, pattern_outline}
 use Rattle.kk_cover.specs.Spelled.{spelled_parts, spelled_from}
 
 -- the brackets of parts, of which there are some

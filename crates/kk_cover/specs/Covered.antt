@@ -5,8 +5,8 @@ use Rattle.kk_syntax.specs.declared.program.Program.{Program}
 use Rattle.kk_syntax.specs.declared.program.Row.{Row}
 use Rattle.kk_syntax.specs.Programs.{program_tree}
 use Rattle.kk_syntax.specs.Types.{TypeTree}
-use Rattle.kk_cover.specs.Outlines.{Outline, HasSmallNumbers, Clash, pattern_outline}
-use Rattle.kk_cover.specs.OfType.{Values, IsPatternOf, values_of}
+use Rattle.kk_syntax.specs.Outlines.{Outline, HasSmallNumbers, Clash, pattern_outline}
+use Rattle.kk_syntax.specs.OfType.{Values, IsPatternOf, values_of}
 
 -- each element of a list has a property
 abbrev pub Each : {X : Type 0} → (X → Type 0) → List X → Type 0

@@ -1,8 +1,6 @@
 pub mod Covered
 pub mod Matches
 pub mod Narrowing
-pub mod OfType
-pub mod Outlines
 pub mod Problems
 pub mod Spelled
 pub mod Turned

@@ -1,8 +1,8 @@
 -- Rows of several patterns, one for each position, and what is left of them once the first position is known.
 use Rattle.std.specs.Prelude.{ℕ, ◌==◌, zero, suc, Bool, true, false, List, [], ◌∷◌, Option, None, Some}
 use Rattle.kk_cover.specs.Covered.{Each}
-use Rattle.kk_cover.specs.Outlines.{Outline, any, exactly, made, Outlines, no_outline, outline, HaveSmallNumbers, ClashIn}
-use Rattle.kk_cover.specs.OfType.{Values, ArePatternsOf}
+use Rattle.kk_syntax.specs.Outlines.{Outline, any, exactly, made, Outlines, no_outline, outline, HaveSmallNumbers, ClashIn}
+use Rattle.kk_syntax.specs.OfType.{Values, ArePatternsOf}
 
 -- an example for rows of several positions
 pub record IsExampleIn {T : Type 0} (values : Values T) (ts : List T) (rows : List Outlines) (es : Outlines) : Type 0 where

@@ -13,7 +13,7 @@ use Rattle.kk_cover.specs.declared.problem.Asked.TheVariants as OfAsked
 use Rattle.kk_cover.specs.declared.problem.Asked.TheVariants.{Nothing}
 use Rattle.kk_cover.specs.declared.problem.Problem.{Problem}
 use Rattle.kk_cover.specs.Covered.{Each}
-use Rattle.kk_cover.specs.Outlines.{Outline, any, exactly, made, Outlines, no_outline, outline, outline_list, pattern_outline}
+use Rattle.kk_syntax.specs.Outlines.{Outline, any, exactly, made, Outlines, no_outline, outline, outline_list, pattern_outline}
 use Rattle.kk_cover.specs.Narrowing.{front, back, narrowed, opened}
 
 abbrev pub slot_outline : Slot → Outline

@@ -2,7 +2,7 @@
 use Rattle.std.specs.Prelude.{ℕ, List, [], ◌++◌, codes, slice_index_or}
 use Rattle.std.specs.Fmt.{signed_decimal}
 use Rattle.kk_syntax.specs.Programs.{ProgramTree}
-use Rattle.kk_cover.specs.Outlines.{Outline, any, exactly, made, Outlines, no_outline, outline}
+use Rattle.kk_syntax.specs.Outlines.{Outline, any, exactly, made, Outlines, no_outline, outline}
 use Rattle.kk_cover.specs.Problems.{no_constructor}
 
 abbrev pub constructor_name : ProgramTree → ℕ → List ℕ

@@ -4,8 +4,8 @@ use Rattle.std.specs.Bool.{MatchBool}
 use Rattle.kk_syntax.specs.Programs.{ProgramTree}
 use Rattle.kk_syntax.specs.Types.{TypeTree}
 use Rattle.kk_cover.specs.Covered.{Each}
-use Rattle.kk_cover.specs.Outlines.{any, exactly, made, Outlines, no_outline, outline}
-use Rattle.kk_cover.specs.OfType.{ArePatternsOf, values_of}
+use Rattle.kk_syntax.specs.Outlines.{any, exactly, made, Outlines, no_outline, outline}
+use Rattle.kk_syntax.specs.OfType.{ArePatternsOf, values_of}
 use Rattle.kk_cover.specs.Narrowing.{IsExampleIn, IsCoveredIn, join, front, back}
 use Rattle.kk_cover.specs.Problems.{OpenProblem}
 

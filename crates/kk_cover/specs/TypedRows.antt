@@ -5,8 +5,8 @@ use Rattle.kk_syntax.specs.Programs.{ProgramTree}
 use Rattle.kk_syntax.specs.Types.{TypeTree}
 use Rattle.kk_syntax.specs.Typing.{Choice, holding}
 use Rattle.kk_cover.specs.Covered.{Each}
-use Rattle.kk_cover.specs.Outlines.{Outline}
-use Rattle.kk_cover.specs.OfType.{IsPatternOf, values_of}
+use Rattle.kk_syntax.specs.Outlines.{Outline}
+use Rattle.kk_syntax.specs.OfType.{IsPatternOf, values_of}
 
 -- rows are of one type, which is chosen among these
 pub record AreOfChosenType (program : ProgramTree) (choices : List Choice) (rows : List Outline) : Type 0 where

@@ -1,6 +1,6 @@
 ghost use Rattle.std.specs.Prelude.{◌≡◌, IfOk, OnOk, map};
 ghost use Rattle.kk_cover.specs.Narrowing.{anys, front, back, top};
-ghost use Rattle.kk_cover.specs.Outlines.{outline_list, pattern_outline};
+ghost use Rattle.kk_syntax.specs.Outlines.{outline_list, pattern_outline};
 ghost use Rattle.kk_cover.specs.Problems.{plug, built, stacked};
 
 use crate::problem::Head;

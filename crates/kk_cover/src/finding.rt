@@ -1,6 +1,6 @@
 ghost use Rattle.std.specs.Prelude.{◌≡◌, [], ◌∷◌, IfOk, map};
 ghost use Rattle.kk_cover.specs.Covered.{Answers, row_outlines};
-ghost use Rattle.kk_cover.specs.Outlines.{no_outline, outline};
+ghost use Rattle.kk_syntax.specs.Outlines.{no_outline, outline};
 ghost use Rattle.kk_cover.specs.Problems.{problem_view};
 
 use crate::problem::Problem;

@@ -5,7 +5,7 @@ ghost use Rattle.kk_syntax.specs.Types.{TypeTree};
 ghost use Rattle.kk_syntax.specs.Typing.{Choice, Scope, AreRowsTypedBy, IsTyping};
 ghost use Rattle.kk_cover.specs.Covered.{Each};
 ghost use Rattle.kk_cover.specs.Matches.{asked_by, matches};
-ghost use Rattle.kk_cover.specs.OfType.{IsPatternOf, values_of};
+ghost use Rattle.kk_syntax.specs.OfType.{IsPatternOf, values_of};
 ghost use Rattle.kk_cover.specs.TypedRows.{AreOfChosenType};
 
 /// In a typing, the rows of each match are of one type: the one that is taken for its scrutinee. So there is such a type for

@@ -1,9 +1,9 @@
 ghost use Rattle.std.specs.Prelude.{◌≡◌, true, IsTrue, IfOk, map, option_map};
 ghost use Rattle.kk_cover.specs.Narrowing.{narrow, open_row};
-ghost use Rattle.kk_cover.specs.Outlines.{pattern_outline};
+ghost use Rattle.kk_syntax.specs.Outlines.{pattern_outline};
 ghost use Rattle.kk_cover.specs.Problems.{slot_outline, row_view, is_blank, asks_for, asked, LacksNumber};
 ghost use Rattle.kk_cover.specs.Narrowing.{join, anys};
-ghost use Rattle.kk_cover.specs.Outlines.{outline_list};
+ghost use Rattle.kk_syntax.specs.Outlines.{outline_list};
 
 use crate::problem::{Asked, Slot};
 use kk_base::NoMemory;

@@ -4,18 +4,20 @@ use Rattle.std.specs.Prelude.{slice_get}
 use Rattle.std.specs.List.{flat_map}
 use Rattle.kk_syntax.specs.declared.program.Form.{Form}
 use Rattle.kk_syntax.specs.declared.program.Form.TheVariants.{Unary, Binary, Print, Construct, Call}
-use Rattle.kk_syntax.specs.Trees.{Tree, number, unit as unit_tree, variable, read_byte, print_text, apply, branch, match, sequence, no_tree, tree}
+use Rattle.kk_syntax.specs.Trees.{Tree, variable, apply, branch, match, sequence, no_tree, tree}
 use Rattle.kk_syntax.specs.Programs.{FunctionTree}
 use Rattle.kk_source.specs.State.{Setting, Value, Environment, Frame, arguments, branches, rows, statement, call, ended, heap_full, stack_full, end_at, Control, expression, value, stopped, Configuration}
 use Rattle.kk_source.specs.Notes.{events_of as seen_of}
 use Rattle.kk_source.specs.Matching.{Chosen, first_match}
-use Rattle.kk_source.specs.Step.{Action, goes, puts, takes, builds, calls, at_byte, piece_of, print_step, construct_step, call_step, form_step, choice_step, expression_step, value_step, step_at, step_of}
-use Rattle.kk_source.specs.SourceAfter.{performed, step}
+use Rattle.kk_source.specs.Step.{construct_step, call_step, form_step, choice_step, expression_step, value_step, step_at, step_of}
+use Rattle.kk_source.specs.SourceAfter.{step}
 use Rattle.kk_source.specs.Sound.{Sound}
 use Rattle.kk_source.proofs.Sound.{LeadsTo, step_sound}
 use Rattle.kk_meaning.specs.Turns.{quiet_turn, turn_of, TakesByte, Reads, events_of, end_of}
 use Rattle.kk_meaning.specs.declared.turn.Turn.{Turn}
 use Rattle.kk_meaning.specs.declared.turn.Turn.TheVariants.{WantsInput}
+use Rattle.kk_source.specs.Actions.{Action, goes, puts, takes, builds, calls, print_step, performed}
+use Rattle.kk_source.specs.FormEffects.{piece_of}
 
 quiet_events : (control : Control) → events_of (quiet_turn control) ≡ []
 quiet_events (expression e environment) = refl

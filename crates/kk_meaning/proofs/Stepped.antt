@@ -8,10 +8,11 @@ use Rattle.kk_syntax.specs.PositionsOf.{is_lent}
 use Rattle.kk_source.specs.State.{Setting, Value, Store, Environment, Frame, arguments, rows, statement, call, stack_full, end_at, Control, expression, value, stopped, Configuration}
 use Rattle.kk_source.specs.Live.{counted, live, is_live}
 use Rattle.kk_source.specs.Matching.{Chosen, first_match}
-use Rattle.kk_source.specs.Step.{goes, calls, at_end, in_body, bind, bind_parameters, call_frames, lent_places, choice_step, call_step, push_step, value_step}
+use Rattle.kk_source.specs.Step.{at_end, in_body, bind, bind_parameters, call_frames, lent_places, choice_step, call_step, push_step, value_step}
 use Rattle.kk_meaning.specs.Turns.{quiet_turn, turn_of}
 use Rattle.kk_meaning.specs.declared.turn.Turn.{Turn}
 use Rattle.kk_meaning.specs.declared.turn.Turn.TheVariants.{Went, StackFull}
+use Rattle.kk_source.specs.Actions.{goes, calls}
 
 abbrev pub machine : Control → List Frame → Store → Configuration
 machine control frames store = record { control = control; frames = frames; store = store }

@@ -3,10 +3,10 @@ use Rattle.std.specs.Prelude.{◌≡◌, ℕ, List, [], ◌∷◌, Option, Some,
 use Rattle.kk_base.specs.Trace.{Event, output, input as taken, input_end}
 use Rattle.kk_source.specs.Notes.{seen}
 use Rattle.kk_source.specs.State.{Setting, End, ended, heap_full, stack_full, Control, stopped, Configuration}
-use Rattle.kk_source.specs.Step.{Action, goes, puts, takes, builds, calls}
 use Rattle.kk_source.specs.SourceAfter.{step}
 use Rattle.kk_meaning.specs.declared.turn.Turn.{Turn}
 use Rattle.kk_meaning.specs.declared.turn.Turn.TheVariants.{Went, Printed, WantsInput, Ended, HeapFull, StackFull}
+use Rattle.kk_source.specs.Actions.{Action, goes, puts, takes, builds, calls}
 
 -- the turn of a step of which the world sees nothing, by what the machine is at after it
 abbrev pub quiet_turn : Control → Turn

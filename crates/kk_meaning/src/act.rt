@@ -3,11 +3,12 @@ ghost use Rattle.kk_syntax.specs.Programs.{function_tree, program_tree};
 ghost use Rattle.kk_source.specs.State.{end_at};
 ghost use Rattle.kk_source.specs.Live.{held_by_all, live as live_of};
 ghost use Rattle.kk_source.specs.Sound.{IsOlder};
-ghost use Rattle.kk_source.specs.Step.{goes, at_value, in_body, form_step, construct_step, call_step, push_step};
+ghost use Rattle.kk_source.specs.Step.{at_value, in_body, form_step, construct_step, call_step, push_step};
 ghost use Rattle.kk_meaning.specs.View.{value_view};
 ghost use Rattle.kk_meaning.specs.Machines.{setting_of, configuration_of, frames_below, Fits, IsBelow, IsCallBelow, HasNoCall};
 ghost use Rattle.kk_meaning.specs.Turns.{turn_of};
 ghost use Rattle.kk_meaning.specs.Performs.{Performs};
+ghost use Rattle.kk_source.specs.Actions.{goes};
 
 use crate::arithmetic::{binary, unary};
 use crate::call::{lent, parameters};

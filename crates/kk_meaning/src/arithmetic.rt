@@ -1,7 +1,7 @@
 ghost use Rattle.std.specs.Prelude.{◌≡◌};
 ghost use Rattle.kk_source.specs.Arithmetic.{negation_of, quotient_of, remainder_of};
-ghost use Rattle.kk_source.specs.Step.{unary_result, number_result};
 ghost use Rattle.kk_meaning.specs.View.{value_view};
+ghost use Rattle.kk_source.specs.FormEffects.{unary_result, number_result};
 
 use crate::value::Value;
 use kk_syntax::{BinaryOperator, UnaryOperator};

@@ -2,12 +2,13 @@ ghost use Rattle.std.specs.Prelude.{◌≡◌, ◌≤◌, None, map, vec_len};
 ghost use Rattle.kk_syntax.specs.Trees.{expr_tree, trees_of, apply as applied};
 ghost use Rattle.kk_source.specs.State.{end_at};
 ghost use Rattle.kk_source.specs.Sound.{IsOlder};
-ghost use Rattle.kk_source.specs.Step.{goes, at_value, part_step, expression_step, step_of};
+ghost use Rattle.kk_source.specs.Step.{at_value, part_step, expression_step, step_of};
 ghost use Rattle.kk_meaning.specs.View.{value_view, environment_of};
 ghost use Rattle.kk_meaning.specs.Frames.{block_tree, frame_view};
 ghost use Rattle.kk_meaning.specs.Machines.{setting_of, configuration_of, Fits, HasEnvironment};
 ghost use Rattle.kk_meaning.specs.Turns.{turn_of};
 ghost use Rattle.kk_meaning.specs.Performs.{Performs};
+ghost use Rattle.kk_source.specs.Actions.{goes};
 
 use crate::binding::Bindings;
 use crate::cell::Cell;

@@ -1,6 +1,6 @@
 ghost use Rattle.std.specs.Prelude.{◌≡◌, IfOk};
 ghost use Rattle.std.specs.Fmt.{signed_decimal};
-ghost use Rattle.kk_source.specs.Step.{piece_of};
+ghost use Rattle.kk_source.specs.FormEffects.{piece_of};
 
 use itoa::Buffer;
 use kk_base::{NoMemory, Text};

@@ -1,12 +1,13 @@
 ghost use Rattle.std.specs.Prelude.{◌≡◌, None, ◌∷◌, ◌++◌, [], IfOk};
 ghost use Rattle.kk_source.specs.State.{value as at, ended, end_at};
 ghost use Rattle.kk_source.specs.Sound.{IsOlder};
-ghost use Rattle.kk_source.specs.Step.{goes, at_end, value_step};
+ghost use Rattle.kk_source.specs.Step.{at_end, value_step};
 ghost use Rattle.kk_meaning.specs.View.{value_view};
 ghost use Rattle.kk_meaning.specs.Machines.{setting_of, configuration_of, Fits, Awaits, IsNewest, IsCall};
 ghost use Rattle.kk_meaning.specs.Turns.{turn_of};
 ghost use Rattle.kk_meaning.specs.Performs.{Performs};
 ghost use Rattle.kk_meaning.specs.declared.frame.Frame.TheVariants as OfFrame;
+ghost use Rattle.kk_source.specs.Actions.{goes};
 
 use crate::binding::Bound;
 use crate::frame::{Block, Frame};

@@ -1,6 +1,6 @@
 ghost use Rattle.std.specs.Prelude.{◌≡◌, map};
-ghost use Rattle.kk_source.specs.Step.{argument as argument_of, byte_value, integer_of, is_true, truth};
 ghost use Rattle.kk_meaning.specs.View.{value_view};
+ghost use Rattle.kk_source.specs.FormEffects.{argument as argument_of, byte_value, integer_of, is_true, truth};
 
 use kk_syntax::Program;
 

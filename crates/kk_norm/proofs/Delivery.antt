@@ -8,8 +8,9 @@ use Rattle.kk_base.proofs.Machines.{weight_of-at_most}
 use Rattle.kk_syntax.specs.Trees.{Tree}
 use Rattle.kk_syntax.specs.Shapes.{free, nodes_of}
 use Rattle.kk_source.specs.Notes.{Note}
-use Rattle.kk_source.specs.State.{Setting, Value, Store, Environment, Frame, End, Control, expression, value, stopped, State}
+use Rattle.kk_source.specs.State.{Setting, Value, Store, Environment, Frame, End, Control, expression, value, stopped}
 use Rattle.kk_source.specs.Live.{value_of}
+use Rattle.kk_source.specs.SourceAfter.{State}
 use Rattle.kk_core.specs.Codes.{Code, give, use_of}
 use Rattle.kk_core.specs.CoreStates.{Join, CallFrame, running, stopped as core_stopped, CoreState}
 use Rattle.kk_core.specs.CoreMachine.{core_machine, core_ending_of}

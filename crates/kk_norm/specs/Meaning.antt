@@ -6,8 +6,8 @@ use Rattle.kk_syntax.specs.Shapes.{greatest_nodes}
 use Rattle.kk_syntax.specs.Programs.{ProgramTree}
 use Rattle.kk_syntax.specs.PositionsOf.{PositionTable}
 use Rattle.kk_source.specs.Notes.{Note}
-use Rattle.kk_source.specs.State.{Setting, End, State}
-use Rattle.kk_source.specs.SourceAfter.{step, ending_of, first_state}
+use Rattle.kk_source.specs.State.{Setting, End}
+use Rattle.kk_source.specs.SourceAfter.{step, ending_of, first_state, State}
 use Rattle.kk_core.specs.Codes.{ProgramCode}
 use Rattle.kk_core.specs.CoreStates.{CoreSetting, CoreState, core_first_state}
 use Rattle.kk_core.specs.CoreMachine.{core_machine}

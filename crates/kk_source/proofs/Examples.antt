@@ -7,10 +7,10 @@ use Rattle.kk_base.specs.Trace.{output, input, input_end}
 use Rattle.kk_syntax.specs.declared.operator.BinaryOperator.TheVariants.{Add, Subtract, Multiply, Equal, GreaterEqual}
 use Rattle.kk_syntax.specs.declared.positions.Ownership.TheVariants.{Lent}
 use Rattle.kk_syntax.specs.Patterns.{anything, variable as names}
-use Rattle.kk_syntax.specs.Trees.{Tree, number, unit, variable, read_byte, branch, match, no_row, row}
+use Rattle.kk_syntax.specs.Trees.{Tree, variable, branch, match, no_row, row}
 use Rattle.kk_source.specs.State.{Setting, ended, heap_full, stack_full}
 use Rattle.kk_source.specs.SourceAfter.{source_after}
-use Rattle.kk_source.proofs.Builder.{binary, called, made, printed, of_made, bound_to, then, program}
+use Rattle.kk_source.proofs.Builder.{number, unit, read_byte, binary, called, made, printed, of_made, bound_to, then, program}
 
 -- fun main() { println(1 + 2 * 3) }
 -- 1 the print waits, 2 the sum waits, 3 a value, 4 is kept, 5 the product waits, 6 a value, 7 is kept, 8 a value,

@@ -6,16 +6,17 @@ use Rattle.std.proofs.lemmas.Grind.{flat_map-append}
 use Rattle.kk_base.specs.Trace.{Event, TakesFrom, IsPrefix}
 use Rattle.kk_base.specs.Machines.{Machine, step_unless, trace, state, ending_after, mapped}
 use Rattle.kk_base.proofs.Machines.{trace-mapped}
-use Rattle.kk_source.specs.State.{Setting, End, Value, State}
+use Rattle.kk_source.specs.State.{Setting, End, Value, Configuration}
 use Rattle.kk_source.specs.Notes.{events_of}
 use Rattle.kk_source.specs.Live.{is_live, Reached}
-use Rattle.kk_source.specs.Step.{Action, goes, puts, takes, builds, calls, step_of}
-use Rattle.kk_source.specs.SourceAfter.{performed, step, ending_of, store_machine, source_machine, first_state, After, source_after, HasRoom}
+use Rattle.kk_source.specs.Step.{step_of}
+use Rattle.kk_source.specs.SourceAfter.{step, ending_of, store_machine, source_machine, first_state, After, source_after, HasRoom, State}
 use Rattle.kk_source.specs.Sound.{Sound}
 use Rattle.kk_source.proofs.Live.{live_reached, reached_live}
 use Rattle.kk_source.proofs.Sound.{LeadsTo, step_sound, start_sound}
 use Rattle.kk_source.proofs.Roomier.{goes_further}
 use Rattle.kk_source.proofs.TakenInput.{same_taken}
+use Rattle.kk_source.specs.Actions.{Action, goes, puts, takes, builds, calls, performed}
 
 -- a machine of which less is seen comes to the same states
 state-mapped : {S E F W V : Type 0} (events : E → List F) (seen : W → V) (machine : Machine S E W) (n : ℕ) (s : S) → state (mapped events seen machine) n s ≡ state machine n s
@@ -23,7 +24,7 @@ state-mapped events seen machine zero s = refl
 state-mapped events seen machine (suc n) s = state-mapped events seen machine n (machine.step s).1
 
 -- sound states lead to sound ones
-performed_sound : (action : Action) (input : List ℕ) → LeadsTo Sound action → Sound (performed action input).1.machine
+performed_sound : (action : Action Configuration) (input : List ℕ) → LeadsTo Sound action → Sound (performed action input).1.machine
 performed_sound (goes to) input s = s
 performed_sound (puts piece to) input s = s
 performed_sound (takes to) [] s = s None

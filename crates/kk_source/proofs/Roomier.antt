@@ -6,19 +6,20 @@ use Rattle.kk_base.specs.Trace.{IsPrefix}
 use Rattle.kk_base.specs.Machines.{step_unless, trace, state, ending_after}
 use Rattle.kk_base.proofs.Machines.{trace_ended, state_ended}
 use Rattle.kk_syntax.specs.declared.program.Form.{Form}
-use Rattle.kk_syntax.specs.declared.program.Form.TheVariants.{Unary, Binary, Print, Construct, Call}
-use Rattle.kk_syntax.specs.Trees.{Tree, number, unit as unit_tree, variable, read_byte, print_text, apply, branch, match, sequence, no_tree, tree}
+use Rattle.kk_syntax.specs.Trees.{Tree, variable, apply, branch, match, sequence, no_tree, tree}
 use Rattle.kk_syntax.specs.Programs.{FunctionTree}
 use Rattle.kk_syntax.specs.PositionsOf.{is_lent}
-use Rattle.kk_source.specs.State.{Setting, Value, Environment, Frame, arguments, branches, rows, statement, call, End, heap_full, stack_full, Control, expression, value, stopped, Configuration, State}
+use Rattle.kk_source.specs.State.{Setting, Value, Environment, Frame, arguments, branches, rows, statement, call, End, heap_full, stack_full, Control, expression, value, stopped, Configuration}
 use Rattle.kk_source.specs.Notes.{Note}
 use Rattle.kk_source.specs.Live.{held_by_all, live}
-use Rattle.kk_source.specs.Step.{Action, builds, calls, at_end, at_new_place, in_body, lent_places, call_frames, construct_step, push_step, call_step, form_step, expression_step, value_step, step_at, step_of}
-use Rattle.kk_source.specs.SourceAfter.{performed, step, ending_of, store_machine, HasRoom}
+use Rattle.kk_source.specs.Step.{at_value, at_end, at_new_place, in_body, lent_places, call_frames, construct_step, push_step, call_step, form_step, expression_step, value_step, step_at, step_of}
+use Rattle.kk_source.specs.SourceAfter.{step, ending_of, store_machine, HasRoom, State}
+use Rattle.kk_source.specs.Actions.{Action, builds, calls, performed}
+use Rattle.kk_source.specs.FormEffects.{FormEffect, gives, prints, reads, makes, enters, form_effect, effect_step}
 
 -- the same, or a stop where the other goes on
-data Follows : Action → Action → Type 0 where
-  same : (a : Action) → Follows a a
+data Follows : Action Configuration → Action Configuration → Type 0 where
+  same : (a : Action Configuration) → Follows a a
   no_cell : (found : ℕ) → (c to : Configuration) → Follows (builds found (at_end heap_full c)) (builds found to)
   no_frame : (found : ℕ) → (c to : Configuration) → Follows (calls found (at_end stack_full c)) (calls found to)
 
@@ -30,10 +31,9 @@ module _ (setting : Setting) (cells depth : ℕ) (more_cells : setting.cells ≤
   room n m k le full = grind arith
 
   construct_follows : (c : ℕ) (vs : List Value) (older : List Frame) (from : Configuration) → Follows (construct_step setting c vs older from) (construct_step large c vs older from)
-  construct_follows c [] older from = same _
-  construct_follows c (v ∷ vs) older from = by_test (nat_le setting.cells (live from.store ((v ∷ vs) ++ held_by_all older))) refl
+  construct_follows c vs older from = by_test (nat_le setting.cells (live from.store (vs ++ held_by_all older))) refl
     where
-      by_test : (full : Bool) → nat_le setting.cells (live from.store ((v ∷ vs) ++ held_by_all older)) ≡ full → Follows (builds (live from.store ((v ∷ vs) ++ held_by_all older)) (if full then at_end heap_full from else at_new_place c (v ∷ vs) (record from { frames = older }))) (builds (live from.store ((v ∷ vs) ++ held_by_all older)) (if nat_le cells (live from.store ((v ∷ vs) ++ held_by_all older)) then at_end heap_full from else at_new_place c (v ∷ vs) (record from { frames = older })))
+      by_test : (full : Bool) → nat_le setting.cells (live from.store (vs ++ held_by_all older)) ≡ full → Follows (builds (live from.store (vs ++ held_by_all older)) (if full then at_end heap_full from else at_new_place c vs (record from { frames = older }))) (builds (live from.store (vs ++ held_by_all older)) (if nat_le cells (live from.store (vs ++ held_by_all older)) then at_end heap_full from else at_new_place c vs (record from { frames = older })))
       by_test true is = no_cell _ from _
       by_test false is = rw (room setting.cells cells _ more_cells is) (same _)
 
@@ -54,18 +54,17 @@ module _ (setting : Setting) (cells depth : ℕ) (more_cells : setting.cells ≤
   call_follows f (Some function) vs (statement x rest env ∷ older) from = push_follows f function vs (statement x rest env ∷ older) from
 
   form_follows : (form : Form) (vs : List Value) (older : List Frame) (from : Configuration) → Follows (form_step setting form vs older from) (form_step large form vs older from)
-  form_follows (Unary operator) vs older from = same _
-  form_follows (Binary operator) vs older from = same _
-  form_follows (Print form) vs older from = same _
-  form_follows (Construct c) vs older from = construct_follows c vs older from
-  form_follows (Call f) vs older from = call_follows f (slice_get setting.program.functions f) vs older from
+  form_follows form vs older from = by_effect (form_effect setting.program.texts form vs)
+    where
+      by_effect : (effect : FormEffect) → Follows (effect_step (λ v. at_value v (record from { frames = older })) (λ c fields. construct_step setting c fields older from) (λ f arguments. call_step setting f (slice_get setting.program.functions f) arguments older from) effect) (effect_step (λ v. at_value v (record from { frames = older })) (λ c fields. construct_step large c fields older from) (λ f arguments. call_step large f (slice_get setting.program.functions f) arguments older from) effect)
+      by_effect (gives v) = same _
+      by_effect (prints piece) = same _
+      by_effect reads = same _
+      by_effect (makes c fields) = construct_follows c fields older from
+      by_effect (enters f values) = call_follows f (slice_get setting.program.functions f) values older from
 
   expression_follows : (e : Tree) (env : Environment) (c : Configuration) → Follows (expression_step setting e env c) (expression_step large e env c)
-  expression_follows (number n) env c = same _
-  expression_follows unit_tree env c = same _
   expression_follows (variable x) env c = same _
-  expression_follows read_byte env c = same _
-  expression_follows (print_text form text) env c = same _
   expression_follows (apply form no_tree) env c = form_follows form [] c.frames c
   expression_follows (apply form (tree first rest)) env c = same _
   expression_follows (branch condition p q) env c = same _
@@ -122,7 +121,7 @@ module _ (setting : Setting) (cells depth : ℕ) (more_cells : setting.cells ≤
         state_is = λ r. absurd (no_room r);
       }
 
-  further_next : (n : ℕ) (s : State) (a b : Action) → Follows a b → (store_machine setting).step s ≡ performed a s.input → (store_machine large).step s ≡ performed b s.input → ((next : State) → Further n next) → Further (suc n) s
+  further_next : (n : ℕ) (s : State) (a b : Action Configuration) → Follows a b → (store_machine setting).step s ≡ performed a s.input → (store_machine large).step s ≡ performed b s.input → ((next : State) → Further n next) → Further (suc n) s
   further_next n s x y (same a) small_is large_is later = further_same n s _ _ small_is large_is (later _)
   further_next n s x y (no_cell found c to) small_is large_is later = further_stopped n s _ _ _ heap_full small_is large_is refl (λ r. r)
   further_next n s x y (no_frame found c to) small_is large_is later = further_stopped n s _ _ _ stack_full small_is large_is refl (λ r. r)

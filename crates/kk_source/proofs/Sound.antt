@@ -1,21 +1,23 @@
 -- Each step keeps states sound.
-use Rattle.std.proofs.Common.{◌≡◌, ℕ, zero, suc, ◌+◌, ◌≤◌, ℤ, Bool, true, false, List, [], ◌∷◌, ◌++◌, length, Option, Some, None, arith, subst, length-append}
+use Rattle.std.proofs.Common.{◌≡◌, ℕ, zero, suc, ◌+◌, ◌≤◌, ℤ, pos, Bool, true, false, List, [], ◌∷◌, ◌++◌, length, Option, Some, None, arith, subst, length-append}
 use Rattle.std.specs.Prelude.{slice_get, if◌then◌else◌, ◌==◌}
 use Rattle.kk_syntax.specs.declared.operator.UnaryOperator.{UnaryOperator}
 use Rattle.kk_syntax.specs.declared.operator.UnaryOperator.TheVariants.{Negate, Not}
 use Rattle.kk_syntax.specs.declared.operator.BinaryOperator.{BinaryOperator}
 use Rattle.kk_syntax.specs.declared.operator.BinaryOperator.TheVariants.{Add, Subtract, Multiply, Divide, Remainder, Equal, NotEqual, Less, LessEqual, Greater, GreaterEqual}
 use Rattle.kk_syntax.specs.declared.program.Form.{Form}
-use Rattle.kk_syntax.specs.declared.program.Form.TheVariants.{Unary, Binary, Print, Construct, Call}
+use Rattle.kk_syntax.specs.declared.program.Form.TheVariants.{Number, Unit as Nothing, ReadByte, PrintText, Unary, Binary, Print, Construct, Call}
 use Rattle.kk_syntax.specs.Programs.{FunctionTree}
 use Rattle.kk_syntax.specs.PositionsOf.{is_lent}
 use Rattle.kk_syntax.specs.Patterns.{Pattern, anything, variable, exactly, constructor, Patterns, no_part, part}
-use Rattle.kk_syntax.specs.Trees.{Tree, number, unit as unit_tree, variable as variable_tree, read_byte, print_text, apply, branch, match, sequence, no_tree, tree, Rows, no_row, row}
+use Rattle.kk_syntax.specs.Trees.{Tree, variable as variable_tree, apply, branch, match, sequence, no_tree, tree, Rows, no_row, row}
 use Rattle.kk_source.specs.State.{Value, integer, unit, constant, place, Cell, Store, Environment, Frame, arguments, branches, rows, statement, call, heap_full, stack_full, Control, expression, value, stopped, Configuration, Setting, start}
 use Rattle.kk_source.specs.Live.{value_of, fields_in, fields_at}
 use Rattle.kk_source.specs.Matching.{is_integer, fields_made_by, fields_under, and_then, matched, matched_all, Chosen, chosen_or, first_match}
-use Rattle.kk_source.specs.Step.{Action, goes, puts, takes, builds, calls, at_expression, at_value, at_end, truth, unary_result, number_result, argument, print_step, byte_value, bind, bind_parameters, lent_places, at_new_place, in_body, construct_step, push_step, call_step, form_step, expression_step, choice_step, value_step, step_at, step_of}
+use Rattle.kk_source.specs.Step.{at_expression, at_value, at_end, bind, bind_parameters, lent_places, at_new_place, in_body, construct_step, push_step, call_step, form_step, expression_step, choice_step, value_step, step_at, step_of}
 use Rattle.kk_source.specs.Sound.{Within, AllWithin, BoundWithin, FrameWithin, FramesWithin, ControlWithin, IsOlder, Sound}
+use Rattle.kk_source.specs.Actions.{Action, goes, puts, takes, builds, calls, print_step}
+use Rattle.kk_source.specs.FormEffects.{FormEffect, gives, prints, reads, makes, enters, truth, unary_result, number_result, argument, byte_value, form_effect, effect_step}
 
 -- of a longer store
 pub within_more : (n m : ℕ) (v : Value) → n ≤ m → Within n v → Within m v
@@ -155,7 +157,7 @@ lent_within n lent next (place at ∷ vs) w =
     [ true ↦ (w.0, lent_within n lent (suc next) vs w.1) | false ↦ lent_within n lent (suc next) vs w.1 ]
 
 -- what a step leads to
-abbrev pub LeadsTo : (Configuration → Type 0) → Action → Type 0
+abbrev pub LeadsTo : (Configuration → Type 0) → Action Configuration → Type 0
 LeadsTo P (goes to) = P to
 LeadsTo P (puts piece to) = P to
 LeadsTo P (takes to) = (byte : Option ℕ) → P (to byte)
@@ -189,24 +191,49 @@ at_value_sound c v o w f = record { older = o; control = w; frames = f }
 at_expression_sound : (c : Configuration) (e : Tree) (env : Environment) → IsOlder c.store → BoundWithin (length c.store) env → FramesWithin (length c.store) c.frames → Sound (at_expression e env c)
 at_expression_sound c e env o w f = record { older = o; control = w; frames = f }
 
-print_sound : (piece : List ℕ) (c : Configuration) → IsOlder c.store → FramesWithin (length c.store) c.frames → LeadsTo Sound (print_step piece c)
-print_sound [] c o f = record { older = o; control = tt; frames = f }
-print_sound (b ∷ bs) c o f = record { older = o; control = tt; frames = f }
+print_sound : (piece : List ℕ) (to : Configuration) → Sound to → LeadsTo Sound (print_step piece to)
+print_sound [] to s = s
+print_sound (b ∷ bs) to s = s
 
 byte_within : (n : ℕ) (byte : Option ℕ) → Within n (byte_value byte)
 byte_within n None = tt
 byte_within n (Some b) = tt
 
+argument_within : (n index : ℕ) (vs : List Value) → AllWithin n vs → Within n (argument index vs)
+argument_within n index [] w = tt
+argument_within n zero (v ∷ vs) w = w.0
+argument_within n (suc index) (v ∷ vs) w = argument_within n index vs w.1
+
+-- what a form does is on values that are within
+EffectWithin : ℕ → FormEffect → Type 0
+EffectWithin n (gives v) = Within n v
+EffectWithin n (prints piece) = Unit {0}
+EffectWithin n reads = Unit {0}
+EffectWithin n (makes c fields) = AllWithin n fields
+EffectWithin n (enters f values) = AllWithin n values
+
+effect_within : (n : ℕ) (texts : List (List ℕ)) (form : Form) (vs : List Value) → AllWithin n vs → EffectWithin n (form_effect texts form vs)
+unfolding EffectWithin
+effect_within n texts (Number z) vs w = tt
+effect_within n texts Nothing vs w = tt
+effect_within n texts ReadByte vs w = tt
+effect_within n texts (PrintText form text) vs w = tt
+effect_within n texts (Unary operator) vs w = unary_within n operator _
+effect_within n texts (Binary operator) vs w = number_within n operator _ _
+effect_within n texts (Print form) vs w = tt
+effect_within n texts (Construct c) [] w = tt
+effect_within n texts (Construct c) (v ∷ vs) w = w
+effect_within n texts (Call f) vs w = w
+
 module _ (setting : Setting) where
   -- `from` is sound but for its control, and the values of a form and the older frames are within
   construct_sound : (c : ℕ) (vs : List Value) (older : List Frame) (from : Configuration) → IsOlder from.store → AllWithin (length from.store) vs → FramesWithin (length from.store) older → FramesWithin (length from.store) from.frames → LeadsTo Sound (construct_step setting c vs older from)
-  construct_sound c [] older from o w f g = record { older = o; control = tt; frames = f }
-  construct_sound c (v ∷ vs) older from o w f g = by_test _
+  construct_sound c vs older from o w f g = by_test _
     where
-      longer : length from.store ≤ length (from.store ++ record { made_by = c; fields = v ∷ vs } ∷ [])
+      longer : length from.store ≤ length (from.store ++ record { made_by = c; fields = vs } ∷ [])
       longer = omega (arith, length-append {A = Cell})
 
-      by_test : (full : Bool) → Sound (if full then at_end heap_full from else at_new_place c (v ∷ vs) (record from { frames = older }))
+      by_test : (full : Bool) → Sound (if full then at_end heap_full from else at_new_place c vs (record from { frames = older }))
       by_test true = record { older = o; control = tt; frames = g }
       by_test false = record {
         older = λ at. fields_in_longer from.store _ at w o;
@@ -231,24 +258,19 @@ module _ (setting : Setting) where
   call_sound f (Some function) vs (rows of env ∷ older) from s w g = push_sound f function vs (rows of env ∷ older) from s w g
   call_sound f (Some function) vs (statement x rest env ∷ older) from s w g = push_sound f function vs (statement x rest env ∷ older) from s w g
 
-  argument_within : (n index : ℕ) (vs : List Value) → AllWithin n vs → Within n (argument index vs)
-  argument_within n index [] w = tt
-  argument_within n zero (v ∷ vs) w = w.0
-  argument_within n (suc index) (v ∷ vs) w = argument_within n index vs w.1
-
   form_sound : (form : Form) (vs : List Value) (older : List Frame) (from : Configuration) → Sound from → AllWithin (length from.store) vs → FramesWithin (length from.store) older → LeadsTo Sound (form_step setting form vs older from)
-  form_sound (Unary operator) vs older from s w g = record { older = s.older; control = (unary_within _ operator _); frames = g }
-  form_sound (Binary operator) vs older from s w g = record { older = s.older; control = (number_within _ operator _ _); frames = g }
-  form_sound (Print form) vs older from s w g = print_sound _ _ s.older g
-  form_sound (Construct c) vs older from s w g = construct_sound c vs older from s.older w g s.frames
-  form_sound (Call f) vs older from s w g = call_sound f _ vs older from s w g
+  unfolding EffectWithin
+  form_sound form vs older from s w g = by_effect (form_effect setting.program.texts form vs) (effect_within _ _ form vs w)
+    where
+      by_effect : (effect : FormEffect) → EffectWithin (length from.store) effect → LeadsTo Sound (effect_step (λ v. at_value v (record from { frames = older })) (λ c fields. construct_step setting c fields older from) (λ f arguments. call_step setting f (slice_get setting.program.functions f) arguments older from) effect)
+      by_effect (gives v) e = record { older = s.older; control = e; frames = g }
+      by_effect (prints piece) e = print_sound piece _ (record { older = s.older; control = tt; frames = g })
+      by_effect reads e = λ byte. record { older = s.older; control = byte_within _ byte; frames = g }
+      by_effect (makes c fields) e = construct_sound c fields older from s.older e g s.frames
+      by_effect (enters f values) e = call_sound f _ values older from s e g
 
   expression_sound : (e : Tree) (env : Environment) (c : Configuration) → Sound c → BoundWithin (length c.store) env → LeadsTo Sound (expression_step setting e env c)
-  expression_sound (number n) env c s w = record { older = s.older; control = tt; frames = s.frames }
-  expression_sound unit_tree env c s w = record { older = s.older; control = tt; frames = s.frames }
   expression_sound (variable_tree x) env c s w = record { older = s.older; control = (within-value_of _ env x w); frames = s.frames }
-  expression_sound read_byte env c s w = λ byte. record { older = s.older; control = (byte_within _ byte); frames = s.frames }
-  expression_sound (print_text form text) env c s w = print_sound _ c s.older s.frames
   expression_sound (apply form no_tree) env c s w = form_sound form [] c.frames c s tt s.frames
   expression_sound (apply form (tree first rest)) env c s w = record { older = s.older; control = w; frames = ((tt, w), s.frames) }
   expression_sound (branch condition p q) env c s w = record { older = s.older; control = w; frames = (w, s.frames) }

@@ -4,10 +4,11 @@ use Rattle.std.specs.List.{flat_map}
 use Rattle.kk_base.specs.Trace.{output, input as taken, input_end, TakesFrom}
 use Rattle.kk_base.specs.Machines.{step_unless, trace, state}
 use Rattle.kk_base.proofs.Machines.{trace_ended, state_ended}
-use Rattle.kk_source.specs.State.{Setting, End, Configuration, State}
+use Rattle.kk_source.specs.State.{Setting, End, Configuration}
 use Rattle.kk_source.specs.Notes.{Note, seen, built, called, events_of}
-use Rattle.kk_source.specs.Step.{Action, goes, puts, takes, builds, calls, step_of}
-use Rattle.kk_source.specs.SourceAfter.{performed, step, ending_of, store_machine}
+use Rattle.kk_source.specs.Step.{step_of}
+use Rattle.kk_source.specs.SourceAfter.{step, ending_of, store_machine, State}
+use Rattle.kk_source.specs.Actions.{Action, goes, puts, takes, builds, calls, performed}
 
 abbrev at : Configuration → List ℕ → State
 at machine input = record { machine = machine; input = input }
@@ -37,7 +38,7 @@ module _ (setting : Setting) where
   from_later n machine next input left other rest notes first from_it =
       subst (λ (l : List Note). TakesFrom (flat_map events_of l) other rest) (ap (λ (p : List Note × State). p.0 ++ trace (store_machine setting) n p.1) first) from_it
 
-  by_action : (n : ℕ) (machine : Configuration) (input other rest : List ℕ) (action : Action) → Later n → ((i : List ℕ) → (store_machine setting).step (at machine i) ≡ performed action i) → TakesFrom (flat_map events_of (trace (store_machine setting) (suc n) (at machine input))) other rest → Same setting (suc n) machine input other rest
+  by_action : (n : ℕ) (machine : Configuration) (input other rest : List ℕ) (action : Action Configuration) → Later n → ((i : List ℕ) → (store_machine setting).step (at machine i) ≡ performed action i) → TakesFrom (flat_map events_of (trace (store_machine setting) (suc n) (at machine input))) other rest → Same setting (suc n) machine input other rest
   by_action n machine input other rest (goes to) later is takes_from =
       same_next n machine to input input other other rest [] (is input) (is other) (later to input other rest (from_later n machine to input input other rest [] (is input) takes_from))
   by_action n machine input other rest (puts piece to) later is takes_from =

@@ -1,5 +1,7 @@
+pub mod Actions
 pub mod Arithmetic
 pub mod Ends
+pub mod FormEffects
 pub mod Live
 pub mod Matching
 pub mod Notes

@@ -1,20 +1,17 @@
 -- What a run of a program has come to after a number of steps.
-use Rattle.std.specs.Prelude.{ℕ, List, [], ◌∷◌, Option, Some, None}
-use Rattle.kk_base.specs.Trace.{Event, output, input as taken, input_end}
+use Rattle.std.specs.Prelude.{ℕ, List, Option, Some, None}
+use Rattle.kk_base.specs.Trace.{Event}
 use Rattle.kk_base.specs.Machines.{Machine, until, mapped, trace, ending_after}
-use Rattle.kk_source.specs.Notes.{Note, seen, built, called, events_of}
-use Rattle.kk_source.specs.State.{Setting, End, ended, heap_full, stack_full, end_at, State, start}
-use Rattle.kk_source.specs.Step.{Action, goes, puts, takes, builds, calls, step_of}
+use Rattle.kk_source.specs.Notes.{Note, events_of}
+use Rattle.kk_source.specs.Actions.{WithInput, performed}
+use Rattle.kk_source.specs.State.{Setting, End, ended, heap_full, stack_full, end_at, Configuration, start}
+use Rattle.kk_source.specs.Step.{step_of}
 
--- what a step tells, and the state after it; where no input is left, a read meets its end, and it stays so
-abbrev pub performed : Action → List ℕ → List Note × State
-performed (goes to) input = ([], record { machine = to; input = input })
-performed (puts piece to) input = (seen (output piece) ∷ [], record { machine = to; input = input })
-performed (takes to) (byte ∷ rest) = (seen (taken byte) ∷ [], record { machine = to (Some byte); input = rest })
-performed (takes to) [] = (seen input_end ∷ [], record { machine = to None; input = [] })
-performed (builds found to) input = (built found ∷ [], record { machine = to; input = input })
-performed (calls found to) input = (called found ∷ [], record { machine = to; input = input })
+-- the store machine, and what is left of its input
+abbrev pub State : Type 0
+State = WithInput Configuration
 
+-- what a step tells, and the state after it
 abbrev pub step : Setting → State → List Note × State
 step setting s = performed (step_of setting s.machine) s.input
 

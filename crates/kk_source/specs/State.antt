@@ -69,11 +69,6 @@ pub record Configuration : Type 0 where
   pub frames : List Frame
   pub store : Store
 
--- the machine, and what is left of the input
-pub record State : Type 0 where
-  pub machine : Configuration
-  pub input : List ℕ
-
 -- At its start it is at the body of `main`. One call waits for it, which was lent nothing.
 abbrev pub start : Setting → Configuration
 start setting =

@@ -39,5 +39,6 @@ ground_program given = record {
   types = given.declarations.items;
   constructors = map constructor_tree given.constructors.items;
   functions = map (instance_tree (ground_types given.types.items)) given.instances.items;
+  texts = given.texts.items;
   main = 0;
 }

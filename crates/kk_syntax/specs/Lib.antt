@@ -1,4 +1,6 @@
 pub mod GroundPrograms
+pub mod OfType
+pub mod Outlines
 pub mod Patterns
 pub mod Places
 pub mod PlainTyping

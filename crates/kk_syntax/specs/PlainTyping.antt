@@ -2,9 +2,9 @@
 use Rattle.std.specs.Prelude.{◌≡◌, ◌≤◌, ℕ, List, [], ◌∷◌, map, Some, slice_get}
 use Rattle.kk_syntax.specs.declared.program.TypeDecl.{TypeDecl}
 use Rattle.kk_syntax.specs.declared.program.Form.{Form}
-use Rattle.kk_syntax.specs.declared.program.Form.TheVariants.{Unary, Binary, Print, Construct, Call}
+use Rattle.kk_syntax.specs.declared.program.Form.TheVariants.{Number, Unit as Nothing, ReadByte, PrintText, Unary, Binary, Print, Construct, Call}
 use Rattle.kk_syntax.specs.Types.{TypeTree, TypeTrees, int32, unit_type, type_variable, named, no_type, type, types_of}
-use Rattle.kk_syntax.specs.Trees.{Tree, number, unit, variable, read_byte, print_text, apply, branch, match, sequence, Trees, no_tree, tree}
+use Rattle.kk_syntax.specs.Trees.{Tree, variable, apply, branch, match, sequence, Trees, no_tree, tree}
 use Rattle.kk_syntax.specs.Programs.{ConstructorTree, FunctionTree, ProgramTree}
 pub use Rattle.kk_syntax.specs.Typing.{bool, TypedVariable, Scope, type_in, with_parameters, with_binder, unary_type, binary_type}
 
@@ -16,9 +16,13 @@ pub record Signature : Type 0 where
 abbrev pub signature_of : FunctionTree → Signature
 signature_of function = record { parameters = function.parameters; result = function.result }
 
--- A form takes arguments of these types, and gives a value of that one. A print of a number gives `()`. `False` and `True`
--- are the constructors that make no cells.
+-- A form takes arguments of these types, and gives a value of that one. A print gives `()`. `False` and `True` are the
+-- constructors that make no cells.
 abbrev pub IsFormTyped : List Signature → Form → List TypeTree → TypeTree → Type 0
+IsFormTyped signatures (Number value) ts t = (ts ≡ []) × (t ≡ int32)
+IsFormTyped signatures Nothing ts t = (ts ≡ []) × (t ≡ unit_type)
+IsFormTyped signatures ReadByte ts t = (ts ≡ []) × (t ≡ int32)
+IsFormTyped signatures (PrintText form text) ts t = (ts ≡ []) × (t ≡ unit_type)
 IsFormTyped signatures (Unary operator) ts t = (ts ≡ unary_type operator ∷ []) × (t ≡ unary_type operator)
 IsFormTyped signatures (Binary operator) ts t = (ts ≡ int32 ∷ int32 ∷ []) × (t ≡ binary_type operator)
 IsFormTyped signatures (Print form) ts t = (ts ≡ int32 ∷ []) × (t ≡ unit_type)
@@ -28,11 +32,7 @@ IsFormTyped signatures (Call f) ts t = slice_get signatures f ≡ Some (record {
 -- an expression has a type; there is no match
 abbrev mutual
   pub HasType : List Signature → Scope → Tree → TypeTree → Type 0
-  HasType signatures scope (number value) t = t ≡ int32
-  HasType signatures scope unit t = t ≡ unit_type
   HasType signatures scope (variable x) t = type_in scope x ≡ Some t
-  HasType signatures scope read_byte t = t ≡ int32
-  HasType signatures scope (print_text form text) t = t ≡ unit_type
   HasType signatures scope (apply form es) t = (ts : List TypeTree) × HaveTypes signatures scope es ts × IsFormTyped signatures form ts t
   HasType signatures scope (branch e positive negative) t =
       HasType signatures scope e bool × HasType signatures scope positive t × HasType signatures scope negative t

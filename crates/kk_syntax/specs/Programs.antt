@@ -5,7 +5,8 @@ use Rattle.kk_syntax.specs.declared.program.Constructor.{Constructor}
 use Rattle.kk_syntax.specs.declared.program.Fun.{Fun}
 use Rattle.kk_syntax.specs.declared.program.Program.{Program}
 use Rattle.kk_syntax.specs.Types.{TypeTree, unit_type, type_tree}
-use Rattle.kk_syntax.specs.Trees.{Tree, unit, expr_tree}
+use Rattle.kk_syntax.specs.declared.program.Form.TheVariants.{Unit as Nothing}
+use Rattle.kk_syntax.specs.Trees.{Tree, apply, no_tree, expr_tree}
 
 -- A constructor: its name, the byte where that stands in the text, the number of its type, its place among the
 -- constructors of that type, from 0, and the types of its fields.
@@ -26,11 +27,13 @@ pub record FunctionTree : Type 0 where
   pub result : TypeTree
   pub body : Tree
 
--- the types, the constructors and the functions, each by its number, from 0, and which function is `main`
+-- The types, the constructors, the functions and the string literals that are printed, each by its number, from 0, and
+-- which function is `main`.
 pub record ProgramTree : Type 0 where
   pub types : List TypeDecl
   pub constructors : List ConstructorTree
   pub functions : List FunctionTree
+  pub texts : List (List ℕ)
   pub main : ℕ
 
 abbrev pub constructor_tree : Constructor → ConstructorTree
@@ -57,13 +60,18 @@ program_tree program = record {
   types = program.types.items;
   constructors = map constructor_tree program.constructors.items;
   functions = map function_tree program.functions.items;
+  texts = program.texts.items;
   main = program.main;
 }
 
 -- what stands behind the last function, where no program looks
 abbrev pub no_function : FunctionTree
-no_function = record { name = []; at = 0; variables = 0; parameters = []; result = unit_type; body = unit }
+no_function = record { name = []; at = 0; variables = 0; parameters = []; result = unit_type; body = apply Nothing no_tree }
 
 -- the body of a function by its number
 abbrev pub body_of : ProgramTree → ℕ → Tree
 body_of program number = (slice_index_or program.functions number no_function).body
+
+-- a string literal by its number; what stands behind the last, where no program looks, is the empty one
+abbrev pub text_at : List (List ℕ) → ℕ → List ℕ
+text_at texts number = slice_index_or texts number []

@@ -3,8 +3,9 @@ use Rattle.std.specs.Prelude.{ℕ, ◌+◌, max, Bool, not, ◌==◌, List, [], 
 use Rattle.std.specs.List.{list_any}
 use Rattle.kk_syntax.specs.declared.program.Binder.{Binder}
 use Rattle.kk_syntax.specs.declared.program.Binder.TheVariants as OfBinder
+use Rattle.kk_syntax.specs.declared.program.Form.{Form}
 use Rattle.kk_syntax.specs.Patterns.{Pattern, anything, variable as pattern_variable, exactly, constructor, Patterns, no_part, part}
-use Rattle.kk_syntax.specs.Trees.{Tree, number, unit, variable, read_byte, print_text, apply, branch, match, sequence, Trees, no_tree, tree, Rows, no_row, row, StatementTree}
+use Rattle.kk_syntax.specs.Trees.{Tree, variable, apply, branch, match, sequence, Trees, no_tree, tree, Rows, no_row, row, StatementTree}
 use Rattle.kk_syntax.specs.Programs.{FunctionTree, ProgramTree}
 
 -- the variables of a pattern, from left to right
@@ -43,11 +44,7 @@ without binders variables = filter (λ x. not (is_among binders x)) variables
 -- variable in the rest of the block, and a pattern its variables in the body of its row.
 abbrev mutual
   pub free : Tree → List ℕ
-  free (number value) = []
-  free unit = []
   free (variable of) = of ∷ []
-  free read_byte = []
-  free (print_text form text) = []
   free (apply form arguments) = free_all arguments
   free (branch condition positive negative) = free condition ++ (free positive ++ free negative)
   free (match scrutinee rows) = free scrutinee ++ free_rows rows
@@ -79,16 +76,12 @@ nodes_of_binder OfBinder.Nothing = 0
 nodes_of_binder OfBinder.Wildcard = 1
 nodes_of_binder (OfBinder.Variable of) = 1
 
--- The nodes of an expression: 1 for a number, `()`, a variable, a read of the input and a print of a string; 1 plus its
--- parts for a form with its arguments, an `if`, a match (its scrutinee, its patterns and its bodies) and a `val`. A block
--- counts its parts alone.
+-- The nodes of an expression: 1 for a variable; 1 plus its parts for a form with its arguments, an `if`, a match (its
+-- scrutinee, its patterns and its bodies) and a `val`. So a form without arguments, as a number, is 1. A block counts its
+-- parts alone.
 abbrev mutual
   pub nodes_of : Tree → ℕ
-  nodes_of (number value) = 1
-  nodes_of unit = 1
   nodes_of (variable of) = 1
-  nodes_of read_byte = 1
-  nodes_of (print_text form text) = 1
   nodes_of (apply form arguments) = nodes_of_all arguments + 1
   nodes_of (branch condition positive negative) = nodes_of condition + nodes_of positive + nodes_of negative + 1
   nodes_of (match scrutinee rows) = nodes_of scrutinee + nodes_of_rows rows + 1
@@ -123,13 +116,31 @@ abbrev mutual
   tails (branch condition positive negative) = tails positive ++ tails negative
   tails (match scrutinee rows) = tails_of_rows rows
   tails (sequence binder first rest) = tails rest
-  tails (number value) = number value ∷ []
-  tails unit = unit ∷ []
   tails (variable of) = variable of ∷ []
-  tails read_byte = read_byte ∷ []
-  tails (print_text form text) = print_text form text ∷ []
   tails (apply form arguments) = apply form arguments ∷ []
 
   pub tails_of_rows : Rows → List Tree
   tails_of_rows no_row = []
   tails_of_rows (row pattern body rest) = tails body ++ tails_of_rows rest
+
+-- What is gathered from an expression in the order of the text: at a form from the form, before its arguments; at a match
+-- from its rows, before its parts. Calls and matches are gathered so.
+pub record Gathers (A : Type 0) : Type 0 where
+  pub at_form : Form → List A
+  pub at_rows : Rows → List A
+
+abbrev mutual
+  pub gathered : {A : Type 0} → Gathers A → Tree → List A
+  gathered from (variable of) = []
+  gathered from (apply form arguments) = from.at_form form ++ gathered_all from arguments
+  gathered from (branch condition positive negative) = gathered from condition ++ (gathered from positive ++ gathered from negative)
+  gathered from (match scrutinee rows) = from.at_rows rows ++ (gathered from scrutinee ++ gathered_rows from rows)
+  gathered from (sequence binder first rest) = gathered from first ++ gathered from rest
+
+  pub gathered_all : {A : Type 0} → Gathers A → Trees → List A
+  gathered_all from no_tree = []
+  gathered_all from (tree first rest) = gathered from first ++ gathered_all from rest
+
+  pub gathered_rows : {A : Type 0} → Gathers A → Rows → List A
+  gathered_rows from no_row = []
+  gathered_rows from (row pattern body rest) = gathered from body ++ gathered_rows from rest

@@ -1,26 +1,20 @@
 -- The tree of an expression as mathematics: no pointers, no capacities. A type that holds a list of itself is declared
 -- together with that list.
-use Rattle.std.specs.Prelude.{ℕ, ℤ, List, [], ◌∷◌}
-use Rattle.kk_syntax.specs.declared.operator.PrintForm.{PrintForm}
+use Rattle.std.specs.Prelude.{ℕ, List, [], ◌∷◌}
 use Rattle.kk_syntax.specs.declared.program.Form.{Form}
 use Rattle.kk_syntax.specs.declared.program.Binder.{Binder}
 use Rattle.kk_syntax.specs.declared.program.Row.{Row}
 use Rattle.kk_syntax.specs.declared.program.Statement.{Statement}
 use Rattle.kk_syntax.specs.declared.program.Expr.{Expr}
-use Rattle.kk_syntax.specs.declared.program.Expr.TheOpen.{Expr-F, Row-F, Statement-F, Number, Unit as Nothing, Variable, ReadByte, PrintText, Apply, If, Match, Block}
+use Rattle.kk_syntax.specs.declared.program.Expr.TheOpen.{Expr-F, Row-F, Statement-F, Variable, Apply, If, Match, Block}
 use Rattle.kk_syntax.specs.declared.program.Expr.TheFolds.{fold-Expr, fold-Row, fold-Statement}
 use Rattle.kk_syntax.specs.Patterns.{Pattern, pattern_tree}
 
--- An expression: a number; `()`; a variable by its number; a read of a byte of the input; a print of a string's bytes; a
--- form and its arguments; an `if` with its two branches; a match with its rows; and a block, as a statement and the rest
--- of the block behind it. A block without statements is its last expression.
+-- An expression: a variable by its number; a form and its arguments; an `if` with its two branches; a match with its rows;
+-- and a block, as a statement and the rest of the block behind it. A block without statements is its last expression.
 mutual
   pub data Tree : Type 0 where
-    number : (value : ℤ) → Tree
-    unit : Tree
     variable : (of : ℕ) → Tree
-    read_byte : Tree
-    print_text : (form : PrintForm) → (text : List ℕ) → Tree
     apply : (form : Form) → (arguments : Trees) → Tree
     branch : (condition : Tree) → (positive : Tree) → (negative : Tree) → Tree
     match : (scrutinee : Tree) → (rows : Rows) → Tree
@@ -60,11 +54,7 @@ block_of (s ∷ ss) last = sequence s.binder s.value (block_of ss last)
 
 -- an expression, a row and a statement of the program as such trees, their parts' trees given
 abbrev pub expr_step : Expr-F Tree RowTree StatementTree → Tree
-expr_step (Number value) = number value
-expr_step Nothing = unit
 expr_step (Variable of) = variable of
-expr_step ReadByte = read_byte
-expr_step (PrintText form text) = print_text form text
 expr_step (Apply form arguments) = apply form (trees_of arguments.items)
 expr_step (If condition positive negative) = branch condition.value positive.value negative.value
 expr_step (Match scrutinee rows) = match scrutinee.value (rows_of rows.items)

@@ -8,12 +8,12 @@ use Rattle.kk_syntax.specs.declared.operator.BinaryOperator.TheVariants.{Add, Su
 use Rattle.kk_syntax.specs.declared.program.Binder.{Binder}
 use Rattle.kk_syntax.specs.declared.program.Binder.TheVariants as OfBinder
 use Rattle.kk_syntax.specs.declared.program.Form.{Form}
-use Rattle.kk_syntax.specs.declared.program.Form.TheVariants.{Unary, Binary, Print, Construct, Call}
+use Rattle.kk_syntax.specs.declared.program.Form.TheVariants.{Number, Unit as Nothing, ReadByte, PrintText, Unary, Binary, Print, Construct, Call}
 use Rattle.kk_syntax.specs.declared.program.TypeDecl.{TypeDecl}
 use Rattle.kk_syntax.specs.Patterns.{Pattern, anything, variable as pattern_variable, exactly, constructor, Patterns, no_part, part}
 use Rattle.kk_syntax.specs.Programs.{ConstructorTree, FunctionTree, ProgramTree}
 use Rattle.kk_syntax.specs.Shapes.{bound}
-use Rattle.kk_syntax.specs.Trees.{Tree, number, unit, variable, read_byte, print_text, apply, branch, match, sequence, Trees, no_tree, tree, Rows, no_row, row}
+use Rattle.kk_syntax.specs.Trees.{Tree, variable, apply, branch, match, sequence, Trees, no_tree, tree, Rows, no_row, row}
 use Rattle.kk_syntax.specs.Types.{TypeTree, int32, unit_type, type_variable, named, no_type, types_of, put, type_at, variables_below}
 
 -- `bool` is the first type of each program, and `False` and `True` are its first constructors
@@ -94,6 +94,10 @@ constructor_scheme program c = option_map (scheme_in program) (slice_get program
 
 -- what a form takes and gives, if there is such a constructor or function
 abbrev pub form_scheme : ProgramTree → Form → Option Scheme
+form_scheme program (Number value) = Some (record { variables = 0; parameters = []; result = int32 })
+form_scheme program Nothing = Some (record { variables = 0; parameters = []; result = unit_type })
+form_scheme program ReadByte = Some (record { variables = 0; parameters = []; result = int32 })
+form_scheme program (PrintText form text) = Some (record { variables = 0; parameters = []; result = unit_type })
 form_scheme program (Unary operator) = Some (record { variables = 0; parameters = unary_type operator ∷ []; result = unary_type operator })
 form_scheme program (Binary operator) = Some (record { variables = 0; parameters = int32 ∷ int32 ∷ []; result = binary_type operator })
 form_scheme program (Print form) = Some (record { variables = 0; parameters = int32 ∷ []; result = unit_type })
@@ -115,11 +119,9 @@ put_choice s (holding of) = holding (put s of)
 
 -- what is chosen at a form
 abbrev pub chosen_at : Form → List TypeTree → List Choice
-chosen_at (Unary operator) ts = []
-chosen_at (Binary operator) ts = []
-chosen_at (Print form) ts = []
 chosen_at (Construct c) ts = constructing c ts ∷ []
 chosen_at (Call f) ts = calling f ts ∷ []
+chosen_at _ ts = []
 
 -- choices in two parts, one behind the other
 abbrev pub InTurn : (List Choice → Type 0) → (List Choice → Type 0) → List Choice → Type 0
@@ -173,11 +175,7 @@ pub record Holds (With : TypeTree → List Choice → Type 0) (choices : List Ch
 -- scrutinee has the first type at the second one.
 abbrev mutual
   pub IsTypedBy : ProgramTree → Scope → Tree → TypeTree → List Choice → Type 0
-  IsTypedBy program scope (number value) t choices = (t ≡ int32) × (choices ≡ [])
-  IsTypedBy program scope unit t choices = (t ≡ unit_type) × (choices ≡ [])
   IsTypedBy program scope (variable x) t choices = (type_in scope x ≡ Some t) × (choices ≡ [])
-  IsTypedBy program scope read_byte t choices = (t ≡ int32) × (choices ≡ [])
-  IsTypedBy program scope (print_text form text) t choices = (t ≡ unit_type) × (choices ≡ [])
   IsTypedBy program scope (apply form es) t choices =
       Uses (form_scheme program form) (chosen_at form) (λ ts rest. AreTypedBy program scope es ts rest) t choices
   IsTypedBy program scope (branch e positive negative) t choices =

@@ -4,6 +4,7 @@ ghost use Rattle.kk_syntax.specs.Programs.{constructor_tree, function_tree, prog
 ghost use Rattle.kk_syntax.specs.Trees.{expr_tree, row_tree, statement_tree};
 ghost use Rattle.kk_syntax.specs.Types.{type_tree};
 
+use crate::literal::StringLiteral;
 use crate::program::{Constructor, Expr, Fun, Pat, Program, Row, Statement, Ty, TypeDecl};
 use kk_base::NoMemory;
 use std::alloc::Global;
@@ -73,6 +74,17 @@ pub fn copied_constructors(
     Ok(copies)
 }
 
+/// A copy of string literals.
+pub fn copied_texts(alloc: Global, texts: &[StringLiteral]) -> Result<Vec<StringLiteral>, NoMemory>
+    ensures { IfOk result (λ copies. copies.items ≡ texts.now) }
+{
+    let mut copies = Vec::new(alloc);
+    for text in texts {
+        copies.push(text.copied(alloc)?)?;
+    }
+    Ok(copies)
+}
+
 /// A copy of a pattern. The recursion is as deep as the pattern.
 #[cycle(copied_pattern)]
 pub fn copied_pattern(alloc: Global, pattern: &Pat) -> Result<Pat, NoMemory>
@@ -103,11 +115,7 @@ pub fn copied_expr(alloc: Global, expr: &Expr) -> Result<Expr, NoMemory>
     ensures { IfOk result (λ copy. expr_tree copy ≡ expr_tree expr.now) }
 {
     match expr {
-        Expr::Number(value) => Ok(Expr::Number(*value)),
-        Expr::Unit => Ok(Expr::Unit),
         Expr::Variable(of) => Ok(Expr::Variable(*of)),
-        Expr::ReadByte => Ok(Expr::ReadByte),
-        Expr::PrintText(form, text) => Ok(Expr::PrintText(*form, text.copied(alloc)?)),
         Expr::Apply(form, arguments) => Ok(Expr::Apply(*form, copied_exprs(alloc, arguments)?)),
         Expr::If(condition, positive, negative) => Ok(Expr::If(
             boxed(alloc, condition)?,
@@ -201,6 +209,7 @@ impl Program {
             types: copied_declarations(alloc, &self.types)?,
             constructors: copied_constructors(alloc, &self.constructors)?,
             functions: copied_functions(alloc, &self.functions)?,
+            texts: copied_texts(alloc, &self.texts)?,
             main: self.main,
         })
     }

@@ -1,3 +1,4 @@
+use crate::literal::StringLiteral;
 use crate::program::{Constructor, Expr, TypeDecl};
 use crate::typed::Taken;
 
@@ -7,6 +8,8 @@ pub struct Ground {
     /// The types and the constructors of the program, as they are declared.
     pub declarations: Vec<TypeDecl>,
     pub constructors: Vec<Constructor>,
+    /// The string literals that the program prints.
+    pub texts: Vec<StringLiteral>,
     /// The types without variables that the instances take, each once.
     pub types: Vec<GroundType>,
     /// `main`'s is the first.

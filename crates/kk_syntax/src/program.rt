@@ -13,6 +13,8 @@ pub struct Program {
     pub constructors: Vec<Constructor>,
     /// In the order of the text.
     pub functions: Vec<Fun>,
+    /// The string literals that are printed, in the order of the text: a print of one names it by its number, from 0.
+    pub texts: Vec<StringLiteral>,
     /// The number of `main`.
     pub main: u32,
     pub ghost main_in: { main < vec_len functions },
@@ -95,14 +97,7 @@ pub enum Ty {
 #[cycle(expression)]
 #[derive(Debug, Drop)]
 pub enum Expr {
-    Number(i32),
-    /// `()`
-    Unit,
     Variable(u32),
-    /// The next byte of the input, or -1 at its end.
-    ReadByte,
-    /// A print of a string literal.
-    PrintText(PrintForm, StringLiteral),
     /// A form and its arguments.
     Apply(Form, Vec<Expr>),
     /// A condition and two branches.
@@ -112,9 +107,17 @@ pub enum Expr {
     Block(Vec<Statement>, Box<Expr>),
 }
 
-/// What is done with arguments.
+/// What is done with the values of arguments.
 #[derive(Clone, Copy, Debug, PartialEq, Eq)]
 pub enum Form {
+    /// A number. No arguments.
+    Number(i32),
+    /// `()`. No arguments.
+    Unit,
+    /// The next byte of the input, or -1 at its end. No arguments.
+    ReadByte,
+    /// A print of a string literal, by its number among the program's. No arguments.
+    PrintText(PrintForm, u32),
     Unary(UnaryOperator),
     Binary(BinaryOperator),
     /// A print of a number.

@@ -17,9 +17,9 @@ impl Binder {
     }
 }
 
-/// The nodes of an expression: 1 for a number, `()`, a variable, a read of the input and a print of a string; 1 plus its
-/// parts for a form with its arguments, an `if`, a match (its scrutinee, its patterns and its bodies) and a `val`. A
-/// block counts its parts alone. Stays at a `u64`'s last value where there are more.
+/// The nodes of an expression: 1 for a variable; 1 plus its parts for a form with its arguments, an `if`, a match (its
+/// scrutinee, its patterns and its bodies) and a `val`. A block counts its parts alone. Stays at a `u64`'s last value
+/// where there are more.
 ///
 /// The recursion is as deep as the expression.
 #[cycle(nodes)]
@@ -27,8 +27,7 @@ pub fn nodes(expr: &Expr) -> u64
     ensures { result ≡ min (nodes_of (expr_tree expr.now)) (2 ^ 64 - 1) }
 {
     match expr {
-        Expr::Number(_) | Expr::Unit | Expr::Variable(_) | Expr::ReadByte | Expr::PrintText(_, _) =>
-            1,
+        Expr::Variable(_) => 1,
         Expr::Apply(_, arguments) => nodes_of_each(arguments).saturating_add(1),
         Expr::If(condition, positive, negative) => nodes(condition)
             .saturating_add(nodes(positive))

@@ -9,7 +9,6 @@ use Rattle.std.specs.Int.Signed.{mag}
 use Rattle.kk_base.specs.Trace.{output}
 use Rattle.kk_syntax.specs.declared.operator.PrintForm.{PrintForm}
 use Rattle.kk_syntax.specs.declared.operator.PrintForm.TheVariants as OfPrint
-use Rattle.kk_source.specs.Step.{piece_of}
 use Rattle.rv_isa.specs.Arithmetic.{signed}
 use Rattle.rv_isa.specs.Processor.{Ending}
 use Rattle.rv_isa.specs.Primitives.{Reply, answers, fails}
@@ -18,6 +17,7 @@ use Rattle.rv_world.specs.Operations.{all_bytes, address_in, bytes_at}
 use Rattle.rv_world.specs.World.{World, told_more, print_int}
 use Rattle.rv_lower.specs.Lines.{choice_of}
 use Rattle.rv_lower.proofs.Words.{signed_fits}
+use Rattle.kk_source.specs.FormEffects.{piece_of}
 
 -- ---- numbers
 

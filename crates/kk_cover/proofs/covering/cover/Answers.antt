@@ -1,6 +1,6 @@
 use Rattle.std.proofs.Common.{◌<◌, length, sym, subst}
 use Rattle.kk_syntax.specs.Programs.{program_tree}
-use Rattle.kk_cover.specs.Outlines.{pattern_outline}
+use Rattle.kk_syntax.specs.Outlines.{pattern_outline}
 use Rattle.kk_cover.specs.Matches.{IsFirstFunction}
 use Rattle.kk_cover.proofs.Walking.{functions_more, function_at}
 use Rattle.kk_cover.proofs.covering.cover.Goals as goal

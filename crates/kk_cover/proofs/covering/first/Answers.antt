@@ -4,7 +4,7 @@ use Rattle.kk_syntax.specs.declared.program.Row.{Row}
 use Rattle.kk_syntax.specs.Programs.{program_tree}
 use Rattle.kk_syntax.specs.Trees.{expr_tree}
 use Rattle.kk_cover.specs.Covered.{Answers}
-use Rattle.kk_cover.specs.Outlines.{pattern_outline}
+use Rattle.kk_syntax.specs.Outlines.{pattern_outline}
 use Rattle.kk_cover.specs.Matches.{matches, match_rows, IsFirstExample}
 use Rattle.kk_cover.proofs.Walking.{first_at, covered_more}
 use Rattle.kk_cover.proofs.covering.first.Goals as goal

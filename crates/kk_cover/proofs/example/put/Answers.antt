@@ -2,7 +2,7 @@ use Rattle.std.proofs.Common.{ap, ◌∙◌, rules}
 use mir.Syntax.{w32}
 use mir.Val.{SFits}
 use Rattle.std.proofs.lemmas.Int.{to_z-of_z}
-use Rattle.kk_cover.specs.Outlines.{made, outline, pattern_outline}
+use Rattle.kk_syntax.specs.Outlines.{made, outline, pattern_outline}
 use Rattle.kk_cover.specs.Problems.{stacked}
 use Rattle.kk_syntax.specs.declared.program.Pat.TheVariants.{Number}
 use Rattle.kk_cover.specs.Narrowing.{front}

@@ -1,6 +1,6 @@
 use Rattle.std.proofs.Common.{◌≡◌, List, length, map, ap, sym, ◌∙◌, add-one, arith}
 use Rattle.kk_syntax.specs.declared.program.Pat.{Pat}
-use Rattle.kk_cover.specs.Outlines.{no_outline, outline_list, pattern_outline}
+use Rattle.kk_syntax.specs.Outlines.{no_outline, outline_list, pattern_outline}
 use Rattle.kk_cover.specs.Narrowing.{back}
 use Rattle.kk_cover.specs.Problems.{stacked}
 use Rattle.kk_cover.proofs.Stacks.{taken_more, left_more, front_none, back_none, stacked_none}

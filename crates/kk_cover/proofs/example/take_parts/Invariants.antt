@@ -1,6 +1,6 @@
 use Rattle.std.proofs.Common.{◌≡◌, map}
 use Rattle.kk_cover.specs.Narrowing.{front, back}
-use Rattle.kk_cover.specs.Outlines.{outline_list, pattern_outline}
+use Rattle.kk_syntax.specs.Outlines.{outline_list, pattern_outline}
 use Rattle.kk_cover.specs.Problems.{stacked}
 use Rattle.kk_cover.proofs.example.take_parts.Given as goal
 

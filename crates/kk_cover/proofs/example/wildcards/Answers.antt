@@ -1,6 +1,6 @@
 use Rattle.std.proofs.Common.{ap, ◌∙◌, add-one}
 use Rattle.kk_syntax.specs.declared.program.Pat.TheVariants.{Wildcard}
-use Rattle.kk_cover.specs.Outlines.{any, outline}
+use Rattle.kk_syntax.specs.Outlines.{any, outline}
 use Rattle.kk_cover.specs.Problems.{stacked}
 use Rattle.kk_cover.proofs.Slots.{wildcard_outline}
 use Rattle.kk_cover.proofs.Stacks.{stacked_push}

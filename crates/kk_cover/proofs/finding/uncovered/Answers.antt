@@ -4,7 +4,7 @@ use Rattle.std.proofs.lemmas.List.{nil_from_length}
 use Rattle.kk_syntax.specs.Programs.{program_tree}
 use Rattle.kk_cover.specs.declared.problem.Problem.{Problem}
 use Rattle.kk_cover.specs.Covered.{row_outlines}
-use Rattle.kk_cover.specs.Outlines.{pattern_outline}
+use Rattle.kk_syntax.specs.Outlines.{pattern_outline}
 use Rattle.kk_cover.specs.Problems.{problem_view, row_view, Settled}
 use Rattle.kk_cover.specs.Turned.{Tells, Picks}
 use Rattle.kk_cover.proofs.Fewer.{left, fewer, picked_less}

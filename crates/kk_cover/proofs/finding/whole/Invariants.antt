@@ -1,6 +1,6 @@
 use Rattle.std.proofs.Common.{◌≡◌, map, take}
 use Rattle.kk_cover.specs.Covered.{row_outlines}
-use Rattle.kk_cover.specs.Outlines.{no_outline, outline}
+use Rattle.kk_syntax.specs.Outlines.{no_outline, outline}
 use Rattle.kk_cover.specs.Problems.{row_view}
 use Rattle.kk_cover.proofs.finding.whole.Given as goal
 

@@ -1,7 +1,7 @@
 use Rattle.std.proofs.Common.{◌≡◌, ap, List, map, ◌∙◌}
 use Rattle.std.proofs.lemmas.List.{take_all}
 use Rattle.kk_cover.specs.Narrowing.{join}
-use Rattle.kk_cover.specs.Outlines.{Outline, outline_list, pattern_outline}
+use Rattle.kk_syntax.specs.Outlines.{Outline, outline_list, pattern_outline}
 use Rattle.kk_cover.specs.Problems.{slot_outline, row_view}
 use Rattle.kk_cover.proofs.Slots.{view-append}
 use Rattle.kk_cover.proofs.row.after_parts.Goals as goal

@@ -1,5 +1,5 @@
 use Rattle.std.proofs.Common.{◌≡◌, map, take}
-use Rattle.kk_cover.specs.Outlines.{pattern_outline}
+use Rattle.kk_syntax.specs.Outlines.{pattern_outline}
 use Rattle.kk_cover.specs.Problems.{slot_outline}
 use Rattle.kk_cover.proofs.row.after_parts.Given as goal
 

@@ -1,5 +1,5 @@
 use Rattle.std.proofs.Common.{map, sym, ap, ◌∙◌}
-use Rattle.kk_cover.specs.Outlines.{made, outline_list, pattern_outline}
+use Rattle.kk_syntax.specs.Outlines.{made, outline_list, pattern_outline}
 use Rattle.kk_cover.proofs.Slots.{constructor_outline}
 use Rattle.kk_cover.proofs.row.slot_of.Goals as goal
 

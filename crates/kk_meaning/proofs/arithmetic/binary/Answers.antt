@@ -2,8 +2,8 @@ use Rattle.std.proofs.Common.{◌∙◌, ap, sym}
 use Rattle.std.specs.Int.{w32}
 use Rattle.std.proofs.lemmas.Int.{wrapping_add_is, wrapping_sub_is}
 use Rattle.kk_source.specs.State.{integer}
-use Rattle.kk_source.specs.Step.{number_result}
 use Rattle.kk_meaning.proofs.arithmetic.binary.Goals as goal
+use Rattle.kk_source.specs.FormEffects.{number_result}
 
 pub returns-in-Add : goal.returns-in-Add
 returns-in-Add c =

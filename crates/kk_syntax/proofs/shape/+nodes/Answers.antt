@@ -1,7 +1,8 @@
 use Rattle.std.proofs.Common.{map, ap, ◌∙◌, arith}
 use Rattle.kk_syntax.specs.Trees.{expr_tree, statement_tree}
 use Rattle.kk_syntax.specs.Shapes.{nodes_of}
-use Rattle.kk_syntax.proofs.Blocks.{nodes_of_block, block_tree}
+use Rattle.kk_syntax.proofs.Blocks.{nodes_of_block}
+use Rattle.kk_syntax.proofs.Views.{block_tree}
 use Rattle.kk_syntax.proofs.shape.+nodes.Goals as goal
 
 pub nodes-returns-in-Block : goal.nodes-returns-in-Block

@@ -1,0 +1,20 @@
+-- What is gathered from lists of expressions, from rows and from a block is that of their parts, one behind the other.
+use Rattle.std.proofs.Common.{◌≡◌, List, [], ◌∷◌, ◌++◌, refl, ap, sym, ◌∙◌, append_assoc}
+use Rattle.std.specs.List.{flat_map}
+use Rattle.kk_syntax.specs.Shapes.{Gathers, gathered, gathered_all, gathered_rows}
+use Rattle.kk_syntax.specs.Trees.{Tree, trees_of, RowTree, rows_of, StatementTree, block_of}
+
+module _ {A : Type 0} (from : Gathers A) where
+  pub gathered_each : (es : List Tree) → gathered_all from (trees_of es) ≡ flat_map (gathered from) es
+  gathered_each [] = refl
+  gathered_each (e ∷ es) = ap (λ (l : List A). gathered from e ++ l) (gathered_each es)
+
+  pub gathered_each_row : (rs : List RowTree) → gathered_rows from (rows_of rs) ≡ flat_map (λ r. gathered from r.body) rs
+  gathered_each_row [] = refl
+  gathered_each_row (r ∷ rs) = ap (λ (l : List A). gathered from r.body ++ l) (gathered_each_row rs)
+
+  pub gathered_block : (ss : List StatementTree) (last : Tree) → gathered from (block_of ss last) ≡ flat_map (λ s. gathered from s.value) ss ++ gathered from last
+  gathered_block [] last = refl
+  gathered_block (s ∷ ss) last =
+      ap (λ (l : List A). gathered from s.value ++ l) (gathered_block ss last)
+      ∙ sym (append_assoc (gathered from s.value) (flat_map (λ s. gathered from s.value) ss) (gathered from last))

@@ -1,0 +1,50 @@
+-- When a pattern is of a type.
+use Rattle.std.specs.Prelude.{◌≡◌, ℕ, Bool, true, false, if◌then◌else◌, ◌==◌, List, [], ◌∷◌, map, Option, Some, None, slice_get, IsTrue}
+use Rattle.kk_syntax.specs.Types.{TypeTree, int32, unit_type, type_variable, named, TypeTrees, type_list, put, type_at}
+use Rattle.kk_syntax.specs.Programs.{ConstructorTree, ProgramTree}
+use Rattle.kk_syntax.specs.Outlines.{Outline, any, exactly, made, Outlines, no_outline, outline}
+
+-- What the values of types are: whether numbers are of a type, and the types of a constructor's fields at a type, if it
+-- makes values of that type.
+pub record Values (T : Type 0) : Type 0 where
+  pub has_numbers : T → Bool
+  pub fields : T → ℕ → Option (List T)
+
+-- A wildcard is of each type. A number is of a type of numbers. A constructor makes values of the type, and each part is of
+-- its field's type.
+abbrev mutual
+  pub IsPatternOf : {T : Type 0} → Values T → T → Outline → Type 0
+  IsPatternOf values t any = Unit {0}
+  IsPatternOf values t (exactly n) = IsTrue (values.has_numbers t)
+  IsPatternOf {T} values t (made c parts) = (us : List T) × (values.fields t c ≡ Some us) × ArePatternsOf values us parts
+
+  pub ArePatternsOf : {T : Type 0} → Values T → List T → Outlines → Type 0
+  ArePatternsOf values [] no_outline = Unit {0}
+  ArePatternsOf values [] (outline p ps) = ⊥
+  ArePatternsOf values (t ∷ ts) no_outline = ⊥
+  ArePatternsOf values (t ∷ ts) (outline p ps) = IsPatternOf values t p × ArePatternsOf values ts ps
+
+-- a type with arguments put in place of its variables
+abbrev pub with_arguments : TypeTrees → TypeTree → TypeTree
+with_arguments arguments = put (type_at (type_list arguments))
+
+-- the types of a constructor's fields, if it is one of the declared type of that number
+abbrev pub fields_of : Option ConstructorTree → ℕ → TypeTrees → Option (List TypeTree)
+fields_of None by arguments = None
+fields_of (Some constructor) by arguments = if constructor.of_type == by then Some (map (with_arguments arguments) constructor.fields) else None
+
+abbrev pub fields_at : ProgramTree → TypeTree → ℕ → Option (List TypeTree)
+fields_at program int32 c = None
+fields_at program unit_type c = None
+fields_at program (type_variable of) c = None
+fields_at program (named by arguments) c = fields_of (slice_get program.constructors c) by arguments
+
+abbrev pub is_int32 : TypeTree → Bool
+is_int32 int32 = true
+is_int32 unit_type = false
+is_int32 (type_variable of) = false
+is_int32 (named by arguments) = false
+
+-- the values of a program's types, by its declarations
+abbrev pub values_of : ProgramTree → Values TypeTree
+values_of program = record { has_numbers = is_int32; fields = fields_at program }
