@@ -52,7 +52,9 @@ fn stats<'a>(alloc: Global) -> Arg<'a>
     ensures rule { rule_of result ≡ flag (codes "stats") }
     ensures local { result.global ≡ false }
 {
-    Arg::new(alloc, "stats").long("stats").action(ArgAction::SetTrue)
+    Arg::new(alloc, "stats")
+        .long("stats")
+        .action(ArgAction::SetTrue)
 }
 
 fn check_command<'a>(alloc: Global) -> Result<App<'a>, AllocError>
@@ -86,7 +88,9 @@ fn run_command<'a>(alloc: Global) -> Result<App<'a>, AllocError>
     ensures local { IfOk result (λ c. (fields_of c).has_globals ≡ false) }
 {
     let command = App::new(alloc, "run").arg(file(alloc))?;
-    with_size_options(alloc, command)?.arg(steps(alloc))?.arg(stats(alloc))
+    with_size_options(alloc, command)?
+        .arg(steps(alloc))?
+        .arg(stats(alloc))
 }
 
 fn sim_command<'a>(alloc: Global) -> Result<App<'a>, AllocError>

@@ -1,9 +1,7 @@
 //! What the commands do.
-ghost use Rattle.std.specs.Prelude.{◌≡◌, ℕ, ◌+◌, List, Some, None, Option, IfOk, IfErr, OnOk, OnErr};
-ghost use Rattle.elf_image.specs.Loaded.{IsLoaded, IsReason, reason_of};
+ghost use Rattle.std.specs.Prelude.{◌≡◌, ℕ, List, Some, None, IfOk, IfErr, OnOk, OnErr};
+ghost use Rattle.elf_image.specs.Loaded.{IsLoaded, reason_of};
 ghost use Rattle.elf_image.specs.Reasons.{reason_number_of};
-ghost use Rattle.kk_base.specs.Limits.{greatest_of};
-ghost use Rattle.kk_base.specs.declared.limit.LimitKind.TheVariants.{Source};
 ghost use Rattle.kk_base.specs.Sink.{SinkState};
 ghost use Rattle.kk_base.specs.Source.{SourceState};
 ghost use Rattle.kk_build.specs.SourceMeaning.{exit_of};
@@ -20,17 +18,20 @@ ghost use Rattle.kk_tool.specs.Outside.{KeepsFiles, outside};
 use crate::answer::{Answer, RunEnd, wants_memory};
 use crate::command::{Command, RunOptions, Sizes};
 use elf_image::{BadImage, Image};
-use kk_base::{Bytes, LimitKind, NoMemory, Read, Refusal, Sink, Source, Store, Wrote};
+use kk_base::{Bytes, NoMemory, Read, Refusal, Sink, Source, Store, Wrote};
 use kk_build::{Ending, build};
 use kk_front::read;
 use rv_sim::{Halt, Machine};
 use std::alloc::Global;
 
+/// How many bytes of a text are read: one more than it may have.
+const MOST_OF_TEXT: usize = 65_537;
+
 /// How many bytes of an image are read: one more than it may have.
 const MOST_OF_IMAGE: usize = 268_435_457;
 
 /// An image that was run.
-#[derive(Debug, Drop)]
+#[derive(Drop)]
 struct Stopped {
     /// The machine as the run left it.
     machine: Machine,
@@ -127,10 +128,11 @@ fn simulate_file<'a, F: Store, I: Source, O: Sink>(
 ) -> Answer<'a>
     ensures { Answers (outside (F.state files.old) (I.state input.old) (O.state out.old) image.old) (outside (F.state files.new) (I.state input.new) (O.state out.new) image.new) (Some (sim file.now steps)) result }
 {
-    match read_image(alloc, file, files) {
-        Ok(bytes) => *image = bytes,
+    let bytes = match read_image(alloc, file, files) {
+        Ok(bytes) => bytes,
         Err(answer) => return answer,
-    }
+    };
+    *image = bytes;
     let loaded = match elf_image::read(alloc, image.as_slice()) {
         Ok(loaded) => loaded,
         Err(error) => return bad_image_answer(&error),
@@ -150,7 +152,7 @@ fn read_text<'a, F: Store>(alloc: Global, file: &'a str, files: &mut F) -> Resul
     ensures kept { OnOk result (KeepsFiles (F.state files.old) (F.state files.new)) }
     ensures err { IfErr result (λ answer. (input : SourceState) (out : SinkState) (image : List ℕ) (request : Request) → file_of request ≡ file.now → Answers (outside (F.state files.old) input out image) (outside (F.state files.new) input out image) (Some request) answer) }
 {
-    read_first(alloc, file, most_read(), files)
+    read_first(alloc, file, MOST_OF_TEXT, files)
 }
 
 /// The bytes of the image in a file, of which no more are read than tell whether they are too many; or the answer where they
@@ -183,13 +185,6 @@ fn read_first<'a, F: Store>(
         Read::Failed => Err(Answer::FileFault { name: file }),
         Read::NoMemory => Err(Answer::NoMemory),
     }
-}
-
-/// How many bytes of a text are read: one more than it may have.
-fn most_read() -> usize
-    ensures { result ≡ greatest_of Source + 1 }
-{
-    LimitKind::Source.greatest() as usize + 1
 }
 
 /// Makes `image` the image of the text in a file, or gives the answer where there is none.
@@ -282,7 +277,8 @@ fn run_answer<'a>(stopped: &Stopped, options: RunOptions) -> Answer<'a>
 {
     let end = run_end(stopped.halt);
     let cells = options.sizes.cells;
-    if tells_statistics(options.stats, end) {
+    let is_measured = tells_statistics(options.stats, end);
+    if is_measured {
         Answer::Measured {
             instructions: stopped.machine.executed(),
             free: stopped.machine.free_cells(cells),

@@ -131,7 +131,10 @@ fn steps_in(matches: &ArgMatches<'_>) -> Option<u64>
 fn stats_in(matches: &ArgMatches<'_>) -> bool
     ensures { result ≡ stats_in (rows_of (found_of matches.now)) }
 {
-    matches!(value_of(matches, "stats"), Some("true"))
+    match value_of(matches, "stats") {
+        Some(text) => text == "true",
+        None => false,
+    }
 }
 
 /// The value that was given for an argument.
