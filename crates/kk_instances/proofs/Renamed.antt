@@ -15,7 +15,8 @@ mutual
   pub same_free : (new : ℕ → ℕ) (e : Tree) → free (renamed new e) ≡ free e
   same_free new (variable of) = refl
   same_free new (apply form arguments) = same_free_all new arguments
-  same_free new (branch condition positive negative) = rw (same_free new condition, same_free new positive, same_free new negative) refl
+  same_free new (branch condition positive negative) =
+      rw (same_free new condition, same_free new positive, same_free new negative) refl
   same_free new (match scrutinee rows) = rw (same_free new scrutinee, same_free_rows new rows) refl
   same_free new (sequence binder first rest) = rw (same_free new first, same_free new rest) refl
 
@@ -42,8 +43,11 @@ module _ (signatures others : List Signature) (new : ℕ → ℕ) (P : ℕ → T
         (has.0, trees_typed es scope has.0 parts.1 has.1, form_typed form has.0 t parts.0 has.2)
     tree_typed (branch e positive negative) scope t only has =
         let parts = every_both P (calls e) (calls positive ++ calls negative) only in
-        let either = every_both P (calls positive) (calls negative) parts.1 in
-        (tree_typed e scope bool parts.0 has.0, tree_typed positive scope t either.0 has.1, tree_typed negative scope t either.1 has.2)
+        let either = every_both P (calls positive) (calls negative) parts.1 in (
+          tree_typed e scope bool parts.0 has.0,
+          tree_typed positive scope t either.0 has.1,
+          tree_typed negative scope t either.1 has.2,
+        )
     tree_typed (match e rows) scope t only has = absurd has
     tree_typed (sequence binder first rest) scope t only has =
         let parts = every_both P (calls first) (calls rest) only in

@@ -102,7 +102,8 @@ pub record IsAtTypes (instances : List InstanceTree) (at : List TypeTree) (choic
   pub body : renamed (origin_in instances) made.body ≡ function.body
   pub called : map (slice_get instances) (calls made.body) ≡ map Some (called_at at choices)
 
--- these instances of a program are the functions of another, in which `main` is the first, and which prints the same string literals
+-- These instances of a program are the functions of another, in which `main` is the first. It has the program's types,
+-- constructors and string literals.
 pub record IsInstanceProgram (program : ProgramTree) (typings : List (List Choice)) (instances : List InstanceTree) (made : ProgramTree) : Type 0 where
   pub are : AreInstances program.main typings instances
   pub as_many : length made.functions ≡ length instances
