@@ -15,7 +15,7 @@ use Rattle.rv_sim.specs.declared.halt.Halt.{Halt}
 use Rattle.rv_sim.specs.declared.halt.Halt.TheVariants.{Exit, StepsSpent, Trap, InputFault, OutputFault}
 use Rattle.kk_build.specs.ImageAfter.{Ending, going, Progress, goes, start, go_on, step, run, image_after, file_after, free_cells}
 use Rattle.kk_build.proofs.FileSteps.{one_more}
-use Rattle.kk_tool.specs.ImageRuns.{HasDone, IsMeasured, Stops, RunsImage}
+use Rattle.kk_tool.specs.ImageRuns.{HasDone, IsMeasured, Stops}
 use Rattle.kk_tool.specs.Internal.{HasStopped}
 
 fewer : (executed before steps : ℕ) → before ≡ 0 → executed < before + steps → executed - before < steps

@@ -1,6 +1,6 @@
 //! The line of the program, for clap.
 ghost use Rattle.std.specs.Prelude.{◌≡◌, false, codes, IfOk};
-ghost use Rattle.clap.specs.Words.{app_of, rule_of};
+ghost use Rattle.clap.specs.Words.{app_of, rule_of, with_subcommand};
 ghost use Rattle.clap.specs.declared.builder.command.Command.TheViews.{out-Command as fields_of};
 ghost use Rattle.kk_tool.specs.Requests.{required, optional, flag, file_rule, image_rule, steps_rule, out_rule, check_app, with_sizes, build_app, run_app, sim_app, bare_app, line_app};
 
@@ -110,13 +110,21 @@ fn bare_application<'a>(alloc: Global) -> App<'a>
         .subcommand_required(true)
 }
 
+/// Adds the commands that run images.
+fn with_run_commands<'a>(alloc: Global, command: App<'a>) -> Result<App<'a>, AllocError>
+    ensures { IfOk result (λ c. app_of c ≡ with_subcommand (with_subcommand (app_of command.entry) run_app.top) sim_app.top) }
+{
+    command
+        .subcommand(run_command(alloc)?)?
+        .subcommand(sim_command(alloc)?)
+}
+
 /// The program with its commands, as clap reads its line.
 pub fn application<'a>(alloc: Global) -> Result<App<'a>, AllocError>
     ensures app { IfOk result (λ c. app_of c ≡ line_app) }
 {
-    bare_application(alloc)
+    let command = bare_application(alloc)
         .subcommand(check_command(alloc)?)?
-        .subcommand(build_command(alloc)?)?
-        .subcommand(run_command(alloc)?)?
-        .subcommand(sim_command(alloc)?)
+        .subcommand(build_command(alloc)?)?;
+    with_run_commands(alloc, command)
 }

@@ -248,12 +248,12 @@ static HEADERS: [u8; 84] = [
 ];
 
 /// addi x10, x0, 3; addi x17, x0, 93; ecall
-static EXITS_WITH_3: [u8; 12] = [
+const EXITS_WITH_3: [u8; 12] = [
     0x13, 0x05, 0x30, 0x00, 0x93, 0x08, 0xd0, 0x05, 0x73, 0x00, 0x00, 0x00,
 ];
 
 /// addi x10, x0, 3; ebreak; ecall
-static BREAKS: [u8; 12] = [
+const BREAKS: [u8; 12] = [
     0x13, 0x05, 0x30, 0x00, 0x73, 0x00, 0x10, 0x00, 0x73, 0x00, 0x00, 0x00,
 ];
 
@@ -261,7 +261,7 @@ static BREAKS: [u8; 12] = [
 #[derive(Clone, Copy)]
 struct ImageRow<'a> {
     line: &'a str,
-    code: &'a [u8],
+    code: [u8; 12],
     status: Status,
     err: &'a str,
 }
@@ -269,19 +269,19 @@ struct ImageRow<'a> {
 static IMAGE_ROWS: [ImageRow; 3] = [
     ImageRow {
         line: "kokarv sim b.elf",
-        code: &EXITS_WITH_3,
+        code: EXITS_WITH_3,
         status: Status::ImageExit,
         err: "image exit: 3\n",
     },
     ImageRow {
         line: "kokarv sim b.elf --steps 2",
-        code: &EXITS_WITH_3,
+        code: EXITS_WITH_3,
         status: Status::StepsSpent,
         err: "steps spent: 2\n",
     },
     ImageRow {
         line: "kokarv sim b.elf",
-        code: &BREAKS,
+        code: BREAKS,
         status: Status::Trap,
         err: "trap: cause 1 pc 65540 word 1048691\n",
     },
@@ -366,7 +366,7 @@ fn check_image_row(rt: &impl Abort, alloc: Global, row: &ImageRow<'_>) -> Result
     let words = words_of(alloc, row.line)?;
     let mut devices = Devices::new(alloc, "", NONE)?;
     let mut file = Vec::from_slice(alloc, &HEADERS)?;
-    file.extend_from_slice(row.code)?;
+    file.extend_from_slice(&row.code)?;
     devices.files.add_file("b.elf", &file)?;
     let status = devices.command(alloc, words.as_slice());
     assert_eq!(rt; status, row.status);

@@ -10,6 +10,6 @@ returns-in-Ok-run_image g c =
     image_simulated _ _ c.in-Ok.ensures.kept _ _ c.args.file.now c.args.steps c.in-Ok.ensures.image _ _ _ _ c.as_slice.result.now c.in-Ok-run_image.stopped.halt c.in-Ok-run_image.stopped.machine c.as_slice.ensures
     c.in-Ok-read.ensures.ok.sound (c.in-Ok-run_image.ensures.ran c.as_slice.result.now c.in-Ok-read.ensures.ok)
 
-pub returns-in-Err-run_image : goal.returns-in-Err-run_image
-returns-in-Err-run_image g c =
+pub returns : goal.returns
+returns g c =
     image_not_simulated _ _ c.in-Ok.ensures.kept _ _ c.args.file.now c.args.steps c.in-Ok.ensures.image _ _ _ _ c.in-Err-run_image.ensures.input_kept c.in-Err-run_image.ensures.out_kept
