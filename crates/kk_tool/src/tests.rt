@@ -209,7 +209,7 @@ static ROWS: [Row; 18] = [
         refused: NONE,
         status: Status::Done,
         out: "7\n",
-        err: "stats: instructions 71 free 5 of 5\n",
+        err: "stats: instructions 69 free 5 of 5\n",
         writes: false,
     },
     Row {
