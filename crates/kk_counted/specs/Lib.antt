@@ -1,0 +1,4 @@
+pub mod CountedCodes
+pub mod CountedMachine
+pub mod CountedStates
+pub mod Heaps

@@ -1,0 +1,2 @@
+//! The counted form of a program: core code in which references to cells are counted.
+#![tactic(auto)]
