@@ -18,6 +18,3 @@ mod tokens;
 pub use layout::Layout;
 pub use runtime::text;
 pub use stop::Ending;
-
-#[cfg(test)]
-mod tests;

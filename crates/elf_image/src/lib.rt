@@ -17,6 +17,3 @@ pub use image::{GREATEST_END, Image, PAGE_SIZE, TEXT_START};
 pub use part::{Part, Parts};
 pub use reading::read;
 pub use writing::write;
-
-#[cfg(test)]
-mod tests;

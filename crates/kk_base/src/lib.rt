@@ -28,6 +28,3 @@ pub use simulation::{
 pub use sizes::{GREATEST_CELLS, GREATEST_DEPTH};
 pub use span::Span;
 pub use status::Status;
-
-#[cfg(test)]
-mod tests;

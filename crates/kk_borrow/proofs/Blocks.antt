@@ -7,7 +7,7 @@ use Rattle.kk_syntax.specs.declared.program.Form.TheVariants.{Construct}
 use Rattle.kk_syntax.specs.declared.program.Statement.{Statement}
 use Rattle.kk_syntax.specs.Patterns.{Pattern, constructor, patterns_of}
 use Rattle.kk_syntax.specs.Trees.{Tree, trees_of, StatementTree, block_of, expr_tree, statement_tree}
-use Rattle.kk_syntax.proofs.Blocks.{block_tree}
+use Rattle.kk_syntax.proofs.Views.{block_tree}
 use Rattle.kk_borrow.specs.declared.owned_place.Place.{Place}
 use Rattle.kk_borrow.specs.declared.owned_place.Place.TheVariants.{Always}
 use Rattle.kk_borrow.specs.declared.scope.Binding.{Binding}

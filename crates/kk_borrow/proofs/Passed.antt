@@ -6,11 +6,11 @@ use Rattle.std.proofs.lemmas.List.{map-append}
 use Rattle.std.proofs.lemmas.List.Elements.{All-nil, All-cons, All-head, All-tail, All-append, filter-append}
 use Rattle.std.proofs.lemmas.List.Folds.{list_any-append}
 use Rattle.kk_syntax.specs.declared.program.Form.{Form}
-use Rattle.kk_syntax.specs.declared.program.Form.TheVariants.{Unary, Binary, Print, Construct, Call}
+use Rattle.kk_syntax.specs.declared.program.Form.TheVariants.{Call}
 use Rattle.kk_syntax.specs.Patterns.{Pattern}
 use Rattle.kk_syntax.specs.Programs.{ProgramTree}
 use Rattle.kk_syntax.specs.Shapes.{bound, is_among}
-use Rattle.kk_syntax.specs.Trees.{Tree, number, unit, variable, read_byte, print_text, apply, branch, match, sequence, Trees, no_tree, tree, Rows, no_row, row}
+use Rattle.kk_syntax.specs.Trees.{Tree, variable, apply, branch, match, sequence, Trees, no_tree, tree, Rows, no_row, row}
 use Rattle.kk_borrow.specs.declared.position.Position.{Position}
 use Rattle.kk_borrow.specs.declared.scope.Binding.{Binding}
 use Rattle.kk_borrow.specs.Sets.{PositionSet, arity_of}
@@ -100,15 +100,8 @@ parameters_tell owned (suc count) x =
 
 -- an expression is a lent variable if one of the parameters on which it hangs is lent
 is_lent_tells : (owned : ℕ → Bool) (scope : List Binding) (lent : List ℕ) → Tells owned scope lent → (t : Tree) → is_lent_variable lent t ≡ some_lent owned (origins_in scope t)
-is_lent_tells owned scope lent tells (number value) = refl
-is_lent_tells owned scope lent tells unit = refl
 is_lent_tells owned scope lent tells (variable of) = tells of
-is_lent_tells owned scope lent tells read_byte = refl
-is_lent_tells owned scope lent tells (print_text form text) = refl
-is_lent_tells owned scope lent tells (apply form arguments) = refl
-is_lent_tells owned scope lent tells (branch condition positive negative) = refl
-is_lent_tells owned scope lent tells (match scrutinee rows) = refl
-is_lent_tells owned scope lent tells (sequence binder first rest) = refl
+is_lent_tells owned scope lent tells other = refl
 
 -- a position that the program has is in a set
 abbrev pub Asks : ProgramTree → PositionSet → Position → Type 0
@@ -161,19 +154,12 @@ passed_same program set f scope lent tells g index (tree first rest) =
 
 passed_by_same : (program : ProgramTree) (set : PositionSet) (f : ℕ) (scope : List Binding) (lent : List ℕ) → Tells (set f) scope lent → (form : Form) (ts : Trees)
     → All (Keeps program set) (passed_by f scope form ts) ↔ All (Asks program set) (handed_by lent form ts)
-passed_by_same program set f scope lent tells (Unary operator) ts = none (Keeps program set) (Asks program set)
-passed_by_same program set f scope lent tells (Binary operator) ts = none (Keeps program set) (Asks program set)
-passed_by_same program set f scope lent tells (Print form) ts = none (Keeps program set) (Asks program set)
-passed_by_same program set f scope lent tells (Construct of) ts = none (Keeps program set) (Asks program set)
 passed_by_same program set f scope lent tells (Call function) ts = passed_same program set f scope lent tells function 0 ts
+passed_by_same program set f scope lent tells form ts = none (Keeps program set) (Asks program set)
 
 mutual
   pub tail_same : (program : ProgramTree) (set : PositionSet) (f : ℕ) (scope : List Binding) (lent : List ℕ) → Tells (set f) scope lent → (t : Tree) → All (Keeps program set) (tail_rules f scope t) ↔ All (Asks program set) (handed lent t)
-  tail_same program set f scope lent tells (number value) = none (Keeps program set) (Asks program set)
-  tail_same program set f scope lent tells unit = none (Keeps program set) (Asks program set)
   tail_same program set f scope lent tells (variable of) = none (Keeps program set) (Asks program set)
-  tail_same program set f scope lent tells read_byte = none (Keeps program set) (Asks program set)
-  tail_same program set f scope lent tells (print_text form text) = none (Keeps program set) (Asks program set)
   tail_same program set f scope lent tells (apply form arguments) = passed_by_same program set f scope lent tells form arguments
   tail_same program set f scope lent tells (branch condition positive negative) =
       join (Keeps program set) (Asks program set) (tail_rules f scope positive) (tail_rules f scope negative) (handed lent positive) (handed lent negative)

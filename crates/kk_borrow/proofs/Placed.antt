@@ -3,9 +3,9 @@ use Rattle.std.proofs.Common.{◌≡◌, ◌<◌, ℕ, ◌+◌, Bool, true, fals
 use Rattle.std.proofs.lemmas.Bool.{both_ways, or_left, or_right, or_cases, eqb-true, eq-eqb, and_parts}
 use Rattle.std.proofs.lemmas.List.Elements.{All-nil, All-cons, All-head, All-tail, All-append}
 use Rattle.kk_syntax.specs.declared.program.Form.{Form}
-use Rattle.kk_syntax.specs.declared.program.Form.TheVariants.{Unary, Binary, Print, Construct, Call}
+use Rattle.kk_syntax.specs.declared.program.Form.TheVariants.{Construct, Call}
 use Rattle.kk_syntax.specs.Programs.{ProgramTree}
-use Rattle.kk_syntax.specs.Trees.{Tree, number, unit, variable, read_byte, print_text, apply, branch, match, sequence, Trees, no_tree, tree, Rows, no_row, row}
+use Rattle.kk_syntax.specs.Trees.{Tree, variable, apply, branch, match, sequence, Trees, no_tree, tree, Rows, no_row, row}
 use Rattle.kk_borrow.specs.declared.owned_place.Place.{Place}
 use Rattle.kk_borrow.specs.declared.owned_place.Place.TheVariants.{Never, Always, With}
 use Rattle.kk_borrow.specs.Sets.{PositionSet, arity_of}
@@ -75,11 +75,9 @@ at_variable program set f (With p) of = (
 )
 
 takes_place : (set : PositionSet) (form : Form) (index : ℕ) → holds set (place_in form index) ≡ takes set form index
-takes_place set (Unary operator) index = refl
-takes_place set (Binary operator) index = refl
-takes_place set (Print form) index = refl
 takes_place set (Construct of) index = refl
 takes_place set (Call function) index = refl
+takes_place set form index = refl
 
 holds_if : (set : PositionSet) (b : Bool) → holds set (place_if b) ≡ b
 holds_if set true = refl
@@ -91,11 +89,7 @@ along program set f rules t a b e same = subst (λ c. All (Keeps program set) ru
 
 mutual
   pub placed_same : (program : ProgramTree) (set : PositionSet) (f : ℕ) (place : Place) (t : Tree) → All (Keeps program set) (placed f place t) ↔ Demands program set f (λ x. uses set (holds set place) x t)
-  placed_same program set f place (number value) = none program set f
-  placed_same program set f place unit = none program set f
   placed_same program set f place (variable of) = at_variable program set f place of
-  placed_same program set f place read_byte = none program set f
-  placed_same program set f place (print_text form text) = none program set f
   placed_same program set f place (apply form arguments) = placed_all_same program set f form 0 arguments
   placed_same program set f place (branch condition positive negative) =
       join program set f (placed f Never condition) (placed f Always positive ++ placed f Always negative) (λ x. uses set false x condition) (λ x. uses set true x positive || uses set true x negative)

@@ -2,10 +2,10 @@
 -- not depend on a set.
 use Rattle.std.specs.Prelude.{ℕ, zero, suc, ◌+◌, Bool, ◌==◌, List, [], ◌∷◌, ◌++◌, map, filter, length, if◌then◌else◌}
 use Rattle.kk_syntax.specs.declared.program.Form.{Form}
-use Rattle.kk_syntax.specs.declared.program.Form.TheVariants.{Unary, Binary, Print, Construct, Call}
+use Rattle.kk_syntax.specs.declared.program.Form.TheVariants.{Construct, Call}
 use Rattle.kk_syntax.specs.Programs.{FunctionTree}
 use Rattle.kk_syntax.specs.Shapes.{bound}
-use Rattle.kk_syntax.specs.Trees.{Tree, number, unit, variable, read_byte, print_text, apply, branch, match, sequence, Trees, no_tree, tree, Rows, no_row, row}
+use Rattle.kk_syntax.specs.Trees.{Tree, variable, apply, branch, match, sequence, Trees, no_tree, tree, Rows, no_row, row}
 use Rattle.kk_borrow.specs.declared.position.Position.{Position}
 use Rattle.kk_borrow.specs.declared.owned_place.Place.{Place}
 use Rattle.kk_borrow.specs.declared.owned_place.Place.TheVariants.{Never, Always, With}
@@ -18,11 +18,9 @@ position function parameter = record { function = function; parameter = paramete
 
 -- when the argument of a form at an index stands at an owned place
 abbrev pub place_in : Form → ℕ → Place
-place_in (Unary operator) index = Never
-place_in (Binary operator) index = Never
-place_in (Print form) index = Never
 place_in (Construct of) index = Always
 place_in (Call function) index = With (position function index)
+place_in form index = Never
 
 abbrev pub place_if : Bool → Place
 place_if owned = if owned then Always else Never
@@ -36,11 +34,7 @@ at_place f (With p) x = record { premises = p ∷ []; conclusion = position f x 
 -- o1 to o4: the rules for the variables of an expression, which stands at a place itself
 abbrev mutual
   pub placed : ℕ → Place → Tree → List RuleTree
-  placed f place (number value) = []
-  placed f place unit = []
   placed f place (variable of) = at_place f place of
-  placed f place read_byte = []
-  placed f place (print_text form text) = []
   placed f place (apply form arguments) = placed_all f form 0 arguments
   placed f place (branch condition positive negative) = placed f Never condition ++ (placed f Always positive ++ placed f Always negative)
   placed f place (match scrutinee rows) = placed_rows f rows ++ placed f (place_if (reuses rows)) scrutinee
@@ -61,15 +55,8 @@ origins_of scope x = map (λ b. b.parameter) (filter (λ b. b.variable == x) sco
 
 -- the parameters on which the value of an expression hangs
 abbrev pub origins_in : List Binding → Tree → List ℕ
-origins_in scope (number value) = []
-origins_in scope unit = []
 origins_in scope (variable of) = origins_of scope of
-origins_in scope read_byte = []
-origins_in scope (print_text form text) = []
-origins_in scope (apply form arguments) = []
-origins_in scope (branch condition positive negative) = []
-origins_in scope (match scrutinee rows) = []
-origins_in scope (sequence binder first rest) = []
+origins_in scope other = []
 
 -- a variable hangs on each of some parameters
 abbrev pub hung : ℕ → List ℕ → List Binding
@@ -90,20 +77,13 @@ passed f scope function index no_tree = []
 passed f scope function index (tree first rest) = record { premises = map (position f) (origins_in scope first); conclusion = position function index } ∷ passed f scope function (index + 1) rest
 
 abbrev pub passed_by : ℕ → List Binding → Form → Trees → List RuleTree
-passed_by f scope (Unary operator) arguments = []
-passed_by f scope (Binary operator) arguments = []
-passed_by f scope (Print form) arguments = []
-passed_by f scope (Construct of) arguments = []
 passed_by f scope (Call function) arguments = passed f scope function 0 arguments
+passed_by f scope form arguments = []
 
 -- o5: the rules for the tail calls of an expression in a scope
 abbrev mutual
   pub tail_rules : ℕ → List Binding → Tree → List RuleTree
-  tail_rules f scope (number value) = []
-  tail_rules f scope unit = []
   tail_rules f scope (variable of) = []
-  tail_rules f scope read_byte = []
-  tail_rules f scope (print_text form text) = []
   tail_rules f scope (apply form arguments) = passed_by f scope form arguments
   tail_rules f scope (branch condition positive negative) = tail_rules f scope positive ++ tail_rules f scope negative
   tail_rules f scope (match scrutinee rows) = tail_rules_in f scope (origins_in scope scrutinee) rows

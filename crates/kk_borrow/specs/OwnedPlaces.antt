@@ -4,19 +4,17 @@ use Rattle.std.specs.Prelude.{ℕ, ◌+◌, Bool, true, false, ◌==◌, ◌&&�
 use Rattle.kk_syntax.specs.declared.program.Binder.{Binder}
 use Rattle.kk_syntax.specs.declared.program.Binder.TheVariants as OfBinder
 use Rattle.kk_syntax.specs.declared.program.Form.{Form}
-use Rattle.kk_syntax.specs.declared.program.Form.TheVariants.{Unary, Binary, Print, Construct, Call}
+use Rattle.kk_syntax.specs.declared.program.Form.TheVariants.{Construct, Call}
 use Rattle.kk_syntax.specs.Patterns.{Pattern, anything, variable as pattern_variable, exactly, constructor, no_part, part}
-use Rattle.kk_syntax.specs.Trees.{Tree, number, unit, variable, read_byte, print_text, apply, branch, match, sequence, Trees, no_tree, tree, Rows, no_row, row}
+use Rattle.kk_syntax.specs.Trees.{Tree, variable, apply, branch, match, sequence, Trees, no_tree, tree, Rows, no_row, row}
 use Rattle.kk_borrow.specs.Sets.{PositionSet}
 
 -- Whether an argument of a form, by its number, stands at an owned place. o2: each argument of a constructor does.
 -- o3: an argument of a call does where its position is owned.
 abbrev pub takes : PositionSet → Form → ℕ → Bool
-takes set (Unary operator) index = false
-takes set (Binary operator) index = false
-takes set (Print form) index = false
 takes set (Construct of) index = true
 takes set (Call function) index = set function index
+takes set form index = false
 
 -- o1: the value of a `val` stands at an owned place, and a statement that is an expression does not
 abbrev pub is_val : Binder → Bool
@@ -34,21 +32,13 @@ opens (constructor by (part first rest)) = true
 
 -- whether a form with its arguments is a construction with fields
 abbrev pub makes : Form → Trees → Bool
-makes (Unary operator) arguments = false
-makes (Binary operator) arguments = false
-makes (Print form) arguments = false
-makes (Construct of) no_tree = false
 makes (Construct of) (tree first rest) = true
-makes (Call function) arguments = false
+makes form arguments = false
 
 -- whether an expression holds a construction with fields, at any depth
 abbrev mutual
   pub builds : Tree → Bool
-  builds (number value) = false
-  builds unit = false
   builds (variable of) = false
-  builds read_byte = false
-  builds (print_text form text) = false
   builds (apply form arguments) = makes form arguments || builds_any arguments
   builds (branch condition positive negative) = builds condition || (builds positive || builds negative)
   builds (match scrutinee rows) = builds scrutinee || builds_rows rows
@@ -72,11 +62,7 @@ reuses (row pattern body rest) = (opens pattern && builds body) || reuses rest
 -- one. o1: a branch, the body of a row and the value of a block do.
 abbrev mutual
   pub uses : PositionSet → Bool → ℕ → Tree → Bool
-  uses set owned x (number value) = false
-  uses set owned x unit = false
   uses set owned x (variable of) = owned && x == of
-  uses set owned x read_byte = false
-  uses set owned x (print_text form text) = false
   uses set owned x (apply form arguments) = uses_any set form x 0 arguments
   uses set owned x (branch condition positive negative) = uses set false x condition || (uses set true x positive || uses set true x negative)
   uses set owned x (match scrutinee rows) = uses set (reuses rows) x scrutinee || uses_rows set x rows

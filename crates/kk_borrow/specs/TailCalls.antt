@@ -1,10 +1,10 @@
 -- What a tail call is given that is no lent variable.
 use Rattle.std.specs.Prelude.{ℕ, suc, zero, ◌+◌, Bool, true, false, List, [], ◌∷◌, ◌++◌, if◌then◌else◌}
 use Rattle.kk_syntax.specs.declared.program.Form.{Form}
-use Rattle.kk_syntax.specs.declared.program.Form.TheVariants.{Unary, Binary, Print, Construct, Call}
+use Rattle.kk_syntax.specs.declared.program.Form.TheVariants.{Call}
 use Rattle.kk_syntax.specs.Patterns.{Pattern}
 use Rattle.kk_syntax.specs.Shapes.{bound, is_among}
-use Rattle.kk_syntax.specs.Trees.{Tree, number, unit, variable, read_byte, print_text, apply, branch, match, sequence, Trees, no_tree, tree, Rows, no_row, row}
+use Rattle.kk_syntax.specs.Trees.{Tree, variable, apply, branch, match, sequence, Trees, no_tree, tree, Rows, no_row, row}
 use Rattle.kk_borrow.specs.declared.position.Position.{Position}
 
 -- the parameters of a function that are not owned, by whether each is owned and by how many there are
@@ -14,15 +14,8 @@ lent_below owned (suc count) = lent_below owned count ++ (if owned count then []
 
 -- whether an expression is a lent variable
 abbrev pub is_lent_variable : List ℕ → Tree → Bool
-is_lent_variable lent (number value) = false
-is_lent_variable lent unit = false
 is_lent_variable lent (variable of) = is_among lent of
-is_lent_variable lent read_byte = false
-is_lent_variable lent (print_text form text) = false
-is_lent_variable lent (apply form arguments) = false
-is_lent_variable lent (branch condition positive negative) = false
-is_lent_variable lent (match scrutinee rows) = false
-is_lent_variable lent (sequence binder first rest) = false
+is_lent_variable lent other = false
 
 -- the lent variables in a row: those of its pattern too, if the match is on a lent variable
 abbrev pub lent_in_row : List ℕ → Bool → Pattern → List ℕ
@@ -37,21 +30,14 @@ handed_to lent function index (tree first rest) = (if is_lent_variable lent firs
 
 -- the same for a form: for a call, and for nothing else
 abbrev pub handed_by : List ℕ → Form → Trees → List Position
-handed_by lent (Unary operator) arguments = []
-handed_by lent (Binary operator) arguments = []
-handed_by lent (Print form) arguments = []
-handed_by lent (Construct of) arguments = []
 handed_by lent (Call function) arguments = handed_to lent function 0 arguments
+handed_by lent form arguments = []
 
 -- The positions of tail calls at which anything but a lent variable stands. The tail positions are those of kk_syntax's
 -- `tails`.
 abbrev mutual
   pub handed : List ℕ → Tree → List Position
-  handed lent (number value) = []
-  handed lent unit = []
   handed lent (variable of) = []
-  handed lent read_byte = []
-  handed lent (print_text form text) = []
   handed lent (apply form arguments) = handed_by lent form arguments
   handed lent (branch condition positive negative) = handed lent positive ++ handed lent negative
   handed lent (match scrutinee rows) = handed_rows lent (is_lent_variable lent scrutinee) rows

@@ -7,8 +7,6 @@ mod rule;
 mod scope;
 mod standing;
 mod tail_call;
-#[cfg(test)]
-mod tests;
 
 ghost use Rattle.std.specs.Prelude.{◌≡◌, ◌++◌, ◌∷◌, [], ◌<◌, IfOk, OnOk, map, length};
 ghost use Rattle.kk_syntax.specs.PositionsOf.{positions_of};

@@ -46,7 +46,6 @@ pub fn read(
     ensures builds { IfOk result (λ built. built ≡ builds (expr_tree expr.now)) }
 {
     match expr {
-        Expr::Number(_) | Expr::Unit | Expr::ReadByte | Expr::PrintText(_, _) => Ok(false),
         Expr::Variable(of) => {
             read_variable(alloc, function, place, *of as usize, rules)?;
             Ok(false)
@@ -170,12 +169,12 @@ fn place_in(form: Form, index: usize) -> Place
     ensures { result ≡ place_in form index }
 {
     match form {
-        Form::Unary(_) | Form::Binary(_) | Form::Print(_) => Place::Never,
         Form::Construct(_) => Place::Always,
         Form::Call(function) => Place::With(Position {
             function: function as usize,
             parameter: index,
         }),
+        _ => Place::Never,
     }
 }
 
@@ -220,7 +219,7 @@ fn makes(form: Form, arguments: &[Expr]) -> bool
     ensures { result ≡ makes form (trees_of (map expr_tree arguments.now)) }
 {
     match form {
-        Form::Unary(_) | Form::Binary(_) | Form::Print(_) | Form::Call(_) => false,
         Form::Construct(_) => !arguments.is_empty(),
+        _ => false,
     }
 }

@@ -25,8 +25,7 @@ pub fn read_tails(
     ensures scope { OnOk result (scope.new.bindings.items ≡ scope.old.bindings.items) }
 {
     match expr {
-        Expr::Number(_) | Expr::Unit | Expr::Variable(_) | Expr::ReadByte | Expr::PrintText(_, _) =>
-            { Ok(()) }
+        Expr::Variable(_) => Ok(()),
         Expr::Apply(form, arguments) => read_form(alloc, function, scope, *form, arguments, rules),
         Expr::If(_, positive, negative) => {
             read_tails(alloc, function, scope, positive, rules)?;
@@ -74,8 +73,8 @@ fn read_form(
     ensures { OnOk result (rule_trees rules.new.items ≡ rule_trees rules.old.items ++ passed_by function scope.now.bindings.items form (trees_of (map expr_tree arguments.now))) }
 {
     match form {
-        Form::Unary(_) | Form::Binary(_) | Form::Print(_) | Form::Construct(_) => Ok(()),
         Form::Call(callee) => read_call(alloc, function, scope, callee as usize, arguments, rules),
+        _ => Ok(()),
     }
 }
 
@@ -136,12 +135,6 @@ fn origins_in(alloc: Global, scope: &Scope, expr: &Expr) -> Result<Vec<usize>, N
                 Ok(Vec::new(alloc))
             }
         }
-        Expr::Number(_)
-        | Expr::Unit
-        | Expr::ReadByte
-        | Expr::PrintText(_, _)
-        | Expr::Apply(_, _)
-        | Expr::If(_, _, _)
-        | Expr::Match(_, _) => Ok(Vec::new(alloc)),
+        _ => Ok(Vec::new(alloc)),
     }
 }

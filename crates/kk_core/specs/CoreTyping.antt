@@ -3,7 +3,7 @@ use Rattle.std.specs.Prelude.{◌≡◌, ◌+◌, ◌≤◌, ℕ, List, [], ◌�
 use Rattle.kk_syntax.specs.Types.{TypeTree, unit_type}
 use Rattle.kk_syntax.specs.PlainTyping.{Signature, Scope, type_in, with_parameters, bool, IsFormTyped}
 use Rattle.kk_core.specs.Codes.{Code, give, tail_call, branch, case, compute, use_of, unpack, inside, FunctionCode, ProgramCode}
-use Rattle.kk_core.specs.Sizes.{forms, IsOrdered}
+use Rattle.kk_core.specs.Sizes.{forms, IsOrdered, most_parameters, most_variables, most_forms, most_instances, most_program_forms}
 
 -- variables have these types, one after the other
 abbrev pub HaveTypes : Scope → List ℕ → List TypeTree → Type 0
@@ -48,12 +48,11 @@ pub record IsCoreTyped (code : ProgramCode) : Type 0 where
   pub functions : AreCodesTyped signatures code.functions signatures
   pub main : slice_get signatures code.main ≡ Some (record { parameters = []; result = unit_type })
 
--- a function of a program within the limits: at most 8 parameters and 480 nodes in its body make at most 488 variables
--- and 961 forms
+-- a function of a program within the limits
 pub record IsFunctionSmall (function : FunctionCode) : Type 0 where
-  pub parameters : function.parameters ≤ 8
-  pub variables : function.variables ≤ 488
-  pub forms : forms function.body ≤ 961
+  pub parameters : function.parameters ≤ most_parameters
+  pub variables : function.variables ≤ most_variables
+  pub forms : forms function.body ≤ most_forms
 
 abbrev pub AreSmall : List FunctionCode → Type 0
 AreSmall [] = Unit {0}
@@ -64,10 +63,10 @@ abbrev pub all_forms : List FunctionCode → ℕ
 all_forms [] = 0
 all_forms (function ∷ functions) = forms function.body + all_forms functions
 
--- A program is within the limits: `main` is its first function, each function is, and so are all together: 8,192 nodes make
--- at most 17,408 forms, with one more for each of at most 1,024 functions.
+-- A program is within the limits: `main` is its first function, each function is, the functions are few, and so are all
+-- forms together.
 pub record IsSmall (code : ProgramCode) : Type 0 where
   pub main : code.main ≡ 0
   pub functions : AreSmall code.functions
-  pub few : length code.functions ≤ 1024
-  pub all : all_forms code.functions ≤ 17408
+  pub few : length code.functions ≤ most_instances
+  pub all : all_forms code.functions ≤ most_program_forms

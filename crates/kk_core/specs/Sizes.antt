@@ -1,7 +1,33 @@
--- The shape of a code: how long it is, and that its variables are in order.
-use Rattle.std.specs.Prelude.{◌≡◌, ℕ, zero, suc, ◌+◌, ◌≤◌, List, [], ◌∷◌, ◌++◌, true}
+-- The shape of a code: how long it is, how long it can be, and that its variables are in order.
+use Rattle.std.specs.Prelude.{◌≡◌, ℕ, zero, suc, ◌+◌, ◌*◌, ◌≤◌, List, [], ◌∷◌, ◌++◌, true}
+use Rattle.kk_base.specs.declared.limit.LimitKind.TheVariants.{Parameters, FunctionNodes, Instances, ProgramNodes}
+use Rattle.kk_base.specs.Limits.{greatest_of}
 use Rattle.kk_syntax.specs.Shapes.{is_among}
 use Rattle.kk_core.specs.Codes.{Code, give, tail_call, branch, case, compute, use_of, unpack, inside, Arms, no_arm, arm, FunctionCode}
+
+-- the limits of a program: the parameters of a function, the nodes of its body, the functions, and all nodes together
+abbrev pub most_parameters : ℕ
+most_parameters = greatest_of Parameters
+
+abbrev pub most_nodes : ℕ
+most_nodes = greatest_of FunctionNodes
+
+abbrev pub most_instances : ℕ
+most_instances = greatest_of Instances
+
+abbrev pub most_program_nodes : ℕ
+most_program_nodes = greatest_of ProgramNodes
+
+-- what they make of its core form: a node binds at most one variable, and makes at most two forms, with one more for each
+-- function
+abbrev pub most_variables : ℕ
+most_variables = most_nodes + most_parameters
+
+abbrev pub most_forms : ℕ
+most_forms = 2 * most_nodes + 1
+
+abbrev pub most_program_forms : ℕ
+most_program_forms = 2 * most_program_nodes + most_instances
 
 -- the number of forms in a code
 abbrev mutual

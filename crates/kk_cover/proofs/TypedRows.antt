@@ -5,13 +5,14 @@ use Rattle.std.proofs.lemmas.List.Elements.{Contains-append_left, Contains-appen
 use Rattle.std.specs.List.{Contains, slice_get}
 use Rattle.kk_syntax.specs.Patterns.{Pattern, anything, variable as pattern_variable, exactly, constructor, Patterns, no_part, part}
 use Rattle.kk_syntax.specs.Programs.{ConstructorTree, FunctionTree, ProgramTree}
-use Rattle.kk_syntax.specs.Trees.{Tree, number, unit, variable, read_byte, print_text, apply, branch, match, sequence, Trees, no_tree, tree, Rows, no_row, row}
+use Rattle.kk_syntax.specs.Shapes.{gathered_all, gathered_rows}
+use Rattle.kk_syntax.specs.Trees.{Tree, variable, apply, branch, match, sequence, Trees, no_tree, tree, Rows, no_row, row}
 use Rattle.kk_syntax.specs.Types.{TypeTree, unit_type, type_variable, named, TypeTrees, types_of, type_list, put, put_each, type_at, variables_below}
 use Rattle.kk_syntax.specs.Typing.{Scope, Scheme, Choice, holding, variables_of_type, scheme_in, constructor_scheme, chosen_at, IsPatternTyped, ArePatternsTyped, IsTypedBy, AreTypedBy, AreRowsTypedBy, IsTyping}
 use Rattle.kk_cover.specs.Covered.{Each}
 use Rattle.kk_syntax.specs.Outlines.{Outline, outline_of, outlines_of}
 use Rattle.kk_syntax.specs.OfType.{IsPatternOf, ArePatternsOf, fields_of, fields_at, is_int32, values_of}
-use Rattle.kk_cover.specs.Matches.{asked_by, matches, matches_of_all, matches_of_rows}
+use Rattle.kk_cover.specs.Matches.{asked_by, of_matches, matches}
 use Rattle.kk_cover.specs.TypedRows.{AreOfChosenType}
 use Rattle.kk_cover.proofs.Keeping.{each-append}
 use Rattle.kk_cover.proofs.Knowing.{fields_made}
@@ -103,11 +104,7 @@ module _ (program : ProgramTree) where
 
     mutual
       tree_rows : (scope : Scope) (e : Tree) (t : TypeTree) (choices : List Choice) → Within choices → IsTypedBy program scope e t choices → AreOfTypes (matches e)
-      tree_rows scope (number value) t choices within typed = tt
-      tree_rows scope unit t choices within typed = tt
       tree_rows scope (variable x) t choices within typed = tt
-      tree_rows scope read_byte t choices within typed = tt
-      tree_rows scope (print_text form text) t choices within typed = tt
       tree_rows scope (apply form es) t choices within uses =
           trees_rows scope es (map (put (type_at uses.at)) uses.of.parameters) uses.rest (within_rest choices (chosen_at form uses.at) uses.rest uses.choices_are within) uses.arguments
       tree_rows scope (branch e positive negative) t choices within (one, other, is, condition, (two, three, rest_is, first, second)) =
@@ -122,25 +119,25 @@ module _ (program : ProgramTree) where
               chosen = within_first choices (holding holds.of ∷ []) holds.rest holds.choices_are within holds.of (0, omega arith, refl);
               typed = rows_of_type scope rows holds.of t parts.1 parts.4;
             },
-            in_turn (matches e) (matches_of_rows rows) (tree_rows scope e holds.of parts.0 (within_first holds.rest parts.0 parts.1 parts.2 rest) parts.3) (rows_rows scope rows holds.of t parts.1 (within_rest holds.rest parts.0 parts.1 parts.2 rest) parts.4),
+            in_turn (matches e) (gathered_rows of_matches rows) (tree_rows scope e holds.of parts.0 (within_first holds.rest parts.0 parts.1 parts.2 rest) parts.3) (rows_rows scope rows holds.of t parts.1 (within_rest holds.rest parts.0 parts.1 parts.2 rest) parts.4),
           )
       tree_rows scope (sequence binder first last) t choices within holds =
           let parts = holds.inside in
           let rest = within_rest choices (holding holds.of ∷ []) holds.rest holds.choices_are within in
           in_turn (matches first) (matches last) (tree_rows scope first holds.of parts.0 (within_first holds.rest parts.0 parts.1 parts.2 rest) parts.3) (tree_rows _ last t parts.1 (within_rest holds.rest parts.0 parts.1 parts.2 rest) parts.4)
 
-      trees_rows : (scope : Scope) (es : Trees) (ts : List TypeTree) (choices : List Choice) → Within choices → AreTypedBy program scope es ts choices → AreOfTypes (matches_of_all es)
+      trees_rows : (scope : Scope) (es : Trees) (ts : List TypeTree) (choices : List Choice) → Within choices → AreTypedBy program scope es ts choices → AreOfTypes (gathered_all of_matches es)
       trees_rows scope no_tree ts choices within typed = tt
       trees_rows scope (tree first rest) [] choices within typed = absurd typed
       trees_rows scope (tree first rest) (t ∷ ts) choices within (one, other, is, first_typed, rest_typed) =
-          in_turn (matches first) (matches_of_all rest) (tree_rows scope first t one (within_first choices one other is within) first_typed) (trees_rows scope rest ts other (within_rest choices one other is within) rest_typed)
+          in_turn (matches first) (gathered_all of_matches rest) (tree_rows scope first t one (within_first choices one other is within) first_typed) (trees_rows scope rest ts other (within_rest choices one other is within) rest_typed)
 
-      rows_rows : (scope : Scope) (rows : Rows) (u t : TypeTree) (choices : List Choice) → Within choices → AreRowsTypedBy program scope rows u t choices → AreOfTypes (matches_of_rows rows)
+      rows_rows : (scope : Scope) (rows : Rows) (u t : TypeTree) (choices : List Choice) → Within choices → AreRowsTypedBy program scope rows u t choices → AreOfTypes (gathered_rows of_matches rows)
       rows_rows scope no_row u t choices within typed = tt
       rows_rows scope (row pattern body rest) u t choices within (one, other, is, binds, rest_typed) =
           let parts = binds.inside in
           let bodies = within_rest one (map holding binds.at) binds.rest binds.choices_are (within_first choices one other is within) in
-          in_turn (matches body) (matches_of_rows rest) (tree_rows _ body t parts.1 (within_rest binds.rest parts.0 parts.1 parts.2 bodies) parts.4) (rows_rows scope rest u t other (within_rest choices one other is within) rest_typed)
+          in_turn (matches body) (gathered_rows of_matches rest) (tree_rows _ body t parts.1 (within_rest binds.rest parts.0 parts.1 parts.2 bodies) parts.4) (rows_rows scope rest u t other (within_rest choices one other is within) rest_typed)
 
   pub function_rows : (function : FunctionTree) (choices : List Choice) → IsTyping program function choices → Each (AreOfChosenType program choices) (matches function.body)
   function_rows function choices typing = tree_rows choices _ function.body _ choices (λ t at. at) typing

@@ -3,30 +3,19 @@ use Rattle.std.proofs.Common.{◌≡◌, ◌<◌, ℕ, ◌+◌, List, [], ◌∷
 use Rattle.std.proofs.lemmas.List.{map-append, take-map, take_more, drop_more, take-append-drop}
 use Rattle.std.proofs.lemmas.Option.{slice_get-map, slice_get-get_or}
 use Rattle.std.specs.Borrow.{Bor}
-use Rattle.kk_syntax.specs.declared.program.Expr.TheVariants.{Match, rolls-Match, Block, rolls-Block}
+use Rattle.kk_syntax.specs.declared.program.Expr.TheVariants.{Match}
 use Rattle.kk_syntax.specs.declared.program.Pat.{Pat}
 use Rattle.kk_syntax.specs.declared.program.Row.{Row}
-use Rattle.kk_syntax.specs.declared.program.Expr.TheFolds.{fold-roll-Expr, fold_out-Row}
-use Rattle.kk_syntax.specs.Patterns.{pattern_tree}
 use Rattle.kk_syntax.specs.declared.program.Fun.{Fun}
 use Rattle.kk_syntax.specs.declared.program.Program.{Program}
 use Rattle.kk_syntax.specs.Programs.{ProgramTree, function_tree, program_tree}
-use Rattle.kk_syntax.specs.Trees.{Tree, match, RowTree, StatementTree, block_of, rows_of, expr_step, row_step, statement_step, expr_tree, row_tree, statement_tree}
+use Rattle.kk_syntax.specs.Shapes.{gathered_rows}
+use Rattle.kk_syntax.specs.Trees.{RowTree, rows_of, expr_tree, row_tree}
+use Rattle.kk_syntax.proofs.Views.{match_tree, row_tree_is}
 use Rattle.kk_cover.specs.Covered.{Each, row_outlines}
 use Rattle.kk_syntax.specs.Outlines.{Outline, outline_of, pattern_outline}
-use Rattle.kk_cover.specs.Matches.{asked_by, matches, matches_of_rows, matches_of_statements, match_rows, IsMatchCovered, IsMatchExample, IsFirstExample, IsFunctionCovered, IsFirstFunction}
+use Rattle.kk_cover.specs.Matches.{asked_by, of_matches, matches, match_rows, IsMatchCovered, IsMatchExample, IsFirstExample, IsFunctionCovered, IsFirstFunction}
 use Rattle.kk_cover.proofs.Keeping.{each-append}
-
-pub matches_block : (ss : List StatementTree) (last : Tree) → matches (block_of ss last) ≡ matches_of_statements ss ++ matches last
-matches_block [] last = refl
-matches_block (s ∷ ss) last = ap (λ (zs : List (List Outline)). matches s.value ++ zs) (matches_block ss last) ∙ sym (append_assoc (matches s.value) (matches_of_statements ss) (matches last))
-
-pub block_tree : (ss : _) (e : _) → expr_tree (Block ss e) ≡ block_of (map statement_tree ss.items) (expr_tree e.value)
-block_tree ss e =
-    ap expr_tree (sym (rolls-Block ss e)) ∙ fold-roll-Expr Tree RowTree StatementTree expr_step row_step statement_step _
-
-pub row_tree_is : (r : Row) → row_tree r ≡ record { pattern = pattern_tree r.pattern; body = expr_tree r.body }
-row_tree_is r = fold_out-Row Tree RowTree StatementTree expr_step row_step statement_step r
 
 rows_outlines : (rows : List Row) → row_outlines rows ≡ asked_by (rows_of (map row_tree rows))
 rows_outlines [] = refl
@@ -34,14 +23,10 @@ rows_outlines (r ∷ rows) =
     ap (λ (x : RowTree). outline_of x.pattern ∷ row_outlines rows) (sym (row_tree_is r))
     ∙ ap (λ (os : List Outline). outline_of (row_tree r).pattern ∷ os) (rows_outlines rows)
 
-match_tree : (e : _) (rows : _) → expr_tree (Match e rows) ≡ match (expr_tree e.value) (rows_of (map row_tree rows.items))
-match_tree e rows =
-    ap expr_tree (sym (rolls-Match e rows)) ∙ fold-roll-Expr Tree RowTree StatementTree expr_step row_step statement_step _
-
-pub matches_match : (e : _) (rows : _) → matches (expr_tree (Match e rows)) ≡ row_outlines rows.items ∷ (matches (expr_tree e.value) ++ matches_of_rows (rows_of (map row_tree rows.items)))
+pub matches_match : (e : _) (rows : _) → matches (expr_tree (Match e rows)) ≡ row_outlines rows.items ∷ (matches (expr_tree e.value) ++ gathered_rows of_matches (rows_of (map row_tree rows.items)))
 matches_match e rows =
     ap matches (match_tree e rows)
-    ∙ ap (λ (os : List Outline). os ∷ (matches (expr_tree e.value) ++ matches_of_rows (rows_of (map row_tree rows.items)))) (sym (rows_outlines rows.items))
+    ∙ ap (λ (os : List Outline). os ∷ (matches (expr_tree e.value) ++ gathered_rows of_matches (rows_of (map row_tree rows.items)))) (sym (rows_outlines rows.items))
 
 pub found_match : (old pushed middle new ss rs : List (List Outline)) (rows : List Outline) → pushed ≡ old ++ (rows ∷ []) → middle ≡ pushed ++ ss → new ≡ middle ++ rs → new ≡ old ++ (rows ∷ (ss ++ rs))
 found_match old pushed middle new ss rs rows a b c =

@@ -5,7 +5,8 @@ use Rattle.kk_syntax.specs.declared.program.Pat.{Pat}
 use Rattle.kk_syntax.specs.declared.program.Program.{Program}
 use Rattle.kk_syntax.specs.declared.program.Row.{Row}
 use Rattle.kk_syntax.specs.Programs.{FunctionTree, ProgramTree, program_tree}
-use Rattle.kk_syntax.specs.Trees.{Tree, number, unit, variable, read_byte, print_text, apply, branch, match, sequence, Trees, no_tree, tree, Rows, no_row, row, StatementTree}
+use Rattle.kk_syntax.specs.Shapes.{Gathers, gathered}
+use Rattle.kk_syntax.specs.Trees.{Tree, Rows, no_row, row}
 use Rattle.kk_syntax.specs.Types.{TypeTree}
 use Rattle.kk_cover.specs.declared.covering.CoverError.{CoverError}
 use Rattle.kk_cover.specs.declared.covering.CoverError.TheVariants.{NotCovered, NoMemory}
@@ -20,30 +21,11 @@ asked_by (row pattern body rest) = outline_of pattern ∷ asked_by rest
 
 -- The matches of an expression, each as its rows, in the order of the text: a match before those in its scrutinee, and
 -- these before those in its rows.
-abbrev mutual
-  pub matches : Tree → List (List Outline)
-  matches (number value) = []
-  matches unit = []
-  matches (variable of) = []
-  matches read_byte = []
-  matches (print_text form text) = []
-  matches (apply form arguments) = matches_of_all arguments
-  matches (branch condition positive negative) = matches condition ++ (matches positive ++ matches negative)
-  matches (match scrutinee rows) = asked_by rows ∷ (matches scrutinee ++ matches_of_rows rows)
-  matches (sequence binder first rest) = matches first ++ matches rest
+abbrev pub of_matches : Gathers (List Outline)
+of_matches = record { at_form = λ form. []; at_rows = λ rows. asked_by rows ∷ [] }
 
-  pub matches_of_all : Trees → List (List Outline)
-  matches_of_all no_tree = []
-  matches_of_all (tree first rest) = matches first ++ matches_of_all rest
-
-  pub matches_of_rows : Rows → List (List Outline)
-  matches_of_rows no_row = []
-  matches_of_rows (row pattern body rest) = matches body ++ matches_of_rows rest
-
--- the matches of statements
-abbrev pub matches_of_statements : List StatementTree → List (List Outline)
-matches_of_statements [] = []
-matches_of_statements (s ∷ ss) = matches s.value ++ matches_of_statements ss
+abbrev pub matches : Tree → List (List Outline)
+matches e = gathered of_matches e
 
 -- matches in memory, each as its rows
 abbrev pub match_rows : List (Bor (List Row)) → List (List Outline)

@@ -1,7 +1,9 @@
 ghost use Rattle.std.specs.Prelude.{◌≡◌, ◌++◌, IfOk, OnOk, map};
+ghost use Rattle.std.specs.List.{flat_map};
 ghost use Rattle.kk_syntax.specs.Programs.{program_tree};
+ghost use Rattle.kk_syntax.specs.Shapes.{gathered_all, gathered_rows};
 ghost use Rattle.kk_syntax.specs.Trees.{expr_tree, trees_of, row_tree, rows_of, statement_tree};
-ghost use Rattle.kk_cover.specs.Matches.{matches, matches_of_all, matches_of_rows, matches_of_statements, match_rows, AnswersAll, AnswersProgram};
+ghost use Rattle.kk_cover.specs.Matches.{of_matches, matches, match_rows, AnswersAll, AnswersProgram};
 
 use crate::finding;
 use kk_base::NoMemory;
@@ -62,8 +64,7 @@ fn collect<'a>(expr: &'a Expr, all: &mut Vec<&'a [Row]>) -> Result<(), NoMemory>
     ensures { OnOk result (match_rows all.new.items ≡ match_rows all.old.items ++ matches (expr_tree expr.now)) }
 {
     match expr {
-        Expr::Number(_) | Expr::Unit | Expr::Variable(_) | Expr::ReadByte | Expr::PrintText(_, _) =>
-            { Ok(()) }
+        Expr::Variable(_) => Ok(()),
         Expr::Apply(_, arguments) => collect_each(arguments, all),
         Expr::If(condition, positive, negative) => {
             collect(condition, all)?;
@@ -85,7 +86,7 @@ fn collect<'a>(expr: &'a Expr, all: &mut Vec<&'a [Row]>) -> Result<(), NoMemory>
 // The same for several expressions.
 #[cycle(collect)]
 fn collect_each<'a>(exprs: &'a [Expr], all: &mut Vec<&'a [Row]>) -> Result<(), NoMemory>
-    ensures { OnOk result (match_rows all.new.items ≡ match_rows all.old.items ++ matches_of_all (trees_of (map expr_tree exprs.now))) }
+    ensures { OnOk result (match_rows all.new.items ≡ match_rows all.old.items ++ gathered_all of_matches (trees_of (map expr_tree exprs.now))) }
 {
     for expr in exprs {
         collect(expr, all)?;
@@ -96,7 +97,7 @@ fn collect_each<'a>(exprs: &'a [Expr], all: &mut Vec<&'a [Row]>) -> Result<(), N
 // The same for the bodies of rows.
 #[cycle(collect)]
 fn collect_rows<'a>(rows: &'a [Row], all: &mut Vec<&'a [Row]>) -> Result<(), NoMemory>
-    ensures { OnOk result (match_rows all.new.items ≡ match_rows all.old.items ++ matches_of_rows (rows_of (map row_tree rows.now))) }
+    ensures { OnOk result (match_rows all.new.items ≡ match_rows all.old.items ++ gathered_rows of_matches (rows_of (map row_tree rows.now))) }
 {
     for row in rows {
         collect(&row.body, all)?;
@@ -110,7 +111,7 @@ fn collect_statements<'a>(
     statements: &'a [Statement],
     all: &mut Vec<&'a [Row]>,
 ) -> Result<(), NoMemory>
-    ensures { OnOk result (match_rows all.new.items ≡ match_rows all.old.items ++ matches_of_statements (map statement_tree statements.now)) }
+    ensures { OnOk result (match_rows all.new.items ≡ match_rows all.old.items ++ flat_map (λ s. matches s.value) (map statement_tree statements.now)) }
 {
     for statement in statements {
         collect(&statement.value, all)?;

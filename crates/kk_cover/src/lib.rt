@@ -11,8 +11,6 @@ mod rows;
 mod settling;
 mod spelling;
 mod table;
-#[cfg(test)]
-mod tests;
 mod turning;
 
 pub use covering::{CoverError, cover};

@@ -7,10 +7,10 @@ use Rattle.kk_syntax.specs.declared.operator.UnaryOperator.TheVariants.{Negate, 
 use Rattle.kk_syntax.specs.declared.operator.BinaryOperator.{BinaryOperator}
 use Rattle.kk_syntax.specs.declared.operator.BinaryOperator.TheVariants.{Add, Subtract, Multiply, Divide, Remainder, Equal, NotEqual, Less, LessEqual, Greater, GreaterEqual}
 use Rattle.kk_syntax.specs.declared.program.Form.{Form}
-use Rattle.kk_syntax.specs.declared.program.Form.TheVariants.{Unary, Binary, Print, Construct, Call}
+use Rattle.kk_syntax.specs.declared.program.Form.TheVariants.{Number, Unit as Nothing, ReadByte, PrintText, Unary, Binary, Print, Construct, Call}
 use Rattle.kk_syntax.specs.PlainTyping.{Signature, signature_of, unary_type, binary_type, IsClosed, IsFormTyped, HasType, HaveTypes, IsFunctionTyped, IsPlainForm, IsPlainTree, ArePlainTrees, IsPlainProgram}
 use Rattle.kk_syntax.specs.Programs.{FunctionTree, ProgramTree}
-use Rattle.kk_syntax.specs.Trees.{Tree, number, unit, variable, read_byte, print_text, apply, branch, match, sequence, Trees, no_tree, tree}
+use Rattle.kk_syntax.specs.Trees.{Tree, variable, apply, branch, match, sequence, Trees, no_tree, tree}
 use Rattle.kk_syntax.specs.Types.{TypeTree, named, no_type, types_of, put, type_at, variables_below}
 use Rattle.kk_syntax.specs.Typing.{bool, Scope, Scheme, variables_of_type, with_parameters, with_binder, Choice, form_scheme, function_scheme, constructor_scheme, scheme_in, IsTypedBy, AreTypedBy, IsTypable, TypesAs}
 use Rattle.kk_syntax.proofs.Closed.{put_closed, put_all_closed}
@@ -75,6 +75,10 @@ module _ (program : ProgramTree) (plain : IsPlainProgram program) where
       form_is (Construct c) scheme bool_scheme at (sym (ap (option_map (scheme_in program)) of_bool.is ∙ ap Some same) ∙ is) (refl, refl, small)
 
   form_typed : (form : Form) (scheme : Scheme) (at : List TypeTree) → IsPlainForm form → form_scheme program form ≡ Some scheme → IsFormTyped signatures form (taken scheme at) (given scheme at)
+  form_typed (Number value) scheme at simple is = form_is (Number value) scheme _ at is (refl, refl)
+  form_typed Nothing scheme at simple is = form_is Nothing scheme _ at is (refl, refl)
+  form_typed ReadByte scheme at simple is = form_is ReadByte scheme _ at is (refl, refl)
+  form_typed (PrintText form text) scheme at simple is = form_is (PrintText form text) scheme _ at is (refl, refl)
   form_typed (Unary operator) scheme at simple is =
       form_is (Unary operator) scheme _ at is (ap (λ (t : TypeTree). t ∷ []) (put_closed (type_at at) (unary_type operator) (unary_closed operator)), put_closed (type_at at) (unary_type operator) (unary_closed operator))
   form_typed (Binary operator) scheme at simple is = form_is (Binary operator) scheme _ at is (refl, put_closed (type_at at) (binary_type operator) (binary_closed operator))
@@ -88,11 +92,7 @@ module _ (program : ProgramTree) (plain : IsPlainProgram program) where
 
   mutual
     has_type : (e : Tree) (scope : Scope) (t : TypeTree) (choices : List Choice) → IsPlainTree e → IsTypedBy program scope e t choices → HasType signatures scope e t
-    has_type (number value) scope t choices simple typed = typed.0
-    has_type unit scope t choices simple typed = typed.0
     has_type (variable x) scope t choices simple typed = typed.0
-    has_type read_byte scope t choices simple typed = typed.0
-    has_type (print_text form text) scope t choices simple typed = typed.0
     has_type (apply form es) scope t choices simple typed = (
       taken typed.of typed.at,
       have_types es scope (taken typed.of typed.at) typed.rest simple.1 typed.arguments,

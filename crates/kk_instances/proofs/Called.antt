@@ -1,11 +1,6 @@
 -- The calls of an instance's body: each is of an instance.
 use Rattle.std.proofs.Common.{◌≡◌, ℕ, zero, suc, List, [], ◌∷◌, ◌++◌, Some, map, length, refl, arith}
 use Rattle.std.specs.Prelude.{slice_get}
-use Rattle.kk_syntax.specs.declared.program.Form.{Form}
-use Rattle.kk_syntax.specs.declared.program.Form.TheVariants.{Unary, Binary, Print, Construct, Call}
-use Rattle.kk_syntax.specs.Trees.{Tree, number, unit, variable, read_byte, print_text, apply, branch, match, sequence, Trees, no_tree, tree, Rows, no_row, row}
-use Rattle.kk_mono.specs.Instances.{called_by, calls, calls_of_all, calls_of_rows}
-use Rattle.kk_instances.proofs.Renamed.{FormCalls, TreeCalls, TreesCall, RowsCall}
 
 -- each number has the property
 abbrev pub Every : (ℕ → Type 0) → List ℕ → Type 0
@@ -29,50 +24,7 @@ each_found xs [] found is = tt
 each_found xs (n ∷ ns) [] is = absurd (cc)
 each_found xs (n ∷ ns) (x ∷ found) is = ((x, (cc)), each_found xs ns found (cc))
 
-module _ (P : ℕ → Type 0) where
-  every_first : (ms ns : List ℕ) → Every P (ms ++ ns) → Every P ms
-  every_first [] ns every = tt
-  every_first (m ∷ ms) ns every = (every.0, every_first ms ns every.1)
-
-  every_second : (ms ns : List ℕ) → Every P (ms ++ ns) → Every P ns
-  every_second [] ns every = every
-  every_second (m ∷ ms) ns every = every_second ms ns every.1
-
-  form_calls : (form : Form) → Every P (called_by form) → FormCalls P form
-  form_calls (Unary operator) every = tt
-  form_calls (Binary operator) every = tt
-  form_calls (Print form) every = tt
-  form_calls (Construct c) every = tt
-  form_calls (Call f) every = every.0
-
-  mutual
-    pub tree_calls : (e : Tree) → Every P (calls e) → TreeCalls P e
-    tree_calls (number value) every = tt
-    tree_calls unit every = tt
-    tree_calls (variable x) every = tt
-    tree_calls read_byte every = tt
-    tree_calls (print_text form text) every = tt
-    tree_calls (apply form es) every = (
-      form_calls form (every_first (called_by form) (calls_of_all es) every),
-      trees_call es (every_second (called_by form) (calls_of_all es) every),
-    )
-    tree_calls (branch e positive negative) every =
-        let either = every_second (calls e) (calls positive ++ calls negative) every in (
-          tree_calls e (every_first (calls e) (calls positive ++ calls negative) every),
-          tree_calls positive (every_first (calls positive) (calls negative) either),
-          tree_calls negative (every_second (calls positive) (calls negative) either),
-        )
-    tree_calls (match e rows) every =
-        (tree_calls e (every_first (calls e) (calls_of_rows rows) every), rows_call rows (every_second (calls e) (calls_of_rows rows) every))
-    tree_calls (sequence binder first rest) every =
-        (tree_calls first (every_first (calls first) (calls rest) every), tree_calls rest (every_second (calls first) (calls rest) every))
-
-    trees_call : (es : Trees) → Every P (calls_of_all es) → TreesCall P es
-    trees_call no_tree every = tt
-    trees_call (tree first rest) every =
-        (tree_calls first (every_first (calls first) (calls_of_all rest) every), trees_call rest (every_second (calls first) (calls_of_all rest) every))
-
-    rows_call : (rows : Rows) → Every P (calls_of_rows rows) → RowsCall P rows
-    rows_call no_row every = tt
-    rows_call (row pattern body rest) every =
-        (tree_calls body (every_first (calls body) (calls_of_rows rest) every), rows_call rest (every_second (calls body) (calls_of_rows rest) every))
+-- numbers in two parts
+pub every_both : (P : ℕ → Type 0) (ms ns : List ℕ) → Every P (ms ++ ns) → Every P ms × Every P ns
+every_both P [] ns every = (tt, every)
+every_both P (m ∷ ms) ns every = let both = every_both P ms ns every.1 in ((every.0, both.0), both.1)

@@ -2,4 +2,3 @@ pub mod Called
 pub mod Meaning
 pub mod Renamed
 pub mod Runs
-pub mod Typed

@@ -14,9 +14,8 @@ use Rattle.kk_source.specs.State.{call, expression}
 use Rattle.kk_source.specs.SourceAfter.{ending_of, store_machine, first_state, State}
 use Rattle.kk_mono.specs.Instances.{InstanceTree, main_instance, called_at, calls, renamed, origin_in, IsAtTypes, IsInstanceProgram}
 use Rattle.kk_instances.specs.Meaning.{positions_in, setting_of, MeansTheSame}
-use Rattle.kk_instances.proofs.Renamed.{TreeCalls}
-use Rattle.kk_instances.proofs.Called.{IsThere, there_too, each_found, tree_calls}
-use Rattle.kk_instances.proofs.Typed.{tree_typed}
+use Rattle.kk_instances.proofs.Called.{Every, IsThere, there_too, each_found}
+use Rattle.kk_instances.proofs.Renamed.{tree_typed}
 use Rattle.kk_instances.proofs.Runs.{renamed_state, same_ending, IsAlike, MachineCalls, SameRun, same_run}
 
 -- what is at a place of a list that is made of another
@@ -63,10 +62,10 @@ module _ (program made : ProgramTree) (typings : List (List Choice)) (instances 
   instance_at : (n : ℕ) (found : FunctionTree) → slice_get made.functions n ≡ Some found → Is n
   instance_at n found at = there_too made.functions instances n found is.as_many at
 
-  bodies : (n : ℕ) (found : FunctionTree) → Is n → slice_get made.functions n ≡ Some found → TreeCalls Is found.body
+  bodies : (n : ℕ) (found : FunctionTree) → Is n → slice_get made.functions n ≡ Some found → Every Is (calls found.body)
   bodies n found instance at =
       let known = found_at n instance.0 found instance.1 at in
-      tree_calls Is found.body (each_found instances (calls found.body) (called_at instance.0.at (slice_index_or typings instance.0.function [])) known.at_types.called)
+      each_found instances (calls found.body) (called_at instance.0.at (slice_index_or typings instance.0.function [])) known.at_types.called
 
   there : (n : ℕ) → Is n → IsAlike program made origin n
   there n instance =
@@ -161,12 +160,12 @@ module _ (program made : ProgramTree) (typings : List (List Choice)) (instances 
     start_calls = record {
       control =
           let alike = main_alike in
-          subst (λ (function : FunctionTree). TreeCalls Is function.body) (sym (get_or_from_slice_get made.functions made.main alike.function no_function alike.is)) (bodies made.main alike.function is_main alike.is);
+          subst (λ (function : FunctionTree). Every Is (calls function.body)) (sym (get_or_from_slice_get made.functions made.main alike.function no_function alike.is)) (bodies made.main alike.function is_main alike.is);
       frames = (tt, tt);
     }
 
-    both : (n : ℕ) → SameRun program made (positions_in instances table) table cells depth origin Is there bodies (lent table) n instances_begin
-    both n = same_run program made (positions_in instances table) table cells depth origin Is there bodies (lent table) n instances_begin start_calls
+    both : (n : ℕ) → SameRun program made (sym is.texts) (positions_in instances table) table cells depth origin Is there bodies (lent table) n instances_begin
+    both n = same_run program made (sym is.texts) (positions_in instances table) table cells depth origin Is there bodies (lent table) n instances_begin start_calls
 
     same_trace : (n : ℕ) → trace (store_machine (setting_of made (positions_in instances table) cells depth)) n instances_begin ≡ trace (store_machine (setting_of program table cells depth)) n begins
     same_trace n = sym (ap (trace (store_machine (setting_of program table cells depth)) n) same_start ∙ (both n).trace_is)

@@ -2,28 +2,28 @@
 -- where each call names a function by its number there.
 use Rattle.std.proofs.Common.{◌≡◌, ℕ, zero, suc, Bool, true, false, List, [], ◌∷◌, ◌++◌, Option, Some, None, map, refl, sym, ap, ◌∙◌, subst}
 use Rattle.std.specs.Prelude.{option_map, nat_le, if◌then◌else◌, slice_get, slice_index_or}
-use Rattle.std.specs.Fmt.{signed_decimal}
 use Rattle.kk_base.specs.Machines.{step_unless, trace, state}
 use Rattle.kk_base.proofs.Machines.{trace_ended, state_ended}
 use Rattle.kk_syntax.specs.declared.program.Form.{Form}
-use Rattle.kk_syntax.specs.declared.program.Form.TheVariants.{Unary, Binary, Print, Construct, Call}
+use Rattle.kk_syntax.specs.declared.program.Form.TheVariants.{Construct, Call}
 use Rattle.kk_syntax.specs.declared.positions.Ownership.{Ownership}
 use Rattle.kk_syntax.specs.declared.positions.Ownership.TheVariants.{Owned}
 use Rattle.kk_syntax.specs.PositionsOf.{PositionTable, lends}
 use Rattle.kk_syntax.specs.Trees.{Tree, variable, apply, branch, match, sequence, no_tree, tree, Rows, no_row, row}
 use Rattle.kk_syntax.specs.Programs.{FunctionTree, ProgramTree}
-use Rattle.kk_source.specs.State.{Setting, Value, Store, Environment, Frame, arguments, branches, rows, statement, call, End, heap_full, stack_full, Control, expression, value, stopped, end_at, Configuration}
+use Rattle.kk_source.specs.State.{Setting, Value, unit, Store, Environment, Frame, arguments, branches, rows, statement, call, End, heap_full, stack_full, Control, expression, value, stopped, end_at, Configuration}
 use Rattle.kk_source.specs.Notes.{Note}
 use Rattle.kk_source.specs.Live.{value_of, held, held_by_all, live}
 use Rattle.kk_source.specs.Matching.{Chosen, matched, chosen_or, first_match}
-use Rattle.kk_source.specs.Step.{at_expression, at_end, at_new_place, lent_places, bind_parameters, call_frames, construct_step, push_step, call_step, form_step, expression_step, choice_step, value_step, step_at, step_of}
+use Rattle.kk_source.specs.Actions.{Action, goes, puts, takes, builds, calls as counts_calls, print_step, build_step, enter_step, performed}
+use Rattle.kk_source.specs.FormEffects.{is_true, FormEffect, gives, prints, reads, makes, enters, form_effect, effect_step}
+use Rattle.kk_source.specs.Step.{at_expression, at_value, at_end, at_new_place, lent_places, bind_parameters, call_frames, construct_step, push_step, call_step, form_step, expression_step, choice_step, value_step, step_at, step_of}
 use Rattle.kk_source.specs.SourceAfter.{step, ending_of, store_machine, State}
 use Rattle.kk_source.proofs.Sound.{LeadsTo}
-use Rattle.kk_mono.specs.Instances.{renamed, renamed_all, renamed_rows, renamed_form}
+use Rattle.kk_mono.specs.Instances.{called_by, calls, calls_of_all, calls_of_rows, renamed, renamed_all, renamed_rows, renamed_form}
 use Rattle.kk_instances.specs.Meaning.{setting_of}
-use Rattle.kk_instances.proofs.Renamed.{FormCalls, TreeCalls, TreesCall, RowsCall, same_free, same_free_all, same_free_rows}
-use Rattle.kk_source.specs.Actions.{Action, goes, puts, takes, builds, calls, print_step, performed}
-use Rattle.kk_source.specs.FormEffects.{is_true, piece_of, argument, integer_of}
+use Rattle.kk_instances.proofs.Called.{Every, every_both}
+use Rattle.kk_instances.proofs.Renamed.{same_free, same_free_all, same_free_rows}
 
 -- ---- states whose calls are by new numbers
 
@@ -50,12 +50,22 @@ module _ (new : ℕ → ℕ) where
   abbrev pub renamed_state : State → State
   renamed_state s = record { machine = renamed_machine s.machine; input = s.input }
 
-  abbrev pub renamed_action : Action → Action
+  abbrev pub renamed_action : Action Configuration → Action Configuration
   renamed_action (goes to) = goes (renamed_machine to)
   renamed_action (puts piece to) = puts piece (renamed_machine to)
   renamed_action (takes to) = takes (λ byte. renamed_machine (to byte))
   renamed_action (builds found to) = builds found (renamed_machine to)
-  renamed_action (calls found to) = calls found (renamed_machine to)
+  renamed_action (counts_calls found to) = counts_calls found (renamed_machine to)
+
+  -- an effect differs at a call alone
+  abbrev renamed_effect : FormEffect → FormEffect
+  renamed_effect (enters f values) = enters (new f) values
+  renamed_effect effect = effect
+
+  same_effect : (texts : List (List ℕ)) (form : Form) (values : List Value) → form_effect texts (renamed_form new form) values ≡ renamed_effect (form_effect texts form values)
+  same_effect texts (Construct c) [] = refl
+  same_effect texts (Construct c) (v ∷ vs) = refl
+  same_effect texts _ values = refl
 
   abbrev renamed_choice : Chosen → Chosen
   renamed_choice chosen = record { body = renamed new chosen.body; environment = chosen.environment }
@@ -74,11 +84,8 @@ module _ (new : ℕ → ℕ) where
 
   same_call_frames : (frames : List Frame) → call_frames (renamed_frames frames) ≡ call_frames frames
   same_call_frames [] = refl
-  same_call_frames (arguments form values left environment ∷ older) = same_call_frames older
-  same_call_frames (branches positive negative environment ∷ older) = same_call_frames older
-  same_call_frames (rows of environment ∷ older) = same_call_frames older
-  same_call_frames (statement awaited rest environment ∷ older) = same_call_frames older
   same_call_frames (call lent ∷ older) = ap suc (same_call_frames older)
+  same_call_frames (frame ∷ older) = same_call_frames older
 
   -- the row that is taken stays
   same_choice : (store : Store) (of : Rows) (v : Value) (environment : Environment) → first_match store (renamed_rows new of) v environment ≡ option_map renamed_choice (first_match store of v environment)
@@ -105,10 +112,10 @@ module _ (new : ℕ → ℕ) where
 
 module _ (P : ℕ → Type 0) where
   abbrev pub FrameCalls : Frame → Type 0
-  FrameCalls (arguments form values left environment) = FormCalls P form × TreesCall P left
-  FrameCalls (branches positive negative environment) = TreeCalls P positive × TreeCalls P negative
-  FrameCalls (rows of environment) = RowsCall P of
-  FrameCalls (statement awaited rest environment) = TreeCalls P rest
+  FrameCalls (arguments form values left environment) = Every P (called_by form) × Every P (calls_of_all left)
+  FrameCalls (branches positive negative environment) = Every P (calls positive) × Every P (calls negative)
+  FrameCalls (rows of environment) = Every P (calls_of_rows of)
+  FrameCalls (statement awaited rest environment) = Every P (calls rest)
   FrameCalls (call lent) = Unit {0}
 
   abbrev pub FramesCall : List Frame → Type 0
@@ -116,7 +123,7 @@ module _ (P : ℕ → Type 0) where
   FramesCall (frame ∷ older) = FrameCalls frame × FramesCall older
 
   abbrev pub ControlCalls : Control → Type 0
-  ControlCalls (expression e environment) = TreeCalls P e
+  ControlCalls (expression e environment) = Every P (calls e)
   ControlCalls (value v) = Unit {0}
   ControlCalls (stopped by) = Unit {0}
 
@@ -126,40 +133,53 @@ module _ (P : ℕ → Type 0) where
 
   abbrev ChoiceCalls : Option Chosen → Type 0
   ChoiceCalls None = Unit {0}
-  ChoiceCalls (Some chosen) = TreeCalls P chosen.body
+  ChoiceCalls (Some chosen) = Every P (calls chosen.body)
 
-  choice_calls : (store : Store) (of : Rows) (v : Value) (environment : Environment) → RowsCall P of → ChoiceCalls (first_match store of v environment)
+  choice_calls : (store : Store) (of : Rows) (v : Value) (environment : Environment) → Every P (calls_of_rows of) → ChoiceCalls (first_match store of v environment)
   choice_calls store no_row v environment only = tt
-  choice_calls store (row pattern body rest) v environment only = by_match (matched store pattern v environment) (choice_calls store rest v environment only.1)
+  choice_calls store (row pattern body rest) v environment only =
+      let parts = every_both P (calls body) (calls_of_rows rest) only in
+      by_match (matched store pattern v environment) parts.0 (choice_calls store rest v environment parts.1)
     where
-      by_match : (bound : Option Environment) → ChoiceCalls (first_match store rest v environment) → ChoiceCalls (chosen_or body bound (first_match store rest v environment))
-      by_match None later = later
-      by_match (Some bound) later = only.0
+      by_match : (bound : Option Environment) → Every P (calls body) → ChoiceCalls (first_match store rest v environment) → ChoiceCalls (chosen_or body bound (first_match store rest v environment))
+      by_match None here later = later
+      by_match (Some bound) here later = here
+
+  -- a form that calls only such functions has only such effects
+  abbrev EffectCalls : FormEffect → Type 0
+  EffectCalls (enters f values) = P f
+  EffectCalls _ = Unit {0}
+
+  effect_calls : (texts : List (List ℕ)) (form : Form) (values : List Value) → Every P (called_by form) → EffectCalls (form_effect texts form values)
+  effect_calls texts (Call f) values only = only.0
+  effect_calls texts (Construct c) [] only = tt
+  effect_calls texts (Construct c) (v ∷ vs) only = tt
+  effect_calls texts _ values only = tt
 
   test_calls : (test : Bool) (a b : Configuration) → MachineCalls a → MachineCalls b → MachineCalls (if test then a else b)
   test_calls true a b first second = first
   test_calls false a b first second = second
 
-  branch_calls : (test : Bool) (a b : Tree) → TreeCalls P a → TreeCalls P b → TreeCalls P (if test then a else b)
+  branch_calls : (test : Bool) (a b : Tree) → Every P (calls a) → Every P (calls b) → Every P (calls (if test then a else b))
   branch_calls true a b first second = first
   branch_calls false a b first second = second
 
-  performed_calls : (action : Action) (input : List ℕ) → LeadsTo MachineCalls action → MachineCalls (performed action input).1.machine
+  performed_calls : (action : Action Configuration) (input : List ℕ) → LeadsTo MachineCalls action → MachineCalls (performed action input).1.machine
   performed_calls (goes to) input only = only
   performed_calls (puts piece to) input only = only
   performed_calls (takes to) [] only = only None
   performed_calls (takes to) (byte ∷ input) only = only (Some byte)
   performed_calls (builds found to) input only = only
-  performed_calls (calls found to) input only = only
+  performed_calls (counts_calls found to) input only = only
 
 -- what a step tells and leads to, where it does the same by the new numbers
-same_performed : (new : ℕ → ℕ) (action : Action) (input : List ℕ) → performed (renamed_action new action) input ≡ ((performed action input).0, renamed_state new (performed action input).1)
+same_performed : (new : ℕ → ℕ) (action : Action Configuration) (input : List ℕ) → performed (renamed_action new action) input ≡ ((performed action input).0, renamed_state new (performed action input).1)
 same_performed new (goes to) input = refl
 same_performed new (puts piece to) input = refl
 same_performed new (takes to) [] = refl
 same_performed new (takes to) (byte ∷ input) = refl
 same_performed new (builds found to) input = refl
-same_performed new (calls found to) input = refl
+same_performed new (counts_calls found to) input = refl
 
 -- ---- the steps
 
@@ -171,9 +191,9 @@ pub record IsAlike (program instances : ProgramTree) (new : ℕ → ℕ) (f : �
   pub other_is : slice_get program.functions (new f) ≡ Some other
   pub body : other.body ≡ renamed new function.body
 
--- The functions with the property are there under both numbers, their bodies call only functions with the property, and
--- their positions are lent alike.
-module _ (program instances : ProgramTree) (table other : PositionTable) (cells depth : ℕ) (new : ℕ → ℕ) (P : ℕ → Type 0) (there : (f : ℕ) → P f → IsAlike program instances new f) (bodies : (f : ℕ) (function : FunctionTree) → P f → slice_get instances.functions f ≡ Some function → TreeCalls P function.body) (lent : (f : ℕ) → P f → slice_index_or other (new f) [] ≡ slice_index_or table f []) where
+-- The programs print the same string literals. The functions with the property are there under both numbers, their bodies
+-- call only functions with the property, and their positions are lent alike.
+module _ (program instances : ProgramTree) (texts : program.texts ≡ instances.texts) (table other : PositionTable) (cells depth : ℕ) (new : ℕ → ℕ) (P : ℕ → Type 0) (there : (f : ℕ) → P f → IsAlike program instances new f) (bodies : (f : ℕ) (function : FunctionTree) → P f → slice_get instances.functions f ≡ Some function → Every P (calls function.body)) (lent : (f : ℕ) → P f → slice_index_or other (new f) [] ≡ slice_index_or table f []) where
   abbrev old_setting : Setting
   old_setting = setting_of instances table cells depth
 
@@ -181,20 +201,19 @@ module _ (program instances : ProgramTree) (table other : PositionTable) (cells 
   new_setting = setting_of program other cells depth
 
   -- both do the same, and what comes then calls only functions with the property
-  record Follows (a b : Action) : Type 0 where
+  record Follows (a b : Action Configuration) : Type 0 where
     is : a ≡ renamed_action new b
     only : LeadsTo (MachineCalls P) b
 
   construct_follows : (c : ℕ) (vs : List Value) (older : List Frame) (from : Configuration) → FramesCall P older → MachineCalls P from → Follows (construct_step new_setting c vs (renamed_frames new older) (renamed_machine new from)) (construct_step old_setting c vs older from)
-  construct_follows c [] older from frames machine = record { is = refl; only = record { control = tt; frames = frames } }
-  construct_follows c (v ∷ vs) older from frames machine =
-      let found = live from.store ((v ∷ vs) ++ held_by_all older) in
+  construct_follows c vs older from frames machine =
+      let found = live from.store (vs ++ held_by_all older) in
       record {
         is =
-            ap (λ (held : List Value). let places = live from.store ((v ∷ vs) ++ held) in builds places (if nat_le cells places then at_end heap_full (renamed_machine new from) else at_new_place c (v ∷ vs) (renamed_machine new (record from { frames = older })))) (same_held_by_all new older)
-            ∙ ap (builds found) (same_test new (nat_le cells found) (at_end heap_full from) (at_new_place c (v ∷ vs) (record from { frames = older })));
+            ap (λ (held : List Value). build_step cells (live from.store (vs ++ held)) (at_end heap_full (renamed_machine new from)) (at_new_place c vs (renamed_machine new (record from { frames = older })))) (same_held_by_all new older)
+            ∙ ap (builds found) (same_test new (nat_le cells found) (at_end heap_full from) (at_new_place c vs (record from { frames = older })));
         only =
-            test_calls P (nat_le cells found) (at_end heap_full from) (at_new_place c (v ∷ vs) (record from { frames = older }))
+            test_calls P (nat_le cells found) (at_end heap_full from) (at_new_place c vs (record from { frames = older }))
             (record { control = tt; frames = machine.frames }) (record { control = tt; frames = frames });
       }
 
@@ -202,31 +221,27 @@ module _ (program instances : ProgramTree) (table other : PositionTable) (cells 
   abbrev pushed : Tree → List Value → List Frame → Configuration → List Ownership → Configuration
   pushed body vs older from lending = at_expression body (bind_parameters 0 vs []) (record from { frames = call (lent_places (λ i. lends (slice_index_or lending i Owned)) 0 vs) ∷ older })
 
-  push_follows : (f : ℕ) (function made : FunctionTree) (vs : List Value) (older : List Frame) (from : Configuration) → P f → made.body ≡ renamed new function.body → TreeCalls P function.body → FramesCall P older → MachineCalls P from → Follows (push_step new_setting (new f) made vs (renamed_frames new older) (renamed_machine new from)) (push_step old_setting f function vs older from)
+  push_follows : (f : ℕ) (function made : FunctionTree) (vs : List Value) (older : List Frame) (from : Configuration) → P f → made.body ≡ renamed new function.body → Every P (calls function.body) → FramesCall P older → MachineCalls P from → Follows (push_step new_setting (new f) made vs (renamed_frames new older) (renamed_machine new from)) (push_step old_setting f function vs older from)
   push_follows f function made vs older from instance same body frames machine =
       let found = call_frames older in
       let lending = slice_index_or table f [] in
       record {
         is =
-            ap (λ (row : List Ownership). calls (call_frames (renamed_frames new older)) (if nat_le depth (call_frames (renamed_frames new older)) then at_end stack_full (renamed_machine new from) else pushed made.body vs (renamed_frames new older) (renamed_machine new from) row)) (lent f instance)
-            ∙ (ap (λ (n : ℕ). calls n (if nat_le depth n then at_end stack_full (renamed_machine new from) else pushed made.body vs (renamed_frames new older) (renamed_machine new from) lending)) (same_call_frames new older)
-            ∙ (ap (λ (b : Tree). calls found (if nat_le depth found then at_end stack_full (renamed_machine new from) else pushed b vs (renamed_frames new older) (renamed_machine new from) lending)) same
-            ∙ ap (calls found) (same_test new (nat_le depth found) (at_end stack_full from) (pushed function.body vs older from lending))));
+            ap (λ (row : List Ownership). enter_step depth (call_frames (renamed_frames new older)) (at_end stack_full (renamed_machine new from)) (pushed made.body vs (renamed_frames new older) (renamed_machine new from) row)) (lent f instance)
+            ∙ (ap (λ (n : ℕ). enter_step depth n (at_end stack_full (renamed_machine new from)) (pushed made.body vs (renamed_frames new older) (renamed_machine new from) lending)) (same_call_frames new older)
+            ∙ (ap (λ (b : Tree). enter_step depth found (at_end stack_full (renamed_machine new from)) (pushed b vs (renamed_frames new older) (renamed_machine new from) lending)) same
+            ∙ ap (counts_calls found) (same_test new (nat_le depth found) (at_end stack_full from) (pushed function.body vs older from lending))));
         only =
             test_calls P (nat_le depth found) (at_end stack_full from) (pushed function.body vs older from lending)
             (record { control = tt; frames = machine.frames }) (record { control = body; frames = (tt, frames) });
       }
 
-  entry_follows : (f : ℕ) (function made : FunctionTree) (vs : List Value) (older : List Frame) (from : Configuration) → P f → made.body ≡ renamed new function.body → TreeCalls P function.body → FramesCall P older → MachineCalls P from → Follows (call_step new_setting (new f) (Some made) vs (renamed_frames new older) (renamed_machine new from)) (call_step old_setting f (Some function) vs older from)
+  entry_follows : (f : ℕ) (function made : FunctionTree) (vs : List Value) (older : List Frame) (from : Configuration) → P f → made.body ≡ renamed new function.body → Every P (calls function.body) → FramesCall P older → MachineCalls P from → Follows (call_step new_setting (new f) (Some made) vs (renamed_frames new older) (renamed_machine new from)) (call_step old_setting f (Some function) vs older from)
   entry_follows f function made vs (call lent ∷ older) from instance same body frames machine = record {
     is = ap (λ (b : Tree). goes (at_expression b (bind_parameters 0 vs []) (renamed_machine new (record from { frames = call lent ∷ older })))) same;
     only = record { control = body; frames = frames };
   }
-  entry_follows f function made vs [] from instance same body frames machine = push_follows f function made vs [] from instance same body frames machine
-  entry_follows f function made vs (arguments form values left environment ∷ older) from instance same body frames machine = push_follows f function made vs (arguments form values left environment ∷ older) from instance same body frames machine
-  entry_follows f function made vs (branches positive negative environment ∷ older) from instance same body frames machine = push_follows f function made vs (branches positive negative environment ∷ older) from instance same body frames machine
-  entry_follows f function made vs (rows of environment ∷ older) from instance same body frames machine = push_follows f function made vs (rows of environment ∷ older) from instance same body frames machine
-  entry_follows f function made vs (statement awaited rest environment ∷ older) from instance same body frames machine = push_follows f function made vs (statement awaited rest environment ∷ older) from instance same body frames machine
+  entry_follows f function made vs older from instance same body frames machine = push_follows f function made vs older from instance same body frames machine
 
   call_follows : (f : ℕ) (vs : List Value) (older : List Frame) (from : Configuration) → P f → FramesCall P older → MachineCalls P from → Follows (call_step new_setting (new f) (slice_get program.functions (new f)) vs (renamed_frames new older) (renamed_machine new from)) (call_step old_setting f (slice_get instances.functions f) vs older from)
   call_follows f vs older from instance frames machine =
@@ -236,35 +251,55 @@ module _ (program instances : ProgramTree) (table other : PositionTable) (cells 
       (subst (at_functions (Some alike.other)) (sym alike.is)
       (entry_follows f alike.function alike.other vs older from instance alike.body (bodies f alike.function instance alike.is) frames machine))
 
-  print_follows : (piece : List ℕ) (older : List Frame) (from : Configuration) → FramesCall P older → Follows (print_step piece (renamed_machine new (record from { frames = older }))) (print_step piece (record from { frames = older }))
-  print_follows [] older from frames = record { is = refl; only = record { control = tt; frames = frames } }
-  print_follows (byte ∷ bytes) older from frames = record { is = refl; only = record { control = tt; frames = frames } }
+  print_follows : (piece : List ℕ) (to : Configuration) → MachineCalls P to → Follows (print_step piece (renamed_machine new to)) (print_step piece to)
+  print_follows [] to only = record { is = refl; only = only }
+  print_follows (byte ∷ bytes) to only = record { is = refl; only = only }
 
-  form_follows : (form : Form) (vs : List Value) (older : List Frame) (from : Configuration) → FormCalls P form → FramesCall P older → MachineCalls P from → Follows (form_step new_setting (renamed_form new form) vs (renamed_frames new older) (renamed_machine new from)) (form_step old_setting form vs older from)
-  form_follows (Unary operator) vs older from only frames machine = record { is = refl; only = record { control = tt; frames = frames } }
-  form_follows (Binary operator) vs older from only frames machine = record { is = refl; only = record { control = tt; frames = frames } }
-  form_follows (Print form) vs older from only frames machine = print_follows (piece_of form (signed_decimal (integer_of (argument 0 vs)))) older from frames
-  form_follows (Construct c) vs older from only frames machine = construct_follows c vs older from frames machine
-  form_follows (Call f) vs older from only frames machine = call_follows f vs older from only frames machine
+  -- what an effect does
+  abbrev effect_at : Setting → FormEffect → List Frame → Configuration → Action Configuration
+  effect_at setting effect older from =
+      effect_step (λ v. at_value v (record from { frames = older })) (λ c fields. construct_step setting c fields older from)
+      (λ f values. call_step setting f (slice_get setting.program.functions f) values older from) effect
 
-  expression_follows : (e : Tree) (environment : Environment) (c : Configuration) → TreeCalls P e → MachineCalls P c → Follows (expression_step new_setting (renamed new e) environment (renamed_machine new c)) (expression_step old_setting e environment c)
-  expression_follows (number n) environment c only machine = record { is = refl; only = record { control = tt; frames = machine.frames } }
-  expression_follows unit_tree environment c only machine = record { is = refl; only = record { control = tt; frames = machine.frames } }
+  effect_follows : (effect : FormEffect) (older : List Frame) (from : Configuration) → EffectCalls P effect → FramesCall P older → MachineCalls P from → Follows (effect_at new_setting (renamed_effect new effect) (renamed_frames new older) (renamed_machine new from)) (effect_at old_setting effect older from)
+  effect_follows (gives v) older from only frames machine = record { is = refl; only = record { control = tt; frames = frames } }
+  effect_follows (prints piece) older from only frames machine = print_follows piece (at_value unit (record from { frames = older })) (record { control = tt; frames = frames })
+  effect_follows reads older from only frames machine = record { is = refl; only = λ byte. record { control = tt; frames = frames } }
+  effect_follows (makes c fields) older from only frames machine = construct_follows c fields older from frames machine
+  effect_follows (enters f values) older from only frames machine = call_follows f values older from only frames machine
+
+  form_follows : (form : Form) (vs : List Value) (older : List Frame) (from : Configuration) → Every P (called_by form) → FramesCall P older → MachineCalls P from → Follows (form_step new_setting (renamed_form new form) vs (renamed_frames new older) (renamed_machine new from)) (form_step old_setting form vs older from)
+  form_follows form vs older from only frames machine =
+      let follows = effect_follows (form_effect instances.texts form vs) older from (effect_calls P instances.texts form vs only) frames machine in
+      let same : form_effect program.texts (renamed_form new form) vs ≡ renamed_effect new (form_effect instances.texts form vs) =
+      ap (λ (all : List (List ℕ)). form_effect all (renamed_form new form) vs) texts ∙ same_effect new instances.texts form vs in
+      record { is = ap (λ (effect : FormEffect). effect_at new_setting effect (renamed_frames new older) (renamed_machine new from)) same ∙ follows.is; only = follows.only }
+
+  expression_follows : (e : Tree) (environment : Environment) (c : Configuration) → Every P (calls e) → MachineCalls P c → Follows (expression_step new_setting (renamed new e) environment (renamed_machine new c)) (expression_step old_setting e environment c)
   expression_follows (variable x) environment c only machine = record { is = refl; only = record { control = tt; frames = machine.frames } }
-  expression_follows read_byte environment c only machine = record { is = refl; only = λ byte. record { control = tt; frames = machine.frames } }
-  expression_follows (print_text form text) environment c only machine = print_follows (piece_of form text) c.frames c machine.frames
-  expression_follows (apply form no_tree) environment c only machine = form_follows form [] c.frames c only.0 machine.frames machine
-  expression_follows (apply form (tree first rest)) environment c only machine = record { is = refl; only = record { control = only.1.0; frames = ((only.0, only.1.1), machine.frames) } }
-  expression_follows (branch condition positive negative) environment c only machine = record { is = refl; only = record { control = only.0; frames = ((only.1, only.2), machine.frames) } }
-  expression_follows (match scrutinee of) environment c only machine = record { is = refl; only = record { control = only.0; frames = (only.1, machine.frames) } }
-  expression_follows (sequence binder first rest) environment c only machine = record { is = refl; only = record { control = only.0; frames = (only.1, machine.frames) } }
+  expression_follows (apply form no_tree) environment c only machine = form_follows form [] c.frames c (every_both P (called_by form) [] only).0 machine.frames machine
+  expression_follows (apply form (tree first rest)) environment c only machine =
+      let parts = every_both P (called_by form) (calls first ++ calls_of_all rest) only in
+      let those = every_both P (calls first) (calls_of_all rest) parts.1 in
+      record { is = refl; only = record { control = those.0; frames = ((parts.0, those.1), machine.frames) } }
+  expression_follows (branch condition positive negative) environment c only machine =
+      let parts = every_both P (calls condition) (calls positive ++ calls negative) only in
+      record { is = refl; only = record { control = parts.0; frames = (every_both P (calls positive) (calls negative) parts.1, machine.frames) } }
+  expression_follows (match scrutinee of) environment c only machine =
+      let parts = every_both P (calls scrutinee) (calls_of_rows of) only in
+      record { is = refl; only = record { control = parts.0; frames = (parts.1, machine.frames) } }
+  expression_follows (sequence binder first rest) environment c only machine =
+      let parts = every_both P (calls first) (calls rest) only in
+      record { is = refl; only = record { control = parts.0; frames = (parts.1, machine.frames) } }
 
   choice_follows : (chosen : Option Chosen) (older : List Frame) (from : Configuration) → ChoiceCalls P chosen → FramesCall P older → MachineCalls P from → Follows (choice_step new_setting (option_map (renamed_choice new) chosen) (renamed_frames new older) (renamed_machine new from)) (choice_step old_setting chosen older from)
   choice_follows None older from only frames machine = record { is = refl; only = machine }
   choice_follows (Some chosen) older from only frames machine = record { is = refl; only = record { control = only; frames = frames } }
 
   value_follows : (v : Value) (fs : List Frame) (c : Configuration) → FramesCall P fs → MachineCalls P c → Follows (value_step new_setting v (renamed_frames new fs) (renamed_machine new c)) (value_step old_setting v fs c)
-  value_follows v (arguments form values (tree next left) environment ∷ older) c frames machine = record { is = refl; only = record { control = frames.0.1.0; frames = ((frames.0.0, frames.0.1.1), frames.1) } }
+  value_follows v (arguments form values (tree next left) environment ∷ older) c frames machine =
+      let those = every_both P (calls next) (calls_of_all left) frames.0.1 in
+      record { is = refl; only = record { control = those.0; frames = ((frames.0.0, those.1), frames.1) } }
   value_follows v (arguments form values no_tree environment ∷ older) c frames machine = form_follows form (values ++ v ∷ []) older c frames.0.0 frames.1 machine
   value_follows v (branches positive negative environment ∷ older) c frames machine = record {
     is = ap (λ (e : Tree). goes (at_expression e environment (renamed_machine new (record c { frames = older })))) (same_branch new (is_true v) positive negative);
@@ -304,7 +339,7 @@ module _ (program instances : ProgramTree) (table other : PositionTable) (cells 
 
   pub same_run : (n : ℕ) (s : State) → MachineCalls P s.machine → SameRun n s
   same_run zero s only = record { trace_is = refl; state_is = refl }
-  same_run (suc n) s only = by_end (ending_of s) refl (λ next calls. same_run n next calls)
+  same_run (suc n) s only = by_end (ending_of s) refl (λ next only. same_run n next only)
     where
       by_end : (how : Option End) → ending_of s ≡ how → ((next : State) → MachineCalls P next.machine → SameRun n next) → SameRun (suc n) s
       by_end (Some w) e later = record {
@@ -321,5 +356,5 @@ module _ (program instances : ProgramTree) (table other : PositionTable) (cells 
           same_next n s (performed action s.input).1 (performed action s.input).0
           (ap (λ how. step_unless how s (step old_setting s)) e)
           (ap (λ how. step_unless how (renamed_state new s) (step new_setting (renamed_state new s))) (same_ending new s ∙ e)
-          ∙ (ap (λ (a : Action). performed a s.input) follows.is ∙ same_performed new action s.input))
+          ∙ (ap (λ (a : Action Configuration). performed a s.input) follows.is ∙ same_performed new action s.input))
           (later (performed action s.input).1 (performed_calls P action s.input follows.only))

@@ -11,6 +11,3 @@ mod list;
 mod state;
 
 pub use list::laid_out;
-
-#[cfg(test)]
-mod tests;

@@ -14,6 +14,3 @@ mod strings;
 mod symbols;
 
 pub use list::{each_text_is_read, tokens};
-
-#[cfg(test)]
-mod tests;

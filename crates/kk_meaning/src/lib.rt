@@ -16,8 +16,6 @@ mod matching;
 mod meaning;
 mod print;
 mod resume;
-#[cfg(test)]
-mod tests;
 mod turn;
 mod value;
 

@@ -12,6 +12,3 @@ mod store;
 pub use sink::{MemSink, TallySink};
 pub use source::{MemSource, PlainSource};
 pub use store::MemStore;
-
-#[cfg(test)]
-mod tests;

@@ -187,6 +187,7 @@ module _ (typed : Typed) (principal : ArePrincipal (program_tree typed.program) 
         main = refl;
         types = built.declarations;
         constructors = built.constructors;
+        texts = built.texts;
       }
 
       nodes_at : (i : ℕ) (d : FunctionTree) → i < length (ground_program given).functions → nodes_of (get_or (ground_program given).functions i d).body ≡ nodes_of (body_of (program_tree typed.program) (get_or (known_in found) i (main_instance 0)).function)

@@ -3,10 +3,10 @@
 use Rattle.std.proofs.Common.{◌≡◌, ℕ, List, [], ◌∷◌, ◌++◌, length, map, Option, Some, None, option_map, refl, sym, ap, ◌∙◌, subst}
 use Rattle.std.specs.Prelude.{slice_get}
 use Rattle.kk_syntax.specs.declared.program.Form.{Form}
-use Rattle.kk_syntax.specs.declared.program.Form.TheVariants.{Unary, Binary, Print, Construct, Call}
+use Rattle.kk_syntax.specs.declared.program.Form.TheVariants.{Call}
 use Rattle.kk_syntax.specs.Patterns.{Pattern, anything, variable as pattern_variable, exactly, constructor, Patterns, no_part, part}
 use Rattle.kk_syntax.specs.Programs.{FunctionTree, ProgramTree}
-use Rattle.kk_syntax.specs.Trees.{Tree, number, unit, variable, read_byte, print_text, apply, branch, match, sequence, Trees, no_tree, tree, Rows, no_row, row}
+use Rattle.kk_syntax.specs.Trees.{Tree, variable, apply, branch, match, sequence, Trees, no_tree, tree, Rows, no_row, row}
 use Rattle.kk_syntax.specs.Types.{TypeTree, put, type_at}
 use Rattle.kk_syntax.specs.Typing.{Scope, Scheme, Choice, constructing, calling, holding, form_scheme, function_scheme, chosen_at, IsPatternTyped, ArePatternsTyped, IsTypedBy, AreTypedBy, AreRowsTypedBy, IsTyping}
 use Rattle.kk_mono.specs.Instances.{InstanceTree, called_at, called_by, calls, calls_of_all, calls_of_rows}
@@ -44,13 +44,10 @@ module _ (program : ProgramTree) where
 
   -- what a form chooses
   chosen : (form : Form) (of : Scheme) (at : List TypeTree) (rest : List Choice) (fs : List ℕ) → form_scheme program form ≡ Some of → length at ≡ of.variables → CallsAre program rest fs → CallsAre program (chosen_at form at ++ rest) (called_by form ++ fs)
-  chosen (Unary operator) of at rest fs is long are = are
-  chosen (Binary operator) of at rest fs is long are = are
-  chosen (Print form) of at rest fs is long are = are
-  chosen (Construct c) of at rest fs is long are = are
   chosen (Call f) of at rest fs is long are =
       let some = some_function (slice_get program.functions f) of is in
       (fs, refl, record { function = some.0; is = some.1; long = long ∙ sym some.2 }, are)
+  chosen _ of at rest fs is long are = are
 
   mutual
     pattern_calls : (scope : Scope) (p : Pattern) (t : TypeTree) (choices : List Choice) → IsPatternTyped program scope p t choices → CallsAre program choices []
@@ -68,11 +65,7 @@ module _ (program : ProgramTree) where
 
   mutual
     tree_calls : (scope : Scope) (e : Tree) (t : TypeTree) (choices : List Choice) → IsTypedBy program scope e t choices → CallsAre program choices (calls e)
-    tree_calls scope (number value) t choices typed = along choices [] [] typed.1 refl
-    tree_calls scope unit t choices typed = along choices [] [] typed.1 refl
     tree_calls scope (variable x) t choices typed = along choices [] [] typed.1 refl
-    tree_calls scope read_byte t choices typed = along choices [] [] typed.1 refl
-    tree_calls scope (print_text form text) t choices typed = along choices [] [] typed.1 refl
     tree_calls scope (apply form es) t choices uses =
         along choices (chosen_at form uses.at ++ uses.rest) (called_by form ++ calls_of_all es) uses.choices_are
         (chosen form uses.of uses.at uses.rest (calls_of_all es) uses.is uses.each (trees_calls scope es (map (put (type_at uses.at)) uses.of.parameters) uses.rest uses.arguments))

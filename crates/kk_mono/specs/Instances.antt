@@ -3,7 +3,8 @@
 use Rattle.std.specs.Prelude.{◌≡◌, ℕ, List, [], ◌∷◌, ◌++◌, map, flat_map, length, All, Contains, Some, slice_get, slice_index_or}
 use Rattle.kk_syntax.specs.declared.program.Form.{Form}
 use Rattle.kk_syntax.specs.declared.program.Form.TheVariants.{Call}
-use Rattle.kk_syntax.specs.Trees.{Tree, number, unit, variable, read_byte, print_text, apply, branch, match, sequence, Trees, no_tree, tree, Rows, no_row, row}
+use Rattle.kk_syntax.specs.Shapes.{Gathers, gathered, gathered_all, gathered_rows}
+use Rattle.kk_syntax.specs.Trees.{Tree, variable, apply, branch, match, sequence, Trees, no_tree, tree, Rows, no_row, row}
 use Rattle.kk_syntax.specs.Types.{TypeTree, put, type_at}
 use Rattle.kk_syntax.specs.Typing.{Choice, constructing, calling, holding}
 use Rattle.kk_syntax.specs.Programs.{FunctionTree, ProgramTree}
@@ -55,25 +56,17 @@ called_by (Call function) = function ∷ []
 called_by _ = []
 
 -- the functions that an expression calls, as often as it does, in the order of the text
-abbrev mutual
-  pub calls : Tree → List ℕ
-  calls (number value) = []
-  calls unit = []
-  calls (variable of) = []
-  calls read_byte = []
-  calls (print_text form text) = []
-  calls (apply form arguments) = called_by form ++ calls_of_all arguments
-  calls (branch condition positive negative) = calls condition ++ (calls positive ++ calls negative)
-  calls (match scrutinee rows) = calls scrutinee ++ calls_of_rows rows
-  calls (sequence binder first rest) = calls first ++ calls rest
+abbrev pub gathers_calls : Gathers ℕ
+gathers_calls = record { at_form = called_by; at_rows = λ rows. [] }
 
-  pub calls_of_all : Trees → List ℕ
-  calls_of_all no_tree = []
-  calls_of_all (tree first rest) = calls first ++ calls_of_all rest
+abbrev pub calls : Tree → List ℕ
+calls = gathered gathers_calls
 
-  pub calls_of_rows : Rows → List ℕ
-  calls_of_rows no_row = []
-  calls_of_rows (row pattern body rest) = calls body ++ calls_of_rows rest
+abbrev pub calls_of_all : Trees → List ℕ
+calls_of_all = gathered_all gathers_calls
+
+abbrev pub calls_of_rows : Rows → List ℕ
+calls_of_rows = gathered_rows gathers_calls
 
 -- a form, and an expression, that calls functions by other numbers
 abbrev pub renamed_form : (ℕ → ℕ) → Form → Form
@@ -82,11 +75,7 @@ renamed_form new form = form
 
 abbrev mutual
   pub renamed : (ℕ → ℕ) → Tree → Tree
-  renamed new (number value) = number value
-  renamed new unit = unit
   renamed new (variable of) = variable of
-  renamed new read_byte = read_byte
-  renamed new (print_text form text) = print_text form text
   renamed new (apply form arguments) = apply (renamed_form new form) (renamed_all new arguments)
   renamed new (branch condition positive negative) = branch (renamed new condition) (renamed new positive) (renamed new negative)
   renamed new (match scrutinee rows) = match (renamed new scrutinee) (renamed_rows new rows)
@@ -113,7 +102,8 @@ pub record IsAtTypes (instances : List InstanceTree) (at : List TypeTree) (choic
   pub body : renamed (origin_in instances) made.body ≡ function.body
   pub called : map (slice_get instances) (calls made.body) ≡ map Some (called_at at choices)
 
--- these instances of a program are the functions of another, in which `main` is the first
+-- These instances of a program are the functions of another, in which `main` is the first. It has the program's types,
+-- constructors and string literals.
 pub record IsInstanceProgram (program : ProgramTree) (typings : List (List Choice)) (instances : List InstanceTree) (made : ProgramTree) : Type 0 where
   pub are : AreInstances program.main typings instances
   pub as_many : length made.functions ≡ length instances
@@ -122,3 +112,4 @@ pub record IsInstanceProgram (program : ProgramTree) (typings : List (List Choic
   pub main : made.main ≡ 0
   pub types : made.types ≡ program.types
   pub constructors : made.constructors ≡ program.constructors
+  pub texts : made.texts ≡ program.texts

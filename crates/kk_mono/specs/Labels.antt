@@ -3,7 +3,7 @@
 use Rattle.std.specs.Prelude.{ℕ, List, [], ◌∷◌, length, drop, slice_index_or}
 use Rattle.kk_syntax.specs.declared.program.Form.{Form}
 use Rattle.kk_syntax.specs.declared.program.Form.TheVariants.{Call}
-use Rattle.kk_syntax.specs.Trees.{Tree, number, unit, variable, read_byte, print_text, apply, branch, match, sequence, Trees, no_tree, tree, Rows, no_row, row, RowTree, StatementTree}
+use Rattle.kk_syntax.specs.Trees.{Tree, variable, apply, branch, match, sequence, Trees, no_tree, tree, Rows, no_row, row, RowTree, StatementTree}
 use Rattle.kk_mono.specs.declared.labels.Labels.{Labels}
 use Rattle.kk_mono.specs.Instances.{called_by, calls}
 
@@ -21,11 +21,7 @@ labelled_form labels form = form
 
 abbrev mutual
   pub labelled : List ℕ → Tree → Tree
-  labelled labels (number value) = number value
-  labelled labels unit = unit
   labelled labels (variable of) = variable of
-  labelled labels read_byte = read_byte
-  labelled labels (print_text form text) = print_text form text
   labelled labels (apply form arguments) = apply (labelled_form labels form) (labelled_all (behind labels (called_by form)) arguments)
   labelled labels (branch condition positive negative) =
       branch (labelled labels condition) (labelled (behind labels (calls condition)) positive) (labelled (behind (behind labels (calls condition)) (calls positive)) negative)

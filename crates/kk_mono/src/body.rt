@@ -15,10 +15,7 @@ pub fn labelled(alloc: Global, labels: &mut Labels, expr: &Expr) -> Result<Expr,
     ensures rest { OnOk result (left_in labels.new ≡ behind (left_in labels.old) (calls (expr_tree expr.now))) }
 {
     match expr {
-        Expr::Number(value) => Ok(Expr::Number(*value)),
-        Expr::Unit => Ok(Expr::Unit),
         Expr::Variable(of) => Ok(Expr::Variable(*of)),
-        Expr::ReadByte => Ok(Expr::ReadByte),
         Expr::Apply(form, arguments) => {
             let form = labels.form(*form);
             let arguments = labelled_each(alloc, labels, arguments)?;
@@ -40,7 +37,6 @@ pub fn labelled(alloc: Global, labels: &mut Labels, expr: &Expr) -> Result<Expr,
             let value = labelled_part(alloc, labels, value)?;
             Ok(Expr::Block(statements, value))
         }
-        Expr::PrintText(form, text) => Ok(Expr::PrintText(*form, text.copied(alloc)?)),
     }
 }
 

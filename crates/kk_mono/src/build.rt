@@ -8,7 +8,9 @@ use crate::keys::Key;
 use crate::labels::Labels;
 use crate::search::{Found, Looked};
 use kk_base::NoMemory;
-use kk_syntax::{Fun, Ground, Instance, Program, copied_constructors, copied_declarations};
+use kk_syntax::{
+    Fun, Ground, Instance, Program, copied_constructors, copied_declarations, copied_texts,
+};
 use std::alloc::Global;
 
 /// The instances that have been found, as a program.
@@ -31,6 +33,7 @@ pub fn ground(alloc: Global, program: &Program, found: Found) -> Result<Ground, 
     Ok(Ground {
         declarations: copied_declarations(alloc, &program.types)?,
         constructors: copied_constructors(alloc, &program.constructors)?,
+        texts: copied_texts(alloc, &program.texts)?,
         types: types.into_nodes(alloc)?,
         instances,
     })

@@ -1,4 +1,4 @@
-ghost use Rattle.std.specs.Prelude.{◌≡◌, ◌≤◌, drop, length, slice_index_or, vec_len};
+ghost use Rattle.std.specs.Prelude.{◌≡◌, drop, slice_index_or};
 ghost use Rattle.kk_mono.specs.Labels.{left_in, labelled_form, behind};
 ghost use Rattle.kk_mono.specs.Instances.{called_by};
 
@@ -41,7 +41,14 @@ impl Labels {
     {
         match form {
             Form::Call(function) => Form::Call(self.take(function)),
-            Form::Unary(_) | Form::Binary(_) | Form::Print(_) | Form::Construct(_) => form,
+            Form::Number(_)
+            | Form::Unit
+            | Form::ReadByte
+            | Form::PrintText(_, _)
+            | Form::Unary(_)
+            | Form::Binary(_)
+            | Form::Print(_)
+            | Form::Construct(_) => form,
         }
     }
 }

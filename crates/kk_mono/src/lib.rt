@@ -10,8 +10,6 @@ mod limits;
 mod numbers;
 mod program;
 mod search;
-#[cfg(test)]
-mod tests;
 mod types;
 
 pub use error::MonoError;

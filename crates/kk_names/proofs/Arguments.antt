@@ -1,22 +1,24 @@
 -- Arguments, and calls on them.
-use Rattle.std.proofs.Common.{◌≡◌, ℕ, ◌+◌, List, [], ◌∷◌, ◌++◌, length, map, Bool, true, false, Option, Some, None, refl, sym, ap, ◌∙◌, arith}
+use Rattle.std.proofs.Common.{◌≡◌, ℕ, List, [], ◌∷◌, ◌++◌, length, map, Bool, true, false, Option, Some, None, refl, sym, ap, ◌∙◌, arith}
 use Rattle.std.specs.Prelude.{if◌then◌else◌, is_some}
 use Rattle.std.proofs.lemmas.List.{length-map}
+use Rattle.kk_syntax.specs.declared.operator.PrintForm.{PrintForm}
 use Rattle.kk_syntax.specs.declared.program.Expr.{Expr}
+use Rattle.kk_syntax.specs.declared.program.Form.TheVariants.{Unit as Nothing, PrintText}
 use Rattle.kk_syntax.specs.declared.tree.Identifier.{Identifier}
 use Rattle.kk_syntax.specs.Surface as written
 use Rattle.kk_syntax.specs.Surface.{Written, Writtens, no_written}
-use Rattle.kk_syntax.specs.Trees.{Tree, Trees, no_tree, tree, unit, variable, trees_of, expr_tree}
+use Rattle.kk_syntax.specs.Trees.{Tree, Trees, no_tree, tree, variable, trees_of, expr_tree}
 use Rattle.kk_names.specs.declared.fault.FaultKind.TheVariants.{Unknown}
 use Rattle.kk_names.specs.declared.resolver.Resolver.{Resolver}
 use Rattle.kk_names.specs.declared.table.Callee.{Callee}
 use Rattle.kk_names.specs.declared.table.Declared.{Declared}
-use Rattle.kk_names.specs.Expressions.{applied, variable_or_unit, meant_all}
+use Rattle.kk_names.specs.Expressions.{alone, applied, variable_or_unit, meant_all}
 use Rattle.kk_names.specs.Faults.{fault_at, faults_in, faults_in_all, use_faults, count_of}
-use Rattle.kk_names.specs.Methods.{State, state_of, grown, behind_all, meant_at, meant_all_at, newest_first, Notes, Resolves, ResolvesAll}
-use Rattle.kk_names.specs.Scopes.{Scope, number_in, names_in, binders_in, binders_in_all}
+use Rattle.kk_names.specs.Methods.{State, before_of, state_of, grown, noting, behind_all, meant_at, meant_all_at, newest_first, Notes, Resolves, ResolvesAll}
+use Rattle.kk_names.specs.Scopes.{Scope, number_in, names_in, Before, past, past_all}
 use Rattle.kk_names.specs.Tables.{meaning_in, constructors}
-use Rattle.kk_names.proofs.Growing.{grown_twice, grown_none, grown_noting}
+use Rattle.kk_names.proofs.Growing.{grown_twice, before_is, state_is}
 use Rattle.kk_names.proofs.Tables.{is_seen}
 
 -- ---- how far the loop over arguments has come
@@ -46,7 +48,7 @@ all_more old now new e left all trees t so_far one =
     record {
       state =
           ap (behind_all left) one.state
-          ∙ (grown_twice s (binders_in e) (binders_in_all left) (faults_in s.functions (names_in s.scope) e) (faults_in_all s.functions (names_in s.scope) left)
+          ∙ (grown_twice s (past e s.before) (past_all left (past e s.before)) (faults_in s.functions (names_in s.scope) e) (faults_in_all s.functions (names_in s.scope) left)
           ∙ so_far.state);
       scope = one.scope ∙ so_far.scope;
       trees_are =
@@ -58,7 +60,7 @@ all_more old now new e left all trees t so_far one =
 pub all_done : (old now : Resolver) (all : Writtens) (trees : List Tree) → AllSoFar old now no_written all trees → ResolvesAll all old now (trees_of trees)
 all_done old now all trees so_far =
     record {
-      state = sym (grown_none (state_of now)) ∙ so_far.state;
+      state = so_far.state;
       scope = so_far.scope;
       trees_are = sym (before_none trees) ∙ so_far.trees_are;
     }
@@ -74,7 +76,7 @@ first_resolved e es old between new t ts one others =
       state =
           others.state
           ∙ (ap (behind_all es) one.state
-          ∙ grown_twice s (binders_in e) (binders_in_all es) (faults_in s.functions (names_in s.scope) e) (faults_in_all s.functions (names_in s.scope) es));
+          ∙ grown_twice s (past e s.before) (past_all es (past e s.before)) (faults_in s.functions (names_in s.scope) e) (faults_in_all s.functions (names_in s.scope) es));
       scope = others.scope ∙ one.scope;
       trees_are =
           ap (λ x. tree x (trees_of ts)) one.tree_is
@@ -82,13 +84,13 @@ first_resolved e es old between new t ts one others =
     }
 
 -- as many trees as expressions
-count_is : (functions : List Declared) (scope : Scope) (next : ℕ) (es : Writtens) (ts : List Tree) → trees_of ts ≡ meant_all functions scope next es → length ts ≡ count_of es
-count_is functions scope next no_written [] is = refl
-count_is functions scope next no_written (t ∷ ts) is = absurd (cc is)
-count_is functions scope next (written.written e es) [] is = absurd (cc is)
-count_is functions scope next (written.written e es) (t ∷ ts) is =
-    let rest : trees_of ts ≡ meant_all functions scope (next + binders_in e) es = cc is in
-    let same : length ts ≡ count_of es = count_is functions scope (next + binders_in e) es ts rest in
+count_is : (functions : List Declared) (scope : Scope) (b : Before) (es : Writtens) (ts : List Tree) → trees_of ts ≡ meant_all functions scope b es → length ts ≡ count_of es
+count_is functions scope b no_written [] is = refl
+count_is functions scope b no_written (t ∷ ts) is = absurd (cc is)
+count_is functions scope b (written.written e es) [] is = absurd (cc is)
+count_is functions scope b (written.written e es) (t ∷ ts) is =
+    let rest : trees_of ts ≡ meant_all functions scope (past e b) es = cc is in
+    let same : length ts ≡ count_of es = count_is functions scope (past e b) es ts rest in
     omega arith
 
 module _ (name : Identifier) (es : Writtens) (callee meaning : Option Callee) (old between new : Resolver) (arguments : List Expr) (count : ℕ) (t : Tree)
@@ -100,15 +102,15 @@ module _ (name : Identifier) (es : Writtens) (callee meaning : Option Callee) (o
   counted_so : count ≡ count_of es
   counted_so =
       counted ∙ (sym (length-map arguments expr_tree)
-      ∙ count_is old.functions.items (state_of old).scope old.next es (map expr_tree arguments) all.trees_are)
+      ∙ count_is old.functions.items (state_of old).scope (before_of old) es (map expr_tree arguments) all.trees_are)
 
-  state_so : state_of new ≡ grown (state_of old) (binders_in_all es) (faults_in_all old.functions.items (names_in (state_of old).scope) es ++ use_faults meaning name (count_of es))
+  state_so : state_of new ≡ grown (state_of old) (past_all es (before_of old)) (faults_in_all old.functions.items (names_in (state_of old).scope) es ++ use_faults meaning name (count_of es))
   state_so =
       notes.state
-      ∙ (ap (λ state. grown state 0 (use_faults callee name count)) all.state
-      ∙ (grown_noting (state_of old) (binders_in_all es) (faults_in_all old.functions.items (names_in (state_of old).scope) es) (use_faults callee name count)
-      ∙ (ap (λ c. grown (state_of old) (binders_in_all es) (faults_in_all old.functions.items (names_in (state_of old).scope) es ++ use_faults c name count)) means
-      ∙ ap (λ n. grown (state_of old) (binders_in_all es) (faults_in_all old.functions.items (names_in (state_of old).scope) es ++ use_faults meaning name n)) counted_so)))
+      ∙ (ap (noting (use_faults callee name count)) all.state
+      ∙ (grown_twice (state_of old) (past_all es (before_of old)) (past_all es (before_of old)) (faults_in_all old.functions.items (names_in (state_of old).scope) es) (use_faults callee name count)
+      ∙ (ap (λ c. grown (state_of old) (past_all es (before_of old)) (faults_in_all old.functions.items (names_in (state_of old).scope) es ++ use_faults c name count)) means
+      ∙ ap (λ n. grown (state_of old) (past_all es (before_of old)) (faults_in_all old.functions.items (names_in (state_of old).scope) es ++ use_faults meaning name n)) counted_so)))
 
   tree_so : t ≡ applied meaning (meant_all_at (state_of old) es)
   tree_so = made ∙ (ap (λ c. applied c (trees_of (map expr_tree arguments))) means ∙ ap (applied meaning) all.trees_are)
@@ -154,17 +156,28 @@ pub variable_found : (name : Identifier) (number : ℕ) (resolver : Resolver) (t
 variable_found name number resolver t found made =
     let s : State = state_of resolver in
     record {
-      state = sym (ap (grown s 0) (names_so name resolver true (ap is_some (sym found))) ∙ grown_none s);
+      state = sym (ap (grown s s.before) (names_so name resolver true (ap is_some (sym found))));
       scope = refl;
       tree_is = made ∙ ap variable_or_unit found;
     }
 
-pub variable_unknown : (name : Identifier) (old new : Resolver) (t : Tree) → None ≡ number_in (newest_first old.scope.items) name.name → t ≡ unit → Notes (fault_at Unknown name ∷ []) old new
+pub variable_unknown : (name : Identifier) (old new : Resolver) (t : Tree) → None ≡ number_in (newest_first old.scope.items) name.name → t ≡ alone Nothing → Notes (fault_at Unknown name ∷ []) old new
     → Resolves (written.variable name) old new t
 variable_unknown name old new t lacking made notes =
     let s : State = state_of old in
     record {
-      state = notes.state ∙ sym (ap (grown s 0) (names_so name old false (ap is_some (sym lacking))));
+      state = notes.state ∙ sym (ap (grown s s.before) (names_so name old false (ap is_some (sym lacking))));
       scope = notes.scope;
       tree_is = made ∙ ap variable_or_unit lacking;
+    }
+
+-- a print of a string
+pub text_resolved : (form : PrintForm) (text : List ℕ) (number : ℕ) (old new : Resolver) (t : Tree) → number ≡ length old.texts.items → new.functions.items ≡ old.functions.items → new.scope.items ≡ old.scope.items
+    → new.next ≡ old.next → new.texts.items ≡ old.texts.items ++ text ∷ [] → new.first ≡ old.first → t ≡ alone (PrintText form number)
+    → Resolves (written.print_text form text) old new t
+text_resolved form text number old new t number_is functions scope next texts first made =
+    record {
+      state = state_is _ _ _ _ _ _ _ _ functions (ap newest_first scope) (before_is _ _ _ _ next texts) first;
+      scope = scope;
+      tree_is = made ∙ ap (λ n. alone (PrintText form n)) number_is;
     }

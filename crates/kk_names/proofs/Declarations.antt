@@ -11,12 +11,12 @@ use Rattle.kk_names.specs.declared.fault.FaultKind.TheVariants.{Twice}
 use Rattle.kk_names.specs.declared.resolver.Resolver.{Resolver}
 use Rattle.kk_names.specs.declared.table.Declared.{Declared}
 use Rattle.kk_names.specs.Faults.{twice_faults, type_faults, parameter_faults, result_faults, faults_in, second_functions, inside_faults, inside_all, faults_of}
-use Rattle.kk_names.specs.Methods.{first_with, newest_first, faults_if, Notes, Binds, Declares, Resolves, ResolvesParameters, ResolvesFunction}
-use Rattle.kk_names.specs.Names.{functions_of}
-use Rattle.kk_names.specs.Scopes.{Scope, binding, number_in, names_in, with_parameters, parameter_names}
+use Rattle.kk_names.specs.Methods.{before_of, first_with, newest_first, faults_if, Notes, Binds, Declares, Resolves, ResolvesParameters, ResolvesFunction}
+use Rattle.kk_names.specs.Names.{before_body, with_texts, with_all_texts, functions_of}
+use Rattle.kk_names.specs.Scopes.{Scope, binding, with_variable, past, number_in, names_in, with_parameters, parameter_names}
 use Rattle.kk_names.specs.Tables.{built_in_functions, functions_in, means, numbered}
 use Rattle.kk_names.specs.TypeNames.{type_meant}
-use Rattle.kk_names.proofs.Growing.{first_more}
+use Rattle.kk_names.proofs.Growing.{first_more, before_is}
 use Rattle.kk_names.proofs.Tables.{newest_more, is_seen}
 
 -- ---- parameters
@@ -26,6 +26,7 @@ pub record ParametersSoFar (old now : Resolver) (left all : List WrittenParamete
   pub functions : now.functions.items ≡ old.functions.items
   pub scope : with_parameters now.next left (newest_first now.scope.items) ≡ with_parameters old.next all (newest_first old.scope.items)
   pub next : now.next + length left ≡ old.next + length all
+  pub texts : now.texts.items ≡ old.texts.items
   pub first : first_with now.first (parameter_faults (names_in (newest_first now.scope.items)) left) ≡ first_with old.first (parameter_faults (names_in (newest_first old.scope.items)) all)
   pub types_are : types ++ map (λ parameter. type_meant parameter.of_type) left ≡ map (λ parameter. type_meant parameter.of_type) all
 
@@ -33,17 +34,19 @@ pub parameters_more : (old now checked typed numbered new : Resolver) (parameter
     → ParametersSoFar old now (parameter ∷ left) all types
     → Notes (faults_if (is_some (number_in (newest_first now.scope.items) parameter.name.name)) Twice parameter.name) now checked
     → Notes (type_faults parameter.of_type) checked typed → t ≡ type_meant parameter.of_type
-    → number ≡ typed.next → numbered.next ≡ typed.next + 1 → numbered.functions.items ≡ typed.functions.items → numbered.scope.items ≡ typed.scope.items → numbered.first ≡ typed.first
+    → number ≡ typed.next → before_of numbered ≡ with_variable (before_of typed) → numbered.functions.items ≡ typed.functions.items → numbered.scope.items ≡ typed.scope.items → numbered.first ≡ typed.first
     → Binds (binding parameter.name number) numbered new
     → ParametersSoFar old new left all (types ++ t ∷ [])
 parameters_more old now checked typed numbered new parameter left all types number t so_far twice notes means number_is next functions scope first binds =
     let names = names_in (newest_first now.scope.items) in
-    let same_next : typed.next ≡ now.next = omega (arith, ap (λ state. state.next) notes.state, ap (λ state. state.next) twice.state) in
+    let same : before_of typed ≡ before_of now = ap (λ state. state.before) notes.state ∙ ap (λ state. state.before) twice.state in
+    let same_next : typed.next ≡ now.next = ap (λ b. b.variables) same in
+    let before_so : before_of new ≡ with_variable (before_of now) = binds.before ∙ (next ∙ ap with_variable same) in
     let items : new.scope.items ≡ now.scope.items ++ binding parameter.name number ∷ [] = binds.scope ∙ ap (λ xs. xs ++ binding parameter.name number ∷ []) (scope ∙ (notes.scope ∙ twice.scope)) in
     let number_so : number ≡ now.next = number_is ∙ same_next in
     let seen : newest_first new.scope.items ≡ binding parameter.name now.next ∷ newest_first now.scope.items =
     ap newest_first items ∙ (newest_more [] now.scope.items (binding parameter.name number) ∙ ap (λ n. binding parameter.name n ∷ newest_first now.scope.items) number_so) in
-    let next_so : new.next ≡ now.next + 1 = omega (arith, binds.next, same_next, next) in
+    let next_so : new.next ≡ now.next + 1 = ap (λ b. b.variables) before_so in
     let checked_first : checked.first ≡ first_with now.first (twice_faults names parameter.name) =
     ap (λ state. state.first) twice.state ∙ ap (λ b. first_with now.first (faults_if b Twice parameter.name)) (is_seen (newest_first now.scope.items) parameter.name.name) in
     let first_so : new.first ≡ first_with now.first (twice_faults names parameter.name ++ type_faults parameter.of_type) =
@@ -53,6 +56,7 @@ parameters_more old now checked typed numbered new parameter left all types numb
       functions = binds.functions ∙ (functions ∙ (ap (λ state. state.functions) notes.state ∙ (ap (λ state. state.functions) twice.state ∙ so_far.functions)));
       scope = ap (λ n. with_parameters n left (newest_first new.scope.items)) next_so ∙ (ap (with_parameters (now.next + 1) left) seen ∙ so_far.scope);
       next = omega (arith, next_so, so_far.next);
+      texts = ap (λ b. b.texts) before_so ∙ so_far.texts;
       first =
           ap (λ f. first_with f (parameter_faults (names_in (newest_first new.scope.items)) left)) first_so
           ∙ (ap (λ s. first_with (first_with now.first (twice_faults names parameter.name ++ type_faults parameter.of_type)) (parameter_faults (names_in s) left)) seen
@@ -74,63 +78,72 @@ names_with_parameters next (parameter ∷ more) scope = names_with_parameters (n
 pub record DeclaredSoFar (old now : Resolver) (number : ℕ) (left all : List WrittenDeclaration) : Type 0 where
   pub functions : now.functions.items ++ numbered number left ≡ old.functions.items ++ numbered 0 all
   pub first : first_with now.first (second_functions (map (λ d. d.name) now.functions.items) left) ≡ first_with old.first (second_functions (map (λ d. d.name) old.functions.items) all)
+  pub texts : now.texts.items ≡ old.texts.items
 
 -- ---- functions
 
 -- of all declarations some are left
 pub record ResolvedSoFar (old now : Resolver) (left all : List WrittenDeclaration) (functions : List FunctionTree) : Type 0 where
   pub table : now.functions.items ≡ old.functions.items
+  pub texts : with_all_texts now.texts.items left ≡ with_all_texts old.texts.items all
   pub first : first_with now.first (inside_all old.functions.items left) ≡ first_with old.first (inside_all old.functions.items all)
-  pub functions_are : functions ++ functions_of old.functions.items left ≡ functions_of old.functions.items all
+  pub functions_are : functions ++ functions_of old.functions.items now.texts.items left ≡ functions_of old.functions.items old.texts.items all
 
 pub resolved_more : (old now new : Resolver) (declaration : WrittenDeclaration) (left all : List WrittenDeclaration) (functions : List FunctionTree) (function : FunctionTree)
     → ResolvedSoFar old now (declaration ∷ left) all functions → ResolvesFunction declaration now new
-    → function ∷ functions_of now.functions.items left ≡ functions_of now.functions.items (declaration ∷ left)
+    → function ∷ functions_of now.functions.items new.texts.items left ≡ functions_of now.functions.items now.texts.items (declaration ∷ left)
     → ResolvedSoFar old new left all (functions ++ function ∷ [])
 resolved_more old now new declaration left all functions function so_far resolves same =
     let table = old.functions.items in
     record {
       table = resolves.functions ∙ so_far.table;
+      texts = ap (λ ts. with_all_texts ts left) resolves.texts ∙ so_far.texts;
       first =
           ap (λ f. first_with f (inside_all table left)) (resolves.first ∙ ap (λ fs. first_with now.first (inside_faults fs declaration)) so_far.table)
           ∙ (sym (first_more now.first (inside_faults table declaration) (inside_all table left)) ∙ so_far.first);
       functions_are =
-          append_assoc functions (function ∷ []) (functions_of table left)
-          ∙ (ap (λ fs. functions ++ fs) (ap (λ fs. function ∷ functions_of fs left) (sym so_far.table) ∙ (same ∙ ap (λ fs. functions_of fs (declaration ∷ left)) so_far.table))
+          append_assoc functions (function ∷ []) (functions_of table new.texts.items left)
+          ∙ (ap (λ fs. functions ++ fs) (ap (λ fs. function ∷ functions_of fs new.texts.items left) (sym so_far.table) ∙ (same ∙ ap (λ fs. functions_of fs now.texts.items (declaration ∷ left)) so_far.table))
           ∙ so_far.functions_are);
     }
 
-functions_split : (table : List Declared) (d : WrittenDeclaration) (ds : List WrittenDeclaration) → functions_of table (d ∷ ds) ≡ functions_of table (d ∷ []) ++ functions_of table ds
-functions_split table (type_declaration name parameters cases) ds = refl
-functions_split table (function_declaration name parameters effects result body) ds = refl
+functions_split : (table : List Declared) (texts : List (List ℕ)) (d : WrittenDeclaration) (ds : List WrittenDeclaration)
+    → functions_of table texts (d ∷ ds) ≡ functions_of table texts (d ∷ []) ++ functions_of table (with_texts texts d) ds
+functions_split table texts (type_declaration name parameters cases) ds = refl
+functions_split table texts (function_declaration name parameters effects result body) ds = refl
 
 pub one_more_resolved : (old now new : Resolver) (declaration : WrittenDeclaration) (left all : List WrittenDeclaration) (functions : List FunctionTree) (function : FunctionTree)
-    → ResolvedSoFar old now (declaration ∷ left) all functions → ResolvesFunction declaration now new → function ∷ [] ≡ functions_of now.functions.items (declaration ∷ [])
+    → ResolvedSoFar old now (declaration ∷ left) all functions → ResolvesFunction declaration now new → function ∷ [] ≡ functions_of now.functions.items now.texts.items (declaration ∷ [])
     → ResolvedSoFar old new left all (functions ++ function ∷ [])
 one_more_resolved old now new declaration left all functions function so_far resolves is =
     resolved_more old now new declaration left all functions function so_far resolves
-    (ap (λ fs. fs ++ functions_of now.functions.items left) is ∙ sym (functions_split now.functions.items declaration left))
+    (ap (λ fs. fs ++ functions_of now.functions.items new.texts.items left) is
+    ∙ (ap (λ ts. functions_of now.functions.items now.texts.items (declaration ∷ []) ++ functions_of now.functions.items ts left) resolves.texts
+    ∙ sym (functions_split now.functions.items now.texts.items declaration left)))
 
 -- a declared type is passed over
 pub type_passed : (old now : Resolver) (name : Identifier) (parameters : _) (cases : _) (left all : List WrittenDeclaration) (functions : List FunctionTree)
     → ResolvedSoFar old now (type_declaration name parameters cases ∷ left) all functions → ResolvedSoFar old now left all functions
-type_passed old now name parameters cases left all functions so_far = record { table = so_far.table; first = so_far.first; functions_are = so_far.functions_are }
+type_passed old now name parameters cases left all functions so_far = record { table = so_far.table; texts = so_far.texts; first = so_far.first; functions_are = so_far.functions_are }
 
 -- a function, from its parts
 pub function_resolved : (name : Identifier) (parameters : List WrittenParameter) (effects : _) (result : Option WrittenType) (body : Written) (old start first second new : Resolver) (types : List TypeTree) (t : Tree)
-    → start.functions.items ≡ old.functions.items → start.scope.items ≡ [] → start.next ≡ 0 → start.first ≡ old.first
+    → start.functions.items ≡ old.functions.items → start.scope.items ≡ [] → start.next ≡ 0 → start.texts.items ≡ old.texts.items → start.first ≡ old.first
     → ResolvesParameters parameters start first types → Notes (result_faults result) first second → Resolves body second new t
     → ResolvesFunction (function_declaration name parameters effects result body) old new
-function_resolved name parameters effects result body old start first second new types t functions scope next fault x y z =
+function_resolved name parameters effects result body old start first second new types t functions scope next texts fault x y z =
     let table = old.functions.items in
     let names = parameter_names parameters [] in
     let seen : newest_first first.scope.items ≡ with_parameters 0 parameters [] = x.scope ∙ (ap (λ n. with_parameters n parameters (newest_first start.scope.items)) next ∙ ap (λ xs. with_parameters 0 parameters (newest_first xs)) scope) in
+    let counted : first.next ≡ length parameters = omega (arith, x.next, next) in
+    let second_before : before_of second ≡ before_body old.texts.items parameters = ap (λ state. state.before) y.state ∙ before_is _ _ _ _ counted (x.texts ∙ texts) in
     let second_table : second.functions.items ≡ table = ap (λ state. state.functions) y.state ∙ (x.functions ∙ functions) in
     let second_names : names_in (newest_first second.scope.items) ≡ names = ap (λ xs. names_in (newest_first xs)) y.scope ∙ (ap names_in seen ∙ names_with_parameters 0 parameters []) in
     let first_so : first.first ≡ first_with old.first (parameter_faults [] parameters) = x.first ∙ (ap (λ f. first_with f (parameter_faults (names_in (newest_first start.scope.items)) parameters)) fault ∙ ap (λ xs. first_with old.first (parameter_faults (names_in (newest_first xs)) parameters)) scope) in
     let second_so : second.first ≡ first_with (first_with old.first (parameter_faults [] parameters)) (result_faults result) = ap (λ state. state.first) y.state ∙ ap (λ f. first_with f (result_faults result)) first_so in
     record {
       functions = ap (λ state. state.functions) z.state ∙ second_table;
+      texts = ap (λ state. state.before.texts) z.state ∙ ap (λ b. (past body b).texts) second_before;
       first =
           ap (λ state. state.first) z.state
           ∙ (ap (λ f. first_with f (faults_in second.functions.items (names_in (newest_first second.scope.items)) body)) second_so

@@ -1,45 +1,46 @@
 -- What is behind one expression and then behind another is behind both.
-use Rattle.std.proofs.Common.{◌≡◌, ℕ, ◌+◌, List, [], ◌∷◌, ◌++◌, Option, refl, sym, ap, subst, ◌∙◌, arith}
+use Rattle.std.proofs.Common.{◌≡◌, ℕ, List, [], ◌∷◌, ◌++◌, Option, refl, sym, ap, subst, ◌∙◌}
 use Rattle.kk_syntax.specs.declared.operator.BinaryOperator.{BinaryOperator}
-use Rattle.kk_syntax.specs.declared.program.Form.TheVariants.{Binary}
+use Rattle.kk_syntax.specs.declared.program.Form.TheVariants.{Unit as Nothing, Binary, Construct}
 use Rattle.kk_syntax.specs.Surface as written
 use Rattle.kk_syntax.specs.Surface.{Written, Writtens}
-use Rattle.kk_syntax.specs.Trees.{Tree, no_tree, tree, unit, apply, branch}
+use Rattle.kk_syntax.specs.Trees.{Tree, no_tree, tree, apply, branch}
 use Rattle.kk_names.specs.declared.fault.Fault.{Fault}
 use Rattle.kk_names.specs.declared.resolver.Resolver.{Resolver}
-use Rattle.kk_names.specs.Expressions.{meant, truth}
+use Rattle.kk_names.specs.declared.table.Declared.{Declared}
+use Rattle.kk_names.specs.Expressions.{meant, alone}
 use Rattle.kk_names.specs.Faults.{faults_in}
-use Rattle.kk_names.specs.Methods.{State, state_of, grown, earlier_of, first_with, behind, meant_at, newest_first, Resolves}
-use Rattle.kk_names.specs.Scopes.{names_in, binders_in}
+use Rattle.kk_names.specs.Methods.{State, before_of, state_of, grown, earlier_of, first_with, behind, meant_at, newest_first, Resolves}
+use Rattle.kk_names.specs.Scopes.{Scope, names_in, Before, past}
 
 pub first_more : (first : Option Fault) (xs ys : List Fault) → first_with first (xs ++ ys) ≡ first_with (first_with first xs) ys
 first_more first [] ys = refl
 first_more first (x ∷ xs) ys = first_more (earlier_of first x) xs ys
 
-pub grown_twice : (state : State) (a b : ℕ) (xs ys : List Fault) → grown (grown state a xs) b ys ≡ grown state (a + b) (xs ++ ys)
+pub grown_twice : (state : State) (a b : Before) (xs ys : List Fault) → grown (grown state a xs) b ys ≡ grown state b (xs ++ ys)
 grown_twice state a b xs ys =
-    let sum : (state.next + a) + b ≡ state.next + (a + b) = omega arith in
-    ap (λ n. let s : State = record { functions = state.functions; scope = state.scope; next = n; first = first_with (first_with state.first xs) ys } in s) sum
-    ∙ ap (λ f. let s : State = record { functions = state.functions; scope = state.scope; next = state.next + (a + b); first = f } in s) (sym (first_more state.first xs ys))
+    ap (λ f. let s : State = record { functions = state.functions; scope = state.scope; before = b; first = f } in s) (sym (first_more state.first xs ys))
 
-pub grown_none : (state : State) → grown state 0 [] ≡ state
-grown_none state =
-    let same : state.next + 0 ≡ state.next = omega arith in
-    ap (λ n. let s : State = record { functions = state.functions; scope = state.scope; next = n; first = state.first } in s) same
+-- what stands before, and how far the resolver has come, from their parts
+pub before_is : (n m : ℕ) (s t : List (List ℕ)) → n ≡ m → s ≡ t → (let here : Before = record { variables = n; texts = s } in here) ≡ record { variables = m; texts = t }
+before_is n m s t variables texts =
+    ap (λ z. let here : Before = record { variables = z; texts = s } in here) variables ∙ ap (λ z. let here : Before = record { variables = m; texts = z } in here) texts
 
--- faults alone
-pub grown_noting : (state : State) (a : ℕ) (xs ys : List Fault) → grown (grown state a xs) 0 ys ≡ grown state a (xs ++ ys)
-grown_noting state a xs ys =
-    let sum : a + 0 ≡ a = omega arith in
-    grown_twice state a 0 xs ys ∙ ap (λ n. grown state n (xs ++ ys)) sum
+pub state_is : (f g : List Declared) (s r : Scope) (a b : Before) (x y : Option Fault) → f ≡ g → s ≡ r → a ≡ b → x ≡ y
+    → (let here : State = record { functions = f; scope = s; before = a; first = x } in here) ≡ record { functions = g; scope = r; before = b; first = y }
+state_is f g s r a b x y functions scope before first =
+    ap (λ z. let here : State = record { functions = z; scope = s; before = a; first = x } in here) functions
+    ∙ (ap (λ z. let here : State = record { functions = g; scope = z; before = a; first = x } in here) scope
+    ∙ (ap (λ z. let here : State = record { functions = g; scope = r; before = z; first = x } in here) before
+    ∙ ap (λ z. let here : State = record { functions = g; scope = r; before = b; first = z } in here) first))
 
 -- one expression, and then another
 pub record ResolvesTwo (left right : Written) (old new : Resolver) (first second : Tree) : Type 0 where
-  pub state : state_of new ≡ grown (state_of old) (binders_in left + binders_in right)
+  pub state : state_of new ≡ grown (state_of old) (past right (past left (before_of old)))
       (faults_in old.functions.items (names_in (newest_first old.scope.items)) left ++ faults_in old.functions.items (names_in (newest_first old.scope.items)) right)
   pub scope : new.scope.items ≡ old.scope.items
   pub first_is : first ≡ meant_at (state_of old) left
-  pub second_is : second ≡ meant old.functions.items (newest_first old.scope.items) (old.next + binders_in left) right
+  pub second_is : second ≡ meant old.functions.items (newest_first old.scope.items) (past left (before_of old)) right
 
 pub two_resolved : (left right : Written) (old between new : Resolver) (first second : Tree) → Resolves left old between first → Resolves right between new second → ResolvesTwo left right old new first second
 two_resolved left right old between new first second x y =
@@ -47,7 +48,7 @@ two_resolved left right old between new first second x y =
     record {
       state =
           y.state ∙ (ap (behind right) x.state
-          ∙ grown_twice s (binders_in left) (binders_in right) (faults_in s.functions (names_in s.scope) left) (faults_in s.functions (names_in s.scope) right));
+          ∙ grown_twice s (past left s.before) (past right (past left s.before)) (faults_in s.functions (names_in s.scope) left) (faults_in s.functions (names_in s.scope) right));
       scope = y.scope ∙ x.scope;
       first_is = x.tree_is;
       second_is = y.tree_is ∙ ap (λ state. meant_at state right) x.state;
@@ -64,33 +65,33 @@ binary_resolved operator left right old between new first second x y =
     }
 
 pub both_resolved : (left right : Written) (old between new : Resolver) (first second : Tree) → Resolves left old between first → Resolves right between new second
-    → Resolves (written.both left right) old new (branch first second (truth 0))
+    → Resolves (written.both left right) old new (branch first second (alone (Construct 0)))
 both_resolved left right old between new first second x y =
     let two = two_resolved left right old between new first second x y in
     record {
       state = two.state;
       scope = two.scope;
-      tree_is = ap (λ t. branch t second (truth 0)) two.first_is ∙ ap (λ t. branch (meant_at (state_of old) left) t (truth 0)) two.second_is;
+      tree_is = ap (λ t. branch t second (alone (Construct 0))) two.first_is ∙ ap (λ t. branch (meant_at (state_of old) left) t (alone (Construct 0))) two.second_is;
     }
 
 pub either_resolved : (left right : Written) (old between new : Resolver) (first second : Tree) → Resolves left old between first → Resolves right between new second
-    → Resolves (written.either left right) old new (branch first (truth 1) second)
+    → Resolves (written.either left right) old new (branch first (alone (Construct 1)) second)
 either_resolved left right old between new first second x y =
     let two = two_resolved left right old between new first second x y in
     record {
       state = two.state;
       scope = two.scope;
-      tree_is = ap (λ t. branch t (truth 1) second) two.first_is ∙ ap (λ t. branch (meant_at (state_of old) left) (truth 1) t) two.second_is;
+      tree_is = ap (λ t. branch t (alone (Construct 1)) second) two.first_is ∙ ap (λ t. branch (meant_at (state_of old) left) (alone (Construct 1)) t) two.second_is;
     }
 
 pub alone_resolved : (left right : Written) (old between new : Resolver) (first second : Tree) → Resolves left old between first → Resolves right between new second
-    → Resolves (written.branch_alone left right) old new (branch first second unit)
+    → Resolves (written.branch_alone left right) old new (branch first second (alone Nothing))
 alone_resolved left right old between new first second x y =
     let two = two_resolved left right old between new first second x y in
     record {
       state = two.state;
       scope = two.scope;
-      tree_is = ap (λ t. branch t second unit) two.first_is ∙ ap (λ t. branch (meant_at (state_of old) left) t unit) two.second_is;
+      tree_is = ap (λ t. branch t second (alone Nothing)) two.first_is ∙ ap (λ t. branch (meant_at (state_of old) left) t (alone Nothing)) two.second_is;
     }
 
 pub branch_resolved : (condition positive negative : Written) (old on then new : Resolver) (first second third : Tree) → Resolves condition old on first → Resolves positive on then second → Resolves negative then new third
@@ -102,14 +103,14 @@ branch_resolved condition positive negative old on then new first second third x
     record {
       state =
           two.state
-          ∙ (ap (λ state. grown state (binders_in positive + binders_in negative) (faults_in state.functions (names_in state.scope) positive ++ faults_in state.functions (names_in state.scope) negative)) x.state
-          ∙ grown_twice s (binders_in condition) (binders_in positive + binders_in negative) (faults_in s.functions names condition) (faults_in s.functions names positive ++ faults_in s.functions names negative));
+          ∙ (ap (λ state. grown state (past negative (past positive state.before)) (faults_in state.functions (names_in state.scope) positive ++ faults_in state.functions (names_in state.scope) negative)) x.state
+          ∙ grown_twice s (past condition s.before) (past negative (past positive (past condition s.before))) (faults_in s.functions names condition) (faults_in s.functions names positive ++ faults_in s.functions names negative));
       scope = two.scope ∙ x.scope;
       tree_is =
           ap (λ t. branch t second third) x.tree_is
           ∙ (ap (λ t. branch (meant_at s condition) t third) (two.first_is ∙ ap (λ state. meant_at state positive) x.state)
-          ∙ ap (λ t. branch (meant_at s condition) (meant s.functions s.scope (s.next + binders_in condition) positive) t)
-          (two.second_is ∙ ap (λ state. meant state.functions state.scope (state.next + binders_in positive) negative) x.state));
+          ∙ ap (λ t. branch (meant_at s condition) (meant s.functions s.scope (past condition s.before) positive) t)
+          (two.second_is ∙ ap (λ state. meant state.functions state.scope (past positive state.before) negative) x.state));
     }
 
 -- an expression goes by what it is written as, and by the tree that it means

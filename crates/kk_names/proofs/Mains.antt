@@ -15,7 +15,7 @@ use Rattle.kk_syntax.specs.Surface.{written_tree}
 use Rattle.kk_names.specs.declared.fault.Fault.{Fault}
 use Rattle.kk_names.specs.Faults.{error_of, faults_of}
 use Rattle.kk_names.specs.Methods.{first_with, main_among, AnswersMain, IsNoMain, IsOtherMain}
-use Rattle.kk_names.specs.Names.{functions_meant, main_of, program_of, IsMainShaped, MakesProgram, LacksMain, HasOtherMain, first_fault, no_main, main_shape, ResolvesAs, AnswersNames, KeepsNodes}
+use Rattle.kk_names.specs.Names.{functions_meant, texts_meant, main_of, program_of, IsMainShaped, MakesProgram, LacksMain, HasOtherMain, first_fault, no_main, main_shape, ResolvesAs, AnswersNames, KeepsNodes}
 use Rattle.kk_names.specs.Tables.{functions_in}
 use Rattle.kk_names.proofs.Firsts.{first_is_kept}
 use Rattle.kk_names.proofs.Nodes.{keeps_nodes}
@@ -41,35 +41,35 @@ function_there : (functions : List Fun) (n main : ℕ) (function : Fun) → n �
 function_there functions n main function count within is =
     slice_get-map function_tree functions main ∙ ap (option_map function_tree) (slice_get_read functions n main function count within is)
 
-pub lacking_main : (functions : List FunctionTree) (length : ℕ) (error : NameError) → main_of functions ≡ None → IsNoMain length error → AnswersMain functions length (Err error)
-lacking_main functions length NoMemory none is = tt
-lacking_main functions length (Twice name at) none is = inl (record { lacking = none; error_is = is })
-lacking_main functions length (Unknown name at) none is = inl (record { lacking = none; error_is = is })
-lacking_main functions length (Arity name at) none is = inl (record { lacking = none; error_is = is })
-lacking_main functions length (NoMain name at) none is = inl (record { lacking = none; error_is = is })
-lacking_main functions length (MainShape name at) none is = inl (record { lacking = none; error_is = is })
+pub lacking_main : (functions : List FunctionTree) (texts : List (List ℕ)) (length : ℕ) (error : NameError) → main_of functions ≡ None → IsNoMain length error → AnswersMain functions texts length (Err error)
+lacking_main functions texts length NoMemory none is = tt
+lacking_main functions texts length (Twice name at) none is = inl (record { lacking = none; error_is = is })
+lacking_main functions texts length (Unknown name at) none is = inl (record { lacking = none; error_is = is })
+lacking_main functions texts length (Arity name at) none is = inl (record { lacking = none; error_is = is })
+lacking_main functions texts length (NoMain name at) none is = inl (record { lacking = none; error_is = is })
+lacking_main functions texts length (MainShape name at) none is = inl (record { lacking = none; error_is = is })
 
 other_shaped : (functions : List FunctionTree) (main : ℕ) (function : FunctionTree) (error : NameError) → main_of functions ≡ Some main → slice_get functions main ≡ Some function → (IsMainShaped function → ⊥)
     → error ≡ MainShape function.name function.at → HasOtherMain functions error
 other_shaped functions main function error found there other is = record { main = main; function = function; main_is = found; there = there; other = other; error_is = is }
 
-pub other_main : (functions : List Fun) (end n main : ℕ) (function : Fun) (error : NameError) → main_of (map function_tree functions) ≡ Some main → n ≡ length functions → main < n → function ≡ get_or functions main function
-    → (IsMainShaped (function_tree function) → ⊥) → IsOtherMain function error → AnswersMain (map function_tree functions) end (Err error)
-other_main functions end n main function NoMemory found count within there other is = tt
-other_main functions end n main function (Twice name at) found count within there other is =
+pub other_main : (functions : List Fun) (texts : List (List ℕ)) (end n main : ℕ) (function : Fun) (error : NameError) → main_of (map function_tree functions) ≡ Some main → n ≡ length functions → main < n → function ≡ get_or functions main function
+    → (IsMainShaped (function_tree function) → ⊥) → IsOtherMain function error → AnswersMain (map function_tree functions) texts end (Err error)
+other_main functions texts end n main function NoMemory found count within there other is = tt
+other_main functions texts end n main function (Twice name at) found count within there other is =
     inr (other_shaped (map function_tree functions) main (function_tree function) (Twice name at) found (function_there functions n main function count within there) other is)
-other_main functions end n main function (Unknown name at) found count within there other is =
+other_main functions texts end n main function (Unknown name at) found count within there other is =
     inr (other_shaped (map function_tree functions) main (function_tree function) (Unknown name at) found (function_there functions n main function count within there) other is)
-other_main functions end n main function (Arity name at) found count within there other is =
+other_main functions texts end n main function (Arity name at) found count within there other is =
     inr (other_shaped (map function_tree functions) main (function_tree function) (Arity name at) found (function_there functions n main function count within there) other is)
-other_main functions end n main function (NoMain name at) found count within there other is =
+other_main functions texts end n main function (NoMain name at) found count within there other is =
     inr (other_shaped (map function_tree functions) main (function_tree function) (NoMain name at) found (function_there functions n main function count within there) other is)
-other_main functions end n main function (MainShape name at) found count within there other is =
+other_main functions texts end n main function (MainShape name at) found count within there other is =
     inr (other_shaped (map function_tree functions) main (function_tree function) (MainShape name at) found (function_there functions n main function count within there) other is)
 
-pub makes_program : (functions : List Fun) (n main : ℕ) (function : Fun) (program : ProgramTree) → main_of (map function_tree functions) ≡ Some main → n ≡ length functions → main < n → function ≡ get_or functions main function
-    → IsMainShaped (function_tree function) → program ≡ program_of (map function_tree functions) main → MakesProgram (map function_tree functions) program
-makes_program functions n main function program found count within there shape is =
+pub makes_program : (functions : List Fun) (texts : List (List ℕ)) (n main : ℕ) (function : Fun) (program : ProgramTree) → main_of (map function_tree functions) ≡ Some main → n ≡ length functions → main < n → function ≡ get_or functions main function
+    → IsMainShaped (function_tree function) → program ≡ program_of (map function_tree functions) texts main → MakesProgram (map function_tree functions) texts program
+makes_program functions texts n main function program found count within there shape is =
     record { main = main; function = function_tree function; main_is = found; there = function_there functions n main function count within there; shape = shape; is = is }
 
 -- ---- the answer to a tree
@@ -87,14 +87,19 @@ fault_answers tree fault (NoMain name at) is kept =
 fault_answers tree fault (MainShape name at) is kept =
     only_outcome (written_tree tree) (Err (MainShape name at)) (first_fault fault (first_is_kept (faults_of (written_tree tree).declarations) fault kept) is)
 
-module _ (tree : Tree) (functions : List FunctionTree) (are : functions ≡ functions_meant (written_tree tree).declarations) (none : faults_of (written_tree tree).declarations ≡ []) where
+module _ (tree : Tree) (functions : List FunctionTree) (texts : List (List ℕ)) (are : functions ≡ functions_meant (written_tree tree).declarations) (texts_are : texts ≡ texts_meant (written_tree tree).declarations) (none : faults_of (written_tree tree).declarations ≡ []) where
   error_answers : (error : NameError) → LacksMain functions tree.length error ⊎ HasOtherMain functions error → IsOnly (ResolvesAs (written_tree tree)) (Err error)
   error_answers error (inl lacks) = only_outcome (written_tree tree) (Err error) (no_main none (subst (λ (fs : List FunctionTree). LacksMain fs tree.length error) are lacks))
   error_answers error (inr has) = only_outcome (written_tree tree) (Err error) (main_shape none (subst (λ (fs : List FunctionTree). HasOtherMain fs error) are has))
 
-  pub main_answers : (result : Result Program NameError) → AnswersMain functions tree.length result → AnswersNames tree result
+  meant_so : (program : Program) → MakesProgram functions texts (program_tree program) → MakesProgram (functions_meant (written_tree tree).declarations) (texts_meant (written_tree tree).declarations) (program_tree program)
+  meant_so program h =
+      subst (λ (fs : List FunctionTree). MakesProgram fs (texts_meant (written_tree tree).declarations) (program_tree program)) are
+      (subst (λ (ts : List (List ℕ)). MakesProgram functions ts (program_tree program)) texts_are h)
+
+  pub main_answers : (result : Result Program NameError) → AnswersMain functions texts tree.length result → AnswersNames tree result
   main_answers (Ok program) h =
-      only_outcome (written_tree tree) (Ok (program_tree program)) (record { faults = none; makes = subst (λ (fs : List FunctionTree). MakesProgram fs (program_tree program)) are h })
+      only_outcome (written_tree tree) (Ok (program_tree program)) (record { faults = none; makes = meant_so program h })
   main_answers (Err NoMemory) h = tt
   main_answers (Err (Twice name at)) h = error_answers (Twice name at) h
   main_answers (Err (Unknown name at)) h = error_answers (Unknown name at) h
@@ -102,7 +107,7 @@ module _ (tree : Tree) (functions : List FunctionTree) (are : functions ≡ func
   main_answers (Err (NoMain name at)) h = error_answers (NoMain name at) h
   main_answers (Err (MainShape name at)) h = error_answers (MainShape name at) h
 
-  pub main_keeps : (result : Result Program NameError) → AnswersMain functions tree.length result → IfOk result (λ program. KeepsNodes (written_tree tree).declarations (program_tree program).functions)
+  pub main_keeps : (result : Result Program NameError) → AnswersMain functions texts tree.length result → IfOk result (λ program. KeepsNodes (written_tree tree).declarations (program_tree program).functions)
   main_keeps (Ok program) h =
-      subst (KeepsNodes (written_tree tree).declarations) (sym (ap (λ p. p.functions) h.is ∙ are)) (keeps_nodes (functions_in (written_tree tree).declarations) (written_tree tree).declarations)
+      subst (KeepsNodes (written_tree tree).declarations) (sym (ap (λ p. p.functions) h.is ∙ are)) (keeps_nodes (functions_in (written_tree tree).declarations) [] (written_tree tree).declarations)
   main_keeps (Err error) h = tt

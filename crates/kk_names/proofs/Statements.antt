@@ -1,5 +1,5 @@
 -- Statements, and the blocks that they are in.
-use Rattle.std.proofs.Common.{◌≡◌, ℕ, ◌+◌, ◌≤◌, zero, suc, List, [], ◌∷◌, ◌++◌, length, take, Option, refl, sym, ap, subst, ◌∙◌, arith}
+use Rattle.std.proofs.Common.{◌≡◌, ℕ, ◌≤◌, zero, suc, List, [], ◌∷◌, ◌++◌, length, take, refl, sym, ap, subst, ◌∙◌, arith}
 use Rattle.std.proofs.Math.Seq.{take-append_seam}
 use Rattle.std.proofs.lemmas.List.{length-append}
 use Rattle.kk_syntax.specs.declared.program.Binder.TheVariants as OfBinder
@@ -9,15 +9,13 @@ use Rattle.kk_syntax.specs.declared.tree.SurfaceBinder.TheVariants as OfSurface
 use Rattle.kk_syntax.specs.Surface.{Written, WrittenStatement, block_of}
 use Rattle.kk_syntax.specs.Trees as program
 use Rattle.kk_syntax.specs.Trees.{Tree, StatementTree, sequence}
-use Rattle.kk_names.specs.declared.fault.Fault.{Fault}
 use Rattle.kk_names.specs.declared.resolver.Resolver.{Resolver}
-use Rattle.kk_names.specs.declared.table.Declared.{Declared}
 use Rattle.kk_names.specs.declared.scope.Bound.{Bound}
 use Rattle.kk_names.specs.Expressions.{meant}
 use Rattle.kk_names.specs.Faults.{faults_in}
-use Rattle.kk_names.specs.Methods.{State, state_of, behind, meant_at, newest_first, first_with, KeepsScope, Binds, Resolves, ResolvesStatement, ResolvesStatements}
-use Rattle.kk_names.specs.Scopes.{Scope, binding, names_in, with_binder, binder_names, binder_of, binder_count, binders_in}
-use Rattle.kk_names.proofs.Growing.{first_more}
+use Rattle.kk_names.specs.Methods.{State, before_of, state_of, behind, meant_at, newest_first, first_with, KeepsScope, Binds, Resolves, ResolvesStatement, ResolvesStatements}
+use Rattle.kk_names.specs.Scopes.{Scope, binding, names_in, with_binder, binder_names, binder_of, with_variable, past_binder, past}
+use Rattle.kk_names.proofs.Growing.{first_more, state_is}
 use Rattle.kk_names.proofs.Tables.{newest_more}
 
 pub names_with : (binder : SurfaceBinder) (next : ℕ) (scope : Scope) → names_in (with_binder binder next scope) ≡ binder_names binder (names_in scope)
@@ -41,7 +39,7 @@ block_one_more (first ∷ ts) t rest = ap (sequence first.binder first.value) (b
 -- of all statements of a block some are left
 pub record StatementsSoFar (old now : Resolver) (left all : List WrittenStatement) (trees : List StatementTree) : Type 0 where
   pub functions : now.functions.items ≡ old.functions.items
-  pub next : (last : Written) → now.next + binders_in (block_of left last) ≡ old.next + binders_in (block_of all last)
+  pub before : (last : Written) → past (block_of left last) (before_of now) ≡ past (block_of all last) (before_of old)
   pub first : (last : Written) → (behind (block_of left last) (state_of now)).first ≡ (behind (block_of all last) (state_of old)).first
   pub tree_is : (last : Written) → program.block_of trees (meant_at (state_of now) (block_of left last)) ≡ meant_at (state_of old) (block_of all last)
   pub longer : length old.scope.items ≤ length now.scope.items
@@ -51,12 +49,9 @@ pub statements_more : (old now new : Resolver) (s : WrittenStatement) (left all 
     → StatementsSoFar old now (s ∷ left) all trees → ResolvesStatement s now new t → StatementsSoFar old new left all (trees ++ t ∷ [])
 statements_more old now new s left all trees t so_far one =
     let state : State = state_of now in
-    let number : new.next ≡ now.next + (binder_count s.binder + binders_in s.value) = ap (λ state. state.next) one.state in
-    let seen : Scope = with_binder s.binder now.next state.scope in
-    let after : ℕ = now.next + (binder_count s.binder + binders_in s.value) in
     record {
       functions = ap (λ state. state.functions) one.state ∙ so_far.functions;
-      next = λ last. omega (arith, number, so_far.next last);
+      before = λ last. ap (λ state. past (block_of left last) state.before) one.state ∙ so_far.before last;
       first = λ last.
           ap (λ state. (behind (block_of left last) state).first) one.state
           ∙ (ap (λ names. first_with (first_with now.first (faults_in now.functions.items (names_in state.scope) s.value)) (faults_in now.functions.items names (block_of left last))) (names_with s.binder now.next state.scope)
@@ -66,26 +61,18 @@ statements_more old now new s left all trees t so_far one =
           block_one_more trees t (meant_at (state_of new) (block_of left last))
           ∙ (ap (λ b. program.block_of trees (sequence b t.value (meant_at (state_of new) (block_of left last)))) one.binder
           ∙ (ap (λ v. program.block_of trees (sequence (binder_of s.binder now.next) v (meant_at (state_of new) (block_of left last)))) one.value
-          ∙ (ap (λ state. program.block_of trees (sequence (binder_of s.binder now.next) (meant now.functions.items (newest_first now.scope.items) (now.next + binder_count s.binder) s.value) (meant_at state (block_of left last)))) one.state
+          ∙ (ap (λ state. program.block_of trees (sequence (binder_of s.binder now.next) (meant now.functions.items (newest_first now.scope.items) (past_binder s.binder (before_of now)) s.value) (meant_at state (block_of left last)))) one.state
           ∙ so_far.tree_is last)));
       longer = omega (arith, so_far.longer, one.longer);
       kept = kept_longer old.scope.items now.scope.items new.scope.items so_far.longer so_far.kept one.kept;
     }
 
-state_is : (f g : List Declared) (s r : Scope) (n m : ℕ) (x y : Option Fault) → f ≡ g → s ≡ r → n ≡ m → x ≡ y
-    → (let here : State = record { functions = f; scope = s; next = n; first = x } in here) ≡ record { functions = g; scope = r; next = m; first = y }
-state_is f g s r n m x y functions scope next first =
-    ap (λ z. let here : State = record { functions = z; scope = s; next = n; first = x } in here) functions
-    ∙ (ap (λ z. let here : State = record { functions = g; scope = z; next = n; first = x } in here) scope
-    ∙ (ap (λ z. let here : State = record { functions = g; scope = r; next = z; first = x } in here) next
-    ∙ ap (λ z. let here : State = record { functions = g; scope = r; next = m; first = z } in here) first))
-
 -- a statement `val x =`: its number is taken, its value is resolved, and then it is seen
 module _ (name : Identifier) (number : ℕ) (value : Written) (old numbered valued new : Resolver) (t : StatementTree)
-    (number_is : number ≡ old.next) (next : numbered.next ≡ old.next + 1) (functions : numbered.functions.items ≡ old.functions.items) (scope : numbered.scope.items ≡ old.scope.items) (first : numbered.first ≡ old.first)
+    (number_is : number ≡ old.next) (next : before_of numbered ≡ with_variable (before_of old)) (functions : numbered.functions.items ≡ old.functions.items) (scope : numbered.scope.items ≡ old.scope.items) (first : numbered.first ≡ old.first)
     (resolves : Resolves value numbered valued t.value) (binds : Binds (binding name number) valued new) (made : t.binder ≡ OfBinder.Variable number) where
   state_numbered : State
-  state_numbered = record { functions = old.functions.items; scope = newest_first old.scope.items; next = old.next + 1; first = old.first }
+  state_numbered = record { functions = old.functions.items; scope = newest_first old.scope.items; before = with_variable (before_of old); first = old.first }
 
   numbered_so : state_of numbered ≡ state_numbered
   unfolding state_numbered
@@ -103,12 +90,11 @@ module _ (name : Identifier) (number : ℕ) (value : Written) (old numbered valu
   numbered_statement : ResolvesStatement this old new t
   unfolding state_numbered this
   numbered_statement =
-      let number_after : new.next ≡ old.next + (1 + binders_in value) = omega (arith, binds.next, ap (λ state. state.next) valued_so) in
       record {
         state = state_is _ _ _ _ _ _ _ _
             (binds.functions ∙ ap (λ state. state.functions) valued_so)
             (ap newest_first items ∙ (newest_more [] old.scope.items (binding name number) ∙ ap (λ n. binding name n ∷ newest_first old.scope.items) number_is))
-            number_after
+            (binds.before ∙ ap (λ state. state.before) valued_so)
             (binds.first ∙ ap (λ state. state.first) valued_so);
         longer = omega (arith, ap length items, length-append old.scope.items (binding name number ∷ []));
         kept = ap (take (length old.scope.items)) items ∙ take-append_seam old.scope.items (binding name number ∷ []);
@@ -117,7 +103,7 @@ module _ (name : Identifier) (number : ℕ) (value : Written) (old numbered valu
       }
 
 pub variable_statement : (s : WrittenStatement) (name : Identifier) (number : ℕ) (value : Written) (old numbered valued new : Resolver) (t : StatementTree)
-    → s ≡ record { binder = OfSurface.Variable name; value = value } → number ≡ old.next → numbered.next ≡ old.next + 1 → numbered.functions.items ≡ old.functions.items → numbered.scope.items ≡ old.scope.items → numbered.first ≡ old.first
+    → s ≡ record { binder = OfSurface.Variable name; value = value } → number ≡ old.next → before_of numbered ≡ with_variable (before_of old) → numbered.functions.items ≡ old.functions.items → numbered.scope.items ≡ old.scope.items → numbered.first ≡ old.first
     → Resolves value numbered valued t.value → Binds (binding name number) valued new → t.binder ≡ OfBinder.Variable number
     → ResolvesStatement s old new t
 unfolding this
@@ -127,16 +113,15 @@ variable_statement s name number value old numbered valued new t is number_is ne
 -- a block: its statements, its value, and then the variables that were seen before
 pub block_resolved : (statements : List WrittenStatement) (last : Written) (old stated valued new : Resolver) (trees : List StatementTree) (t : Tree)
     → ResolvesStatements statements last old stated trees → KeepsScope old stated → Resolves last stated valued t
-    → new.functions.items ≡ valued.functions.items → new.scope.items ≡ take (length old.scope.items) valued.scope.items → new.next ≡ valued.next → new.first ≡ valued.first
+    → new.functions.items ≡ valued.functions.items → new.scope.items ≡ take (length old.scope.items) valued.scope.items → before_of new ≡ before_of valued → new.first ≡ valued.first
     → Resolves (block_of statements last) old new (program.block_of trees t)
 block_resolved statements last old stated valued new trees t made kept value functions scope next first =
     let back : new.scope.items ≡ old.scope.items = scope ∙ (ap (take (length old.scope.items)) value.scope ∙ kept) in
-    let number : valued.next ≡ stated.next + binders_in last = ap (λ state. state.next) value.state in
     record {
       state = state_is _ _ _ _ _ _ _ _
           (functions ∙ (ap (λ state. state.functions) value.state ∙ made.functions))
           (ap newest_first back)
-          (next ∙ (number ∙ made.next))
+          (next ∙ (ap (λ state. state.before) value.state ∙ made.before))
           (first ∙ (ap (λ state. state.first) value.state ∙ made.first));
       scope = back;
       tree_is = ap (program.block_of trees) value.tree_is ∙ made.tree_is;

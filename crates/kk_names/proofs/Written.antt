@@ -1,11 +1,9 @@
 -- What the expressions of a text are written as, and what those that the code makes are, by their forms.
-use Rattle.std.proofs.Common.{◌≡◌, ℕ, ◌+◌, ◌<◌, List, ◌∷◌, length, map, drop, get_or, Box, Global, Option, Some, None, sym, ap, ◌∙◌}
+use Rattle.std.proofs.Common.{◌≡◌, ℕ, ◌+◌, ◌<◌, List, [], ◌∷◌, length, map, drop, get_or, Box, Global, Option, Some, None, sym, ap, ◌∙◌}
 use Rattle.kk_syntax.specs.declared.operator.BinaryOperator.{BinaryOperator}
 use Rattle.kk_syntax.specs.declared.program.Expr.{Expr}
-use Rattle.kk_syntax.specs.declared.program.Expr.TheVariants as program
-use Rattle.kk_syntax.specs.declared.program.Expr.TheFolds.{fold-roll-Expr, fold_out-Statement}
+use Rattle.kk_syntax.specs.declared.program.Expr.TheVariants.{Apply}
 use Rattle.kk_syntax.specs.declared.program.Form.{Form}
-use Rattle.kk_syntax.specs.declared.program.Statement.{Statement}
 use Rattle.kk_syntax.specs.declared.tree.Identifier.{Identifier}
 use Rattle.kk_syntax.specs.declared.tree.SurfaceBinder.TheVariants as OfSurface
 use Rattle.kk_syntax.specs.declared.tree.SurfaceExpr.{SurfaceExpr, size-SurfaceExpr}
@@ -19,7 +17,9 @@ use Rattle.kk_syntax.specs.declared.tree.Parameter.{Parameter}
 use Rattle.kk_syntax.specs.declared.tree.Declaration.{Declaration}
 use Rattle.kk_syntax.specs.Surface as written
 use Rattle.kk_syntax.specs.Surface.{Written, WrittenRow, WrittenStatement, written_expr, written_statement, writtens_of, WrittenType, type_step, written_type, written_parameter, written_declaration}
-use Rattle.kk_syntax.specs.Trees.{Tree, RowTree, StatementTree, expr_step, row_step, statement_step, expr_tree, statement_tree, trees_of, unit, variable, apply}
+use Rattle.kk_syntax.specs.Trees.{expr_tree}
+use Rattle.kk_syntax.proofs.Views.{apply_is}
+use Rattle.kk_names.specs.Expressions.{alone}
 use Rattle.kk_names.proofs.Tables.{drop_more}
 
 -- ---- what is given
@@ -66,19 +66,9 @@ variable_written s name v is value =
 
 -- ---- what is made
 
-pub apply_tree : (e : Expr) (form : Form) (arguments : _) (es : List Expr) → e ≡ program.Apply form arguments → arguments.items ≡ es → expr_tree e ≡ apply form (trees_of (map expr_tree es))
-apply_tree e form arguments es is items =
-    ap expr_tree (is ∙ sym (program.rolls-Apply form arguments))
-    ∙ (fold-roll-Expr Tree RowTree StatementTree expr_step row_step statement_step _ ∙ ap (λ all. apply form (trees_of (map expr_tree all))) items)
-
-pub statement_made : (s : Statement) → statement_tree s ≡ record { binder = s.binder; value = expr_tree s.value }
-statement_made s = fold_out-Statement Tree RowTree StatementTree expr_step row_step statement_step s
-
-pub unit_tree : (e : Expr) → e ≡ program.Unit → expr_tree e ≡ unit
-unit_tree e is = ap expr_tree (is ∙ sym program.rolls-Unit) ∙ fold-roll-Expr Tree RowTree StatementTree expr_step row_step statement_step _
-
-pub variable_tree : (number : ℕ) → expr_tree (program.Variable number) ≡ variable number
-variable_tree number = ap expr_tree (sym (program.rolls-Variable number)) ∙ fold-roll-Expr Tree RowTree StatementTree expr_step row_step statement_step _
+-- a form without arguments
+pub alone_made : (e : Expr) (form : Form) (arguments : _) → e ≡ Apply form arguments → arguments.items ≡ [] → expr_tree e ≡ alone form
+alone_made e form arguments is none = apply_is e form arguments [] is (sym none)
 
 -- ---- types
 

@@ -18,8 +18,8 @@ use Rattle.kk_names.specs.declared.scope.Bound.{Bound}
 use Rattle.kk_names.specs.declared.table.Declared.{Declared}
 use Rattle.kk_names.specs.Expressions.{meant, meant_all}
 use Rattle.kk_names.specs.Faults.{fault_at, rank, faults_in, faults_in_all, parameter_faults, second_functions, inside_faults}
-use Rattle.kk_names.specs.Names.{MakesProgram, LacksMain, HasOtherMain}
-use Rattle.kk_names.specs.Scopes.{Scope, names_in, with_parameters, with_binder, binder_of, binder_count, binders_in, binders_in_all}
+use Rattle.kk_names.specs.Names.{with_texts, MakesProgram, LacksMain, HasOtherMain}
+use Rattle.kk_names.specs.Scopes.{Scope, names_in, with_parameters, with_binder, binder_of, Before, past_binder, past, past_all}
 use Rattle.kk_names.specs.Tables.{numbered}
 use Rattle.kk_names.specs.TypeNames.{type_meant}
 
@@ -48,38 +48,44 @@ newest_first = newest_before []
 pub record State : Type 0 where
   pub functions : List Declared
   pub scope : Scope
-  pub next : ℕ
+  pub before : Before
   pub first : Option Fault
+
+abbrev pub before_of : Resolver → Before
+before_of resolver = record { variables = resolver.next; texts = resolver.texts.items }
 
 abbrev pub state_of : Resolver → State
 state_of resolver = record {
   functions = resolver.functions.items;
   scope = newest_first resolver.scope.items;
-  next = resolver.next;
+  before = before_of resolver;
   first = resolver.first;
 }
 
--- some variables and some faults more
-abbrev pub grown : State → ℕ → List Fault → State
-grown state count faults = record {
+-- something else stands before, and some faults more were noted
+abbrev pub grown : State → Before → List Fault → State
+grown state before faults = record {
   functions = state.functions;
   scope = state.scope;
-  next = state.next + count;
+  before = before;
   first = first_with state.first faults;
 }
 
+abbrev pub noting : List Fault → State → State
+noting faults state = grown state state.before faults
+
 -- the same with what was seen before
 abbrev pub behind : Written → State → State
-behind e state = grown state (binders_in e) (faults_in state.functions (names_in state.scope) e)
+behind e state = grown state (past e state.before) (faults_in state.functions (names_in state.scope) e)
 
 abbrev pub behind_all : Writtens → State → State
-behind_all es state = grown state (binders_in_all es) (faults_in_all state.functions (names_in state.scope) es)
+behind_all es state = grown state (past_all es state.before) (faults_in_all state.functions (names_in state.scope) es)
 
 abbrev pub meant_at : State → Written → program.Tree
-meant_at state e = meant state.functions state.scope state.next e
+meant_at state e = meant state.functions state.scope state.before e
 
 abbrev pub meant_all_at : State → Writtens → program.Trees
-meant_all_at state es = meant_all state.functions state.scope state.next es
+meant_all_at state es = meant_all state.functions state.scope state.before es
 
 -- a fault, if it is one
 abbrev pub faults_if : Bool → FaultKind → Identifier → List Fault
@@ -87,7 +93,7 @@ faults_if is_fault kind name = if is_fault then fault_at kind name ∷ [] else [
 
 -- some faults were noted, and nothing else was changed
 pub record Notes (faults : List Fault) (old new : Resolver) : Type 0 where
-  pub state : state_of new ≡ grown (state_of old) 0 faults
+  pub state : state_of new ≡ noting faults (state_of old)
   pub scope : new.scope.items ≡ old.scope.items
 
 -- an expression was resolved, and means this tree
@@ -115,15 +121,15 @@ KeepsScope old new = take (length old.scope.items) new.scope.items ≡ old.scope
 pub record Binds (bound : Bound) (old new : Resolver) : Type 0 where
   pub functions : new.functions.items ≡ old.functions.items
   pub scope : new.scope.items ≡ old.scope.items ++ bound ∷ []
-  pub next : new.next ≡ old.next
+  pub before : before_of new ≡ before_of old
   pub first : new.first ≡ old.first
 
 -- behind a statement that variable is seen
 abbrev pub behind_statement : WrittenStatement → State → State
 behind_statement s state = record {
   functions = state.functions;
-  scope = with_binder s.binder state.next state.scope;
-  next = state.next + (binder_count s.binder + binders_in s.value);
+  scope = with_binder s.binder state.before.variables state.scope;
+  before = past s.value (past_binder s.binder state.before);
   first = first_with state.first (faults_in state.functions (names_in state.scope) s.value);
 }
 
@@ -133,12 +139,12 @@ pub record ResolvesStatement (s : WrittenStatement) (old new : Resolver) (tree :
   pub longer : length old.scope.items ≤ length new.scope.items
   pub kept : KeepsScope old new
   pub binder : tree.binder ≡ binder_of s.binder old.next
-  pub value : tree.value ≡ meant old.functions.items (newest_first old.scope.items) (old.next + binder_count s.binder) s.value
+  pub value : tree.value ≡ meant old.functions.items (newest_first old.scope.items) (past_binder s.binder (before_of old)) s.value
 
 -- Statements were resolved: what comes behind them in their block is then resolved as in the block.
 pub record ResolvesStatements (statements : List WrittenStatement) (last : Written) (old new : Resolver) (trees : List StatementTree) : Type 0 where
   pub functions : new.functions.items ≡ old.functions.items
-  pub next : new.next + binders_in last ≡ old.next + binders_in (block_of statements last)
+  pub before : past last (before_of new) ≡ past (block_of statements last) (before_of old)
   pub first : (behind last (state_of new)).first ≡ (behind (block_of statements last) (state_of old)).first
   pub tree_is : program.block_of trees (meant_at (state_of new) last) ≡ meant_at (state_of old) (block_of statements last)
 
@@ -151,6 +157,7 @@ pub record ResolvesParameters (parameters : List WrittenParameter) (old new : Re
   pub functions : new.functions.items ≡ old.functions.items
   pub scope : newest_first new.scope.items ≡ with_parameters old.next parameters (newest_first old.scope.items)
   pub next : new.next ≡ old.next + length parameters
+  pub texts : new.texts.items ≡ old.texts.items
   pub first : new.first ≡ first_with old.first (parameter_faults (names_in (newest_first old.scope.items)) parameters)
   pub types_are : types ≡ map (λ parameter. type_meant parameter.of_type) parameters
 
@@ -158,17 +165,19 @@ pub record ResolvesParameters (parameters : List WrittenParameter) (old new : Re
 pub record Declares (declarations : List WrittenDeclaration) (old new : Resolver) : Type 0 where
   pub functions : new.functions.items ≡ old.functions.items ++ numbered 0 declarations
   pub first : new.first ≡ first_with old.first (second_functions (map (λ d. d.name) old.functions.items) declarations)
+  pub texts : new.texts.items ≡ old.texts.items
 
--- a function's faults were noted
+-- a function's faults were noted, and the string literals that it prints are there
 pub record ResolvesFunction (declared : WrittenDeclaration) (old new : Resolver) : Type 0 where
   pub functions : new.functions.items ≡ old.functions.items
   pub first : new.first ≡ first_with old.first (inside_faults old.functions.items declared)
+  pub texts : new.texts.items ≡ with_texts old.texts.items declared
 
--- what comes of functions and the length of their text
-abbrev pub AnswersMain : List FunctionTree → ℕ → Result Program NameError → Type 0
-AnswersMain functions length (Ok program) = MakesProgram functions (program_tree program)
-AnswersMain functions length (Err NoMemory) = Unit {0}
-AnswersMain functions length (Err error) = LacksMain functions length error ⊎ HasOtherMain functions error
+-- what comes of functions, of the string literals that they print, and of the length of their text
+abbrev pub AnswersMain : List FunctionTree → List (List ℕ) → ℕ → Result Program NameError → Type 0
+AnswersMain functions texts length (Ok program) = MakesProgram functions texts (program_tree program)
+AnswersMain functions texts length (Err NoMemory) = Unit {0}
+AnswersMain functions texts length (Err error) = LacksMain functions length error ⊎ HasOtherMain functions error
 
 -- the number of `main` among the functions as the code holds them
 abbrev pub main_among : List Fun → Option ℕ

@@ -17,7 +17,7 @@ use Rattle.kk_names.specs.declared.fault.Fault.{Fault}
 use Rattle.kk_names.specs.declared.table.Declared.{Declared}
 use Rattle.kk_names.specs.Expressions.{meant}
 use Rattle.kk_names.specs.Faults.{IsFirstFault, error_of, faults_of}
-use Rattle.kk_names.specs.Scopes.{with_parameters}
+use Rattle.kk_names.specs.Scopes.{with_parameters, Before, past}
 use Rattle.kk_names.specs.Tables.{functions_in}
 use Rattle.kk_names.specs.TypeNames.{type_meant, result_meant}
 
@@ -28,37 +28,56 @@ bool_type = record { name = codes "bool"; at = 0; variables = 0; first_construct
 abbrev pub bool_constructor : List ℕ → ℕ → ConstructorTree
 bool_constructor name tag = record { name = name; at = 0; of_type = 0; tag = tag; fields = [] }
 
--- a function among those of its text; its parameters are its first variables
-abbrev pub function_of : List Declared → Identifier → List WrittenParameter → Option WrittenType → Written → FunctionTree
-function_of functions name parameters result body = record {
+-- what stands before a function's body: its parameters, and the string literals that the functions before it print
+abbrev pub before_body : List (List ℕ) → List WrittenParameter → Before
+before_body texts parameters = record { variables = length parameters; texts = texts }
+
+-- a function among those of its text, behind those string literals; its parameters are its first variables
+abbrev pub function_of : List Declared → List (List ℕ) → Identifier → List WrittenParameter → Option WrittenType → Written → FunctionTree
+function_of functions texts name parameters result body = record {
   name = name.name;
   at = name.at;
   variables = 0;
   parameters = map (λ parameter. type_meant parameter.of_type) parameters;
   result = result_meant result;
-  body = meant functions (with_parameters 0 parameters []) (length parameters) body;
+  body = meant functions (with_parameters 0 parameters []) (before_body texts parameters) body;
 }
 
--- the functions of declarations; a declared type is passed over: no text of today's grammar has one
-abbrev pub functions_of : List Declared → List WrittenDeclaration → List FunctionTree
-functions_of functions [] = []
-functions_of functions (type_declaration name parameters constructors ∷ more) = functions_of functions more
-functions_of functions (function_declaration name parameters effects result body ∷ more) =
-    function_of functions name parameters result body ∷ functions_of functions more
+-- string literals, and those that a declaration prints; a declared type is passed over: no text of today's grammar has one
+abbrev pub with_texts : List (List ℕ) → WrittenDeclaration → List (List ℕ)
+with_texts texts (type_declaration name parameters constructors) = texts
+with_texts texts (function_declaration name parameters effects result body) = (past body (before_body texts parameters)).texts
+
+-- the functions of declarations behind those string literals
+abbrev pub functions_of : List Declared → List (List ℕ) → List WrittenDeclaration → List FunctionTree
+functions_of functions texts [] = []
+functions_of functions texts (type_declaration name parameters constructors ∷ more) = functions_of functions texts more
+functions_of functions texts (function_declaration name parameters effects result body ∷ more) =
+    function_of functions texts name parameters result body
+    ∷ functions_of functions (with_texts texts (function_declaration name parameters effects result body)) more
 
 abbrev pub functions_meant : List WrittenDeclaration → List FunctionTree
-functions_meant declarations = functions_of (functions_in declarations) declarations
+functions_meant declarations = functions_of (functions_in declarations) [] declarations
+
+-- string literals, and those that declarations print
+abbrev pub with_all_texts : List (List ℕ) → List WrittenDeclaration → List (List ℕ)
+with_all_texts texts [] = texts
+with_all_texts texts (declaration ∷ more) = with_all_texts (with_texts texts declaration) more
+
+abbrev pub texts_meant : List WrittenDeclaration → List (List ℕ)
+texts_meant = with_all_texts []
 
 -- the number of the function `main`
 abbrev pub main_of : List FunctionTree → Option ℕ
 main_of functions = position (λ function. bytes_eq function.name (codes "main")) functions
 
--- a program of functions, of which one is `main`
-abbrev pub program_of : List FunctionTree → ℕ → ProgramTree
-program_of functions main = record {
+-- a program of functions, of which one is `main`, and of the string literals that they print
+abbrev pub program_of : List FunctionTree → List (List ℕ) → ℕ → ProgramTree
+program_of functions texts main = record {
   types = bool_type ∷ [];
   constructors = bool_constructor (codes "False") 0 ∷ bool_constructor (codes "True") 1 ∷ [];
   functions = functions;
+  texts = texts;
   main = main;
 }
 
@@ -67,14 +86,14 @@ pub record IsMainShaped (function : FunctionTree) : Type 0 where
   pub parameters : function.parameters ≡ []
   pub result : function.result ≡ unit_type
 
--- these functions, of which one is a `main` as it must be, make a program
-pub record MakesProgram (functions : List FunctionTree) (program : ProgramTree) : Type 0 where
+-- these functions, of which one is a `main` as it must be, and these string literals make a program
+pub record MakesProgram (functions : List FunctionTree) (texts : List (List ℕ)) (program : ProgramTree) : Type 0 where
   pub main : ℕ
   pub function : FunctionTree
   pub main_is : main_of functions ≡ Some main
   pub there : slice_get functions main ≡ Some function
   pub shape : IsMainShaped function
-  pub is : program ≡ program_of functions main
+  pub is : program ≡ program_of functions texts main
 
 -- no function is called `main`, which is told of at the text's end
 pub record LacksMain (functions : List FunctionTree) (length : ℕ) (error : NameError) : Type 0 where
@@ -93,7 +112,7 @@ pub record HasOtherMain (functions : List FunctionTree) (error : NameError) : Ty
 -- a tree without faults means a program
 pub record MeansProgram (declarations : List WrittenDeclaration) (program : ProgramTree) : Type 0 where
   pub faults : faults_of declarations ≡ []
-  pub makes : MakesProgram (functions_meant declarations) program
+  pub makes : MakesProgram (functions_meant declarations) (texts_meant declarations) program
 
 -- a tree is refused for its first fault, or, if it has none, for its `main`
 pub data IsRefusedFor (tree : WrittenTree) (error : NameError) : Type 0 where

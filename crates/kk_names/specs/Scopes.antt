@@ -1,12 +1,12 @@
--- Which variables are seen, and by which numbers they go.
-use Rattle.std.specs.Prelude.{ℕ, ◌+◌, List, [], ◌∷◌, map, Bool, bytes_eq, Option, Some, None, if◌then◌else◌}
+-- Which variables are seen, and by which numbers they go; and what stands before an expression.
+use Rattle.std.specs.Prelude.{ℕ, ◌+◌, List, [], ◌∷◌, ◌++◌, map, Bool, bytes_eq, Option, Some, None, if◌then◌else◌}
 use Rattle.std.specs.List.{list_any}
 use Rattle.kk_syntax.specs.declared.program.Binder.{Binder}
 use Rattle.kk_syntax.specs.declared.program.Binder.TheVariants as OfBinder
 use Rattle.kk_syntax.specs.declared.tree.Identifier.{Identifier}
 use Rattle.kk_syntax.specs.declared.tree.SurfaceBinder.{SurfaceBinder}
 use Rattle.kk_syntax.specs.declared.tree.SurfaceBinder.TheVariants as OfSurface
-use Rattle.kk_syntax.specs.Surface.{Written, call, dot_call, construct, unary, binary, both, either, branch, branch_alone, sequence, Writtens, no_written, written, WrittenParameter}
+use Rattle.kk_syntax.specs.Surface.{Written, call, dot_call, construct, unary, binary, both, either, print_text, branch, branch_alone, sequence, Writtens, no_written, written, WrittenParameter}
 use Rattle.kk_names.specs.declared.scope.Bound.{Bound}
 
 -- the variables that are seen, the newest one first
@@ -37,7 +37,7 @@ abbrev pub parameter_names : List WrittenParameter → List (List ℕ) → List 
 parameter_names [] names = names
 parameter_names (parameter ∷ more) names = parameter_names more (parameter.name.name ∷ names)
 
--- a statement's binder: what it binds, by that number; what is seen behind the statement; and how many numbers it takes
+-- a statement's binder: what it binds, by that number; and what is seen behind the statement
 abbrev pub binder_of : SurfaceBinder → ℕ → Binder
 binder_of OfSurface.Nothing next = OfBinder.Nothing
 binder_of OfSurface.Wildcard next = OfBinder.Wildcard
@@ -53,26 +53,39 @@ binder_names OfSurface.Nothing names = names
 binder_names OfSurface.Wildcard names = names
 binder_names (OfSurface.Variable name) names = name.name ∷ names
 
-abbrev pub binder_count : SurfaceBinder → ℕ
-binder_count OfSurface.Nothing = 0
-binder_count OfSurface.Wildcard = 0
-binder_count (OfSurface.Variable name) = 1
+-- What stands before an expression: so many variables of its function, and these string literals that are printed.
+pub record Before : Type 0 where
+  pub variables : ℕ
+  pub texts : List (List ℕ)
 
--- how many variables are bound inside of an expression; a match stands for nothing yet
+-- the same, and a variable more or a print of a string more
+abbrev pub with_variable : Before → Before
+with_variable before = record { variables = before.variables + 1; texts = before.texts }
+
+abbrev pub with_text : List ℕ → Before → Before
+with_text text before = record { variables = before.variables; texts = before.texts ++ text ∷ [] }
+
+abbrev pub past_binder : SurfaceBinder → Before → Before
+past_binder OfSurface.Nothing before = before
+past_binder OfSurface.Wildcard before = before
+past_binder (OfSurface.Variable name) before = with_variable before
+
+-- what stands before what follows an expression; a match stands for nothing yet
 abbrev mutual
-  pub binders_in : Written → ℕ
-  binders_in (call name arguments) = binders_in_all arguments
-  binders_in (dot_call first name others) = binders_in first + binders_in_all others
-  binders_in (construct name arguments) = binders_in_all arguments
-  binders_in (unary operator operand) = binders_in operand
-  binders_in (binary operator left right) = binders_in left + binders_in right
-  binders_in (both left right) = binders_in left + binders_in right
-  binders_in (either left right) = binders_in left + binders_in right
-  binders_in (branch condition positive negative) = binders_in condition + (binders_in positive + binders_in negative)
-  binders_in (branch_alone condition positive) = binders_in condition + binders_in positive
-  binders_in (sequence binder first rest) = binder_count binder + (binders_in first + binders_in rest)
-  binders_in _ = 0
+  pub past : Written → Before → Before
+  past (call name arguments) before = past_all arguments before
+  past (dot_call first name others) before = past_all others (past first before)
+  past (construct name arguments) before = past_all arguments before
+  past (unary operator operand) before = past operand before
+  past (binary operator left right) before = past right (past left before)
+  past (both left right) before = past right (past left before)
+  past (either left right) before = past right (past left before)
+  past (print_text form text) before = with_text text before
+  past (branch condition positive negative) before = past negative (past positive (past condition before))
+  past (branch_alone condition positive) before = past positive (past condition before)
+  past (sequence binder first rest) before = past rest (past first (past_binder binder before))
+  past _ before = before
 
-  pub binders_in_all : Writtens → ℕ
-  binders_in_all no_written = 0
-  binders_in_all (written first rest) = binders_in first + binders_in_all rest
+  pub past_all : Writtens → Before → Before
+  past_all no_written before = before
+  past_all (written first rest) before = past_all rest (past first before)

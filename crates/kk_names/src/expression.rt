@@ -1,10 +1,9 @@
 ghost use Rattle.std.specs.Prelude.{◌≡◌, map, option_map, IfOk};
 ghost use Rattle.kk_syntax.specs.Surface.{Written, dot_call, both, either, block_of, written_expr, written_statement, writtens_of};
 ghost use Rattle.kk_syntax.specs.Trees.{expr_tree, statement_tree, trees_of, branch};
-ghost use Rattle.kk_names.specs.Expressions.{truth};
 ghost use Rattle.kk_names.specs.Methods.{Resolves, ResolvesAll, choice_of, ResolvesStatement, ResolvesStatements, KeepsScope};
 
-use crate::resolver::Resolver;
+use crate::resolver::{Resolver, alone};
 use crate::table::{constructor, meaning_in};
 use kk_base::NoMemory;
 use kk_syntax::{
@@ -20,8 +19,8 @@ impl Resolver {
         ensures { IfOk result (λ e. Resolves (written_expr expr.now) self.old self.new (expr_tree e)) }
     {
         match expr {
-            SurfaceExpr::Number(value) => Ok(Expr::Number(*value)),
-            SurfaceExpr::Unit | SurfaceExpr::Match(_, _) => Ok(Expr::Unit),
+            SurfaceExpr::Number(value) => Ok(alone(self.alloc, Form::Number(*value))),
+            SurfaceExpr::Unit | SurfaceExpr::Match(_, _) => Ok(alone(self.alloc, Form::Unit)),
             SurfaceExpr::Variable(name) => self.variable(name),
             SurfaceExpr::Call(name, arguments) => {
                 let arguments = self.expressions(arguments)?;
@@ -46,9 +45,7 @@ impl Resolver {
             }
             SurfaceExpr::And(left, right) => self.both(left, right),
             SurfaceExpr::Or(left, right) => self.either(left, right),
-            SurfaceExpr::PrintText(form, text) => {
-                Ok(Expr::PrintText(*form, text.copied(self.alloc)?))
-            }
+            SurfaceExpr::PrintText(form, text) => self.print_text(*form, text),
             SurfaceExpr::If(condition, positive, negative) => {
                 self.choice(condition, positive, negative)
             }
@@ -80,7 +77,7 @@ impl Resolver {
     {
         let condition = self.expression(left)?;
         let positive = self.expression(right)?;
-        let negative = truth(self.alloc, Program::FALSE);
+        let negative = alone(self.alloc, Form::Construct(Program::FALSE));
         conditional(self.alloc, condition, positive, negative)
     }
 
@@ -91,7 +88,7 @@ impl Resolver {
     {
         let condition = self.expression(left)?;
         let negative = self.expression(right)?;
-        let positive = truth(self.alloc, Program::TRUE);
+        let positive = alone(self.alloc, Form::Construct(Program::TRUE));
         conditional(self.alloc, condition, positive, negative)
     }
 
@@ -109,7 +106,7 @@ impl Resolver {
         let positive = self.expression(positive)?;
         let negative = match negative {
             Some(negative) => self.expression(negative)?,
-            None => Expr::Unit,
+            None => alone(self.alloc, Form::Unit),
         };
         conditional(self.alloc, condition, positive, negative)
     }
@@ -183,13 +180,6 @@ impl Resolver {
             }
         }
     }
-}
-
-/// A constructor of `bool`.
-fn truth(alloc: Global, constructor: u32) -> Expr
-    ensures { expr_tree result ≡ truth constructor }
-{
-    Expr::Apply(Form::Construct(constructor), Vec::new(alloc))
 }
 
 /// An `if` with both branches.

@@ -6,7 +6,7 @@ ghost use Rattle.kk_syntax.specs.declared.program.Form.TheVariants.{Call};
 ghost use Rattle.kk_names.specs.Faults.{inside_all, twice_faults};
 ghost use Rattle.kk_names.specs.Tables.{means};
 ghost use Rattle.kk_names.specs.Methods.{first_with, Declares, ResolvesFunction};
-ghost use Rattle.kk_names.specs.Names.{functions_of};
+ghost use Rattle.kk_names.specs.Names.{functions_of, with_all_texts};
 
 use crate::fault::FaultKind;
 use crate::resolver::Resolver;
@@ -38,6 +38,7 @@ impl Resolver {
         declared: &FunctionDeclaration,
     ) -> Result<(), NoMemory>
         ensures functions { IfOk result (λ _. self.new.functions.items ≡ self.old.functions.items ++ means declared.now.name.name (Call number) (vec_len declared.now.parameters) ∷ []) }
+        ensures texts { IfOk result (λ _. self.new.texts.items ≡ self.old.texts.items) }
         ensures first { IfOk result (λ _. self.new.first ≡ first_with self.old.first (twice_faults (map (λ d. d.name) self.old.functions.items) declared.now.name)) }
     {
         let name = &declared.name;
@@ -55,7 +56,8 @@ impl Resolver {
     /// What the declared functions mean.
     pub fn all_functions(&mut self, declarations: &[Declaration]) -> Result<Vec<Fun>, NoMemory>
         ensures functions { IfOk result (λ functions. map function_tree functions.items
-            ≡ functions_of self.old.functions.items (map written_declaration declarations.now)) }
+            ≡ functions_of self.old.functions.items self.old.texts.items (map written_declaration declarations.now)) }
+        ensures texts { IfOk result (λ _. self.new.texts.items ≡ with_all_texts self.old.texts.items (map written_declaration declarations.now)) }
         ensures first { IfOk result (λ _. self.new.first
             ≡ first_with self.old.first (inside_all self.old.functions.items (map written_declaration declarations.now))) }
     {
@@ -73,7 +75,7 @@ impl Resolver {
     fn function(&mut self, declared: &FunctionDeclaration) -> Result<Fun, NoMemory>
         ensures resolves { IfOk result (λ _. ResolvesFunction (written_declaration (OfDeclaration.Function declared.now)) self.old self.new) }
         ensures tree { IfOk result (λ function. function_tree function ∷ []
-            ≡ functions_of self.old.functions.items (written_declaration (OfDeclaration.Function declared.now) ∷ [])) }
+            ≡ functions_of self.old.functions.items self.old.texts.items (written_declaration (OfDeclaration.Function declared.now) ∷ [])) }
     {
         self.scope.clear();
         self.next = 0;

@@ -10,8 +10,6 @@ mod resolver;
 mod scope;
 mod signature;
 mod table;
-#[cfg(test)]
-mod tests;
 
 pub use program::{
     each_tree_is_resolved, resolve, resolved_programs_are_plain, resolved_programs_have_main,

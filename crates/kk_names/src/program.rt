@@ -3,13 +3,13 @@ ghost use Rattle.kk_syntax.specs.Programs.{function_tree, program_tree};
 ghost use Rattle.kk_syntax.specs.Surface.{written_declaration, written_tree};
 ghost use Rattle.kk_names.specs.Faults.{faults_of};
 ghost use Rattle.kk_names.specs.Methods.{main_among, first_with, AnswersMain, IsNoMain, IsOtherMain};
-ghost use Rattle.kk_names.specs.Names.{functions_meant, program_of, IsMainShaped, AnswersNames, KeepsNodes, EachTreeIsResolved, ResolvedProgramsHaveMain, ResolvedProgramsArePlain};
+ghost use Rattle.kk_names.specs.Names.{functions_meant, texts_meant, program_of, IsMainShaped, AnswersNames, KeepsNodes, EachTreeIsResolved, ResolvedProgramsHaveMain, ResolvedProgramsArePlain};
 
 use crate::builtin;
 use crate::fault::Fault;
 use crate::resolver::Resolver;
 use kk_base::{Name, NameError, NoMemory};
-use kk_syntax::{Declaration, Fun, Program, Tree, Ty};
+use kk_syntax::{Declaration, Fun, Program, StringLiteral, Tree, Ty};
 use std::alloc::Global;
 
 /// The program of a tree; or its first fault; or that it has no function `main`, or one with a parameter or a result.
@@ -21,12 +21,17 @@ pub fn resolve(alloc: Global, tree: Tree) -> Result<Program, NameError>
     ensures keeps_nodes { IfOk result (λ program.
         KeepsNodes (written_tree tree).declarations (program_tree program).functions) }
 {
-    let Ok((functions, fault)) = functions(alloc, tree.declarations.as_slice()) else {
+    let Ok(resolved) = resolve_all(alloc, tree.declarations.as_slice()) else {
         return Err(NameError::NoMemory);
     };
+    let Resolved {
+        functions,
+        texts,
+        fault,
+    } = resolved;
     match fault {
         Some(fault) => Err(fault.error()),
-        None => with_main(alloc, functions, tree.length),
+        None => with_main(alloc, functions, texts, tree.length),
     }
 }
 
@@ -46,23 +51,39 @@ pub fn resolved_programs_are_plain()
     ensures { ResolvedProgramsArePlain }
 {}
 
-// The functions of declarations, and the first fault of those.
-fn functions(
-    alloc: Global,
-    declarations: &[Declaration],
-) -> Result<(Vec<Fun>, Option<Fault>), NoMemory>
-    ensures functions { IfOk result (λ r. map function_tree r.0.items ≡ functions_meant (map written_declaration declarations.now)) }
-    ensures fault { IfOk result (λ r. r.1 ≡ first_with None (faults_of (map written_declaration declarations.now))) }
+// What declarations come to: their functions, the string literals that those print, and the first fault.
+#[derive(Drop)]
+struct Resolved {
+    functions: Vec<Fun>,
+    texts: Vec<StringLiteral>,
+    fault: Option<Fault>,
+}
+
+// What declarations come to.
+fn resolve_all(alloc: Global, declarations: &[Declaration]) -> Result<Resolved, NoMemory>
+    ensures functions { IfOk result (λ r. map function_tree r.functions.items ≡ functions_meant (map written_declaration declarations.now)) }
+    ensures texts { IfOk result (λ r. r.texts.items ≡ texts_meant (map written_declaration declarations.now)) }
+    ensures fault { IfOk result (λ r. r.fault ≡ first_with None (faults_of (map written_declaration declarations.now))) }
 {
     let mut resolver = Resolver::new(alloc)?;
     resolver.declare(declarations)?;
     let functions = resolver.all_functions(declarations)?;
-    Ok((functions, resolver.first.take()))
+    let Resolver { texts, first, .. } = resolver;
+    Ok(Resolved {
+        functions,
+        texts,
+        fault: first,
+    })
 }
 
 // The program of functions without faults, or what is wrong with their `main`.
-fn with_main(alloc: Global, functions: Vec<Fun>, length: u32) -> Result<Program, NameError>
-    ensures { AnswersMain (map function_tree functions.items) length result }
+fn with_main(
+    alloc: Global,
+    functions: Vec<Fun>,
+    texts: Vec<StringLiteral>,
+    length: u32,
+) -> Result<Program, NameError>
+    ensures { AnswersMain (map function_tree functions.items) texts.items length result }
 {
     let Some(main) = find_main(functions.as_slice()) else {
         return Err(no_main(alloc, length));
@@ -71,7 +92,7 @@ fn with_main(alloc: Global, functions: Vec<Fun>, length: u32) -> Result<Program,
     if !is_main_shaped(function) {
         return Err(other_main(alloc, function));
     }
-    match program(alloc, functions, main) {
+    match program(alloc, functions, texts, main) {
         Ok(program) => Ok(program),
         Err(NoMemory) => Err(NameError::NoMemory),
     }
@@ -124,10 +145,16 @@ fn find_main(functions: &[Fun]) -> Option<usize>
         .position(|function| function.name.as_str() == "main")
 }
 
-// The program of functions, of which one is `main`. There is no room for more of them than a `u32` can number.
-fn program(alloc: Global, functions: Vec<Fun>, main: usize) -> Result<Program, NoMemory>
+// The program of functions, of which one is `main`, and of the string literals that they print. There is no room for more
+// functions than a `u32` can number.
+fn program(
+    alloc: Global,
+    functions: Vec<Fun>,
+    texts: Vec<StringLiteral>,
+    main: usize,
+) -> Result<Program, NoMemory>
     requires { main < vec_len functions }
-    ensures { IfOk result (λ program. program_tree program ≡ program_of (map function_tree functions.items) main) }
+    ensures { IfOk result (λ program. program_tree program ≡ program_of (map function_tree functions.items) texts.items main) }
 {
     if main > u32::MAX as usize {
         return Err(NoMemory);
@@ -138,6 +165,7 @@ fn program(alloc: Global, functions: Vec<Fun>, main: usize) -> Result<Program, N
         types,
         constructors,
         functions,
+        texts,
         main: main as u32,
     })
 }

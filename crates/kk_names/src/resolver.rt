@@ -1,17 +1,17 @@
-ghost use Rattle.std.specs.Prelude.{◌≡◌, ◌+◌, [], ◌∷◌, map, None, IfOk, vec_len};
+ghost use Rattle.std.specs.Prelude.{◌≡◌, [], ◌∷◌, map, None, IfOk, vec_len};
 ghost use Rattle.kk_syntax.specs.Trees.{expr_tree, trees_of};
-ghost use Rattle.kk_names.specs.Expressions.{applied};
-ghost use Rattle.kk_syntax.specs.Surface.{variable};
+ghost use Rattle.kk_names.specs.Expressions.{alone, applied};
+ghost use Rattle.kk_syntax.specs.Surface.{variable, print_text};
 ghost use Rattle.kk_names.specs.Faults.{fault_at, use_faults};
-ghost use Rattle.kk_names.specs.Methods.{Notes, Resolves, Binds, faults_if};
-ghost use Rattle.kk_names.specs.Scopes.{binding};
+ghost use Rattle.kk_names.specs.Methods.{before_of, Notes, Resolves, Binds, faults_if};
+ghost use Rattle.kk_names.specs.Scopes.{binding, with_variable};
 ghost use Rattle.kk_names.specs.Tables.{built_in_functions};
 
 use crate::fault::{Fault, FaultKind};
 use crate::scope::{Bound, number_in};
 use crate::table::{Callee, Declared, built_in_functions};
 use kk_base::NoMemory;
-use kk_syntax::{Expr, Identifier};
+use kk_syntax::{Expr, Form, Identifier, PrintForm, StringLiteral};
 use std::alloc::Global;
 
 /// What resolves the names of a text. It goes on behind a fault, and keeps the first one.
@@ -24,6 +24,8 @@ pub struct Resolver {
     pub scope: Vec<Bound>,
     /// The number of the next variable.
     pub next: u32,
+    /// The string literals that are printed so far.
+    pub texts: Vec<StringLiteral>,
     /// The first fault so far.
     pub first: Option<Fault>,
 }
@@ -32,6 +34,7 @@ impl Resolver {
     /// A resolver that knows the functions that are built in.
     pub fn new(alloc: Global) -> Result<Self, NoMemory>
         ensures functions { IfOk result (λ r. r.functions.items ≡ built_in_functions) }
+        ensures texts { IfOk result (λ r. r.texts.items ≡ []) }
         ensures first { IfOk result (λ r. r.first ≡ None) }
     {
         let functions = built_in_functions(alloc)?;
@@ -40,6 +43,7 @@ impl Resolver {
             functions,
             scope: Vec::new(alloc),
             next: 0,
+            texts: Vec::new(alloc),
             first: None,
         })
     }
@@ -83,7 +87,7 @@ impl Resolver {
             Some(number) => Ok(Expr::Variable(number)),
             None => {
                 self.note(FaultKind::Unknown, name)?;
-                Ok(Expr::Unit)
+                Ok(alone(self.alloc, Form::Unit))
             }
         }
     }
@@ -107,7 +111,7 @@ impl Resolver {
             }
             None => {
                 self.note(FaultKind::Unknown, name)?;
-                Ok(Expr::Unit)
+                Ok(alone(self.alloc, Form::Unit))
             }
         }
     }
@@ -115,7 +119,7 @@ impl Resolver {
     /// Gives a variable its number. There is no room for more of them than a `u32` can number.
     pub fn number(&mut self) -> Result<u32, NoMemory>
         ensures number { IfOk result (λ number. number ≡ self.old.next) }
-        ensures next { IfOk result (λ _. self.new.next ≡ self.old.next + 1) }
+        ensures before { IfOk result (λ _. before_of self.new ≡ with_variable (before_of self.old)) }
         ensures functions { self.new.functions.items ≡ self.old.functions.items }
         ensures scope { self.new.scope.items ≡ self.old.scope.items }
         ensures first { self.new.first ≡ self.old.first }
@@ -138,4 +142,24 @@ impl Resolver {
         self.scope.push(Bound { name, number })?;
         Ok(())
     }
+
+    /// A print of a string literal, which gets its number. There is no room for more of them than a `u32` can number.
+    pub fn print_text(&mut self, form: PrintForm, text: &StringLiteral) -> Result<Expr, NoMemory>
+        ensures { IfOk result (λ e. Resolves (print_text form text.now) self.old self.new (expr_tree e)) }
+    {
+        let number = self.texts.len();
+        if number > u32::MAX as usize {
+            return Err(NoMemory);
+        }
+        let copy = text.copied(self.alloc)?;
+        self.texts.push(copy)?;
+        Ok(alone(self.alloc, Form::PrintText(form, number as u32)))
+    }
+}
+
+/// A form without arguments.
+pub fn alone(alloc: Global, form: Form) -> Expr
+    ensures { expr_tree result ≡ alone form }
+{
+    Expr::Apply(form, Vec::new(alloc))
 }

@@ -10,16 +10,16 @@ use Rattle.kk_syntax.specs.Shapes.{free, nodes_of}
 use Rattle.kk_source.specs.Notes.{Note}
 use Rattle.kk_source.specs.State.{Setting, Value, Store, Environment, Frame, End, Control, expression, value, stopped}
 use Rattle.kk_source.specs.Live.{value_of}
+use Rattle.kk_source.specs.SourceAfter.{State}
 use Rattle.kk_core.specs.Codes.{Code, give, use_of}
-use Rattle.kk_core.specs.CoreStates.{Join, CallFrame, running, stopped as core_stopped}
-use Rattle.kk_core.specs.CoreMachine.{core_machine, core_ending_of, CoreState}
+use Rattle.kk_core.specs.CoreStates.{Join, CallFrame, running, stopped as core_stopped, CoreState}
+use Rattle.kk_core.specs.CoreMachine.{core_machine, core_ending_of}
 use Rattle.kk_norm.specs.Names.{Names}
 use Rattle.kk_norm.specs.Normalized.{Then, final, next, size, atom, after, after_use, code}
 use Rattle.kk_norm.specs.NoCells.{NoCells}
 use Rattle.kk_norm.specs.Meaning.{core_setting}
 use Rattle.kk_norm.proofs.Variables.{Stands, value_here, same_below_bound}
 use Rattle.kk_norm.proofs.Waits.{Goal, nowhere, returns, goes_on, goal_of, Fresh, Waits, waits_move, waits_nowhere, due, due_small, due_returns}
-use Rattle.kk_source.specs.SourceAfter.{State}
 
 abbrev pub source_at : Control → List Frame → Store → List ℕ → State
 source_at control frames store input =

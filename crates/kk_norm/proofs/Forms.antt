@@ -1,8 +1,8 @@
 -- The core form is small: an expression takes at most as many numbers as it has nodes, and at most twice as many forms.
-use Rattle.std.proofs.Common.{◌≡◌, ℕ, ◌+◌, ◌*◌, ◌≤◌, true, false, zero, suc, List, [], ◌∷◌, length, map, refl, arith}
+use Rattle.std.proofs.Common.{◌≡◌, ℕ, ◌+◌, ◌*◌, ◌≤◌, true, zero, suc, List, [], ◌∷◌, length, map, refl, arith}
 use Rattle.std.proofs.lemmas.List.{length-map}
 use Rattle.kk_syntax.specs.declared.program.Form.{Form}
-use Rattle.kk_syntax.specs.declared.program.Form.TheVariants.{Unary, Binary, Print, Construct, Call}
+use Rattle.kk_syntax.specs.declared.program.Form.TheVariants.{Call}
 use Rattle.kk_syntax.specs.Shapes.{nodes_of, nodes_of_all, variable_of}
 use Rattle.kk_syntax.specs.Trees.{Tree, variable, apply, branch, match, sequence, Trees, no_tree, tree}
 use Rattle.kk_syntax.specs.Programs.{FunctionTree, ProgramTree}
@@ -17,11 +17,7 @@ use Rattle.kk_norm.specs.Normalized.{Then, final, next, size, size_all, atom, at
 
 mutual
   pub size_small : (e : Tree) → NoCells e → size e ≤ nodes_of e
-  size_small (number value) plain = omega arith
-  size_small unit plain = omega arith
   size_small (variable x) plain = omega arith
-  size_small read_byte plain = omega arith
-  size_small (print_text form text) plain = omega arith
   size_small (apply form es) plain = omega (arith, size_all_small es plain.1)
   size_small (branch e positive negative) plain = omega (arith, size_small e plain.0, size_small positive plain.1, size_small negative plain.2)
   size_small (match e rows) plain = absurd plain
@@ -48,15 +44,11 @@ forms_after_use (next rest) a = omega arith
 
 forms_finish_call : (k : Then) (m f : ℕ) (xs : List ℕ) → forms (finish_call k m f xs) ≤ forms_then k + 2
 forms_finish_call (final true) m f xs = omega arith
-forms_finish_call (final false) m f xs = omega arith
-forms_finish_call (next rest) m f xs = omega arith
+forms_finish_call k m f xs = omega (arith, forms_after k m)
 
 forms_finish : (k : Then) (m : ℕ) (form : Form) (xs : List ℕ) → forms (finish k m form xs) ≤ forms_then k + 2
-forms_finish k m (Unary operator) xs = omega (arith, forms_after k m)
-forms_finish k m (Binary operator) xs = omega (arith, forms_after k m)
-forms_finish k m (Print form) xs = omega (arith, forms_after k m)
-forms_finish k m (Construct c) xs = omega (arith, forms_after k m)
 forms_finish k m (Call f) xs = forms_finish_call k m f xs
+forms_finish k m form xs = omega (arith, forms_after k m)
 
 forms_joined : (k : Then) (m : ℕ) (own : Code) → forms (joined k m own) ≤ forms own + (forms_then k + 1)
 forms_joined (final tail) m own = omega arith
@@ -72,11 +64,7 @@ branch_sum e p q first second own inner outer whole one two three four none = om
 
 mutual
   pub forms_small : (k : Then) (names : Names) (n : ℕ) (e : Tree) → NoCells e → forms (code k names n e) ≤ 2 * nodes_of e + forms_then k
-  forms_small k names n (number value) plain = omega (arith, forms_after k n)
-  forms_small k names n unit plain = omega (arith, forms_after k n)
   forms_small k names n (variable x) plain = omega (arith, forms_after_use k (name_of names x))
-  forms_small k names n read_byte plain = omega (arith, forms_after k n)
-  forms_small k names n (print_text form text) plain = omega (arith, forms_after k n)
   forms_small k names n (apply form es) plain =
       omega (arith, forms_all_small names n es (finish k (n + size_all es) form (atoms names n es)) plain.1, forms_finish k (n + size_all es) form (atoms names n es))
   forms_small k names n (branch e positive negative) plain =

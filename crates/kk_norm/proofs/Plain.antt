@@ -4,30 +4,22 @@ use Rattle.std.proofs.lemmas.Bool.{eqb-true}
 use Rattle.kk_syntax.specs.declared.program.Binder.{Binder}
 use Rattle.kk_syntax.specs.declared.program.Binder.TheVariants as OfBinder
 use Rattle.kk_syntax.specs.declared.program.Form.{Form}
-use Rattle.kk_syntax.specs.declared.program.Form.TheVariants.{Unary, Binary, Print, Construct, Call}
+use Rattle.kk_syntax.specs.declared.program.Form.TheVariants.{Construct}
 use Rattle.kk_syntax.specs.Shapes.{free, free_all, is_among, without, bound_by}
 use Rattle.kk_syntax.specs.Types.{TypeTree}
 use Rattle.kk_syntax.specs.PlainTyping.{Signature, signature_of, Scope, type_in, with_parameters, with_binder, IsFormTyped, HasType, HaveTypes, IsFunctionTyped, IsTyped}
-use Rattle.kk_syntax.specs.Trees.{Tree, number, unit, variable, read_byte, print_text, apply, branch, match, sequence, Trees, no_tree, tree}
+use Rattle.kk_syntax.specs.Trees.{Tree, variable, apply, branch, match, sequence, Trees, no_tree, tree}
 use Rattle.kk_syntax.specs.Programs.{FunctionTree, ProgramTree}
 use Rattle.kk_norm.specs.NoCells.{MakesNoCell, NoCells, NoCellsAll, IsPlain, ArePlain}
 use Rattle.kk_norm.proofs.Scopes.{parameter_low}
 
 makes_no_cell : (signatures : List Signature) (form : Form) (es : Trees) (scope : Scope) (ts : List TypeTree) (t : TypeTree) → HaveTypes signatures scope es ts → IsFormTyped signatures form ts t → MakesNoCell form es
-makes_no_cell signatures (Unary operator) es scope ts t have is = tt
-makes_no_cell signatures (Binary operator) es scope ts t have is = tt
-makes_no_cell signatures (Print form) es scope ts t have is = tt
-makes_no_cell signatures (Construct c) no_tree scope ts t have is = tt
 makes_no_cell signatures (Construct c) (tree first rest) scope ts t have is = let one = sym is.0 ∙ have.2 in absurd (cc)
-makes_no_cell signatures (Call f) es scope ts t have is = tt
+makes_no_cell signatures form es scope ts t have is = tt
 
 mutual
   pub no_cells : (signatures : List Signature) (e : Tree) (scope : Scope) (t : TypeTree) → HasType signatures scope e t → NoCells e
-  no_cells signatures (number value) scope t has = tt
-  no_cells signatures unit scope t has = tt
   no_cells signatures (variable x) scope t has = tt
-  no_cells signatures read_byte scope t has = tt
-  no_cells signatures (print_text form text) scope t has = tt
   no_cells signatures (apply form es) scope t has =
       (makes_no_cell signatures form es scope has.0 t has.1 has.2, no_cells_all signatures es scope has.0 has.1)
   no_cells signatures (branch e positive negative) scope t has =
@@ -78,15 +70,11 @@ typed_before (OfBinder.Variable y) s scope x out some = by_test (y == x) refl
 
 mutual
   pub free_typed : (signatures : List Signature) (e : Tree) (scope : Scope) (t : TypeTree) (x : ℕ) → HasType signatures scope e t → is_among (free e) x ≡ true → HasSome scope x
-  free_typed signatures (number value) scope t x has is = absurd (cc)
-  free_typed signatures unit scope t x has is = absurd (cc)
   free_typed signatures (variable y) scope t x has is = by_test (y == x) refl
     where
       by_test : (same : Bool) → (y == x) ≡ same → HasSome scope x
       by_test true same_is = (t, ap (type_in scope) (sym (eqb-true y x same_is)) ∙ has)
       by_test false same_is = absurd (let one = rw same_is at is in cc)
-  free_typed signatures read_byte scope t x has is = absurd (cc)
-  free_typed signatures (print_text form text) scope t x has is = absurd (cc)
   free_typed signatures (apply form es) scope t x has is = free_all_typed signatures es scope has.0 x has.1 is
   free_typed signatures (branch e positive negative) scope t x has is =
       among_each (free e) (free positive ++ free negative) x (HasSome scope x)

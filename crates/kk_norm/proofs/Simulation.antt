@@ -1,11 +1,10 @@
 -- The core machine does each step of the store machine.
 use Rattle.std.proofs.Common.{◌≡◌, ℕ, suc, ◌+◌, ◌≤◌, Bool, true, false, List, [], ◌∷◌, ◌++◌, length, Option, Some, None, map, refl, sym, ap, subst, ◌∙◌, arith, option_map}
 use Rattle.std.specs.Prelude.{nat_le, if◌then◌else◌, slice_get}
-use Rattle.std.specs.Fmt.{signed_decimal}
 use Rattle.std.proofs.lemmas.Option.{slice_get-map}
 use Rattle.kk_base.specs.Machines.{Machine}
 use Rattle.kk_syntax.specs.declared.program.Form.{Form}
-use Rattle.kk_syntax.specs.declared.program.Form.TheVariants.{Unary, Binary, Print, Construct, Call}
+use Rattle.kk_syntax.specs.declared.program.Form.TheVariants.{Construct, Call}
 use Rattle.kk_syntax.specs.Trees.{Tree, variable, apply, branch as if_tree, match, sequence, Trees, tree}
 use Rattle.kk_syntax.specs.declared.program.Binder.{Binder}
 use Rattle.kk_syntax.specs.declared.program.Binder.TheVariants as OfBinder
@@ -13,11 +12,14 @@ use Rattle.kk_syntax.specs.Shapes.{free, nodes_of, without, is_among, bound_by, 
 use Rattle.kk_syntax.specs.Programs.{FunctionTree}
 use Rattle.kk_syntax.specs.PositionsOf.{is_lent}
 use Rattle.kk_source.specs.Notes.{Note}
-use Rattle.kk_source.specs.State.{Setting, Value, unit, constant, Store, Environment, Frame, arguments, branches, rows, statement, call, End, stack_full, Control, expression, stopped, Configuration}
+use Rattle.kk_source.specs.State.{Setting, Value, unit, Store, Environment, Frame, arguments, branches, rows, statement, call, End, stack_full, Control, expression, stopped, Configuration}
 use Rattle.kk_source.specs.Live.{value_of, awaited}
-use Rattle.kk_source.specs.Step.{bind_parameters, call_frames, lent_places, at_end, in_body, form_step, call_step, push_step}
+use Rattle.kk_source.specs.Actions.{Action, goes as leads_to, calls, print_step, performed}
+use Rattle.kk_source.specs.FormEffects.{is_true, byte_value, FormEffect, gives, prints, reads, makes, enters, form_effect, effect_step}
+use Rattle.kk_source.specs.SourceAfter.{State}
+use Rattle.kk_source.specs.Step.{bind_parameters, call_frames, lent_places, at_end, at_value, in_body, form_step, call_step, push_step}
 use Rattle.kk_core.specs.Codes.{Code, give, tail_call, branch, FunctionCode}
-use Rattle.kk_core.specs.CoreStates.{Join, CallFrame, CoreConfiguration}
+use Rattle.kk_core.specs.CoreStates.{Join, CallFrame, CoreConfiguration, CoreState}
 use Rattle.kk_core.specs.CoreMachine as Core
 use Rattle.kk_norm.specs.Names.{Names}
 use Rattle.kk_norm.specs.Normalized.{Then, final, next, size, atom, after, within, joined, finish, finish_call, code, normal_function}
@@ -27,18 +29,10 @@ use Rattle.kk_norm.proofs.Variables.{same_number, Stands, stands_left, stands_ri
 use Rattle.kk_norm.proofs.Waits.{ArePlainWithin, Goal, returns, goes_on, goal_of, Fresh, fresh_less, MakesNothing, Waits, waits_move, waits_nowhere, calls_are}
 use Rattle.kk_norm.proofs.Delivery.{source_at, core_at, AtTree, Related}
 use Rattle.kk_norm.proofs.Delivery as Delivery
-use Rattle.kk_source.specs.SourceAfter.{State}
-use Rattle.kk_source.specs.Actions.{Action, calls, print_step, performed}
-use Rattle.kk_source.specs.FormEffects.{unary_result, binary_result, argument, is_true, integer_of, piece_of}
-use Rattle.kk_core.specs.CoreMachine.{CoreState}
 
 -- each expression has a node
 pub some_nodes : (e : Tree) → 1 ≤ nodes_of e
-some_nodes (number i) = omega arith
-some_nodes unit_tree = omega arith
 some_nodes (variable x) = omega arith
-some_nodes read_byte = omega arith
-some_nodes (print_text form text) = omega arith
 some_nodes (apply form es) = omega arith
 some_nodes (if_tree e positive negative) = omega arith
 some_nodes (match e of) = omega arith
@@ -46,11 +40,8 @@ some_nodes (sequence binder first rest) = omega (arith, some_nodes first)
 
 -- a form with arguments that makes no cell is no construction
 pub makes_nothing_of : (form : Form) (e : Tree) (es : Trees) → MakesNoCell form (tree e es) → MakesNothing form
-makes_nothing_of (Unary operator) e es makes = tt
-makes_nothing_of (Binary operator) e es makes = tt
-makes_nothing_of (Print form) e es makes = tt
-makes_nothing_of (Construct c) e es makes = absurd makes
-makes_nothing_of (Call f) e es makes = tt
+makes_nothing_of (Construct c) e es plain = absurd plain
+makes_nothing_of form e es plain = tt
 
 -- a form on these variables makes no cell
 abbrev pub Acts : Form → List ℕ → Type 0
@@ -58,18 +49,18 @@ Acts (Construct c) (x ∷ xs) = ⊥
 Acts form xs = Unit {0}
 
 pub acts_nothing : (form : Form) (xs : List ℕ) → MakesNothing form → Acts form xs
-acts_nothing (Unary operator) xs makes = tt
-acts_nothing (Binary operator) xs makes = tt
-acts_nothing (Print form) xs makes = tt
-acts_nothing (Construct c) xs makes = absurd makes
-acts_nothing (Call f) xs makes = tt
+acts_nothing (Construct c) xs plain = absurd plain
+acts_nothing form xs plain = tt
 
 pub acts_alone : (form : Form) → Acts form []
-acts_alone (Unary operator) = tt
-acts_alone (Binary operator) = tt
-acts_alone (Print form) = tt
 acts_alone (Construct c) = tt
-acts_alone (Call f) = tt
+acts_alone form = tt
+
+-- a form's value is there at once: it makes no cell, and calls nothing
+abbrev pub IsAtOnce : FormEffect → Type 0
+IsAtOnce (makes c fields) = ⊥
+IsAtOnce (enters f values) = ⊥
+IsAtOnce effect = Unit {0}
 
 -- a value that ends a block goes to the same place, wherever it is
 goal_final : (tail : Bool) (joins : List Join) (x y : ℕ) → goal_of (final tail) x joins ≡ goal_of (final tail) y joins
@@ -102,7 +93,7 @@ module _ (setting : Setting) (most cost : ℕ) (weight : CoreState → ℕ) (lig
   Follows = Delivery.Follows setting most cost weight light
 
   -- what an action of the source does is done
-  abbrev pub Does : ℕ → ℕ → Action → List ℕ → CoreState → Type 0
+  abbrev pub Does : ℕ → ℕ → Action Configuration → List ℕ → CoreState → Type 0
   Does credit idle action input t = Follows credit idle (performed action input).0 (performed action input).1 t
 
   abbrev pub from_at : Control → List Frame → Store → Configuration
@@ -110,19 +101,37 @@ module _ (setting : Setting) (most cost : ℕ) (weight : CoreState → ℕ) (lig
 
   -- a print
   pub prints_to : (piece : List ℕ) (k : Then) (m low top : ℕ) (core : Environment) (joins : List Join) (frames : List CallFrame) (fs : List Frame) (store : Store) (input : List ℕ) (credit idle : ℕ) (control : Control) (t : CoreState)
-      → lower.step t ≡ core_performed (Core.print_step piece (λ v. (core_at (after k m) (record { variable = m; value = v } ∷ core) joins frames store input).machine)) input
+      → lower.step t ≡ performed (print_step piece (core_at (after k m) (record { variable = m; value = unit } ∷ core) joins frames store input).machine) input
       → low ≤ m → Fresh k joins (m + 1) top → Waits most fs (goal_of k m joins) core low top frames
-      → Does credit idle (print_step piece (from_at control fs store)) input t
+      → Does credit idle (print_step piece (at_value unit (from_at control fs store))) input t
   prints_to [] k m low top core joins frames fs store input credit idle control t is le fresh waits =
       Delivery.computes_to setting most cost weight light k m low top core joins frames unit fs store input credit idle _ t is le fresh waits
   prints_to (byte ∷ bytes) k m low top core joins frames fs store input credit idle control t is le fresh waits =
       Delivery.computes_to setting most cost weight light k m low top core joins frames unit fs store input credit idle _ t is le fresh waits
 
+  -- A form whose value is there at once does on values what it does in the source, whatever each machine does at a
+  -- construction and at a call.
+  acts_at_once : (effect : FormEffect) → IsAtOnce effect → (k : Then) (m low top : ℕ) (core : Environment) (joins : List Join) (frames : List CallFrame) (fs : List Frame) (store : Store) (input : List ℕ) (credit idle : ℕ) (control : Control)
+      (make enter : ℕ → List Value → Action Configuration) (core_make core_enter : ℕ → List Value → Action CoreConfiguration) (t : CoreState)
+      → lower.step t ≡ performed (effect_step (λ v. (core_at (after k m) (record { variable = m; value = v } ∷ core) joins frames store input).machine) core_make core_enter effect) input
+      → low ≤ m → Fresh k joins (m + 1) top → Waits most fs (goal_of k m joins) core low top frames
+      → Does credit idle (effect_step (λ v. at_value v (from_at control fs store)) make enter effect) input t
+  acts_at_once (gives v) once k m low top core joins frames fs store input credit idle control make enter core_make core_enter t is le fresh waits =
+      Delivery.computes_to setting most cost weight light k m low top core joins frames v fs store input credit idle _ t is le fresh waits
+  acts_at_once (prints piece) once k m low top core joins frames fs store input credit idle control make enter core_make core_enter t is le fresh waits =
+      prints_to piece k m low top core joins frames fs store input credit idle control t is le fresh waits
+  acts_at_once reads once k m low top core joins frames fs store [] credit idle control make enter core_make core_enter t is le fresh waits =
+      Delivery.computes_to setting most cost weight light k m low top core joins frames (byte_value None) fs store [] credit idle _ t is le fresh waits
+  acts_at_once reads once k m low top core joins frames fs store (byte ∷ input) credit idle control make enter core_make core_enter t is le fresh waits =
+      Delivery.computes_to setting most cost weight light k m low top core joins frames (byte_value (Some byte)) fs store input credit idle _ t is le fresh waits
+  acts_at_once (makes c fields) once k m low top core joins frames fs store input credit idle control make enter core_make core_enter t is le fresh waits = absurd once
+  acts_at_once (enters f values) once k m low top core joins frames fs store input credit idle control make enter core_make core_enter t is le fresh waits = absurd once
+
   -- a function's body is entered
-  enters : (function : FunctionTree) → IsPlain function → nodes_of function.body ≤ most → (vs lent : List Value) (fs : List Frame) (core : Environment) (low high : ℕ) (frames : List CallFrame) (store : Store) (input : List ℕ)
+  in_function : (function : FunctionTree) → IsPlain function → nodes_of function.body ≤ most → (vs lent : List Value) (fs : List Frame) (core : Environment) (low high : ℕ) (frames : List CallFrame) (store : Store) (input : List ℕ)
       → Waits most (call lent ∷ fs) returns core low high frames
       → AtTree most most function.body (bind_parameters 0 vs []) (call lent ∷ fs) store input (core_at (normal_function function).body (bind_parameters 0 vs []) [] frames store input)
-  enters function is_plain small vs lent fs core low high frames store input waits =
+  in_function function is_plain small vs lent fs core low high frames store input waits =
       let n : ℕ = length function.parameters in
       let bound : Environment = bind_parameters 0 vs [] in
       Delivery.at_code most most (final true) [] function.body bound n (n + size function.body) bound [] frames (call lent ∷ fs) store input (λ x among. (refl, is_plain.closed x among)) is_plain.no_cells small small (omega arith)
@@ -135,7 +144,7 @@ module _ (setting : Setting) (most cost : ℕ) (weight : CoreState → ℕ) (lig
   -- a tail call
   tail_calls : (f : ℕ) (found : Option FunctionTree) → slice_get setting.program.functions f ≡ found
       → (vs lent : List Value) (older : List Frame) (core : Environment) (low high : ℕ) (frames : List CallFrame) (store : Store) (input : List ℕ) (credit idle : ℕ) (control : Control) (fs : List Frame) (at : Code) (bound : Environment) (joins : List Join)
-      → lower.step (core_at at bound joins frames store input) ≡ core_performed (Core.tail_step (option_map normal_function found) vs (core_at at bound joins frames store input).machine) input
+      → lower.step (core_at at bound joins frames store input) ≡ performed (Core.tail_step (option_map normal_function found) vs (core_at at bound joins frames store input).machine) input
       → Waits most (call lent ∷ older) returns core low high frames
       → Related most credit idle (source_at control fs store input) (core_at at bound joins frames store input)
       → Does credit idle (call_step setting f found vs (call lent ∷ older) (from_at control fs store)) input (core_at at bound joins frames store input)
@@ -146,19 +155,19 @@ module _ (setting : Setting) (most cost : ℕ) (weight : CoreState → ℕ) (lig
   tail_calls f (Some function) found_is vs lent older core low high frames store input credit idle control fs at bound joins is waits stay =
       let good = plain f function found_is in
       Delivery.follows_step setting most cost weight light credit idle most 0 [] (source_at (expression function.body (bind_parameters 0 vs [])) (call lent ∷ older) store input) (core_at at bound joins frames store input) _ is (omega arith) (omega arith) refl
-      (enters function good.0 good.1 vs lent older core low high frames store input waits)
+      (in_function function good.0 good.1 vs lent older core low high frames store input waits)
 
   -- a call that is no tail call: the stack is full, or the body is entered
   full_or_enters : (full : Bool) (function : FunctionTree) → IsPlain function → nodes_of function.body ≤ most
       → (found : ℕ) (vs lent : List Value) (older : List Frame) (frames : List CallFrame) (store : Store) (input : List ℕ) (credit idle : ℕ) (control : Control) (fs : List Frame) (t : CoreState) (from : CoreConfiguration)
-      → lower.step t ≡ core_performed (Core.calls found (if full then Core.at_end stack_full from else (core_at (normal_function function).body (bind_parameters 0 vs []) [] frames store input).machine)) input
+      → lower.step t ≡ performed (calls found (if full then Core.at_end stack_full from else (core_at (normal_function function).body (bind_parameters 0 vs []) [] frames store input).machine)) input
       → Waits most (call lent ∷ older) returns [] 0 0 frames
       → Does credit idle (calls found (if full then at_end stack_full (from_at control fs store) else in_body function vs (from_at control (call lent ∷ older) store))) input t
   full_or_enters true function is_plain small found vs lent older frames store input credit idle control fs t from is waits =
       Delivery.follows_step setting most cost weight light credit idle 0 0 _ (source_at (stopped stack_full) fs store input) t _ is (omega arith) (omega arith) refl refl
   full_or_enters false function is_plain small found vs lent older frames store input credit idle control fs t from is waits =
       Delivery.follows_step setting most cost weight light credit idle most 0 _ (source_at (expression function.body (bind_parameters 0 vs [])) (call lent ∷ older) store input) t _ is (omega arith) (omega arith) refl
-      (enters function is_plain small vs lent older [] 0 0 frames store input waits)
+      (in_function function is_plain small vs lent older [] 0 0 frames store input waits)
 
   -- with no call frame directly beneath a call is no tail call
   push_is : (f : ℕ) (function : FunctionTree) (vs : List Value) (fs : List Frame) (from : Configuration) (rest : Code) (x : ℕ) (joins : List Join) (core : Environment) (low high : ℕ) (frames : List CallFrame)
@@ -173,7 +182,7 @@ module _ (setting : Setting) (most cost : ℕ) (weight : CoreState → ℕ) (lig
   -- a call that is no tail call
   pushes : (f : ℕ) (found : Option FunctionTree) → slice_get setting.program.functions f ≡ found
       → (vs : List Value) (k : Then) (m low top : ℕ) (core : Environment) (joins : List Join) (frames : List CallFrame) (fs : List Frame) (store : Store) (input : List ℕ) (credit idle : ℕ) (control : Control) (older : List Frame) (at : Code)
-      → lower.step (core_at at core joins frames store input) ≡ core_performed (Core.call_step (core_setting setting) f (option_map normal_function found) vs (λ lent. record { variable = m; rest = after k m; joins = joins; environment = core; lent = lent }) (core_at at core joins frames store input).machine) input
+      → lower.step (core_at at core joins frames store input) ≡ performed (Core.call_step (core_setting setting) f (option_map normal_function found) vs (λ lent. record { variable = m; rest = after k m; joins = joins; environment = core; lent = lent }) (core_at at core joins frames store input).machine) input
       → low ≤ m → Fresh k joins (m + 1) top → (rest : Code) (x : ℕ) (others : List Join) → goal_of k m joins ≡ goes_on rest x others → Waits most fs (goal_of k m joins) core low top frames
       → Related most credit idle (source_at control older store input) (core_at at core joins frames store input)
       → Does credit idle (call_step setting f found vs fs (from_at control older store)) input (core_at at core joins frames store input)
@@ -194,7 +203,7 @@ module _ (setting : Setting) (most cost : ℕ) (weight : CoreState → ℕ) (lig
       let found : ℕ = suc (length frames) in
       let done : Does credit idle (calls found (if nat_le setting.depth found then at_end stack_full (from_at control older store) else in_body function vs (from_at control (call lent ∷ fs) store))) input t
       = full_or_enters (nat_le setting.depth found) function good.0 good.1 found vs lent fs (waiting ∷ frames) store input credit idle control older t t.machine is called in
-      subst (λ (action : Action). Does credit idle action input t) (sym push)
+      subst (λ (action : Action Configuration). Does credit idle action input t) (sym push)
       (subst (λ (n : ℕ). Does credit idle (calls n (if nat_le setting.depth n then at_end stack_full (from_at control older store) else in_body function vs (from_at control (call lent ∷ fs) store))) input t) (sym same) done)
 
   -- A call on variables, by what comes after it.
@@ -206,7 +215,7 @@ module _ (setting : Setting) (most cost : ℕ) (weight : CoreState → ℕ) (lig
       let found : Option FunctionTree = slice_get setting.program.functions f in
       let code_is : Code = finish_call (next rest) m f xs in
       pushes f found refl (map (value_of core) xs) (next rest) m low top core joins frames fs store input credit idle control older code_is
-      (ap (λ (o : Option FunctionCode). core_performed (Core.call_step (core_setting setting) f o (map (value_of core) xs) (λ lent. record { variable = m; rest = rest; joins = joins; environment = core; lent = lent }) (core_at code_is core joins frames store input).machine) input) (same_function f found refl))
+      (ap (λ (o : Option FunctionCode). performed (Core.call_step (core_setting setting) f o (map (value_of core) xs) (λ lent. record { variable = m; rest = rest; joins = joins; environment = core; lent = lent }) (core_at code_is core joins frames store input).machine) input) (same_function f found refl))
       le fresh rest m joins refl waits stay
   calls_to f xs (final false) m low top core [] frames fs store input credit idle control older le fresh waits stay =
       absurd (waits_nowhere most fs core low top frames waits)
@@ -214,14 +223,14 @@ module _ (setting : Setting) (most cost : ℕ) (weight : CoreState → ℕ) (lig
       let found : Option FunctionTree = slice_get setting.program.functions f in
       let code_is : Code = finish_call (final false) m f xs in
       pushes f found refl (map (value_of core) xs) (final false) m low top core (join ∷ joins) frames fs store input credit idle control older code_is
-      (ap (λ (o : Option FunctionCode). core_performed (Core.call_step (core_setting setting) f o (map (value_of core) xs) (λ lent. record { variable = m; rest = give m; joins = join ∷ joins; environment = core; lent = lent }) (core_at code_is core (join ∷ joins) frames store input).machine) input) (same_function f found refl))
+      (ap (λ (o : Option FunctionCode). performed (Core.call_step (core_setting setting) f o (map (value_of core) xs) (λ lent. record { variable = m; rest = give m; joins = join ∷ joins; environment = core; lent = lent }) (core_at code_is core (join ∷ joins) frames store input).machine) input) (same_function f found refl))
       le fresh join.rest join.variable joins refl waits stay
   calls_to f xs (final true) m low top core (join ∷ joins) frames fs store input credit idle control older le fresh waits stay =
       absurd (waits_nowhere most fs core low top frames waits)
   calls_to f xs (final true) m low top core [] frames (call lent ∷ fs) store input credit idle control older le fresh waits stay =
       let found : Option FunctionTree = slice_get setting.program.functions f in
       tail_calls f found refl (map (value_of core) xs) lent fs core low top frames store input credit idle control older (tail_call f xs) core []
-      (ap (λ (o : Option FunctionCode). core_performed (Core.tail_step o (map (value_of core) xs) (core_at (tail_call f xs) core [] frames store input).machine) input) (same_function f found refl))
+      (ap (λ (o : Option FunctionCode). performed (Core.tail_step o (map (value_of core) xs) (core_at (tail_call f xs) core [] frames store input).machine) input) (same_function f found refl))
       waits stay
   calls_to f xs (final true) m low top core [] frames [] store input credit idle control older le fresh waits stay = absurd waits
   calls_to f xs (final true) m low top core [] frames (arguments form vs es environment ∷ fs) store input credit idle control older le fresh waits stay = absurd waits
@@ -234,17 +243,13 @@ module _ (setting : Setting) (most cost : ℕ) (weight : CoreState → ℕ) (lig
       → low ≤ m → Fresh k joins (m + 1) top → Waits most fs (goal_of k m joins) core low top frames
       → Related most credit idle (source_at control older store input) (core_at (finish k m form xs) core joins frames store input)
       → Does credit idle (form_step setting form (map (value_of core) xs) fs (from_at control older store)) input (core_at (finish k m form xs) core joins frames store input)
-  acts (Unary operator) xs makes k m low top core joins frames fs store input credit idle control older le fresh waits stay =
-      Delivery.computes_to setting most cost weight light k m low top core joins frames (unary_result operator (argument 0 (map (value_of core) xs))) fs store input credit idle [] _ refl le fresh waits
-  acts (Binary operator) xs makes k m low top core joins frames fs store input credit idle control older le fresh waits stay =
-      Delivery.computes_to setting most cost weight light k m low top core joins frames (binary_result operator (argument 0 (map (value_of core) xs)) (argument 1 (map (value_of core) xs))) fs store input credit idle [] _ refl le fresh waits
-  acts (Print form) xs makes k m low top core joins frames fs store input credit idle control older le fresh waits stay =
-      prints_to (piece_of form (signed_decimal (integer_of (argument 0 (map (value_of core) xs))))) k m low top core joins frames fs store input credit idle control _ refl le fresh waits
-  acts (Construct c) [] makes k m low top core joins frames fs store input credit idle control older le fresh waits stay =
-      Delivery.computes_to setting most cost weight light k m low top core joins frames (constant c) fs store input credit idle [] _ refl le fresh waits
-  acts (Construct c) (x ∷ xs) makes k m low top core joins frames fs store input credit idle control older le fresh waits stay = absurd makes
-  acts (Call f) xs makes k m low top core joins frames fs store input credit idle control older le fresh waits stay =
+  acts (Call f) xs once k m low top core joins frames fs store input credit idle control older le fresh waits stay =
       calls_to f xs k m low top core joins frames fs store input credit idle control older le fresh waits stay
+  acts (Construct c) (x ∷ xs) once k m low top core joins frames fs store input credit idle control older le fresh waits stay = absurd once
+  acts form xs once k m low top core joins frames fs store input credit idle control older le fresh waits stay =
+      let stays : ℕ → List Value → Action Configuration = λ of values. leads_to (from_at control older store) in
+      let core_stays : ℕ → List Value → Action CoreConfiguration = λ of values. leads_to (core_at (finish k m form xs) core joins frames store input).machine in
+      acts_at_once (form_effect setting.program.texts form (map (value_of core) xs)) tt k m low top core joins frames fs store input credit idle control stays stays core_stays core_stays _ refl le fresh waits
 
   -- the core machine at the branch that is taken
   in_branch : (test : Bool) (k : Then) (positive negative : Tree) (names : Names) (environment : Environment) (n low top : ℕ) (core : Environment) (joins : List Join) (frames : List CallFrame) (fs : List Frame) (store : Store) (input : List ℕ)

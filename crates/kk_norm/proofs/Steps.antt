@@ -1,17 +1,19 @@
 -- The core machine does the steps of the store machine at an expression and at a value.
-use Rattle.std.proofs.Common.{◌≡◌, ℕ, ◌+◌, ◌*◌, ◌<◌, ◌≤◌, List, [], ◌∷◌, ◌++◌, Option, Some, None, refl, sym, ap, subst, ◌∙◌, arith, append_assoc}
+use Rattle.std.proofs.Common.{◌≡◌, ℕ, ◌+◌, ◌*◌, ◌<◌, ◌≤◌, List, [], ◌∷◌, ◌++◌, Option, None, refl, sym, ap, subst, ◌∙◌, arith, append_assoc}
 use Rattle.kk_base.specs.Machines.{Machine}
 use Rattle.kk_base.specs.Simulations.{Reaches, Simulates}
 use Rattle.kk_base.proofs.Simulations.{simulates_until_ended}
 use Rattle.kk_syntax.specs.Trees.{Tree, variable, apply, branch as if_tree, match, sequence, no_tree, tree}
 use Rattle.kk_syntax.specs.Shapes.{free, free_all, nodes_of, variable_of}
 use Rattle.kk_source.specs.Notes.{Note}
-use Rattle.kk_source.specs.State.{Setting, Value, integer, unit, Store, Environment, Frame, arguments, branches, rows, statement, call, End, ended, Control, expression, value, stopped, end_at}
+use Rattle.kk_source.specs.State.{Setting, Value, Store, Environment, Frame, arguments, branches, rows, statement, call, End, ended, Control, expression, value, stopped, end_at}
 use Rattle.kk_source.specs.Live.{value_of}
+use Rattle.kk_source.specs.Actions.{performed}
+use Rattle.kk_source.specs.FormEffects.{is_true}
 use Rattle.kk_source.specs.Step.{bind, form_step}
 use Rattle.kk_source.specs.SourceAfter.{step, State}
 use Rattle.kk_core.specs.Codes.{Code, give, branch}
-use Rattle.kk_core.specs.CoreStates.{Join, CallFrame, core_end_at}
+use Rattle.kk_core.specs.CoreStates.{Join, CallFrame, CoreState, core_end_at}
 use Rattle.kk_norm.specs.Names.{Names, name_of, named}
 use Rattle.kk_norm.specs.Normalized.{Then, next, size, size_all, atom, atoms, within, joined, finish, code, code_all}
 use Rattle.kk_norm.specs.NoCells.{NoCells}
@@ -22,9 +24,6 @@ use Rattle.kk_norm.proofs.Delivery.{source_at, core_at, AtTree, AtValue, At, Rel
 use Rattle.kk_norm.proofs.Delivery as Delivery
 use Rattle.kk_norm.proofs.Simulation.{some_nodes, makes_nothing_of, acts_nothing, acts_alone}
 use Rattle.kk_norm.proofs.Simulation as Forms
-use Rattle.kk_source.specs.FormEffects.{piece_of, byte_value, is_true}
-use Rattle.kk_source.specs.Actions.{performed}
-use Rattle.kk_core.specs.CoreMachine.{CoreState}
 
 one_list : (held : List ℕ) (a : ℕ) (xs : List ℕ) → held ++ (a ∷ xs) ≡ (held ++ a ∷ []) ++ xs
 one_list held a xs = sym (append_assoc held (a ∷ []) xs)
@@ -43,19 +42,9 @@ module _ (setting : Setting) (most cost : ℕ) (weight : CoreState → ℕ) (lig
   tree_step : (e : Tree) (environment : Environment) (fs : List Frame) (store : Store) (input : List ℕ) (credit idle : ℕ) (t : CoreState)
       → (a : AtTree most idle e environment fs store input t)
       → Steps credit idle (source_at (expression e environment) fs store input) (core_at (code a.k a.names a.n e) a.core a.joins a.frames store input)
-  tree_step (number i) environment fs store input credit idle t a =
-      Delivery.computes_to setting most cost weight light a.k a.n a.n a.top a.core a.joins a.frames (integer i) fs store input credit idle [] _ refl (omega arith) a.fresh a.later
-  tree_step unit_tree environment fs store input credit idle t a =
-      Delivery.computes_to setting most cost weight light a.k a.n a.n a.top a.core a.joins a.frames unit fs store input credit idle [] _ refl (omega arith) a.fresh a.later
   tree_step (variable x) environment fs store input credit idle t a =
       let stands = a.stands x (Forms.alone_among x) in
       Delivery.uses setting most cost weight light a.k (name_of a.names x) a.n a.top a.core a.joins a.frames (value_of environment x) fs store input credit idle stands.0 stands.1 (omega (arith, a.idles)) (fresh_less a.k a.joins a.n (a.n + 0) a.top (omega arith) a.fresh) a.later
-  tree_step read_byte environment fs store [] credit idle t a =
-      Delivery.computes_to setting most cost weight light a.k a.n a.n a.top a.core a.joins a.frames (byte_value None) fs store [] credit idle _ _ refl (omega arith) a.fresh a.later
-  tree_step read_byte environment fs store (byte ∷ input) credit idle t a =
-      Delivery.computes_to setting most cost weight light a.k a.n a.n a.top a.core a.joins a.frames (byte_value (Some byte)) fs store input credit idle _ _ refl (omega arith) a.fresh a.later
-  tree_step (print_text form text) environment fs store input credit idle t a =
-      Forms.prints_to setting most cost weight light plain (piece_of form text) a.k a.n a.n a.top a.core a.joins a.frames fs store input credit idle (expression (print_text form text) environment) _ refl (omega arith) a.fresh a.later
   tree_step (apply form no_tree) environment fs store input credit idle t a =
       Forms.acts setting most cost weight light plain form [] (acts_alone form) a.k (a.n + 0) a.n a.top a.core a.joins a.frames fs store input credit idle (expression (apply form no_tree) environment) fs (omega arith) (fresh_less a.k a.joins (a.n + 0 + 1) (a.n + 1) a.top (omega arith) a.fresh) a.later
       (subst (λ (t : CoreState). AtTree most idle (apply form no_tree) environment fs store input t) a.is a)

@@ -2,16 +2,15 @@
 use Rattle.std.proofs.Common.{◌≡◌, ℕ, ◌+◌, ◌<◌, ◌≤◌, Bool, true, false, List, [], ◌∷◌, Some, refl, sym, ap, subst, ◌∙◌, arith}
 use Rattle.std.specs.Prelude.{slice_get}
 use Rattle.kk_syntax.specs.declared.program.Form.{Form}
-use Rattle.kk_syntax.specs.declared.program.Form.TheVariants.{Unary, Binary, Print, Construct, Call}
+use Rattle.kk_syntax.specs.declared.program.Form.TheVariants.{Call}
 use Rattle.kk_syntax.specs.Shapes.{variable_of}
 use Rattle.kk_syntax.specs.Types.{TypeTree}
 use Rattle.kk_syntax.specs.PlainTyping.{Signature, Scope, type_in, with_binder, bool, IsFormTyped, HasType, HaveTypes}
 use Rattle.kk_syntax.specs.Trees.{Tree, variable, apply, branch, match, sequence, Trees, no_tree, tree}
 use Rattle.kk_core.specs.Codes as Core
-use Rattle.kk_core.specs.Codes.{Code, give, tail_call, compute, use_of, inside}
+use Rattle.kk_core.specs.Codes.{Code, give, compute, use_of, inside}
 use Rattle.kk_core.specs.CoreTyping as Typed
 use Rattle.kk_core.specs.CoreTyping.{HasCodeType}
-use Rattle.kk_core.specs.Needed.{read_by}
 use Rattle.kk_core.specs.Sizes.{AreBound, Ordered}
 use Rattle.kk_norm.specs.Names.{Names, name_of, named}
 use Rattle.kk_norm.specs.Normalized.{Then, final, next, size, size_all, atom, atoms, after, after_use, within, joined, finish, finish_call, code, code_all}
@@ -32,11 +31,16 @@ fits_use : (signatures : List Signature) (tail : Bool) (scope : Scope) (low x hi
 fits_use signatures tail scope low x high rest s t is fits =
     record { typed = (s, is, fits.typed); ordered = (typed_is_bound scope x s is, fits.ordered) }
 
-fits_compute : (signatures : List Signature) (tail : Bool) (scope : Scope) (low x high : ℕ) (operation : Operation) (rest : Code) (s t : TypeTree)
-    → IsOperationTyped signatures scope operation s → AreBound (bound_in scope) (read_by operation) → low ≤ x
-    → Fits signatures tail (bind_type x s scope) (x + 1) rest high t → Fits signatures tail scope low (compute x operation rest) high t
-fits_compute signatures tail scope low x high operation rest s t is bound le fits =
-    record { typed = (s, is, fits.typed); ordered = (bound, le, fits.ordered) }
+types_are_bound : (scope : Scope) (xs : List ℕ) (ts : List TypeTree) → Typed.HaveTypes scope xs ts → AreBound (bound_in scope) xs
+types_are_bound scope [] ts have = tt
+types_are_bound scope (x ∷ xs) [] have = absurd have
+types_are_bound scope (x ∷ xs) (t ∷ ts) have = (typed_is_bound scope x t have.0, types_are_bound scope xs ts have.1)
+
+fits_compute : (signatures : List Signature) (tail : Bool) (scope : Scope) (low x high : ℕ) (form : Form) (xs : List ℕ) (rest : Code) (ts : List TypeTree) (s t : TypeTree)
+    → Typed.HaveTypes scope xs ts → IsFormTyped signatures form ts s → low ≤ x
+    → Fits signatures tail (bind_type x s scope) (x + 1) rest high t → Fits signatures tail scope low (compute x form xs rest) high t
+fits_compute signatures tail scope low x high form xs rest ts s t have is le fits =
+    record { typed = (s, ts, have, is, fits.typed); ordered = (types_are_bound scope xs ts have, le, fits.ordered) }
 
 fits_branch : (signatures : List Signature) (tail : Bool) (scope : Scope) (low x middle high : ℕ) (positive negative : Code) (t : TypeTree)
     → type_in scope x ≡ Some bool → Fits signatures tail scope low positive middle t → Fits signatures tail scope middle negative high t
@@ -52,11 +56,6 @@ fits_inside : (signatures : List Signature) (tail : Bool) (scope : Scope) (low x
     → Fits signatures tail scope low (inside x block rest) high t
 fits_inside signatures tail scope low x high block rest s t first second =
     record { typed = (s, first.typed, second.typed); ordered = (first.ordered, second.ordered) }
-
-types_are_bound : (scope : Scope) (xs : List ℕ) (ts : List TypeTree) → Typed.HaveTypes scope xs ts → AreBound (bound_in scope) xs
-types_are_bound scope [] ts have = tt
-types_are_bound scope (x ∷ xs) [] have = absurd have
-types_are_bound scope (x ∷ xs) (t ∷ ts) have = (typed_is_bound scope x t have.0, types_are_bound scope xs ts have.1)
 
 -- ---- what comes after an expression
 
@@ -82,11 +81,11 @@ fits_after_use signatures tail scope n low a m high (next rest) s t goes is less
     fits_use signatures tail scope low a high rest s t is (goes scope low (grows_not n scope) is less le)
 
 -- what is computed into a variable from n on, and what comes after
-fits_operation : (signatures : List Signature) (tail : Bool) (scope later : Scope) (n low x m high : ℕ) (k : Then) (operation : Operation) (s t : TypeTree)
-    → Goes signatures tail scope n k x m s high t → Grows n scope later → IsOperationTyped signatures later operation s → AreBound (bound_in later) (read_by operation)
-    → n ≤ x → low ≤ x → x + 1 ≤ m → Fits signatures tail later low (compute x operation (after k x)) high t
-fits_operation signatures tail scope later n low x m high k operation s t goes grows is bound from le room =
-    fits_compute signatures tail later low x high operation (after k x) s t is bound le
+fits_computed : (signatures : List Signature) (tail : Bool) (scope later : Scope) (n low x m high : ℕ) (k : Then) (form : Form) (xs : List ℕ) (ts : List TypeTree) (s t : TypeTree)
+    → Goes signatures tail scope n k x m s high t → Grows n scope later → Typed.HaveTypes later xs ts → IsFormTyped signatures form ts s
+    → n ≤ x → low ≤ x → x + 1 ≤ m → Fits signatures tail later low (compute x form xs (after k x)) high t
+fits_computed signatures tail scope later n low x m high k form xs ts s t goes grows have is from le room =
+    fits_compute signatures tail later low x high form xs (after k x) ts s t have is le
     (fits_after signatures tail scope (bind_type x s later) n (x + 1) x m high k s t goes (grows_more n n scope later (bind_type x s later) (omega arith) grows (grows_one n x s later from)) (type_here x s later) (omega arith) room)
 
 fits_call : (signatures : List Signature) (tail : Bool) (scope later : Scope) (n low x m high : ℕ) (k : Then) (f : ℕ) (xs : List ℕ) (ts : List TypeTree) (s t : TypeTree)
@@ -97,24 +96,16 @@ fits_call signatures tail scope later n low x m high (final true) f xs ts s t go
       typed = (goes.0 refl, ts, have, subst (λ (u : TypeTree). slice_get signatures f ≡ Some (record { parameters = ts; result = u })) goes.1 is);
       ordered = (types_are_bound later xs ts have, omega (arith, goes.2));
     }
-fits_call signatures tail scope later n low x m high (final false) f xs ts s t goes grows have is from le room =
-    fits_operation signatures tail scope later n low x m high (final false) (Core.apply (Call f) xs) s t goes grows (ts, have, is) (types_are_bound later xs ts have) from le room
-fits_call signatures tail scope later n low x m high (next rest) f xs ts s t goes grows have is from le room =
-    fits_operation signatures tail scope later n low x m high (next rest) (Core.apply (Call f) xs) s t goes grows (ts, have, is) (types_are_bound later xs ts have) from le room
+fits_call signatures tail scope later n low x m high k f xs ts s t goes grows have is from le room =
+    fits_computed signatures tail scope later n low x m high k (Call f) xs ts s t goes grows have is from le room
 
 fits_form : (signatures : List Signature) (tail : Bool) (scope later : Scope) (n low x m high : ℕ) (k : Then) (form : Form) (xs : List ℕ) (ts : List TypeTree) (s t : TypeTree)
     → Goes signatures tail scope n k x m s high t → Grows n scope later → Typed.HaveTypes later xs ts → IsFormTyped signatures form ts s
     → n ≤ x → low ≤ x → x + 1 ≤ m → Fits signatures tail later low (finish k x form xs) high t
-fits_form signatures tail scope later n low x m high k (Unary operator) xs ts s t goes grows have is from le room =
-    fits_operation signatures tail scope later n low x m high k (Core.apply (Unary operator) xs) s t goes grows (ts, have, is) (types_are_bound later xs ts have) from le room
-fits_form signatures tail scope later n low x m high k (Binary operator) xs ts s t goes grows have is from le room =
-    fits_operation signatures tail scope later n low x m high k (Core.apply (Binary operator) xs) s t goes grows (ts, have, is) (types_are_bound later xs ts have) from le room
-fits_form signatures tail scope later n low x m high k (Print form) xs ts s t goes grows have is from le room =
-    fits_operation signatures tail scope later n low x m high k (Core.apply (Print form) xs) s t goes grows (ts, have, is) (types_are_bound later xs ts have) from le room
-fits_form signatures tail scope later n low x m high k (Construct c) xs ts s t goes grows have is from le room =
-    fits_operation signatures tail scope later n low x m high k (Core.apply (Construct c) xs) s t goes grows (ts, have, is) (types_are_bound later xs ts have) from le room
 fits_form signatures tail scope later n low x m high k (Call f) xs ts s t goes grows have is from le room =
     fits_call signatures tail scope later n low x m high k f xs ts s t goes grows have is from le room
+fits_form signatures tail scope later n low x m high k form xs ts s t goes grows have is from le room =
+    fits_computed signatures tail scope later n low x m high k form xs ts s t goes grows have is from le room
 
 -- where more comes after a branch, its parts end a block inside
 fits_joined : (signatures : List Signature) (tail : Bool) (scope later : Scope) (n low x m high : ℕ) (k : Then) (own : Code) (s t : TypeTree)
@@ -151,17 +142,9 @@ mutual
   pub code_fits : (signatures : List Signature) (tail : Bool) (k : Then) (names : Names) (n : ℕ) (e : Tree) (scope core : Scope) (low high : ℕ) (s t : TypeTree)
       → HasType signatures scope e s → AreNamed names scope core n → low ≤ n → Goes signatures tail core n k (atom names n e) (n + size e) s high t
       → Fits signatures tail core low (code k names n e) high t
-  code_fits signatures tail k names n (number value) scope core low high s t has are le goes =
-      fits_operation signatures tail core core n low n (n + 1) high k (Core.number value) s t goes (grows_not n core) has tt (omega arith) le (omega arith)
-  code_fits signatures tail k names n unit scope core low high s t has are le goes =
-      fits_operation signatures tail core core n low n (n + 1) high k Core.unit s t goes (grows_not n core) has tt (omega arith) le (omega arith)
   code_fits signatures tail k names n (variable x) scope core low high s t has are le goes =
       let here = are x s has in
       fits_after_use signatures tail core n low (name_of names x) (n + 0) high k s t goes here.0 (omega (arith, here.1)) (omega arith)
-  code_fits signatures tail k names n read_byte scope core low high s t has are le goes =
-      fits_operation signatures tail core core n low n (n + 1) high k Core.read_byte s t goes (grows_not n core) has tt (omega arith) le (omega arith)
-  code_fits signatures tail k names n (print_text form text) scope core low high s t has are le goes =
-      fits_operation signatures tail core core n low n (n + 1) high k (Core.print_text form text) s t goes (grows_not n core) has tt (omega arith) le (omega arith)
   code_fits signatures tail k names n (apply form es) scope core low high s t has are le goes =
       let x : ℕ = n + size_all es in
       code_all_fits signatures tail names n es scope core low high has.0 t has.1 are le (finish k x form (atoms names n es))

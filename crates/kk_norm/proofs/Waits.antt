@@ -2,7 +2,7 @@
 -- that waits for the value.
 use Rattle.std.proofs.Common.{◌≡◌, ℕ, suc, ◌+◌, ◌<◌, ◌≤◌, true, false, List, [], ◌∷◌, ◌++◌, length, Option, Some, map, refl, ap, ◌∙◌, arith}
 use Rattle.kk_syntax.specs.declared.program.Form.{Form}
-use Rattle.kk_syntax.specs.declared.program.Form.TheVariants.{Unary, Binary, Print, Construct, Call}
+use Rattle.kk_syntax.specs.declared.program.Form.TheVariants.{Construct}
 use Rattle.kk_syntax.specs.Trees.{Tree, Trees, no_tree, tree}
 use Rattle.kk_syntax.specs.Shapes.{free, free_all, nodes_of, nodes_of_all, without}
 use Rattle.kk_source.specs.State.{Value, Environment, Frame, arguments, branches, rows, statement, call}
@@ -53,10 +53,7 @@ fresh_less (final false) (join ∷ joins) m n top le fresh = (omega (arith, fres
 -- no construction
 abbrev pub MakesNothing : Form → Type 0
 MakesNothing (Construct c) = ⊥
-MakesNothing (Unary operator) = Unit {0}
-MakesNothing (Binary operator) = Unit {0}
-MakesNothing (Print form) = Unit {0}
-MakesNothing (Call f) = Unit {0}
+MakesNothing form = Unit {0}
 
 -- Where an expression goes on behind its part: where its own value goes, the names, the number of its next variable, and
 -- that of what comes after the expression.

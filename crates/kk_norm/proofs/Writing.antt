@@ -3,11 +3,11 @@ use Rattle.std.proofs.Common.{◌≡◌, ℕ, ◌+◌, ◌<◌, ◌==◌, List, 
 use Rattle.std.proofs.Math.Seq.{take-suc, drop-cons}
 use Rattle.std.specs.Prelude.{if◌then◌else◌}
 use Rattle.std.proofs.lemmas.List.{map-append}
-use Rattle.kk_core.specs.Codes.{Code, give, tail_call, branch, Piece, computes, uses, runs, put, plug, ArmCode, operation_of, last_step, step_step, arm_step, block_step, block_code, last_code, step_piece}
+use Rattle.kk_syntax.specs.declared.program.Form.{Form}
+use Rattle.kk_core.specs.Codes.{Code, give, tail_call, branch, Piece, computes, uses, runs, put, plug, ArmCode, last_step, step_step, arm_step, block_step, block_code, last_code, step_piece}
 use Rattle.kk_core.specs.declared.form.Block.{Block}
 use Rattle.kk_core.specs.declared.form.Last.TheVariants as OfLast
 use Rattle.kk_core.specs.declared.form.Last.TheFolds.{fold-roll-Last, fold-roll-Step, fold_out-Block}
-use Rattle.kk_core.specs.declared.form.Operation.{Operation as CoreOperation}
 use Rattle.kk_core.specs.declared.form.Step.{Step}
 use Rattle.kk_core.specs.declared.form.Step.TheVariants as OfStep
 use Rattle.kk_norm.specs.declared.naming.Named.{Named}
@@ -49,8 +49,8 @@ steps_one_more steps more step rest is =
     ap (λ all. plug (map step_piece all) rest) is
     ∙ (ap (λ pieces. plug pieces rest) (map-append step_piece steps (step ∷ [])) ∙ plug_one_more (map step_piece steps) (step_piece step) rest)
 
-pub let_piece : (x : ℕ) (operation : CoreOperation) → step_piece (OfStep.Let x operation) ≡ computes x (operation_of operation)
-let_piece x operation = ap step_piece (sym (OfStep.rolls-Let x operation)) ∙ fold-roll-Step Code Piece ArmCode Code last_step step_step arm_step block_step _
+pub let_piece : (x : ℕ) (form : Form) (arguments : _) → step_piece (OfStep.Let x form arguments) ≡ computes x form arguments.items
+let_piece x form arguments = ap step_piece (sym (OfStep.rolls-Let x form arguments)) ∙ fold-roll-Step Code Piece ArmCode Code last_step step_step arm_step block_step _
 
 pub use_piece : (x : ℕ) → step_piece (OfStep.Use x) ≡ uses x
 use_piece x = ap step_piece (sym (OfStep.rolls-Use x)) ∙ fold-roll-Step Code Piece ArmCode Code last_step step_step arm_step block_step _

@@ -3,9 +3,8 @@ use Rattle.std.proofs.Common.{◌≡◌, ℕ, ◌+◌, ◌<◌, ◌≤◌, Bool,
 use Rattle.std.proofs.lemmas.List.{append-nil}
 use Rattle.kk_syntax.specs.Shapes.{variable_of}
 use Rattle.kk_syntax.specs.declared.program.Form.{Form}
-use Rattle.kk_syntax.specs.declared.program.Form.TheVariants.{Unary, Binary, Print, Construct, Call}
+use Rattle.kk_syntax.specs.declared.program.Form.TheVariants.{Call}
 use Rattle.kk_syntax.specs.Trees.{Tree, Trees, no_tree, tree, variable, apply, StatementTree, block_of}
-use Rattle.kk_core.specs.Codes as Core
 use Rattle.kk_core.specs.Codes.{Code, compute, use_of, computes, uses, plug, step_piece}
 use Rattle.kk_norm.specs.declared.naming.Named.{Named}
 use Rattle.kk_norm.specs.declared.writer.Writer.{Writer}
@@ -178,14 +177,11 @@ variable_value e v x old new is name writes =
       steps = λ rest. writes.steps rest ∙ ap (λ y. behind old (use_of y rest)) name;
     })
 
-finish_next : (rest : Code) (m : ℕ) (form : Form) (xs : List ℕ) → compute m (Core.apply form xs) rest ≡ finish (next rest) m form xs
-finish_next rest m (Unary operator) xs = refl
-finish_next rest m (Binary operator) xs = refl
-finish_next rest m (Print form) xs = refl
-finish_next rest m (Construct c) xs = refl
+finish_next : (rest : Code) (m : ℕ) (form : Form) (xs : List ℕ) → compute m form xs rest ≡ finish (next rest) m form xs
 finish_next rest m (Call f) xs = refl
+finish_next rest m form xs = refl
 
-pub apply_value : (e : Tree) (form : Form) (es : Trees) (xs : List ℕ) (old now new : Writer) (x : ℕ) → e ≡ apply form es → WritesValues es old now xs → WritesStep (computes now.next (Core.apply form xs)) now new x → WritesValue e old new x
+pub apply_value : (e : Tree) (form : Form) (es : Trees) (xs : List ℕ) (old now new : Writer) (x : ℕ) → e ≡ apply form es → WritesValues es old now xs → WritesStep (computes now.next form xs) now new x → WritesValue e old new x
 apply_value e form es xs old now new x is first second =
     let names : Names = names_of old.names.items in
     subst (λ (one : Tree). WritesValue one old new x) (sym is)
@@ -195,8 +191,8 @@ apply_value e form es xs old now new x is first second =
       value = second.is ∙ first.number;
       steps = λ rest.
           second.steps rest
-          ∙ (first.steps (compute now.next (Core.apply form xs) rest)
-          ∙ (ap (λ n. behind old (code_all names old.next es (compute n (Core.apply form xs) rest))) first.number
-          ∙ (ap (λ all. behind old (code_all names old.next es (compute (old.next + size_all es) (Core.apply form all) rest))) first.values
+          ∙ (first.steps (compute now.next form xs rest)
+          ∙ (ap (λ n. behind old (code_all names old.next es (compute n form xs rest))) first.number
+          ∙ (ap (λ all. behind old (code_all names old.next es (compute (old.next + size_all es) form all rest))) first.values
           ∙ ap (λ last. behind old (code_all names old.next es last)) (finish_next rest (old.next + size_all es) form (atoms names old.next es)))));
     })

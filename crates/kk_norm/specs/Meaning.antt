@@ -9,8 +9,8 @@ use Rattle.kk_source.specs.Notes.{Note}
 use Rattle.kk_source.specs.State.{Setting, End}
 use Rattle.kk_source.specs.SourceAfter.{step, ending_of, first_state, State}
 use Rattle.kk_core.specs.Codes.{ProgramCode}
-use Rattle.kk_core.specs.CoreStates.{CoreSetting, core_first_state}
-use Rattle.kk_core.specs.CoreMachine.{core_machine, CoreState}
+use Rattle.kk_core.specs.CoreStates.{CoreSetting, CoreState, core_first_state}
+use Rattle.kk_core.specs.CoreMachine.{core_machine}
 use Rattle.kk_norm.specs.Normalized.{normal_program}
 
 -- the store machine, each step of which weighs so much

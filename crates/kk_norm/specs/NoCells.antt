@@ -2,7 +2,7 @@
 use Rattle.std.specs.Prelude.{◌≡◌, ℕ, ◌<◌, List, true, length, Some, slice_get}
 use Rattle.kk_syntax.specs.declared.program.Form.{Form}
 use Rattle.kk_syntax.specs.declared.program.Form.TheVariants.{Construct}
-use Rattle.kk_syntax.specs.Trees.{Tree, number, unit, variable, read_byte, print_text, apply, branch, match, sequence, Trees, no_tree, tree}
+use Rattle.kk_syntax.specs.Trees.{Tree, variable, apply, branch, match, sequence, Trees, no_tree, tree}
 use Rattle.kk_syntax.specs.Shapes.{free, is_among}
 use Rattle.kk_syntax.specs.Programs.{FunctionTree}
 
@@ -14,11 +14,7 @@ MakesNoCell form es = Unit {0}
 -- an expression has no match, and no construction with fields
 abbrev mutual
   pub NoCells : Tree → Type 0
-  NoCells (number value) = Unit {0}
-  NoCells unit = Unit {0}
   NoCells (variable x) = Unit {0}
-  NoCells read_byte = Unit {0}
-  NoCells (print_text form text) = Unit {0}
   NoCells (apply form es) = MakesNoCell form es × NoCellsAll es
   NoCells (branch e positive negative) = NoCells e × NoCells positive × NoCells negative
   NoCells (match e rows) = ⊥

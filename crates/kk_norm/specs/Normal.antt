@@ -1,17 +1,16 @@
 -- What is promised of the core form of a typed program that is within the limits.
 use Rattle.std.specs.Prelude.{◌≡◌, ◌+◌, ◌≤◌, ℕ, List, [], ◌∷◌, length}
-use Rattle.kk_base.specs.declared.limit.LimitKind.TheVariants.{Parameters, FunctionNodes, Instances, ProgramNodes}
-use Rattle.kk_base.specs.Limits.{greatest_of}
 use Rattle.kk_syntax.specs.Shapes.{nodes_of}
 use Rattle.kk_syntax.specs.Programs.{FunctionTree, ProgramTree}
 use Rattle.kk_core.specs.Codes.{ProgramCode}
 use Rattle.kk_core.specs.CoreTyping.{IsCoreTyped, IsSmall}
+use Rattle.kk_core.specs.Sizes.{most_parameters, most_nodes, most_instances, most_program_nodes}
 use Rattle.kk_norm.specs.Meaning.{KeepsMeaning}
 
 -- a function has few parameters, and its body few nodes
 pub record IsFunctionWithin (function : FunctionTree) : Type 0 where
-  pub parameters : length function.parameters ≤ greatest_of Parameters
-  pub nodes : nodes_of function.body ≤ greatest_of FunctionNodes
+  pub parameters : length function.parameters ≤ most_parameters
+  pub nodes : nodes_of function.body ≤ most_nodes
 
 abbrev pub AreWithin : List FunctionTree → Type 0
 AreWithin [] = Unit {0}
@@ -27,8 +26,8 @@ all_nodes (function ∷ functions) = nodes_of function.body + all_nodes function
 pub record IsWithin (program : ProgramTree) : Type 0 where
   pub main : program.main ≡ 0
   pub functions : AreWithin program.functions
-  pub few : length program.functions ≤ greatest_of Instances
-  pub all : all_nodes program.functions ≤ greatest_of ProgramNodes
+  pub few : length program.functions ≤ most_instances
+  pub all : all_nodes program.functions ≤ most_program_nodes
 
 -- A code is a core form of a program: it keeps the program's meaning, it is typed, its variables in order, and it is small.
 pub record IsNormalForm (program : ProgramTree) (code : ProgramCode) : Type 0 where

@@ -3,7 +3,7 @@
 -- own one last, so what is computed later has the greater number.
 use Rattle.std.specs.Prelude.{ℕ, ◌+◌, List, [], ◌∷◌, map, Bool, true, false, length}
 use Rattle.kk_syntax.specs.declared.program.Form.{Form}
-use Rattle.kk_syntax.specs.declared.program.Form.TheVariants.{Unary, Binary, Print, Construct, Call}
+use Rattle.kk_syntax.specs.declared.program.Form.TheVariants.{Call}
 use Rattle.kk_syntax.specs.Trees.{Tree, variable, apply, branch, match, sequence, Trees, no_tree, tree, Rows, no_row, row}
 use Rattle.kk_syntax.specs.Programs.{FunctionTree, ProgramTree}
 use Rattle.kk_syntax.specs.Patterns.{Pattern, anything, variable as pattern_variable, exactly, constructor, Patterns, no_part, part}
@@ -34,11 +34,7 @@ abbrev mutual
 -- an expression takes one for each part that computes or joins values: a variable and a block take none of their own
 abbrev mutual
   pub size : Tree → ℕ
-  size (number value) = 1
-  size unit = 1
   size (variable x) = 0
-  size read_byte = 1
-  size (print_text form text) = 1
   size (apply form es) = size_all es + 1
   size (branch e positive negative) = size e + size positive + size negative + 1
   size (match e rows) = size e + size_rows rows + 1
@@ -54,11 +50,7 @@ abbrev mutual
 
 -- the variable that has the value of an expression whose numbers begin at n
 abbrev pub atom : Names → ℕ → Tree → ℕ
-atom names n (number value) = n
-atom names n unit = n
 atom names n (variable x) = name_of names x
-atom names n read_byte = n
-atom names n (print_text form text) = n
 atom names n (apply form es) = n + size_all es
 atom names n (branch e positive negative) = n + size e + size positive + size negative
 atom names n (match e rows) = n + size e + size_rows rows
@@ -99,16 +91,12 @@ joined (next rest) m code = inside m code rest
 -- a call on variables, whose value goes to variable m; in tail position it is a tail call
 abbrev pub finish_call : Then → ℕ → ℕ → List ℕ → Code
 finish_call (final true) m f arguments = tail_call f arguments
-finish_call (final false) m f arguments = compute m (Core.apply (Call f) arguments) (give m)
-finish_call (next rest) m f arguments = compute m (Core.apply (Call f) arguments) rest
+finish_call k m f arguments = compute m (Call f) arguments (after k m)
 
 -- a form on variables, whose value goes to variable m
 abbrev pub finish : Then → ℕ → Form → List ℕ → Code
-finish k m (Unary operator) arguments = compute m (Core.apply (Unary operator) arguments) (after k m)
-finish k m (Binary operator) arguments = compute m (Core.apply (Binary operator) arguments) (after k m)
-finish k m (Print form) arguments = compute m (Core.apply (Print form) arguments) (after k m)
-finish k m (Construct c) arguments = compute m (Core.apply (Construct c) arguments) (after k m)
 finish k m (Call f) arguments = finish_call k m f arguments
+finish k m form arguments = compute m form arguments (after k m)
 
 -- numbers that follow one another
 abbrev pub numbers : ℕ → Patterns → List ℕ
@@ -123,7 +111,7 @@ abbrev mutual
   opened a n (exactly value) rest = rest
   opened a n (constructor c no_part) rest = rest
   opened a n (constructor c (part first others)) rest =
-      unpack a (numbers n (part first others)) (opened n (n + part_count (part first others)) first (opened_all (n + 1) (n + part_count (part first others) + pattern_size first) others rest))
+      unpack a c (numbers n (part first others)) (opened n (n + part_count (part first others)) first (opened_all (n + 1) (n + part_count (part first others) + pattern_size first) others rest))
 
   pub opened_all : ℕ → ℕ → Patterns → Code → Code
   opened_all a n no_part rest = rest
@@ -145,11 +133,7 @@ abbrev mutual
 -- The code of an expression whose numbers begin at n, and of what comes after it. The value is in `atom names n e`.
 abbrev mutual
   pub code : Then → Names → ℕ → Tree → Code
-  code k names n (number value) = compute n (Core.number value) (after k n)
-  code k names n unit = compute n Core.unit (after k n)
   code k names n (variable x) = after_use k (name_of names x)
-  code k names n read_byte = compute n Core.read_byte (after k n)
-  code k names n (print_text form text) = compute n (Core.print_text form text) (after k n)
   code k names n (apply form es) = code_all names n es (finish k (n + size_all es) form (atoms names n es))
   code k names n (branch e positive negative) =
       code (next (joined k (n + size e + size positive + size negative) (Core.branch (atom names n e) (code (within k) names (n + size e) positive) (code (within k) names (n + size e + size positive) negative)))) names n e
@@ -177,4 +161,5 @@ normal_function function = record {
 }
 
 abbrev pub normal_program : ProgramTree → ProgramCode
-normal_program program = record { functions = map normal_function program.functions; main = program.main }
+normal_program program =
+    record { functions = map normal_function program.functions; texts = program.texts; main = program.main }

@@ -7,7 +7,7 @@ ghost use Rattle.kk_norm.specs.Written.{WritesValue, WritesValues, WritesStateme
 
 use crate::writer::Writer;
 use kk_base::NoMemory;
-use kk_core::{Block, Last, Operation};
+use kk_core::{Block, Last};
 use kk_syntax::{Expr, Statement};
 use std::mem;
 
@@ -20,27 +20,21 @@ impl Writer {
         ensures { IfOk result (λ x. WritesValue (expr_tree expr.now) self.old self.new x) }
     {
         match expr {
-            Expr::Number(value) => self.compute(Operation::Number(*value)),
-            Expr::Unit | Expr::Match(_, _) => self.compute(Operation::Unit),
             Expr::Variable(variable) => {
                 let name = self.name(*variable);
                 self.use_variable(name)?;
                 Ok(name)
             }
-            Expr::ReadByte => self.compute(Operation::ReadByte),
-            Expr::PrintText(form, text) => {
-                let text = text.copied(self.alloc)?;
-                self.compute(Operation::PrintText(*form, text))
-            }
             Expr::Apply(form, arguments) => {
                 let arguments = self.values(arguments)?;
-                self.compute(Operation::Apply(*form, arguments))
+                self.compute(*form, arguments)
             }
             Expr::If(condition, positive, negative) => {
                 let last = self.choice(false, condition, positive, negative)?;
                 let steps = Vec::new(self.alloc);
                 self.inside(Block { steps, last })
             }
+            Expr::Match(_, _) => unreachable!(),
             Expr::Block(statements, value) => {
                 let bound = self.names.len();
                 self.statements(statements)?;
@@ -98,16 +92,13 @@ impl Writer {
                 self.next += 1;
                 Ok(last)
             }
+            Expr::Match(_, _) => unreachable!(),
             Expr::Block(statements, value) => {
                 let bound = self.names.len();
                 self.statements(statements)?;
                 let last = self.end(tail, value)?;
                 self.names.truncate(bound);
                 Ok(last)
-            }
-            _ => {
-                let variable = self.value(expr)?;
-                Ok(Last::Return(variable))
             }
         }
     }

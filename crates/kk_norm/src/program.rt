@@ -1,12 +1,11 @@
 ghost use Rattle.std.specs.Prelude.{◌≡◌, ◌≤◌, List, map, vec_len, IfOk};
-ghost use Rattle.kk_base.specs.Limits.{greatest_of};
-ghost use Rattle.kk_base.specs.declared.limit.LimitKind.TheVariants.{Parameters, FunctionNodes};
 ghost use Rattle.kk_syntax.specs.GroundPrograms.{instance_tree, ground_program};
 ghost use Rattle.kk_syntax.specs.PlainTyping.{IsTyped};
 ghost use Rattle.kk_syntax.specs.Shapes.{nodes_of};
 ghost use Rattle.kk_syntax.specs.Trees.{expr_tree};
 ghost use Rattle.kk_syntax.specs.Types.{TypeTree};
 ghost use Rattle.kk_core.specs.Codes.{function_code, core_code};
+ghost use Rattle.kk_core.specs.Sizes.{most_parameters, most_nodes};
 ghost use Rattle.kk_norm.specs.NoCells.{NoCells, ArePlain};
 ghost use Rattle.kk_norm.specs.Normal.{AreWithin, IsWithin, IsNormalForm};
 ghost use Rattle.kk_norm.specs.Normalized.{normal_function, normal_program};
@@ -14,7 +13,7 @@ ghost use Rattle.kk_norm.specs.Normalized.{normal_function, normal_program};
 use crate::writer::Writer;
 use kk_base::NoMemory;
 use kk_core::{Core, CoreFunction};
-use kk_syntax::{Ground, Instance};
+use kk_syntax::{Ground, Instance, copied_texts};
 use std::alloc::Global;
 
 /// The core form of a program of instances, of which the first is `main`. It keeps the program's meaning, is typed and is
@@ -28,7 +27,12 @@ pub fn normal(alloc: Global, given: &Ground) -> Result<Core, NoMemory>
     ensures means { IfOk result (λ core. IsNormalForm (ground_program given.now) (core_code core)) }
 {
     let functions = all_functions(alloc, given)?;
-    Ok(Core { functions, main: 0 })
+    let texts = copied_texts(alloc, &given.texts)?;
+    Ok(Core {
+        functions,
+        texts,
+        main: 0,
+    })
 }
 
 fn all_functions(alloc: Global, given: &Ground) -> Result<Vec<CoreFunction>, NoMemory>
@@ -47,8 +51,8 @@ fn all_functions(alloc: Global, given: &Ground) -> Result<Vec<CoreFunction>, NoM
 // The types of an instance make no difference.
 fn core_function(alloc: Global, instance: &Instance) -> Result<CoreFunction, NoMemory>
     requires plain { NoCells (expr_tree instance.now.body) }
-    requires few { vec_len instance.now.parameters ≤ greatest_of Parameters }
-    requires small { nodes_of (expr_tree instance.now.body) ≤ greatest_of FunctionNodes }
+    requires few { vec_len instance.now.parameters ≤ most_parameters }
+    requires small { nodes_of (expr_tree instance.now.body) ≤ most_nodes }
     ensures { IfOk result (λ core. (types : List TypeTree) → function_code core ≡ normal_function (instance_tree types instance.now)) }
 {
     let parameters = instance.parameters.len() as u32;

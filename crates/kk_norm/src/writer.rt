@@ -1,13 +1,13 @@
 ghost use Rattle.std.specs.Prelude.{◌≡◌, ◌+◌, ◌<◌, ◌≤◌, ◌^◌, [], length, take, IfOk};
 ghost use Rattle.kk_syntax.specs.Shapes.{variable_of};
-ghost use Rattle.kk_core.specs.Codes.{operation_of, block_code, step_piece, last_code, computes, uses, runs};
+ghost use Rattle.kk_core.specs.Codes.{block_code, step_piece, last_code, computes, uses, runs};
 ghost use Rattle.kk_norm.specs.Names.{name_of, named};
 ghost use Rattle.kk_norm.specs.Normalized.{finish, final};
 ghost use Rattle.kk_norm.specs.Written.{names_of, behind, WritesPiece, WritesStep};
 
 use crate::naming::{Named, name_among};
 use kk_base::NoMemory;
-use kk_core::{Block, Last, Operation, Step};
+use kk_core::{Block, Last, Step};
 use kk_syntax::{Binder, Form};
 use std::alloc::Global;
 
@@ -77,13 +77,13 @@ impl Writer {
         self.push(Step::Use(variable))
     }
 
-    /// Writes an operation, and gives the variable that takes its value.
-    pub fn compute(&mut self, operation: Operation) -> Result<u32, NoMemory>
+    /// Writes a form on variables, and gives the variable that takes its value.
+    pub fn compute(&mut self, form: Form, arguments: Vec<u32>) -> Result<u32, NoMemory>
         requires room { self.old.next + 1 < 2 ^ 32 }
-        ensures { IfOk result (λ x. WritesStep (computes self.old.next (operation_of operation)) self.old self.new x) }
+        ensures { IfOk result (λ x. WritesStep (computes self.old.next form arguments.items) self.old self.new x) }
     {
         let variable = self.next;
-        self.push(Step::Let(variable, operation))?;
+        self.push(Step::Let(variable, form, arguments))?;
         self.next += 1;
         Ok(variable)
     }
@@ -113,7 +113,7 @@ impl Writer {
                 Ok(Last::TailCall(function, arguments))
             }
             _ => {
-                let variable = self.compute(Operation::Apply(form, arguments))?;
+                let variable = self.compute(form, arguments)?;
                 Ok(Last::Return(variable))
             }
         }

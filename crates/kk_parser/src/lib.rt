@@ -10,7 +10,5 @@ mod operator;
 mod parser;
 mod program;
 mod result;
-#[cfg(test)]
-mod tests;
 
 pub use program::{each_list_is_parsed, parse};

@@ -4,26 +4,13 @@ use Rattle.std.specs.Prelude.{Result, Ok, Err, IfOk}
 use Rattle.std.proofs.lemmas.List.{map-append, get_or-map, get_or_past, length-map, take_more}
 use Rattle.kk_base.specs.declared.error.NoMemory.{NoMemory}
 use Rattle.kk_syntax.specs.declared.program.Ty.{Ty}
-use Rattle.kk_syntax.specs.declared.program.Ty.TheVariants.{Int32, Unit as Nothing, Variable, Named, rolls-Int32, rolls-Unit, rolls-Variable, rolls-Named}
-use Rattle.kk_syntax.specs.declared.program.Ty.TheFolds.{fold-roll-Ty}
-use Rattle.kk_syntax.specs.Types.{TypeTree, int32, unit_type, type_variable, named, types_of, put, put_each, type_at, type_step, type_tree}
+use Rattle.kk_syntax.specs.declared.program.Ty.TheVariants.{Int32, Unit as Nothing, Variable, Named}
+use Rattle.kk_syntax.specs.Types.{TypeTree, int32, unit_type, type_variable, named, types_of, put, put_each, type_at, type_tree}
+use Rattle.kk_syntax.proofs.TypeViews.{int32_tree, unit_tree, variable_tree, named_tree}
 use Rattle.kk_unify.specs.Graphs.{NodeTree, Assignment, Adds, IsFormed}
 use Rattle.kk_types.specs.Walks.{AreBelow, Agree, Builds, BuildsEach}
 use Rattle.kk_types.proofs.Adding.{adds_builds, builds_more, stays}
 use Rattle.kk_types.proofs.Refining.{agree_on, types_agree}
-
--- a type of the program, by its form
-int32_tree : type_tree Int32 ≡ int32
-int32_tree = ap type_tree (sym rolls-Int32) ∙ fold-roll-Ty TypeTree type_step _
-
-unit_tree : type_tree Nothing ≡ unit_type
-unit_tree = ap type_tree (sym rolls-Unit) ∙ fold-roll-Ty TypeTree type_step _
-
-variable_tree : (x : ℕ) → type_tree (Variable x) ≡ type_variable x
-variable_tree x = ap type_tree (sym (rolls-Variable x)) ∙ fold-roll-Ty TypeTree type_step _
-
-named_tree : (by : ℕ) (arguments : _) → type_tree (Named by arguments) ≡ named by (types_of (map type_tree arguments.items))
-named_tree by arguments = ap type_tree (sym (rolls-Named by arguments)) ∙ fold-roll-Ty TypeTree type_step _
 
 pub put_each_of : (s : ℕ → TypeTree) (ts : List TypeTree) → put_each s (types_of ts) ≡ types_of (map (put s) ts)
 put_each_of s [] = refl

@@ -9,15 +9,15 @@ use Rattle.kk_syntax.specs.declared.program.Form.TheVariants.{Construct}
 use Rattle.kk_syntax.specs.Patterns.{Pattern, anything, variable as pattern_variable, exactly, constructor, Patterns, no_part, part}
 use Rattle.kk_syntax.specs.Programs.{ProgramTree}
 use Rattle.kk_syntax.specs.Shapes.{bound}
-use Rattle.kk_syntax.specs.Trees.{Tree, number, unit, variable, read_byte, print_text, apply, branch, match, sequence, Trees, no_tree, tree, Rows, no_row, row}
-use Rattle.kk_syntax.specs.Types.{TypeTree, int32, unit_type}
+use Rattle.kk_syntax.specs.Trees.{Tree, variable, apply, branch, match, sequence, Trees, no_tree, tree, Rows, no_row, row}
+use Rattle.kk_syntax.specs.Types.{TypeTree, int32}
 use Rattle.kk_syntax.specs.Typing.{Choice, bool, Scheme, InTurn, with_binder, with_bound, form_scheme, constructor_scheme, chosen_at, ArePatternsTyped, IsTypedBy, AreTypedBy, AreRowsTypedBy}
 use Rattle.kk_unify.specs.Graphs.{NodeTree, Assignment, IsFormed, EachJoinIsDecided}
 use Rattle.kk_types.specs.declared.scope.Bound.{Bound}
 use Rattle.kk_types.specs.Claims.{typed_as, bound_as, both, expression_at, expressions_at, rows_at, pattern_at, patterns_at, bounds_by}
 use Rattle.kk_types.specs.Walks.{Taking, holding_at, AreBelow, AreBoundBelow, scope_at, Claim, Leads, Done, Refused, IsOf}
 use Rattle.kk_types.proofs.Basics.{typed_as_of, unbound_refused}
-use Rattle.kk_types.proofs.Existing.{Built, type_built, int32_built, unit_built, any_opened, opened, instanced}
+use Rattle.kk_types.proofs.Existing.{Built, type_built, int32_built, any_opened, opened, instanced}
 use Rattle.kk_types.proofs.Locals.{scoped_of, node_of, nodes_of_claim, both_of, expression_of, expressions_of, rows_of_claim}
 use Rattle.kk_types.proofs.Parts.{parts_of}
 use Rattle.kk_types.proofs.Refining.{head_of, tail_of, bound_more, below_more, then_leads, refused_behind, reworded, first_leads, first_refused, builds_leads, holds_leads, joins_refines, clash_refused}
@@ -149,11 +149,7 @@ module _ (variables : ℕ) (joins : EachJoinIsDecided) where
 
     mutual
       pub expression_decided : (e : Tree) (g : List NodeTree) → IsFormed variables g → (bounds : List Bound) → AreBoundBelow (length g) bounds → (want : ℕ) → want < length g → Decided variables g (expression_at program bounds e want)
-      expression_decided (number value) g formed bounds inside want lt = type_decided g formed want lt int32 (int32_built variables g formed)
-      expression_decided unit g formed bounds inside want lt = type_decided g formed want lt unit_type (unit_built variables g formed)
       expression_decided (variable x) g formed bounds inside want lt = variable_decided g formed bounds inside x want lt
-      expression_decided read_byte g formed bounds inside want lt = type_decided g formed want lt int32 (int32_built variables g formed)
-      expression_decided (print_text form text) g formed bounds inside want lt = type_decided g formed want lt unit_type (unit_built variables g formed)
       expression_decided (apply form es) g formed bounds inside want lt =
           use_decided g formed (form_scheme program form) form want lt (λ r ts choices. AreTypedBy program (scope_at r bounds) es ts choices)
           (λ size le ts. scoped_of size bounds (λ scope choices. AreTypedBy program scope es ts choices) (bound_more (length g) size bounds le inside))

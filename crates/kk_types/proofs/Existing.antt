@@ -4,7 +4,7 @@ use Rattle.std.proofs.lemmas.Bool.{cases_lt}
 use Rattle.std.proofs.lemmas.List.{get_or-map, get_or_past, length-map}
 use Rattle.std.proofs.lemmas.List.Elements.{All-nil, All-cons}
 use Rattle.kk_syntax.specs.declared.program.Form.{Form}
-use Rattle.kk_syntax.specs.declared.program.Form.TheVariants.{Unary, Binary, Print, Construct, Call}
+use Rattle.kk_syntax.specs.declared.program.Form.TheVariants.{Construct, Call}
 use Rattle.kk_syntax.specs.Types.{TypeTree, TypeTrees, int32, unit_type, type_variable, named, no_type, type, types_of, type_list, put, put_each, type_at, variables_below}
 use Rattle.kk_syntax.specs.Typing.{Scheme, chosen_at}
 use Rattle.kk_unify.specs.Graphs.{NodeTree, any_node, int32_node, unit_node, variable_node, named_node, Assignment, Holds, IsFormed, IsNodeFormed}
@@ -62,7 +62,7 @@ module _ (variables : ℕ) where
     pub int32_built : Built graph (λ r. int32)
     int32_built = node_built int32_node (λ r. int32) tt (λ r q agree. refl) (λ r h. h) (λ r h. h)
 
-    pub unit_built : Built graph (λ r. unit_type)
+    unit_built : Built graph (λ r. unit_type)
     unit_built = node_built unit_node (λ r. unit_type) tt (λ r q agree. refl) (λ r h. h) (λ r h. h)
 
     variable_built : (x : ℕ) → x < variables → Built graph (λ r. type_variable x)
@@ -177,25 +177,19 @@ module _ (variables : ℕ) where
 
   -- what is taken at a form
   abbrev takes_at : Form → List ℕ → List Taking
-  takes_at (Unary operator) at = []
-  takes_at (Binary operator) at = []
-  takes_at (Print form) at = []
   takes_at (Construct c) at = constructing_at c at ∷ []
   takes_at (Call f) at = calling_at f at ∷ []
+  takes_at form at = []
 
   taken_are : (form : Form) (at : List ℕ) (r : Assignment) → choices_at r (takes_at form at) ≡ chosen_at form (map r at)
-  taken_are (Unary operator) at r = refl
-  taken_are (Binary operator) at r = refl
-  taken_are (Print form) at r = refl
   taken_are (Construct c) at r = refl
   taken_are (Call f) at r = refl
+  taken_are form at r = refl
 
   taken_inside : (form : Form) (size : ℕ) (at : List ℕ) → AreBelow size at → AreTakenBelow size (takes_at form at)
-  taken_inside (Unary operator) size at h = All-nil (IsTakenBelow size)
-  taken_inside (Binary operator) size at h = All-nil (IsTakenBelow size)
-  taken_inside (Print form) size at h = All-nil (IsTakenBelow size)
   taken_inside (Construct c) size at h = one_below size (constructing_at c at) h
   taken_inside (Call f) size at h = one_below size (calling_at f at) h
+  taken_inside form size at h = All-nil (IsTakenBelow size)
 
   -- a graph with a scheme at new nodes
   pub record Instanced (scheme : Scheme) (form : Form) (graph : List NodeTree) : Type 0 where

@@ -8,7 +8,6 @@ pub mod Instances
 pub mod Locals
 pub mod Using
 pub mod Forms
-pub mod Views
 pub mod Listing
 pub mod Stating
 pub mod Patterns

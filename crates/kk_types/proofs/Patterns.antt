@@ -3,12 +3,12 @@ use Rattle.std.proofs.Common.{◌≡◌, ◌<◌, ◌≤◌, ◌+◌, ◌⊎◌,
 use Rattle.std.proofs.lemmas.List.{map-append, append-nil, length-append, length-map, length-take, take-take, take_all, take-append-le, drop_more}
 use Rattle.std.proofs.lemmas.List.Elements.{All-append, All-nil, All-cons}
 use Rattle.kk_syntax.specs.declared.program.Pat.{Pat}
-use Rattle.kk_syntax.specs.declared.program.Pat.TheVariants.{Wildcard, rolls-Wildcard, Variable, rolls-Variable, Number, rolls-Number, Constructor, rolls-Constructor}
-use Rattle.kk_syntax.specs.declared.program.Pat.TheFolds.{fold-roll-Pat}
-use Rattle.kk_syntax.specs.Patterns.{Pattern, anything, variable, exactly, constructor, patterns_of, pattern_step, pattern_tree}
+use Rattle.kk_syntax.specs.declared.program.Pat.TheVariants.{Wildcard, Number}
+use Rattle.kk_syntax.specs.Patterns.{patterns_of, pattern_tree}
 use Rattle.kk_syntax.specs.Shapes.{bound, bound_all}
 use Rattle.kk_syntax.specs.Types.{TypeTree}
 use Rattle.kk_syntax.specs.Typing.{Scope, with_bound}
+use Rattle.kk_syntax.proofs.PatternViews.{wildcard_tree, number_tree}
 use Rattle.kk_unify.specs.Graphs.{NodeTree}
 use Rattle.kk_unify.specs.GraphOf.{variables_of}
 use Rattle.kk_types.specs.declared.scope.Bound.{Bound}
@@ -18,19 +18,6 @@ use Rattle.kk_types.specs.Walks.{holding_at, takings_of, AreBoundBelow, scope_at
 use Rattle.kk_types.proofs.Adding.{opens_none}
 use Rattle.kk_types.proofs.Refining.{head_of, agree_on, types_agree, below_more, bound_more}
 use Rattle.kk_types.proofs.Scopes.{scope_more}
-
--- the patterns of the program as trees
-pub wildcard_tree : pattern_tree Wildcard ≡ anything
-wildcard_tree = ap pattern_tree (sym rolls-Wildcard) ∙ fold-roll-Pat Pattern pattern_step _
-
-pub variable_tree : (x : ℕ) → pattern_tree (Variable x) ≡ variable x
-variable_tree x = ap pattern_tree (sym (rolls-Variable x)) ∙ fold-roll-Pat Pattern pattern_step _
-
-pub number_tree : (n : _) → pattern_tree (Number n) ≡ exactly n
-number_tree n = ap pattern_tree (sym (rolls-Number n)) ∙ fold-roll-Pat Pattern pattern_step _
-
-pub constructor_tree : (c : ℕ) (parts : _) → pattern_tree (Constructor c parts) ≡ constructor c (patterns_of (map pattern_tree parts.items))
-constructor_tree c parts = ap pattern_tree (sym (rolls-Constructor c parts)) ∙ fold-roll-Pat Pattern pattern_step _
 
 -- `_` and a number bind nothing
 pub nothing_bound : (p : Pat) → (p ≡ Wildcard) ⊎ ((n : ℤ) × (p ≡ Number n)) → bound (pattern_tree p) ≡ []

@@ -4,13 +4,13 @@ use Rattle.std.specs.Prelude.{Ok}
 use Rattle.std.proofs.lemmas.List.{drop_more}
 use Rattle.std.proofs.lemmas.List.Elements.{All-nil, All-cons}
 use Rattle.kk_syntax.specs.declared.program.Row.{Row}
-use Rattle.kk_syntax.specs.declared.program.Expr.TheFolds.{fold_out-Row}
 use Rattle.kk_syntax.specs.Patterns.{Pattern, pattern_tree}
 use Rattle.kk_syntax.specs.Programs.{ProgramTree}
 use Rattle.kk_syntax.specs.Shapes.{bound}
-use Rattle.kk_syntax.specs.Trees.{Tree, RowTree, StatementTree, rows_of, expr_step, row_step, statement_step, expr_tree, row_tree}
+use Rattle.kk_syntax.specs.Trees.{Tree, RowTree, rows_of, expr_tree, row_tree}
 use Rattle.kk_syntax.specs.Types.{TypeTree}
 use Rattle.kk_syntax.specs.Typing.{Choice, Scope, holding, with_bound, Binds, InTurn, IsPatternTyped, IsTypedBy}
+use Rattle.kk_syntax.proofs.Views.{row_tree_is}
 use Rattle.kk_unify.specs.Graphs.{NodeTree, Assignment}
 use Rattle.kk_unify.specs.GraphOf.{variables_of}
 use Rattle.kk_types.specs.declared.scope.Bound.{Bound}
@@ -21,10 +21,6 @@ use Rattle.kk_types.specs.Walks.{Taking, holding_at, takings_of, choices_at, Are
 use Rattle.kk_types.proofs.Going.{still_inside, still_bound, takes_then, refused_after, goes_on, goes_first}
 use Rattle.kk_types.proofs.Locals.{node_of, both_of, expression_of, rows_of_claim}
 use Rattle.kk_types.proofs.Refining.{head_of, tail_of, scope_agrees, Chooses, opens_leads, then_leads, refused_behind, first_refused}
-
--- a row in memory as a tree
-row_tree_is : (r : Row) → row_tree r ≡ record { pattern = pattern_tree r.pattern; body = expr_tree r.body }
-row_tree_is r = fold_out-Row Tree RowTree StatementTree expr_step row_step statement_step r
 
 -- what is taken for variables
 taken_below : (size : ℕ) (numbers : List ℕ) → AreBelow size numbers → AreTakenBelow size (map holding_at numbers)

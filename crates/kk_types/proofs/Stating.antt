@@ -10,6 +10,7 @@ use Rattle.kk_syntax.specs.Programs.{ProgramTree}
 use Rattle.kk_syntax.specs.Trees.{Tree, sequence, StatementTree, block_of, expr_tree, statement_tree}
 use Rattle.kk_syntax.specs.Types.{TypeTree}
 use Rattle.kk_syntax.specs.Typing.{with_binder, InTurn, IsTypedBy}
+use Rattle.kk_syntax.proofs.Views.{statement_tree_is}
 use Rattle.kk_unify.specs.Graphs.{Assignment}
 use Rattle.kk_unify.specs.GraphOf.{variables_of}
 use Rattle.kk_types.specs.declared.scope.Bound.{Bound}
@@ -22,7 +23,6 @@ use Rattle.kk_types.proofs.Going.{takes_then}
 use Rattle.kk_types.proofs.Locals.{scoped_of, node_of, both_of}
 use Rattle.kk_types.proofs.Refining.{bound_more, first_leads, first_refused, holds_leads, left_reworded, refused_behind, reworded, then_leads}
 use Rattle.kk_types.proofs.Scopes.{scope_more}
-use Rattle.kk_types.proofs.Views.{statement_tree_is}
 
 pub binder_scope : (binder : Binder) (r : Assignment) (bounds : List Bound) (node : ℕ) → with_binder binder (r node) (scope_at r bounds) ≡ scope_at r (bounds ++ bounds_by binder node)
 binder_scope OfBinder.Nothing r bounds node = ap (scope_at r) (sym (append-nil bounds))

@@ -5,7 +5,7 @@ ghost use Rattle.kk_types.specs.Walks.{AreBelow, AreBoundBelow};
 
 use crate::walk::Walk;
 use kk_base::NoMemory;
-use kk_syntax::{Expr, Program, Statement, TypeNode};
+use kk_syntax::{Expr, Program, Statement};
 
 impl Walk {
     ghost use Rattle.kk_types.specs.Claims.{expression_at, expressions_at};
@@ -33,8 +33,6 @@ impl Walk {
                 }
                 self.rows(program, rows, node, want)
             }
-            Expr::Number(_) | Expr::ReadByte => self.is(want, TypeNode::Int32),
-            Expr::Unit | Expr::PrintText(_, _) => self.is(want, TypeNode::Unit),
             Expr::Variable(variable) => self.variable(*variable, want),
             Expr::Apply(form, arguments) => {
                 let instance = match self.form(program, *form)? {

@@ -25,6 +25,14 @@ impl Walk {
         ensures { AnswersInstance (form_scheme (program_tree program.now) form) (chosen_at form) self.old self.new result }
     {
         match form {
+            Form::Number(_) | Form::ReadByte => {
+                let instance = self.number()?;
+                Ok(Some(instance))
+            }
+            Form::Unit | Form::PrintText(_, _) => {
+                let instance = self.unit()?;
+                Ok(Some(instance))
+            }
             Form::Unary(operator) => {
                 let instance = self.unary(operator)?;
                 Ok(Some(instance))
@@ -81,6 +89,24 @@ impl Walk {
         let result = build(self.alloc, &mut self.graph, &function.result, &at)?;
         self.taken.push(Taken::Call(number, at))?;
         Ok(Some(Instance { parameters, result }))
+    }
+
+    // What takes nothing and gives a number.
+    fn number(&mut self) -> Result<Instance, NoMemory>
+        ensures { IfOk result (λ instance. Instantiates
+            (Some (record { variables = 0; parameters = []; result = int32 }))
+            (λ ts. []) self.old self.new instance) }
+    {
+        self.operator(&[], &Ty::Int32)
+    }
+
+    // What takes nothing and gives `()`.
+    fn unit(&mut self) -> Result<Instance, NoMemory>
+        ensures { IfOk result (λ instance. Instantiates
+            (Some (record { variables = 0; parameters = []; result = unit_type }))
+            (λ ts. []) self.old self.new instance) }
+    {
+        self.operator(&[], &Ty::Unit)
     }
 
     fn unary(&mut self, operator: UnaryOperator) -> Result<Instance, NoMemory>

@@ -12,8 +12,6 @@ mod pattern;
 mod program;
 mod rows;
 mod scope;
-#[cfg(test)]
-mod tests;
 mod walk;
 
 pub use error::TypeError;

@@ -13,6 +13,3 @@ mod walk;
 pub use graph::Graph;
 pub use law::{graphs_are_decided, obeying_is_local};
 pub use solve::Solution;
-
-#[cfg(test)]
-mod tests;

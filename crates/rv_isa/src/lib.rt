@@ -15,8 +15,6 @@ mod meaning;
 mod placed;
 mod register;
 mod routine;
-#[cfg(test)]
-mod tests;
 
 pub use act::{Act, Effect};
 pub use agreement::{AgreedImage, agreed_image_agrees};

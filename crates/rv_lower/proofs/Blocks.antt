@@ -5,6 +5,7 @@ use Rattle.kk_syntax.specs.Types.{TypeTree}
 use Rattle.kk_syntax.specs.PlainTyping.{bool}
 use Rattle.kk_source.specs.State.{Value, Store, Environment, ended as core_ended}
 use Rattle.kk_source.specs.Live.{value_of}
+use Rattle.kk_source.specs.FormEffects.{is_true}
 use Rattle.kk_core.specs.Codes.{Code, give, branch, use_of, inside}
 use Rattle.kk_core.specs.CoreStates.{Join, CallFrame, stopped}
 use Rattle.rv_isa.specs.declared.asm.Action.TheVariants.{Label, Jump, Return}
@@ -22,10 +23,10 @@ use Rattle.rv_lower.proofs.Following.{IsWordOf, SameBelow, one_more, turn_at, le
 use Rattle.rv_lower.proofs.Environments.{holds_same, stands_at, stands_same, continues_same, receives}
 use Rattle.rv_lower.proofs.Performing.{put_same, put_other}
 use Rattle.rv_lower.proofs.Operating.{core_at, seen_step, is_true_of}
-use Rattle.rv_lower.proofs.Orders.{order_rises, split_at, behind_label, continues_lower}
-use Rattle.rv_lower.proofs.Arriving.{LoweredProgram, target, setting, Here, Goes, Wait, Follow, by_lines, arrives, stays, finds}
+use Rattle.rv_lower.proofs.Codes.{order_rises}
+use Rattle.rv_lower.proofs.Orders.{split_at, behind_label, continues_lower}
+use Rattle.rv_lower.proofs.Arriving.{LoweredProgram, texts, target, setting, Here, Goes, Wait, Follow, by_lines, arrives, stays, finds}
 use Rattle.rv_lower.proofs.Jumping as Jumping
-use Rattle.kk_source.specs.FormEffects.{is_true}
 
 -- the lines of a branch, by their parts
 record Parts (base : ℕ) (x label : ℕ) (whole left before part other after : List Line) : Type 0 where
@@ -64,14 +65,14 @@ module _ (program : LoweredProgram) where
       let cells' : ℕ → Option ℕ = put y (Some word) f.cells in
       arrives program 1 [] credit idle frame.rest (record { variable = y; value = given } ∷ frame.environment) frame.joins frames store input here.base (y + 1) waits.0 f.whole f.code cells' f.into fs world (turn_at whole (acts Return (x ∷ []) ∷ rest) cells into (f ∷ fs) world)
       (omega arith) (omega arith) (Jumping.return_runs (target program) x word y whole rest cells into f fs world at_x here.into here.held) here.formed
-      (receives program.texts program.signatures here.base f.whole frame.environment f.cells cells' here.low waits.0 frame.joins y t frame.rest f.code given word here.above
+      (receives (texts program) program.signatures here.base f.whole frame.environment f.cells cells' here.low waits.0 frame.joins y t frame.rest f.code given word here.above
       (λ z less. put_other y z word f.cells (λ e. omega (arith, e, less))) (put_same y word f.cells) (subst (λ u. IsWordOf t u word) (sym v_is) is) here.stands)
       waits.2 input_is bytes
 
   -- it goes to its variable, and the code goes on behind a label
   joins_at : (x y l word : ℕ) (t : TypeTree) (tail : Bool) (low high base : ℕ) (result : TypeTree) (join : Join) (outer : List Join) (environment : Environment) (frames : List CallFrame) (store : Store) (input : List ℕ) (credit idle : ℕ) (whole rest : List Line) (cells : ℕ → Option ℕ) (into : Option ℕ) (fs : List (Frame Line)) (world : World)
       → AreLinesFormed whole → cells x ≡ Some word → IsWordOf t (value_of environment x) word → low ≤ high
-      → Joined program.texts program.signatures base whole environment cells low (Continues program.texts program.signatures base whole environment cells low result outer) join y l tail high t
+      → Joined (texts program) program.signatures base whole environment cells low (Continues (texts program) program.signatures base whole environment cells low result outer) join y l tail high t
       → Wait program frames fs result → world.left ≡ input → All (λ byte. byte < 256) input
       → Follow program credit idle (seen_step (setting program) (core_at (give x) environment (join ∷ outer) frames store input)) (turn_at whole (copies_to x y ∷ acts (Jump l) [] ∷ rest) cells into fs world)
   joins_at x y l word t tail low high base result join outer environment frames store input credit idle whole rest cells into fs world formed at_x is rises joined waits input_is bytes =
@@ -81,13 +82,13 @@ module _ (program : LoweredProgram) where
       subst (λ z. Follow program credit idle ([], core_at join.rest (record { variable = z; value = given } ∷ environment) outer frames store input) from) joined.variable_is
       (arrives program 3 [] credit idle join.rest (record { variable = y; value = given } ∷ environment) outer frames store input base (y + 1) result whole joined.left cells' into fs world from (omega arith) (omega arith)
       (Jumping.join_runs (target program) x y word l whole joined.left rest cells into fs world at_x (finds program l whole joined.start joined.left formed joined.place)) formed
-      (receives program.texts program.signatures base whole environment cells cells' low result outer y t join.rest joined.left given word (omega (arith, rises, joined.above))
+      (receives (texts program) program.signatures base whole environment cells cells' low result outer y t join.rest joined.left given word (omega (arith, rises, joined.above))
       (λ z less. put_other y z word cells (λ e. omega (arith, e, less))) (put_same y word cells) is joined.stands)
       waits input_is bytes)
 
   gives_on : (inner : List Join) (goal : Goal) (x word : ℕ) (t : TypeTree) (tail : Bool) (low high base : ℕ) (result : TypeTree) (environment : Environment) (frames : List CallFrame) (store : Store) (input : List ℕ) (credit idle : ℕ) (whole rest : List Line) (cells : ℕ → Option ℕ) (into : Option ℕ) (fs : List (Frame Line)) (world : World)
       → AreLinesFormed whole → cells x ≡ Some word → IsWordOf t (value_of environment x) word → low ≤ high
-      → Continues program.texts program.signatures base whole environment cells low result inner goal tail high t
+      → Continues (texts program) program.signatures base whole environment cells low result inner goal tail high t
       → Wait program frames fs result → world.left ≡ input → All (λ byte. byte < 256) input
       → Follow program credit idle (seen_step (setting program) (core_at (give x) environment inner frames store input)) (turn_at whole (goal_lines goal x ++ rest) cells into fs world)
   gives_on [] returns x word t tail low high base result environment frames store input credit idle whole rest cells into fs world formed at_x is rises goes waits input_is bytes =
@@ -115,7 +116,7 @@ module _ (program : LoweredProgram) where
   at_use x rest environment inner frames store input credit idle base low result whole left cells into fs world idle_is formed here waits input_is bytes =
       let placed = here.placed in
       stays program credit idle rest environment inner frames store input base low result whole left cells into fs world idle_is formed
-      (stands_at program.texts program.signatures base whole environment cells low (Continues program.texts program.signatures base whole environment cells low result inner) [] [] low low (use_of x rest) rest left left here
+      (stands_at (texts program) program.signatures base whole environment cells low (Continues (texts program) program.signatures base whole environment cells low result inner) [] [] low low (use_of x rest) rest left left here
       (record {
         bound = placed.bound;
         before = placed.before;
@@ -140,8 +141,8 @@ module _ (program : LoweredProgram) where
       → Goes program base whole environment cells low result inner (one_more x here.placed.typed.0) (x + 1) rest (here.placed.lines.1 ++ here.placed.after)
   behind_block x block rest environment inner base low result whole left cells here place =
       let placed = here.placed in
-      stands_at program.texts program.signatures base whole environment cells low (Continues program.texts program.signatures base whole environment cells low result inner) [] (one_more x placed.typed.0) low (x + 1) (inside x block rest) rest left (placed.lines.1 ++ placed.after) here
-      (behind_label program.texts program.signatures base whole (placed.before ++ placed.lines.0) placed.lines.1 placed.after placed.first placed.lines.2 placed.last here.goal here.tail here.type (x + 1) here.high (x ∷ placed.bound) (one_more x placed.typed.0 ++ here.scope) rest
+      stands_at (texts program) program.signatures base whole environment cells low (Continues (texts program) program.signatures base whole environment cells low result inner) [] (one_more x placed.typed.0) low (x + 1) (inside x block rest) rest left (placed.lines.1 ++ placed.after) here
+      (behind_label (texts program) program.signatures base whole (placed.before ++ placed.lines.0) placed.lines.1 placed.after placed.first placed.lines.2 placed.last here.goal here.tail here.type (x + 1) here.high (x ∷ placed.bound) (one_more x placed.typed.0 ++ here.scope) rest
       placed.lines.4 place placed.typed.2 placed.ordered.1 placed.small (omega (arith, placed.short)))
 
   pub at_inside : (x : ℕ) (block rest : Code) (environment : Environment) (inner : List Join) (frames : List CallFrame) (store : Store) (input : List ℕ) (credit idle : ℕ) (base low : ℕ) (result : TypeTree) (whole left : List Line) (cells : ℕ → Option ℕ) (into : Option ℕ) (fs : List (Frame Line)) (world : World)
@@ -229,8 +230,8 @@ module _ (program : LoweredProgram) where
         };
         holds = holds_same here.scope low environment environment cells cells' same here.below here.holds;
         below = here.below;
-        goes = continues_lower program.texts program.signatures base whole environment cells' low result inner here.goal here.tail here.high placed.ordered.0 here.type rises
-            (continues_same program.texts program.signatures base whole environment environment cells cells' low low result inner same (omega arith) here.goal here.tail here.high here.type here.goes);
+        goes = continues_lower (texts program) program.signatures base whole environment cells' low result inner here.goal here.tail here.high placed.ordered.0 here.type rises
+            (continues_same (texts program) program.signatures base whole environment environment cells cells' low low result inner same (omega arith) here.goal here.tail here.high here.type here.goes);
       })
       waits input_is bytes
   at_side false x positive negative environment inner frames store input credit idle base low result whole left cells into fs world formed here waits input_is bytes at_x parts rises_low rises same =
@@ -242,10 +243,10 @@ module _ (program : LoweredProgram) where
       let cells' : ℕ → Option ℕ = Jumping.tested (target program) base (truth_word false) cells in
       arrives program 4 [] credit idle negative environment inner frames store input base placed.ordered.0 result whole there cells' into fs world (turn_at whole (test_lines base x placed.first ++ rest) cells into fs world) (omega arith) (omega arith)
       (Jumping.false_runs (target program) base x placed.first whole there rest cells into fs world at_x (finds program placed.first whole start there formed parts.label_at)) formed
-      (stands_same program.texts program.signatures base whole environment environment cells cells' low placed.ordered.0 (Continues program.texts program.signatures base whole environment cells low result inner) (Continues program.texts program.signatures base whole environment cells' placed.ordered.0 result inner) [] placed.ordered.0 negative there same rises_low
-      (continues_same program.texts program.signatures base whole environment environment cells cells' low placed.ordered.0 result inner same rises_low)
-      (stands_at program.texts program.signatures base whole environment cells low (Continues program.texts program.signatures base whole environment cells low result inner) [] [] low placed.ordered.0 (branch x positive negative) negative left there here
-      (behind_label program.texts program.signatures base whole start placed.lines.1 placed.after placed.first placed.lines.2 placed.last here.goal here.tail here.type placed.ordered.0 here.high placed.bound here.scope negative
+      (stands_same (texts program) program.signatures base whole environment environment cells cells' low placed.ordered.0 (Continues (texts program) program.signatures base whole environment cells low result inner) (Continues (texts program) program.signatures base whole environment cells' placed.ordered.0 result inner) [] placed.ordered.0 negative there same rises_low
+      (continues_same (texts program) program.signatures base whole environment environment cells cells' low placed.ordered.0 result inner same rises_low)
+      (stands_at (texts program) program.signatures base whole environment cells low (Continues (texts program) program.signatures base whole environment cells low result inner) [] [] low placed.ordered.0 (branch x positive negative) negative left there here
+      (behind_label (texts program) program.signatures base whole start placed.lines.1 placed.after placed.first placed.lines.2 placed.last here.goal here.tail here.type placed.ordered.0 here.high placed.bound here.scope negative
       placed.lines.4 parts.label_at placed.typed.2 placed.ordered.3 placed.small (omega (arith, placed.short)))))
       waits input_is bytes
 

@@ -16,7 +16,7 @@ use Rattle.rv_isa.specs.AsmCode.{Lines}
 use Rattle.rv_isa.specs.AsmMachine.{bound}
 use Rattle.rv_isa.specs.Frames.{empty, put, all_of}
 use Rattle.rv_isa.specs.WellFormed.{IsWellFormed, AreWellFormed}
-use Rattle.rv_lower.specs.Lines.{copies, temporaries}
+use Rattle.rv_lower.specs.Lines.{Texts, copies, temporaries}
 use Rattle.rv_lower.specs.Lowered.{returns, from_to, IsFunctionLowered, AreFunctionsLowered}
 use Rattle.rv_lower.proofs.Following.{IsWordOf, Holds, AreBelow, one_more, Stands, Continues}
 use Rattle.rv_lower.proofs.Environments.{below_bound}
@@ -169,7 +169,7 @@ parameters_below next (t ∷ ts) scope n below is = parameters_below (next + 1) 
 none_in : (x : ℕ) (t : TypeTree) → type_in [] x ≡ Some t → ⊥
 none_in x t typed = cc typed
 
-module _ (texts : List (List ℕ)) (signatures : List Signature) where
+module _ (texts : Texts) (signatures : List Signature) where
   -- a function of the core form, and its lines
   pub record Callable (codes : List FunctionCode) (functions : List Lines) (f : ℕ) (signature : Signature) : Type 0 where
     pub function : FunctionCode

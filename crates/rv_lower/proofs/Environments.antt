@@ -8,6 +8,7 @@ use Rattle.kk_source.specs.Live.{value_of}
 use Rattle.kk_core.specs.Codes.{Code}
 use Rattle.kk_core.specs.CoreStates.{Join}
 use Rattle.rv_isa.specs.AsmCode.{Line}
+use Rattle.rv_lower.specs.Lines.{Texts}
 use Rattle.rv_lower.specs.Lowered.{Goal, returns, joins}
 use Rattle.rv_lower.proofs.Following.{IsWordOf, Holds, AreBelow, SameBelow, one_more, Placed, Stands, Continues}
 
@@ -55,7 +56,7 @@ below_one false x z s t scope is others typed = omega (arith, others typed)
 pub below_bound : (scope : Scope) (x : ℕ) (s : TypeTree) → AreBelow scope x → AreBelow (one_more x s ++ scope) (x + 1)
 below_bound scope x s below = λ z t typed. below_one (x == z) x z s t scope (λ e. eqb-true x z e) (λ old. below z t old) typed
 
-module _ (texts : List (List ℕ)) (signatures : List Signature) where
+module _ (texts : Texts) (signatures : List Signature) where
   -- another code whose value goes to the same place
   pub stands_at : (base : ℕ) (whole : List Line) (environment : Environment) (cells : ℕ → Option ℕ) (low : ℕ) (later : Goal → Bool → ℕ → TypeTree → Type 0) (new new' : Scope) (from from' : ℕ) (code code' : Code) (left left' : List Line)
       → (stands : Stands texts signatures base whole environment cells low later new from code left)

@@ -5,10 +5,11 @@ use Rattle.kk_syntax.specs.PlainTyping.{Signature, Scope, type_in}
 use Rattle.kk_source.specs.State.{Value, integer, unit, Environment}
 use Rattle.kk_source.specs.Live.{value_of}
 use Rattle.kk_source.specs.Ends.{exit_of}
-use Rattle.kk_core.specs.Codes.{Code, give, tail_call, branch, case, compute, use_of, unpack, inside}
-use Rattle.kk_core.specs.CoreStates.{Join, CallFrame, CoreControl, running, stopped}
+use Rattle.kk_source.specs.FormEffects.{truth}
+use Rattle.kk_core.specs.Codes.{Code, use_of, inside}
+use Rattle.kk_core.specs.CoreStates.{Join, CallFrame, CoreControl, running, stopped, CoreState}
 use Rattle.kk_core.specs.CoreTyping.{HasCodeType}
-use Rattle.kk_core.specs.Sizes.{forms, Ordered}
+use Rattle.kk_core.specs.Sizes.{forms, most_forms, Ordered}
 use Rattle.rv_isa.specs.declared.asm.Action.TheVariants.{Label}
 use Rattle.rv_isa.specs.Arithmetic.{signed}
 use Rattle.rv_isa.specs.Processor.{Ending, exited}
@@ -18,11 +19,9 @@ use Rattle.rv_isa.specs.Frames.{Frame}
 use Rattle.rv_isa.specs.Primitives.{go, ended}
 use Rattle.rv_isa.specs.WellFormed.{AreLinesFormed}
 use Rattle.rv_world.specs.World.{World}
-use Rattle.rv_lower.specs.Lines.{acts, unit_word}
+use Rattle.rv_lower.specs.Lines.{Texts, acts, unit_word}
 use Rattle.rv_lower.specs.Lowered.{Goal, returns, joins, CodeLines}
 use Rattle.rv_lower.proofs.Words.{truth_word}
-use Rattle.kk_source.specs.FormEffects.{truth}
-use Rattle.kk_core.specs.CoreMachine.{CoreState}
 
 -- ---- values
 
@@ -53,10 +52,6 @@ one_more x t = record { variable = x; type = t } ∷ []
 
 -- ---- codes
 
--- The most forms of a function's body.
-abbrev pub most_forms : ℕ
-most_forms = 961
-
 -- ---- turns and steps
 
 -- a frame that holds no tokens
@@ -68,20 +63,15 @@ turn_at whole left cells into fs world = go (record { frames = frame_at whole le
 
 -- the steps of the core machine before the next one that a line does
 abbrev pub lead : Code → ℕ
-lead (give x) = 0
-lead (tail_call f arguments) = 0
-lead (branch x positive negative) = 0
-lead (case x arms) = 0
-lead (compute x operation rest) = 0
 lead (use_of x rest) = suc (lead rest)
-lead (unpack x fields rest) = 0
 lead (inside x block rest) = suc (lead block)
+lead code = 0
 
 abbrev pub lead_of : CoreControl → ℕ
 lead_of (running code environment inner) = lead code
 lead_of (stopped by) = 0
 
-module _ (texts : List (List ℕ)) (signatures : List Signature) where
+module _ (texts : Texts) (signatures : List Signature) where
   -- Lines that are left are those of a code, which stands in a function whose temporaries are from `base` on. The code's variables are from `from` on, and below `high`.
   pub record Placed (base : ℕ) (whole : List Line) (goal : Goal) (tail : Bool) (type : TypeTree) (high : ℕ) (scope : Scope) (from : ℕ) (code : Code) (left : List Line) : Type 0 where
     pub bound : List ℕ

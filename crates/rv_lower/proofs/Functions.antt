@@ -6,14 +6,15 @@ use Rattle.kk_syntax.specs.Shapes.{is_among as is_bound}
 use Rattle.kk_syntax.specs.PlainTyping.{Signature, with_parameters}
 use Rattle.kk_core.specs.Codes.{FunctionCode, ProgramCode}
 use Rattle.kk_core.specs.CoreTyping.{IsCodeTyped, AreCodesTyped, IsCoreTyped, IsFunctionSmall, AreSmall, IsSmall, all_forms}
-use Rattle.kk_core.specs.Sizes.{forms, below}
+use Rattle.kk_core.specs.Sizes.{forms, below, most_parameters}
 use Rattle.rv_isa.specs.AsmCode.{Lines}
 use Rattle.rv_isa.specs.Frames.{is_among}
 use Rattle.rv_isa.specs.WellFormed.{most_values, AreDistinct, IsWellFormed, AreWellFormed, all_lines}
+use Rattle.rv_lower.specs.Lines.{Texts}
 use Rattle.rv_lower.specs.Lowered.{returns, from_to, IsFunctionLowered, AreFunctionsLowered}
 use Rattle.rv_lower.proofs.Formed.{Each, Readable, Good, HasRoom, all_each}
 use Rattle.rv_lower.proofs.Operations.{AreFew, only_bound}
-use Rattle.rv_lower.proofs.Codes.{Fits, ordered_up, code_fits}
+use Rattle.rv_lower.proofs.Codes.{Fits, order_rises, code_fits}
 
 -- the numbers of parameters
 below_less : (n v : ℕ) → is_bound (below n) v ≡ true → v < n
@@ -57,7 +58,7 @@ record IsFunctionFormed (function : FunctionCode) (lines : Lines) : Type 0 where
   pub formed : IsWellFormed lines
   pub few : length lines.code ≤ 12 * forms function.body
 
-module _ (signatures : List Signature) (few_parameters : AreFew signatures) (texts : List (List ℕ)) where
+module _ (signatures : List Signature) (few_parameters : AreFew signatures) (texts : Texts) where
   function_formed : (function : FunctionCode) (signature : Signature) (lines : Lines) → IsCodeTyped signatures function signature → IsFunctionSmall function → IsFunctionLowered texts function lines
       → IsFunctionFormed function lines
   function_formed function signature lines typed small lowered = record {
@@ -74,7 +75,7 @@ module _ (signatures : List Signature) (few_parameters : AreFew signatures) (tex
   }
     where
       up : function.parameters ≤ function.variables
-      up = ordered_up signatures few_parameters function.variables texts true (with_parameters 0 signature.parameters []) function.body signature.result (below function.parameters) function.parameters function.variables typed.body typed.ordered
+      up = order_rises signatures true (with_parameters 0 signature.parameters []) function.body signature.result (below function.parameters) function.parameters function.variables typed.body typed.ordered
 
       room : HasRoom function.variables (below function.parameters)
       room = record { room = let few = small.variables in omega (arith, few); low = λ v is. let less = below_less function.parameters v is in let le = up in omega (arith, less, le) }
@@ -106,7 +107,7 @@ module _ (signatures : List Signature) (few_parameters : AreFew signatures) (tex
       let few_first = first.few in let few_later = later.few in
       record { formed = (first.formed, later.formed); few = omega (arith, few_first, few_later); as_many = ap suc later.as_many }
 
--- each function of a small program has at most eight parameters
+-- each function of a small program has as few parameters as it may
 few_of : (signatures : List Signature) (functions : List FunctionCode) (own : List Signature) → AreCodesTyped signatures functions own → AreSmall functions → AreFew own
 few_of signatures [] own typed small f signature is = absurd (nothing (ap (λ (of : List Signature). slice_get of f) (sym typed) ∙ is))
   where
@@ -114,11 +115,11 @@ few_of signatures [] own typed small f signature is = absurd (nothing (ap (λ (o
     nothing is = grind (arith, is)
 few_of signatures (function ∷ functions) [] typed small f signature is = absurd typed
 few_of signatures (function ∷ functions) (first ∷ own) typed small zero signature is =
-    let same : first ≡ signature = grind (arith, is) in subst (λ (of : Signature). length of.parameters ≤ 8) same (let few = small.0.parameters in let many = typed.0.parameters in omega (arith, few, many))
+    let same : first ≡ signature = grind (arith, is) in subst (λ (of : Signature). length of.parameters ≤ most_parameters) same (let few = small.0.parameters in let many = typed.0.parameters in omega (arith, few, many))
 few_of signatures (function ∷ functions) (first ∷ own) typed small (suc f) signature is = few_of signatures functions own typed.1 small.1 f signature is
 
 -- the functions of a typed and small program, however they are lowered
-pub lowered_formed : (code : ProgramCode) (texts : List (List ℕ)) (each : List Lines) → IsCoreTyped code → IsSmall code → AreFunctionsLowered texts code.functions each
+pub lowered_formed : (code : ProgramCode) (texts : Texts) (each : List Lines) → IsCoreTyped code → IsSmall code → AreFunctionsLowered texts code.functions each
     → AreWellFormed each × (all_lines each ≤ 12 * all_forms code.functions) × (length each ≡ length code.functions)
 lowered_formed code texts each typed small lowered =
     let all = functions_formed typed.signatures (few_of typed.signatures code.functions typed.signatures typed.functions small.functions) texts code.functions typed.signatures each typed.functions small.functions lowered in

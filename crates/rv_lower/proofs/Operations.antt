@@ -1,4 +1,4 @@
--- The lines of an operation: no label stands in them, they are few, and before well-formed code they are well formed.
+-- The lines of a form: no label stands in them, they are few, and before well-formed code they are well formed.
 use Rattle.std.proofs.Common.{◌≡◌, ℕ, suc, ◌+◌, ◌<◌, ◌≤◌, ◌==◌, ◌⊎◌, inl, inr, true, false, List, [], ◌∷◌, ◌++◌, length, Option, Some, None, refl, sym, ap, subst, ◌∙◌, arith, append_assoc, length-append}
 use Rattle.std.specs.Prelude.{slice_get}
 use Rattle.std.proofs.lemmas.Bool.{false≢true, or_cases}
@@ -6,13 +6,14 @@ use Rattle.kk_syntax.specs.declared.operator.UnaryOperator.TheVariants.{Negate, 
 use Rattle.kk_syntax.specs.declared.operator.BinaryOperator.{BinaryOperator}
 use Rattle.kk_syntax.specs.declared.operator.BinaryOperator.TheVariants.{Add, Subtract, Multiply, Divide, Remainder, Equal, NotEqual, Less, LessEqual, Greater, GreaterEqual}
 use Rattle.kk_syntax.specs.declared.program.Form.{Form}
-use Rattle.kk_syntax.specs.declared.program.Form.TheVariants.{Unary, Binary, Print, Construct, Call}
+use Rattle.kk_syntax.specs.declared.program.Form.TheVariants.{Number, Unit as Nothing, ReadByte, PrintText, Unary, Binary, Print, Construct, Call}
+use Rattle.kk_syntax.specs.Programs.{text_at}
 use Rattle.kk_syntax.specs.Shapes.{is_among as is_bound}
 use Rattle.kk_syntax.specs.Types.{TypeTree}
 use Rattle.kk_syntax.specs.PlainTyping.{Signature, Scope, IsFormTyped}
+use Rattle.kk_source.specs.FormEffects.{piece_of}
 use Rattle.kk_core.specs.CoreTyping.{HaveTypes}
-use Rattle.kk_core.specs.Needed.{read_by}
-use Rattle.kk_core.specs.Sizes.{AreBound}
+use Rattle.kk_core.specs.Sizes.{AreBound, most_parameters}
 use Rattle.rv_isa.specs.declared.asm.Action.{Action}
 use Rattle.rv_isa.specs.declared.asm.Action.TheVariants as OfAction
 use Rattle.rv_isa.specs.declared.asm.Operation.{Operation as AsmOperation}
@@ -24,10 +25,9 @@ use Rattle.rv_isa.specs.AsmCode.{Line}
 use Rattle.rv_isa.specs.Routines.{taken_by}
 use Rattle.rv_isa.specs.AsmMachine.{is_label}
 use Rattle.rv_isa.specs.WellFormed.{is_written, is_alive, is_alive_behind, most_values, AreLabelsAhead, most_args, has_value, may_give, HoldsNone}
-use Rattle.rv_lower.specs.Lines.{computes, sets, copies_to, acts, unit_word, constant_word, choice_of, copies, temporaries, MakesTruth, Compares, ComparesNot, BinaryLines, PrintLines, FormLines, OperationLines}
+use Rattle.rv_lower.specs.Lines.{Texts, computes, sets, copies_to, acts, unit_word, constant_word, choice_of, copies, temporaries, MakesTruth, Compares, ComparesNot, BinaryLines, PrintLines, FormLines}
 use Rattle.rv_lower.proofs.Formed.{Each, Readable, Good, HasRoom, weaker, room_more, to_variable, to_temporary, good_computes, readable_small, readable_more, readable_bound, readable_here, good_copies, good_hands, none_some, some_same}
 use Rattle.rv_lower.proofs.AbsentLabels.{HasNo, has_no_append}
-use Rattle.kk_source.specs.FormEffects.{piece_of}
 
 -- Lines lead from code before which C is alive to code before which B is alive: there are at most n of them.
 pub record Leads (B C : ℕ → Type 0) (n : ℕ) (own : List Line) : Type 0 where
@@ -55,9 +55,9 @@ as_many scope [] ts is = ap length (sym is)
 as_many scope (x ∷ xs) [] is = absurd is
 as_many scope (x ∷ xs) (t ∷ ts) is = ap suc (as_many scope xs ts is.1)
 
--- the functions have at most eight parameters
+-- the functions have as few parameters as they may
 abbrev pub AreFew : List Signature → Type 0
-AreFew signatures = (f : ℕ) (signature : Signature) → slice_get signatures f ≡ Some signature → length signature.parameters ≤ 8
+AreFew signatures = (f : ℕ) (signature : Signature) → slice_get signatures f ≡ Some signature → length signature.parameters ≤ most_parameters
 
 module _ (base : ℕ) (bound : List ℕ) (has : HasRoom base bound) where
   -- what may be read with the temporaries below a limit
@@ -261,48 +261,42 @@ module _ (base : ℕ) (bound : List ℕ) (has : HasRoom base bound) (x : ℕ) (l
       serves (length arguments + 1) _ (omega (arith, few)) (leads_then (Before base) (Before (base + length arguments)) (Behind base) (length arguments) 1 (copies base arguments) _ (copied base bound has arguments few each)
       (gives_variable arguments (OfAction.Call f) (λ l. refl) (λ rest. tt) tt few few refl (λ rest v is. is)))
 
-  module _ (signatures : List Signature) (few_parameters : AreFew signatures) (scope : Scope) where
+  module _ (signatures : List Signature) (few_parameters : AreFew signatures) (texts : Texts) where
+    prints : (bytes : List ℕ) (lines : List Line) → PrintLines base texts.constants bytes lines → Leads (Before base) (Before base) 3 lines
+    prints [] lines is = subst (Leads (Before base) (Before base) 3) (sym is) (record { no_label = λ l. tt; few = omega arith; good = λ rest good. good })
+    prints (byte ∷ bytes) lines is =
+        subst (Leads (Before base) (Before base) 3) (sym is.2) (serves_two Routine.PrintText (Op.La is.0) (Op.Li (length (byte ∷ bytes))) [] refl refl refl (omega arith) tt)
+
     -- a form on as many variables as it takes
-    form : (of : Form) (arguments : List ℕ) (ts : List TypeTree) (t : TypeTree) (lines : List Line) → length arguments ≡ length ts → IsFormTyped signatures of ts t → AreBound bound arguments
-        → FormLines base x of arguments lines → Serves lines
-    form (Unary Negate) [] ts t lines same typed each is = let n = ap length typed.0 in absurd (omega (arith, same, n))
-    form (Unary Negate) (a ∷ []) ts t lines same typed each is =
+    pub form_serves : (of : Form) (arguments : List ℕ) (ts : List TypeTree) (t : TypeTree) (lines : List Line) → length arguments ≡ length ts → IsFormTyped signatures of ts t → AreBound bound arguments
+        → FormLines base texts x of arguments lines → Serves lines
+    form_serves (Number value) arguments ts t lines same typed each is = subst Serves (sym is.3) (serves 1 _ (omega arith) (sets_only is.0))
+    form_serves Nothing arguments ts t lines same typed each is = subst Serves (sym is) (serves 1 _ (omega arith) (sets_only unit_word))
+    form_serves ReadByte arguments ts t lines same typed each is = subst Serves (sym is) (serves 1 _ (omega arith)
+        (leads_weaker (Before (base + 0)) (Before base) (Behind base) (Behind base) 1 1 _ (readable_more base (base + 0) base bound (omega arith)) (λ v is. is) (omega arith)
+        (gives_variable [] (OfAction.Routine Routine.ReadByte) (λ l. refl) (λ rest. tt) tt (omega arith) (omega arith) refl (λ rest v is. is))))
+    form_serves (PrintText how text) arguments ts t lines same typed each is =
+        subst Serves (sym is.2) (serves 4 _ (omega arith) (leads_then (Before base) (Before base) (Behind base) 3 1 is.0 _ (prints (piece_of how (text_at texts.literals text)) is.0 is.1) (sets_only unit_word)))
+    form_serves (Unary Negate) [] ts t lines same typed each is = let n = ap length typed.0 in absurd (omega (arith, same, n))
+    form_serves (Unary Negate) (a ∷ []) ts t lines same typed each is =
         subst Serves (sym is) (serves 2 _ (omega arith) (forgets (base + 1) 2 _ (omega arith)
         (leads_then (Before base) (Before (base + 1)) (Behind (base + 1)) 1 1 (sets 0 base ∷ []) _ (next_temporary base bound has base (Op.Li 0) [] (omega arith) refl (omega arith) tt)
         (writes (base + 1) _ (base ∷ a ∷ []) (omega arith) refl (omega arith) (inr (omega arith, omega arith), (inl each.0, tt))))))
-    form (Unary Negate) (a ∷ b ∷ more) ts t lines same typed each is = let n = ap length typed.0 in absurd (omega (arith, same, n))
-    form (Unary Not) [] ts t lines same typed each is = let n = ap length typed.0 in absurd (omega (arith, same, n))
-    form (Unary Not) (a ∷ []) ts t lines same typed each is =
+    form_serves (Unary Negate) (a ∷ b ∷ more) ts t lines same typed each is = let n = ap length typed.0 in absurd (omega (arith, same, n))
+    form_serves (Unary Not) [] ts t lines same typed each is = let n = ap length typed.0 in absurd (omega (arith, same, n))
+    form_serves (Unary Not) (a ∷ []) ts t lines same typed each is =
         subst Serves (sym is.2) (serves 1 _ (omega arith) (writes base _ (a ∷ []) (omega arith) refl (omega arith) (inl each.0, tt)))
-    form (Unary Not) (a ∷ b ∷ more) ts t lines same typed each is = let n = ap length typed.0 in absurd (omega (arith, same, n))
-    form (Binary operator) [] ts t lines same typed each is = let n = ap length typed.0 in absurd (omega (arith, same, n))
-    form (Binary operator) (a ∷ []) ts t lines same typed each is = let n = ap length typed.0 in absurd (omega (arith, same, n))
-    form (Binary operator) (a ∷ b ∷ []) ts t lines same typed each is = binary operator a b lines each.0 each.1.0 is
-    form (Binary operator) (a ∷ b ∷ c ∷ more) ts t lines same typed each is = let n = ap length typed.0 in absurd (omega (arith, same, n))
-    form (Print how) [] ts t lines same typed each is = let n = ap length typed.0 in absurd (omega (arith, same, n))
-    form (Print how) (a ∷ []) ts t lines same typed each is =
+    form_serves (Unary Not) (a ∷ b ∷ more) ts t lines same typed each is = let n = ap length typed.0 in absurd (omega (arith, same, n))
+    form_serves (Binary operator) [] ts t lines same typed each is = let n = ap length typed.0 in absurd (omega (arith, same, n))
+    form_serves (Binary operator) (a ∷ []) ts t lines same typed each is = let n = ap length typed.0 in absurd (omega (arith, same, n))
+    form_serves (Binary operator) (a ∷ b ∷ []) ts t lines same typed each is = binary operator a b lines each.0 each.1.0 is
+    form_serves (Binary operator) (a ∷ b ∷ c ∷ more) ts t lines same typed each is = let n = ap length typed.0 in absurd (omega (arith, same, n))
+    form_serves (Print how) [] ts t lines same typed each is = let n = ap length typed.0 in absurd (omega (arith, same, n))
+    form_serves (Print how) (a ∷ []) ts t lines same typed each is =
         subst Serves (sym is) (serves 4 _ (omega arith) (leads_then (Before base) (Before base) (Behind base) 3 1 (copies_to a base ∷ sets (choice_of how) (base + 1) ∷ acts (OfAction.Routine Routine.PrintInt) (base ∷ (base + 1) ∷ []) ∷ []) _
         (serves_two Routine.PrintInt Op.Mv (Op.Li (choice_of how)) (a ∷ []) refl refl refl (omega arith) (inl each.0, tt)) (sets_only unit_word)))
-    form (Print how) (a ∷ b ∷ more) ts t lines same typed each is = let n = ap length typed.0 in absurd (omega (arith, same, n))
-    form (Construct c) [] ts t lines same typed each is = subst Serves (sym is) (serves 1 _ (omega arith) (sets_only (constant_word c)))
-    form (Construct c) (a ∷ more) ts t lines same typed each is = let n = ap length typed.0 in absurd (omega (arith, same, n))
-    form (Call f) arguments ts t lines same typed each is =
+    form_serves (Print how) (a ∷ b ∷ more) ts t lines same typed each is = let n = ap length typed.0 in absurd (omega (arith, same, n))
+    form_serves (Construct c) [] ts t lines same typed each is = subst Serves (sym is) (serves 1 _ (omega arith) (sets_only (constant_word c)))
+    form_serves (Construct c) (a ∷ more) ts t lines same typed each is = let n = ap length typed.0 in absurd (omega (arith, same, n))
+    form_serves (Call f) arguments ts t lines same typed each is =
         subst Serves (sym is) (call_lines f arguments (let few = few_parameters f _ typed in omega (arith, same, few)) each)
-
-    prints : (texts : List (List ℕ)) (bytes : List ℕ) (lines : List Line) → PrintLines base texts bytes lines → Leads (Before base) (Before base) 3 lines
-    prints texts [] lines is = subst (Leads (Before base) (Before base) 3) (sym is) (record { no_label = λ l. tt; few = omega arith; good = λ rest good. good })
-    prints texts (byte ∷ bytes) lines is =
-        subst (Leads (Before base) (Before base) 3) (sym is.2) (serves_two Routine.PrintText (Op.La is.0) (Op.Li (length (byte ∷ bytes))) [] refl refl refl (omega arith) tt)
-
-    -- an operation
-    pub operation_serves : (texts : List (List ℕ)) (operation : Operation) (t : TypeTree) (lines : List Line) → IsOperationTyped signatures scope operation t → AreBound bound (read_by operation)
-        → OperationLines base texts x operation lines → Serves lines
-    operation_serves texts (number value) t lines typed each is = subst Serves (sym is.3) (serves 1 _ (omega arith) (sets_only is.0))
-    operation_serves texts unit t lines typed each is = subst Serves (sym is) (serves 1 _ (omega arith) (sets_only unit_word))
-    operation_serves texts read_byte t lines typed each is = subst Serves (sym is) (serves 1 _ (omega arith)
-        (leads_weaker (Before (base + 0)) (Before base) (Behind base) (Behind base) 1 1 _ (readable_more base (base + 0) base bound (omega arith)) (λ v is. is) (omega arith)
-        (gives_variable [] (OfAction.Routine Routine.ReadByte) (λ l. refl) (λ rest. tt) tt (omega arith) (omega arith) refl (λ rest v is. is))))
-    operation_serves texts (print_text how text) t lines typed each is =
-        subst Serves (sym is.2) (serves 4 _ (omega arith) (leads_then (Before base) (Before base) (Behind base) 3 1 is.0 _ (prints texts (piece_of how text) is.0 is.1) (sets_only unit_word)))
-    operation_serves texts (apply of arguments) t lines typed each is =
-        form of arguments typed.0 t lines (as_many scope arguments typed.0 typed.1) typed.2 each is

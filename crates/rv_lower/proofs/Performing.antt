@@ -1,4 +1,4 @@
--- What the lines of an operation do.
+-- What the lines of a form do.
 use Rattle.std.proofs.Common.{◌≡◌, ◌≢◌, ◌+◌, ◌-◌, ◌^◌, ◌<◌, ◌≤◌, ℕ, suc, ℤ, List, [], ◌∷◌, ◌++◌, length, map, Option, Some, None, Bool, false, not, cond, All, w32, nat_lt, int_lt, int_le, int_eq, refl, sym, ◌∙◌, ap, subst, arith, lit<, append_assoc, eq-eqb, ne_eqb}
 use Rattle.std.specs.Prelude.{bit_xor, slice_get}
 use Rattle.std.specs.Fmt.{signed_decimal}
@@ -13,6 +13,7 @@ use Rattle.kk_syntax.specs.declared.operator.PrintForm.{PrintForm}
 use Rattle.kk_syntax.specs.Types.{TypeTree, int32, unit_type}
 use Rattle.kk_syntax.specs.PlainTyping.{bool, binary_type}
 use Rattle.kk_source.specs.State.{Value, integer, unit}
+use Rattle.kk_source.specs.FormEffects.{truth, number_result, byte_value, piece_of}
 use Rattle.kk_source.specs.Arithmetic.{negation_of, sum_of, difference_of, product_of, quotient_of, remainder_of}
 use Rattle.rv_isa.specs.declared.asm.Action.{Action}
 use Rattle.rv_isa.specs.declared.asm.Operation.{Operation as AsmOperation}
@@ -38,7 +39,6 @@ use Rattle.rv_lower.proofs.Printing.{int_printed, few_steps_of, text_found}
 use Rattle.rv_lower.proofs.Following.{IsWordOf, frame_at, turn_at}
 use Rattle.rv_lower.proofs.Runs.{Target}
 use Rattle.rv_lower.proofs.Runs as Runs
-use Rattle.kk_source.specs.FormEffects.{truth, number_result, byte_value, piece_of}
 
 -- ---- cells
 
@@ -109,7 +109,7 @@ module _ (target : Target) where
         there = one.there;
       }
 
-  -- what an operation does: it gives a value of a type, and leaves the world with these events
+  -- what a form does: it gives a value of a type, and leaves the world with these events
   pub record Performs (own : List Line) (x : ℕ) (t : TypeTree) (v : Value) (cells : ℕ → Option ℕ) (world world' : World) (events : List Event) : Type 0 where
     pub steps : ℕ
     pub some : 1 ≤ steps

@@ -13,8 +13,9 @@ use Rattle.rv_isa.specs.AsmCode.{Line, Lines}
 use Rattle.rv_world.specs.Operations.{all_bytes}
 use Rattle.rv_lower.specs.declared.lowering.Lowering.{Lowering}
 use Rattle.rv_lower.specs.Form.{IsLoweredForm}
+use Rattle.rv_lower.specs.Lines.{Texts}
 use Rattle.rv_lower.specs.Lowered.{returns, CodeLines, from_to, IsFunctionLowered, AreFunctionsLowered}
-use Rattle.rv_lower.specs.Written.{lines_written, texts_written, WroteCode, LoweredFunction, LoweredFunctions}
+use Rattle.rv_lower.specs.Written.{lines_written, texts_written, texts_of, WroteCode, LoweredFunction, LoweredFunctions}
 use Rattle.rv_lower.proofs.Functions.{lowered_formed}
 use Rattle.rv_lower.proofs.Grown.{all_bytes_append}
 
@@ -35,25 +36,25 @@ pub from_to_up : (n : ℕ) → from_to 0 n ++ n ∷ [] ≡ from_to 0 (n + 1)
 from_to_up n = let e : n ≡ 0 + n = omega arith in ap (λ (x : ℕ). from_to 0 n ++ x ∷ []) e ∙ from_to_more 0 n
 
 -- a function, from the code of its body
-pub function_of : (function : FunctionCode) (params : List ℕ) (a b : Lowering) → lines_written a ≡ [] → a.base ≡ function.variables → a.next_label ≡ 0 → params ≡ from_to 0 function.parameters
-    → WroteCode returns function.body a b → LoweredFunction function (record { params = params; code = lines_written b }) (texts_written a) (texts_written b)
-function_of function params a b none base label params_are wrote = record {
+pub function_of : (literals : List (List ℕ)) (function : FunctionCode) (params : List ℕ) (a b : Lowering) → lines_written a ≡ [] → a.base ≡ function.variables → a.next_label ≡ 0 → params ≡ from_to 0 function.parameters
+    → WroteCode literals returns function.body a b → LoweredFunction literals function (record { params = params; code = lines_written b }) (texts_written a) (texts_written b)
+function_of literals function params a b none base label params_are wrote = record {
   more = wrote.grows.more;
   texts = wrote.grows.texts;
   few = wrote.grows.few;
   is = λ later. record {
     params = params_are;
     labels = b.next_label;
-    code = subst (λ (lines : List Line). CodeLines function.variables (texts_written b ++ later) returns 0 function.body lines b.next_label) (sym (wrote.grows.code ∙ ap (λ (lines : List Line). lines ++ wrote.lines) none))
-        (subst (λ (low : ℕ). CodeLines function.variables (texts_written b ++ later) returns low function.body wrote.lines b.next_label) label
-        (subst (λ (base : ℕ). CodeLines base (texts_written b ++ later) returns a.next_label function.body wrote.lines b.next_label) base (wrote.are later)));
+    code = subst (λ (lines : List Line). CodeLines function.variables (texts_of literals (texts_written b ++ later)) returns 0 function.body lines b.next_label) (sym (wrote.grows.code ∙ ap (λ (lines : List Line). lines ++ wrote.lines) none))
+        (subst (λ (low : ℕ). CodeLines function.variables (texts_of literals (texts_written b ++ later)) returns low function.body wrote.lines b.next_label) label
+        (subst (λ (base : ℕ). CodeLines base (texts_of literals (texts_written b ++ later)) returns a.next_label function.body wrote.lines b.next_label) base (wrote.are later)));
   };
 }
 
-pub functions_none : LoweredFunctions [] [] []
-functions_none = record { few = omega arith; are = λ later. refl }
+pub functions_none : {literals : List (List ℕ)} → LoweredFunctions literals [] [] []
+functions_none {literals} = record { few = omega arith; are = λ later. refl }
 
-functions_more : (texts : List (List ℕ)) (functions : List FunctionCode) (each : List Lines) (function : FunctionCode) (lines : Lines) → AreFunctionsLowered texts functions each → IsFunctionLowered texts function lines
+functions_more : (texts : Texts) (functions : List FunctionCode) (each : List Lines) (function : FunctionCode) (lines : Lines) → AreFunctionsLowered texts functions each → IsFunctionLowered texts function lines
     → AreFunctionsLowered texts (functions ++ function ∷ []) (each ++ lines ∷ [])
 functions_more texts [] each function lines are one = subst (λ (of : List Lines). AreFunctionsLowered texts (function ∷ []) (of ++ lines ∷ [])) (sym are) (one, refl)
 functions_more texts (first ∷ functions) [] function lines are one = absurd are
@@ -63,13 +64,13 @@ forms_more : (functions : List FunctionCode) (function : FunctionCode) → all_f
 forms_more [] function = omega arith
 forms_more (first ∷ functions) function = let more = forms_more functions function in omega (arith, more)
 
-pub functions_then : {functions : List FunctionCode} {each : List Lines} {old new : List (List ℕ)} {function : FunctionCode} {lines : Lines} → LoweredFunctions functions each old → LoweredFunction function lines old new
-    → LoweredFunctions (functions ++ function ∷ []) (each ++ lines ∷ []) new
-functions_then {functions} {each} {old} {new} {function} {lines} before one = record {
+pub functions_then : {literals : List (List ℕ)} {functions : List FunctionCode} {each : List Lines} {old new : List (List ℕ)} {function : FunctionCode} {lines : Lines} → LoweredFunctions literals functions each old → LoweredFunction literals function lines old new
+    → LoweredFunctions literals (functions ++ function ∷ []) (each ++ lines ∷ []) new
+functions_then {literals} {functions} {each} {old} {new} {function} {lines} before one = record {
   few = let bytes = ap (λ (texts : List (List ℕ)). length (all_bytes texts)) one.texts ∙ all_bytes_append old one.more in
       let all = forms_more functions function in let few_before = before.few in let few_one = one.few in omega (arith, bytes, all, few_before, few_one);
-  are = λ later. functions_more (new ++ later) functions each function lines
-      (subst (λ (texts : List (List ℕ)). AreFunctionsLowered texts functions each) (sym (ap (λ (texts : List (List ℕ)). texts ++ later) one.texts ∙ append_assoc old one.more later)) (before.are (one.more ++ later)))
+  are = λ later. functions_more (texts_of literals (new ++ later)) functions each function lines
+      (subst (λ (texts : List (List ℕ)). AreFunctionsLowered (texts_of literals texts) functions each) (sym (ap (λ (texts : List (List ℕ)). texts ++ later) one.texts ∙ append_assoc old one.more later)) (before.are (one.more ++ later)))
       (one.is later);
 }
 
@@ -88,14 +89,14 @@ codes_all functions slice i same le =
     ap (λ (fs : List CoreFunction). map function_code (take i fs)) (sym same) ∙ ap (map function_code) (take_all i slice le) ∙ ap (map function_code) same
 
 -- a whole program
-pub form_of : (code : ProgramCode) (each : List Lines) (texts : List (List ℕ)) → IsCoreTyped code → IsSmall code → LoweredFunctions code.functions each texts → IsLoweredForm code each texts
+pub form_of : (code : ProgramCode) (each : List Lines) (texts : List (List ℕ)) → IsCoreTyped code → IsSmall code → LoweredFunctions code.texts code.functions each texts → IsLoweredForm code each texts
 form_of code each texts typed small all =
-    let lowered = subst (λ (of : List (List ℕ)). AreFunctionsLowered of code.functions each) (append-nil texts) (all.are []) in
-    let formed = lowered_formed code texts each typed small lowered in
+    let lowered = subst (λ (of : List (List ℕ)). AreFunctionsLowered (texts_of code.texts of) code.functions each) (append-nil texts) (all.are []) in
+    let formed = lowered_formed code (texts_of code.texts texts) each typed small lowered in
     record { lowered = lowered; formed = formed.0; as_many = formed.2; few_lines = formed.1; few_bytes = all.few }
 
 -- the signature of the first function of a typed program is that of its code
-first_signature : (signatures own : List Signature) (functions : List FunctionCode) (each : List Lines) (texts : List (List ℕ)) (signature : Signature) → AreCodesTyped signatures functions own
+first_signature : (signatures own : List Signature) (functions : List FunctionCode) (each : List Lines) (texts : Texts) (signature : Signature) → AreCodesTyped signatures functions own
     → AreFunctionsLowered texts functions each → slice_get own 0 ≡ Some signature → length signature.parameters ≡ 0 → (main : Lines) × (slice_get each 0 ≡ Some main) × (main.params ≡ [])
 first_signature signatures own [] each texts signature typed lowered is none = absurd (nothing (ap (λ (of : List Signature). slice_get of 0) (sym typed) ∙ is))
   where
@@ -110,7 +111,7 @@ first_signature signatures (first ∷ own) (function ∷ functions) (lines ∷ e
 
 pub asm_of : (code : ProgramCode) (each : List Lines) (texts : List (List ℕ)) → IsCoreTyped code → IsSmall code → IsLoweredForm code each texts → IsAsmOf code each texts
 asm_of code each texts typed small form =
-    let first = first_signature typed.signatures typed.signatures code.functions each texts _ typed.functions form.lowered (ap (slice_get typed.signatures) (sym small.main) ∙ typed.main) refl in
+    let first = first_signature typed.signatures typed.signatures code.functions each (texts_of code.texts texts) _ typed.functions form.lowered (ap (slice_get typed.signatures) (sym small.main) ∙ typed.main) refl in
     record {
       formed = form.formed;
       main = first.0;

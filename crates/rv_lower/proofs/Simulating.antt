@@ -5,7 +5,8 @@ use Rattle.kk_base.specs.Trace.{Event}
 use Rattle.kk_base.specs.Simulations.{Reaches, Simulates}
 use Rattle.kk_base.proofs.Simulations.{simulates_until_ended}
 use Rattle.kk_syntax.specs.PositionsOf.{is_lent}
-use Rattle.kk_syntax.specs.declared.program.Form.TheVariants.{Unary, Binary, Print, Construct, Call}
+use Rattle.kk_syntax.specs.declared.program.Form.{Form}
+use Rattle.kk_syntax.specs.declared.program.Form.TheVariants.{Call}
 use Rattle.kk_syntax.specs.Types.{TypeTree}
 use Rattle.kk_syntax.specs.PlainTyping.{Signature}
 use Rattle.kk_source.specs.State.{Value, Store, Environment, stack_full}
@@ -13,8 +14,8 @@ use Rattle.kk_source.specs.Live.{value_of}
 use Rattle.kk_source.specs.Ends.{exit_of}
 use Rattle.kk_source.specs.Step.{bind_parameters, lent_places}
 use Rattle.kk_core.specs.Codes.{Code, give, tail_call, branch, case, compute, use_of, unpack, inside, FunctionCode}
-use Rattle.kk_core.specs.CoreStates.{Join, CallFrame, CoreControl, running, stopped, CoreConfiguration}
-use Rattle.kk_core.specs.CoreMachine.{call_step, tail_step, CoreState}
+use Rattle.kk_core.specs.CoreStates.{Join, CallFrame, CoreControl, running, stopped, CoreConfiguration, CoreState}
+use Rattle.kk_core.specs.CoreMachine.{call_step, tail_step}
 use Rattle.rv_isa.specs.declared.asm.Action.TheVariants.{Call as CallLine, TailCall}
 use Rattle.rv_isa.specs.Processor.{Ending, exited}
 use Rattle.rv_isa.specs.AsmCode.{Line, Lines}
@@ -27,38 +28,32 @@ use Rattle.rv_lower.specs.Lines.{acts, copies, temporaries}
 use Rattle.rv_lower.proofs.Following.{SameBelow, one_more, frame_at, turn_at, lead, lead_of, Continues, Waits, StandsFor}
 use Rattle.rv_lower.proofs.Environments.{stands_at, stands_same, continues_same, receives}
 use Rattle.rv_lower.proofs.Calls.{words_read, arguments_have, arguments_less, as_many_arguments, Copied, copied, Callable, Entered, enters}
-use Rattle.rv_lower.proofs.Orders.{order_rises, split_at, tail_result, as_many_wait}
-use Rattle.rv_lower.proofs.Arriving.{LoweredProgram, target, setting, upper, lower, pace, Passing, AreRelated, Run, Goes, Here, Wait, Follow, by_lines, arrives, called}
+use Rattle.rv_lower.proofs.Codes.{order_rises}
+use Rattle.rv_lower.proofs.Orders.{split_at, tail_result, as_many_wait}
+use Rattle.rv_lower.proofs.Arriving.{LoweredProgram, texts, target, setting, upper, lower, pace, Passing, AreRelated, Run, Goes, Here, Wait, Follow, by_lines, arrives, called}
 use Rattle.rv_lower.proofs.Blocks.{at_give, at_use, at_inside, at_branch}
-use Rattle.rv_lower.proofs.Operating.{core_at, seen_performed, seen_step, IsNoCall, Done, operation_done}
+use Rattle.rv_lower.proofs.Operating.{core_at, seen_performed, seen_step, IsNoCall, Done, form_done}
 use Rattle.rv_lower.proofs.Jumping as Jumping
 use Rattle.rv_lower.proofs.Runs as Runs
 
--- an operation is a call, or it is none
-abbrev IsCall : Operation → Type 0
-IsCall operation = (f : ℕ) × (arguments : List ℕ) × (operation ≡ apply (Call f) arguments)
+-- a form is a call, or it is none
+abbrev IsCall : Form → Type 0
+IsCall form = (f : ℕ) × (form ≡ Call f)
 
-kind_of : (operation : Operation) → IsNoCall operation ⊎ IsCall operation
-kind_of (number n) = inl tt
-kind_of unit_operation = inl tt
-kind_of read_byte = inl tt
-kind_of (print_text form text) = inl tt
-kind_of (apply (Unary operator) arguments) = inl tt
-kind_of (apply (Binary operator) arguments) = inl tt
-kind_of (apply (Print form) arguments) = inl tt
-kind_of (apply (Construct c) arguments) = inl tt
-kind_of (apply (Call f) arguments) = inr (f, arguments, refl)
+kind_of : (form : Form) → IsNoCall form ⊎ IsCall form
+kind_of (Call f) = inr (f, refl)
+kind_of form = inl tt
 
 module _ (program : LoweredProgram) where
-  -- ---- operations
+  -- ---- forms
 
-  -- what waits for the value of an operation
-  awaits : (x : ℕ) (operation : Operation) (rest : Code) (environment : Environment) (inner : List Join) (base low : ℕ) (result : TypeTree) (whole left : List Line) (cells : ℕ → Option ℕ)
-      → (here : Here program base whole environment cells low result inner (compute x operation rest) left) → Goes program base whole environment cells low result inner (one_more x here.placed.typed.0) (x + 1) rest (here.placed.lines.1 ++ here.placed.after)
-  awaits x operation rest environment inner base low result whole left cells here =
+  -- what waits for the value of a form
+  awaits : (x : ℕ) (form : Form) (arguments : List ℕ) (rest : Code) (environment : Environment) (inner : List Join) (base low : ℕ) (result : TypeTree) (whole left : List Line) (cells : ℕ → Option ℕ)
+      → (here : Here program base whole environment cells low result inner (compute x form arguments rest) left) → Goes program base whole environment cells low result inner (one_more x here.placed.typed.0) (x + 1) rest (here.placed.lines.1 ++ here.placed.after)
+  awaits x form arguments rest environment inner base low result whole left cells here =
       let placed = here.placed in
       let left_is : left ≡ (placed.lines.0 ++ placed.lines.1) ++ placed.after = placed.left_is ∙ ap (λ lines. lines ++ placed.after) placed.lines.4 in
-      stands_at program.texts program.signatures base whole environment cells low (Continues program.texts program.signatures base whole environment cells low result inner) [] (one_more x placed.typed.0) low (x + 1) (compute x operation rest) rest left (placed.lines.1 ++ placed.after) here
+      stands_at (texts program) program.signatures base whole environment cells low (Continues (texts program) program.signatures base whole environment cells low result inner) [] (one_more x placed.typed.0) low (x + 1) (compute x form arguments rest) rest left (placed.lines.1 ++ placed.after) here
       (record {
         bound = x ∷ placed.bound;
         before = placed.before ++ placed.lines.0;
@@ -69,47 +64,47 @@ module _ (program : LoweredProgram) where
         lines = placed.lines.3;
         left_is = refl;
         place = split_at whole placed.before left placed.lines.0 placed.lines.1 placed.after placed.place left_is;
-        typed = placed.typed.2;
+        typed = placed.typed.4;
         ordered = placed.ordered.2;
         small = placed.small;
         short = omega (arith, placed.short);
       })
 
-  -- the operation's lines stand first
-  own_left : (x : ℕ) (operation : Operation) (rest : Code) (environment : Environment) (inner : List Join) (base low : ℕ) (result : TypeTree) (whole left : List Line) (cells : ℕ → Option ℕ)
-      → (here : Here program base whole environment cells low result inner (compute x operation rest) left) → left ≡ here.placed.lines.0 ++ (here.placed.lines.1 ++ here.placed.after)
-  own_left x operation rest environment inner base low result whole left cells here =
+  -- the form's lines stand first
+  own_left : (x : ℕ) (form : Form) (arguments : List ℕ) (rest : Code) (environment : Environment) (inner : List Join) (base low : ℕ) (result : TypeTree) (whole left : List Line) (cells : ℕ → Option ℕ)
+      → (here : Here program base whole environment cells low result inner (compute x form arguments rest) left) → left ≡ here.placed.lines.0 ++ (here.placed.lines.1 ++ here.placed.after)
+  own_left x form arguments rest environment inner base low result whole left cells here =
       here.placed.left_is ∙ ap (λ lines. lines ++ here.placed.after) here.placed.lines.4 ∙ append_assoc here.placed.lines.0 here.placed.lines.1 here.placed.after
 
   -- its variable is no temporary
-  under_base : (x : ℕ) (operation : Operation) (rest : Code) (environment : Environment) (inner : List Join) (base low : ℕ) (result : TypeTree) (whole left : List Line) (cells : ℕ → Option ℕ)
-      → Here program base whole environment cells low result inner (compute x operation rest) left → x < base
-  under_base x operation rest environment inner base low result whole left cells here =
-      omega (arith, order_rises program.signatures here.tail (one_more x here.placed.typed.0 ++ here.scope) rest here.type (x ∷ here.placed.bound) (x + 1) here.high here.placed.typed.2 here.placed.ordered.2, here.placed.small)
+  under_base : (x : ℕ) (form : Form) (arguments : List ℕ) (rest : Code) (environment : Environment) (inner : List Join) (base low : ℕ) (result : TypeTree) (whole left : List Line) (cells : ℕ → Option ℕ)
+      → Here program base whole environment cells low result inner (compute x form arguments rest) left → x < base
+  under_base x form arguments rest environment inner base low result whole left cells here =
+      omega (arith, order_rises program.signatures here.tail (one_more x here.placed.typed.0 ++ here.scope) rest here.type (x ∷ here.placed.bound) (x + 1) here.high here.placed.typed.4 here.placed.ordered.2, here.placed.small)
 
-  at_operation : (x : ℕ) (operation : Operation) (rest : Code) → IsNoCall operation → (environment : Environment) (inner : List Join) (frames : List CallFrame) (store : Store) (input : List ℕ) (credit idle : ℕ) (base low : ℕ) (result : TypeTree) (whole left : List Line) (cells : ℕ → Option ℕ) (into : Option ℕ) (fs : List (Frame Line)) (world : World)
-      → AreLinesFormed whole → Here program base whole environment cells low result inner (compute x operation rest) left → Wait program frames fs result → world.left ≡ input → All (λ byte. byte < 256) input
-      → Follow program credit idle (seen_step (setting program) (core_at (compute x operation rest) environment inner frames store input)) (turn_at whole left cells into fs world)
-  at_operation x operation rest no_call environment inner frames store input credit idle base low result whole left cells into fs world formed here waits input_is bytes =
+  at_form : (x : ℕ) (form : Form) (arguments : List ℕ) (rest : Code) → IsNoCall form → (environment : Environment) (inner : List Join) (frames : List CallFrame) (store : Store) (input : List ℕ) (credit idle : ℕ) (base low : ℕ) (result : TypeTree) (whole left : List Line) (cells : ℕ → Option ℕ) (into : Option ℕ) (fs : List (Frame Line)) (world : World)
+      → AreLinesFormed whole → Here program base whole environment cells low result inner (compute x form arguments rest) left → Wait program frames fs result → world.left ≡ input → All (λ byte. byte < 256) input
+      → Follow program credit idle (seen_step (setting program) (core_at (compute x form arguments rest) environment inner frames store input)) (turn_at whole left cells into fs world)
+  at_form x form arguments rest no_call environment inner frames store input credit idle base low result whole left cells into fs world formed here waits input_is bytes =
       let own : List Line = here.placed.lines.0 in
       let behind : List Line = here.placed.lines.1 ++ here.placed.after in
-      let waiting : Goes program base whole environment cells low result inner (one_more x here.placed.typed.0) (x + 1) rest behind = awaits x operation rest environment inner base low result whole left cells here in
-      let done : Done (setting program) (target program) program.signatures operation own x here.placed.typed.0 rest environment inner frames store input cells world
-      = operation_done (setting program) (target program) program.signatures operation no_call base own x low here.placed.typed.0 here.scope rest environment inner frames store input cells world here.placed.typed.1 here.placed.lines.2 here.holds here.below here.placed.ordered.1
-      (under_base x operation rest environment inner base low result whole left cells here) input_is bytes in
+      let waiting : Goes program base whole environment cells low result inner (one_more x here.placed.typed.0) (x + 1) rest behind = awaits x form arguments rest environment inner base low result whole left cells here in
+      let done : Done (setting program) (target program) program.signatures form arguments own x here.placed.typed.0 rest environment inner frames store input cells world
+      = form_done (setting program) (target program) program.signatures form arguments no_call base own x low here.placed.typed.0 here.placed.typed.1 here.scope rest environment inner frames store input cells world here.placed.typed.2 here.placed.typed.3 here.placed.lines.2 here.holds here.below here.placed.ordered.1
+      (under_base x form arguments rest environment inner base low result whole left cells here) input_is bytes in
       let environment' : Environment = record { variable = x; value = done.value } ∷ environment in
       subst (λ (next : List Event × CoreState). Follow program credit idle next (turn_at whole left cells into fs world)) (sym done.step_is)
-      (subst (λ lines. Follow program credit idle (done.events, core_at rest environment' inner frames store done.left) (turn_at whole lines cells into fs world)) (sym (own_left x operation rest environment inner base low result whole left cells here))
+      (subst (λ lines. Follow program credit idle (done.events, core_at rest environment' inner frames store done.left) (turn_at whole lines cells into fs world)) (sym (own_left x form arguments rest environment inner base low result whole left cells here))
       (arrives program done.performs.steps done.events credit idle rest environment' inner frames store done.left base (x + 1) result whole behind done.performs.cells' into fs done.after (turn_at whole (own ++ behind) cells into fs world)
       done.performs.some done.performs.few (done.performs.runs whole behind into fs) formed
-      (receives program.texts program.signatures base whole environment cells done.performs.cells' low result inner x here.placed.typed.0 rest behind done.value done.performs.word here.placed.ordered.1 done.performs.kept done.performs.there done.performs.is waiting)
+      (receives (texts program) program.signatures base whole environment cells done.performs.cells' low result inner x here.placed.typed.0 rest behind done.value done.performs.word here.placed.ordered.1 done.performs.kept done.performs.there done.performs.is waiting)
       waits done.left_is done.bytes))
 
   -- ---- calls
 
   -- a function begins
   begins : (n credit idle : ℕ) (function : FunctionCode) (lines : Lines) (signature : Signature) (vs : List Value) (ws : List ℕ) (frames : List CallFrame) (store : Store) (input : List ℕ) (fs : List (Frame Line)) (world : World) (t : AsmTurn World Ending)
-      → 1 ≤ n → n ≤ 10 → AreLinesFormed lines.code → (entered : Entered program.texts program.signatures function lines signature vs ws) → Run program n [] t (turn_at lines.code lines.code entered.cells None fs world)
+      → 1 ≤ n → n ≤ 10 → AreLinesFormed lines.code → (entered : Entered (texts program) program.signatures function lines signature vs ws) → Run program n [] t (turn_at lines.code lines.code entered.cells None fs world)
       → Wait program frames fs signature.result → world.left ≡ input → All (λ byte. byte < 256) input
       → Follow program credit idle ([], core_at function.body (bind_parameters 0 vs []) [] frames store input) t
   begins n credit idle function lines signature vs ws frames store input fs world t some few formed entered run waits input_is bytes =
@@ -117,7 +112,7 @@ module _ (program : LoweredProgram) where
 
   -- by whether the stack is full
   full_or_enters : (full : Bool) (n : ℕ) (function : FunctionCode) (lines : Lines) (signature : Signature) (vs : List Value) (ws : List ℕ) (waiting : CallFrame) (frames : List CallFrame) (store : Store) (input : List ℕ) (credit idle : ℕ) (from : CoreConfiguration) (f : Frame Line) (fs : List (Frame Line)) (world : World) (t : AsmTurn World Ending)
-      → n ≤ 8 → AreLinesFormed lines.code → (entered : Entered program.texts program.signatures function lines signature vs ws) → Wait program (waiting ∷ frames) (f ∷ fs) signature.result → world.left ≡ input → All (λ byte. byte < 256) input
+      → n ≤ 8 → AreLinesFormed lines.code → (entered : Entered (texts program) program.signatures function lines signature vs ws) → Wait program (waiting ∷ frames) (f ∷ fs) signature.result → world.left ≡ input → All (λ byte. byte < 256) input
       → Run program (n + 1) [] t (cond full (ended (exited 102) world) (turn_at lines.code lines.code entered.cells None (f ∷ fs) world))
       → Follow program credit idle ([], record { machine = if full then record from { control = stopped stack_full } else (core_at function.body (bind_parameters 0 vs []) [] (waiting ∷ frames) store input).machine; input = input }) t
   full_or_enters true n function lines signature vs ws waiting frames store input credit idle from f fs world t few formed entered waits input_is bytes run =
@@ -126,32 +121,31 @@ module _ (program : LoweredProgram) where
       begins (n + 1) credit idle function lines signature vs ws (waiting ∷ frames) store input (f ∷ fs) world t (omega arith) (omega (arith, few)) formed entered run waits input_is bytes
 
   at_call : (x f : ℕ) (arguments : List ℕ) (rest : Code) (environment : Environment) (inner : List Join) (frames : List CallFrame) (store : Store) (input : List ℕ) (credit idle : ℕ) (base low : ℕ) (result : TypeTree) (whole left : List Line) (cells : ℕ → Option ℕ) (into : Option ℕ) (fs : List (Frame Line)) (world : World)
-      → AreLinesFormed whole → Here program base whole environment cells low result inner (compute x (apply (Call f) arguments) rest) left → Wait program frames fs result → world.left ≡ input → All (λ byte. byte < 256) input
-      → Follow program credit idle (seen_step (setting program) (core_at (compute x (apply (Call f) arguments) rest) environment inner frames store input)) (turn_at whole left cells into fs world)
+      → AreLinesFormed whole → Here program base whole environment cells low result inner (compute x (Call f) arguments rest) left → Wait program frames fs result → world.left ≡ input → All (λ byte. byte < 256) input
+      → Follow program credit idle (seen_step (setting program) (core_at (compute x (Call f) arguments rest) environment inner frames store input)) (turn_at whole left cells into fs world)
   at_call x f arguments rest environment inner frames store input credit idle base low result whole left cells into fs world formed here waits input_is bytes =
-      let operation : Operation = apply (Call f) arguments in
       let t : TypeTree = here.placed.typed.0 in
-      let ts : List TypeTree = here.placed.typed.1.0 in
+      let ts : List TypeTree = here.placed.typed.1 in
       let signature : Signature = record { parameters = ts; result = t } in
-      let callee : Callable program.texts program.signatures program.code.functions program.functions f signature = called program f signature here.placed.typed.1.2 in
+      let callee : Callable (texts program) program.signatures program.code.functions program.functions f signature = called program f signature here.placed.typed.3 in
       let vs : List Value = map (value_of environment) arguments in
-      let words = arguments_have here.scope environment cells here.holds arguments ts here.placed.typed.1.1 in
+      let words = arguments_have here.scope environment cells here.holds arguments ts here.placed.typed.2 in
       let ws : List ℕ = words.0 in
       let behind : List Line = here.placed.lines.1 ++ here.placed.after in
       let call : Line = record { action = CallLine f; args = temporaries base arguments; into = Some x } in
-      let under : low ≤ base = omega (arith, here.placed.ordered.1, under_base x operation rest environment inner base low result whole left cells here) in
-      let copy : Copied (target program) base arguments ws cells = copied (target program) base low arguments ws cells under (arguments_less here.scope low here.below arguments ts here.placed.typed.1.1) words.1 in
-      let entered : Entered program.texts program.signatures callee.function callee.lines signature vs ws = enters program.texts program.signatures callee.function callee.lines signature vs ws callee.typed callee.lowered callee.small words.2 in
+      let under : low ≤ base = omega (arith, here.placed.ordered.1, under_base x (Call f) arguments rest environment inner base low result whole left cells here) in
+      let copy : Copied (target program) base arguments ws cells = copied (target program) base low arguments ws cells under (arguments_less here.scope low here.below arguments ts here.placed.typed.2) words.1 in
+      let entered : Entered (texts program) program.signatures callee.function callee.lines signature vs ws = enters (texts program) program.signatures callee.function callee.lines signature vs ws callee.typed callee.lowered callee.small words.2 in
       let n : ℕ = length arguments in
-      let few : n ≤ 8 = omega (arith, as_many_arguments here.scope arguments ts here.placed.typed.1.1, callee.typed.parameters, callee.small.parameters) in
+      let few : n ≤ 8 = omega (arith, as_many_arguments here.scope arguments ts here.placed.typed.2, callee.typed.parameters, callee.small.parameters) in
       let lent : List Value = lent_places (is_lent program.positions f) 0 vs in
       let waiting : CallFrame = record { variable = x; rest = rest; joins = inner; environment = environment; lent = lent } in
-      let from : CoreConfiguration = (core_at (compute x operation rest) environment inner frames store input).machine in
+      let from : CoreConfiguration = (core_at (compute x (Call f) arguments rest) environment inner frames store input).machine in
       let full : ℕ → Bool = λ k. nat_le program.depth (suc k) in
       let next : Bool → List Event × CoreState = λ b. ([], record { machine = if b then record from { control = stopped stack_full } else (core_at callee.function.body (bind_parameters 0 vs []) [] (waiting ∷ frames) store input).machine; input = input }) in
-      let step_is : seen_step (setting program) (core_at (compute x operation rest) environment inner frames store input) ≡ next (full (length frames))
+      let step_is : seen_step (setting program) (core_at (compute x (Call f) arguments rest) environment inner frames store input) ≡ next (full (length frames))
       = ap (λ o. seen_performed (call_step (setting program) f o vs (λ given. record { variable = x; rest = rest; joins = inner; environment = environment; lent = given }) from) input) callee.function_is in
-      let same_depth : full (length frames) ≡ full (length fs) = ap full (as_many_wait program.texts program.signatures frames fs result waits) in
+      let same_depth : full (length frames) ≡ full (length fs) = ap full (as_many_wait (texts program) program.signatures frames fs result waits) in
       let t0 : AsmTurn World Ending = turn_at whole (copies base arguments ++ (call ∷ behind)) cells into fs world in
       let t1 : AsmTurn World Ending = turn_at whole (call ∷ behind) copy.cells' into fs world in
       let t2 : AsmTurn World Ending = cond (full (length fs)) (ended (exited 102) world) (turn_at callee.lines.code callee.lines.code entered.cells None (frame_at whole behind copy.cells' (Some x) ∷ fs) world) in
@@ -159,19 +153,19 @@ module _ (program : LoweredProgram) where
       = Runs.runs_then (target program) n 1 [] [] t0 t1 t2 (copy.changes whole (call ∷ behind) into fs world)
       (Jumping.call_runs (target program) f x (temporaries base arguments) ws callee.lines entered.cells whole behind copy.cells' into fs world (words_read copy.cells' (temporaries base arguments) ws copy.words) callee.lines_are entered.cells_are) in
       let kept : SameBelow low environment environment cells copy.cells' = λ z less. (refl, copy.kept z (omega (arith, less, under))) in
-      let frame_waits : Waits program.texts program.signatures waiting (frame_at whole behind copy.cells' (Some x)) t result = record {
+      let frame_waits : Waits (texts program) program.signatures waiting (frame_at whole behind copy.cells' (Some x)) t result = record {
         base = base;
         low = low;
         into = refl;
         held = refl;
         formed = formed;
         above = here.placed.ordered.1;
-        stands = stands_same program.texts program.signatures base whole environment environment cells copy.cells' low low (Continues program.texts program.signatures base whole environment cells low result inner) (Continues program.texts program.signatures base whole environment copy.cells' low result inner)
-            (one_more x t) (x + 1) rest behind kept (omega arith) (continues_same program.texts program.signatures base whole environment environment cells copy.cells' low low result inner kept (omega arith))
-            (awaits x operation rest environment inner base low result whole left cells here);
+        stands = stands_same (texts program) program.signatures base whole environment environment cells copy.cells' low low (Continues (texts program) program.signatures base whole environment cells low result inner) (Continues (texts program) program.signatures base whole environment copy.cells' low result inner)
+            (one_more x t) (x + 1) rest behind kept (omega arith) (continues_same (texts program) program.signatures base whole environment environment cells copy.cells' low low result inner kept (omega arith))
+            (awaits x (Call f) arguments rest environment inner base low result whole left cells here);
       } in
       let left_is : left ≡ copies base arguments ++ (call ∷ behind)
-      = own_left x operation rest environment inner base low result whole left cells here ∙ ap (λ own. own ++ behind) here.placed.lines.2 ∙ append_assoc (copies base arguments) (call ∷ []) behind in
+      = own_left x (Call f) arguments rest environment inner base low result whole left cells here ∙ ap (λ own. own ++ behind) here.placed.lines.2 ∙ append_assoc (copies base arguments) (call ∷ []) behind in
       subst (λ (to : List Event × CoreState). Follow program credit idle to (turn_at whole left cells into fs world)) (sym (step_is ∙ ap next same_depth))
       (subst (λ lines. Follow program credit idle (next (full (length fs))) (turn_at whole lines cells into fs world)) (sym left_is)
       (full_or_enters (full (length fs)) n callee.function callee.lines signature vs ws waiting frames store input credit idle from (frame_at whole behind copy.cells' (Some x)) fs world t0 few callee.formed.lines entered (result, frame_waits, waits) input_is bytes run))
@@ -182,14 +176,14 @@ module _ (program : LoweredProgram) where
   at_tail_call f arguments environment inner frames store input credit idle base low result whole left cells into fs world formed here waits input_is bytes =
       let ts : List TypeTree = here.placed.typed.1 in
       let signature : Signature = record { parameters = ts; result = here.type } in
-      let callee : Callable program.texts program.signatures program.code.functions program.functions f signature = called program f signature here.placed.typed.3 in
+      let callee : Callable (texts program) program.signatures program.code.functions program.functions f signature = called program f signature here.placed.typed.3 in
       let vs : List Value = map (value_of environment) arguments in
       let words = arguments_have here.scope environment cells here.holds arguments ts here.placed.typed.2 in
       let ws : List ℕ = words.0 in
       let line : Line = acts (TailCall f) (temporaries base arguments) in
       let under : low ≤ base = omega (arith, here.placed.ordered.1, here.placed.small) in
       let copy : Copied (target program) base arguments ws cells = copied (target program) base low arguments ws cells under (arguments_less here.scope low here.below arguments ts here.placed.typed.2) words.1 in
-      let entered : Entered program.texts program.signatures callee.function callee.lines signature vs ws = enters program.texts program.signatures callee.function callee.lines signature vs ws callee.typed callee.lowered callee.small words.2 in
+      let entered : Entered (texts program) program.signatures callee.function callee.lines signature vs ws = enters (texts program) program.signatures callee.function callee.lines signature vs ws callee.typed callee.lowered callee.small words.2 in
       let n : ℕ = length arguments in
       let few : n ≤ 8 = omega (arith, as_many_arguments here.scope arguments ts here.placed.typed.2, callee.typed.parameters, callee.small.parameters) in
       let from : CoreConfiguration = (core_at (tail_call f arguments) environment inner frames store input).machine in
@@ -203,21 +197,21 @@ module _ (program : LoweredProgram) where
       (Jumping.tail_call_runs (target program) f (temporaries base arguments) ws callee.lines entered.cells whole here.placed.after copy.cells' into fs world (words_read copy.cells' (temporaries base arguments) ws copy.words) callee.lines_are entered.cells_are) in
       let left_is : left ≡ copies base arguments ++ (line ∷ here.placed.after)
       = here.placed.left_is ∙ ap (λ own. own ++ here.placed.after) here.placed.lines.0 ∙ append_assoc (copies base arguments) (line ∷ []) here.placed.after in
-      let same : here.type ≡ result = tail_result program.texts program.signatures base whole environment cells low result inner here.goal here.tail here.high here.type here.placed.typed.0 here.goes in
+      let same : here.type ≡ result = tail_result (texts program) program.signatures base whole environment cells low result inner here.goal here.tail here.high here.type here.placed.typed.0 here.goes in
       subst (λ (to : List Event × CoreState). Follow program credit idle to (turn_at whole left cells into fs world)) (sym step_is)
       (subst (λ lines. Follow program credit idle ([], s) (turn_at whole lines cells into fs world)) (sym left_is)
       (begins (n + 1) credit idle callee.function callee.lines signature vs ws frames store input fs world t0 (omega arith) (omega (arith, few)) callee.formed.lines entered run (subst (λ u. Wait program frames fs u) (sym same) waits) input_is bytes))
 
   -- ---- each step
 
-  at_compute : (x : ℕ) (operation : Operation) (rest : Code) → IsNoCall operation ⊎ IsCall operation → (environment : Environment) (inner : List Join) (frames : List CallFrame) (store : Store) (input : List ℕ) (credit idle : ℕ) (base low : ℕ) (result : TypeTree) (whole left : List Line) (cells : ℕ → Option ℕ) (into : Option ℕ) (fs : List (Frame Line)) (world : World)
-      → AreLinesFormed whole → Here program base whole environment cells low result inner (compute x operation rest) left → Wait program frames fs result → world.left ≡ input → All (λ byte. byte < 256) input
-      → Follow program credit idle (seen_step (setting program) (core_at (compute x operation rest) environment inner frames store input)) (turn_at whole left cells into fs world)
-  at_compute x operation rest (inl no_call) environment inner frames store input credit idle base low result whole left cells into fs world formed here waits input_is bytes =
-      at_operation x operation rest no_call environment inner frames store input credit idle base low result whole left cells into fs world formed here waits input_is bytes
-  at_compute x operation rest (inr call) environment inner frames store input credit idle base low result whole left cells into fs world formed here waits input_is bytes =
-      subst (λ some. Here program base whole environment cells low result inner (compute x some rest) left → Follow program credit idle (seen_step (setting program) (core_at (compute x some rest) environment inner frames store input)) (turn_at whole left cells into fs world)) (sym call.2)
-      (λ there. at_call x call.0 call.1 rest environment inner frames store input credit idle base low result whole left cells into fs world formed there waits input_is bytes) here
+  at_compute : (x : ℕ) (form : Form) (arguments : List ℕ) (rest : Code) → IsNoCall form ⊎ IsCall form → (environment : Environment) (inner : List Join) (frames : List CallFrame) (store : Store) (input : List ℕ) (credit idle : ℕ) (base low : ℕ) (result : TypeTree) (whole left : List Line) (cells : ℕ → Option ℕ) (into : Option ℕ) (fs : List (Frame Line)) (world : World)
+      → AreLinesFormed whole → Here program base whole environment cells low result inner (compute x form arguments rest) left → Wait program frames fs result → world.left ≡ input → All (λ byte. byte < 256) input
+      → Follow program credit idle (seen_step (setting program) (core_at (compute x form arguments rest) environment inner frames store input)) (turn_at whole left cells into fs world)
+  at_compute x form arguments rest (inl no_call) environment inner frames store input credit idle base low result whole left cells into fs world formed here waits input_is bytes =
+      at_form x form arguments rest no_call environment inner frames store input credit idle base low result whole left cells into fs world formed here waits input_is bytes
+  at_compute x form arguments rest (inr call) environment inner frames store input credit idle base low result whole left cells into fs world formed here waits input_is bytes =
+      subst (λ some. Here program base whole environment cells low result inner (compute x some arguments rest) left → Follow program credit idle (seen_step (setting program) (core_at (compute x some arguments rest) environment inner frames store input)) (turn_at whole left cells into fs world)) (sym call.1)
+      (λ there. at_call x call.0 arguments rest environment inner frames store input credit idle base low result whole left cells into fs world formed there waits input_is bytes) here
 
   at_code : (some : Code) (environment : Environment) (inner : List Join) (frames : List CallFrame) (store : Store) (input : List ℕ) (credit idle : ℕ) (base low : ℕ) (result : TypeTree) (whole left : List Line) (cells : ℕ → Option ℕ) (into : Option ℕ) (fs : List (Frame Line)) (world : World)
       → idle ≡ lead some → AreLinesFormed whole → Here program base whole environment cells low result inner some left → Wait program frames fs result → world.left ≡ input → All (λ byte. byte < 256) input
@@ -229,16 +223,16 @@ module _ (program : LoweredProgram) where
   at_code (branch x positive negative) environment inner frames store input credit idle base low result whole left cells into fs world idle_is formed here waits input_is bytes =
       at_branch program x positive negative environment inner frames store input credit idle base low result whole left cells into fs world formed here waits input_is bytes
   at_code (case x arms) environment inner frames store input credit idle base low result whole left cells into fs world idle_is formed here waits input_is bytes = absurd here.placed.typed
-  at_code (compute x operation rest) environment inner frames store input credit idle base low result whole left cells into fs world idle_is formed here waits input_is bytes =
-      at_compute x operation rest (kind_of operation) environment inner frames store input credit idle base low result whole left cells into fs world formed here waits input_is bytes
+  at_code (compute x form arguments rest) environment inner frames store input credit idle base low result whole left cells into fs world idle_is formed here waits input_is bytes =
+      at_compute x form arguments rest (kind_of form) environment inner frames store input credit idle base low result whole left cells into fs world formed here waits input_is bytes
   at_code (use_of x rest) environment inner frames store input credit idle base low result whole left cells into fs world idle_is formed here waits input_is bytes =
       at_use program x rest environment inner frames store input credit idle base low result whole left cells into fs world idle_is formed here waits input_is bytes
-  at_code (unpack x fields rest) environment inner frames store input credit idle base low result whole left cells into fs world idle_is formed here waits input_is bytes = absurd here.placed.typed
+  at_code (unpack x c fields rest) environment inner frames store input credit idle base low result whole left cells into fs world idle_is formed here waits input_is bytes = absurd here.placed.typed
   at_code (inside x block rest) environment inner frames store input credit idle base low result whole left cells into fs world idle_is formed here waits input_is bytes =
       at_inside program x block rest environment inner frames store input credit idle base low result whole left cells into fs world idle_is formed here waits input_is bytes
 
   steps_by : (control : CoreControl) (frames : List CallFrame) (store : Store) (input : List ℕ) (credit idle : ℕ) (t : AsmTurn World Ending)
-      → ((upper program).ending (record { machine = record { control = control; frames = frames; store = store }; input = input }) ≡ None) → idle ≡ lead_of control → StandsFor program.texts program.signatures control frames input t
+      → ((upper program).ending (record { machine = record { control = control; frames = frames; store = store }; input = input }) ≡ None) → idle ≡ lead_of control → StandsFor (texts program) program.signatures control frames input t
       → Reaches (lower program) (AreRelated program) (Passing program) (pace program) ((upper program).weight (record { machine = record { control = control; frames = frames; store = store }; input = input }) + credit) 1 idle
       ((upper program).step (record { machine = record { control = control; frames = frames; store = store }; input = input })).0 ((upper program).step (record { machine = record { control = control; frames = frames; store = store }; input = input })).1 t
   steps_by (running some environment inner) frames store input credit idle t goes idle_is follows =
@@ -252,12 +246,12 @@ module _ (program : LoweredProgram) where
   ends_not : (t : AsmTurn World Ending) (how : Ending) (world : World) → t ≡ stuck → t ≡ ended how world → ⊥
   ends_not t how world is_stuck is = cc (is_stuck, is)
 
-  ends_alike : (control : CoreControl) (frames : List CallFrame) (store : Store) (input : List ℕ) (t : AsmTurn World Ending) → StandsFor program.texts program.signatures control frames input t
+  ends_alike : (control : CoreControl) (frames : List CallFrame) (store : Store) (input : List ℕ) (t : AsmTurn World Ending) → StandsFor (texts program) program.signatures control frames input t
       → (lower program).ending t ≡ (upper program).ending (record { machine = record { control = control; frames = frames; store = store }; input = input })
   ends_alike (running some environment inner) frames store input t follows = ap end_of follows.turn_is
   ends_alike (stopped by) frames store input t follows = ap end_of follows.1
 
-  never_stuck : (control : CoreControl) (frames : List CallFrame) (input : List ℕ) (t : AsmTurn World Ending) → StandsFor program.texts program.signatures control frames input t → Passing program t
+  never_stuck : (control : CoreControl) (frames : List CallFrame) (input : List ℕ) (t : AsmTurn World Ending) → StandsFor (texts program) program.signatures control frames input t → Passing program t
   never_stuck (running some environment inner) frames input t follows = λ is. goes_not t follows.whole follows.left follows.cells follows.into follows.fs follows.world is follows.turn_is
   never_stuck (stopped by) frames input t follows = λ is. ends_not t (exited (exit_of by)) follows.0 is follows.1
 

@@ -9,7 +9,7 @@ use Rattle.rv_isa.specs.declared.asm.ImmediateOperation.TheVariants as OfImmedia
 use Rattle.rv_isa.specs.AsmCode.{Line}
 use Rattle.rv_isa.specs.Frames.{only_of}
 use Rattle.rv_lower.specs.declared.lowering.Lowering.{Lowering}
-use Rattle.rv_lower.specs.Lines.{computes, FormLines}
+use Rattle.rv_lower.specs.Lines.{computes, AppliedLines}
 use Rattle.rv_lower.proofs.Formed.{none_some}
 use Rattle.rv_lower.specs.Written.{lines_written, Wrote}
 
@@ -34,6 +34,6 @@ is_only (a ∷ b ∷ more) v is = absurd (none_some is)
 
 -- the line of `!`
 pub not_lines : (base x v : ℕ) (operator : UnaryOperator) (args : List ℕ) (two : Immediate) (lines : List Line) → only_of args ≡ Some v → operator ≡ Not → two.word ≡ 2
-    → lines ≡ computes (Op.Immediate OfImmediate.Xori two) (v ∷ []) x ∷ [] → FormLines base x (Unary operator) args lines
+    → lines ≡ computes (Op.Immediate OfImmediate.Xori two) (v ∷ []) x ∷ [] → AppliedLines base x (Unary operator) args lines
 not_lines base x v operator args two lines only is word are =
-    subst (λ (of : UnaryOperator). FormLines base x (Unary of) args lines) (sym is) (subst (λ (of : List ℕ). FormLines base x (Unary Not) of lines) (sym (is_only args v only)) (two, word, are))
+    subst (λ (of : UnaryOperator). AppliedLines base x (Unary of) args lines) (sym is) (subst (λ (of : List ℕ). AppliedLines base x (Unary Not) of lines) (sym (is_only args v only)) (two, word, are))

@@ -9,7 +9,7 @@ use Rattle.rv_lower.specs.Lowered.{AreFunctionsLowered}
 
 -- each function is lowered, in their order, to well-formed code; lines and constant bytes are few
 pub record IsLoweredForm (code : ProgramCode) (functions : List Lines) (texts : List (List ℕ)) : Type 0 where
-  pub lowered : AreFunctionsLowered texts code.functions functions
+  pub lowered : AreFunctionsLowered (record { literals = code.texts; constants = texts }) code.functions functions
   pub formed : AreWellFormed functions
   pub as_many : length functions ≡ length code.functions
   pub few_lines : all_lines functions ≤ 12 * all_forms code.functions

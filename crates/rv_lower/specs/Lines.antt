@@ -1,4 +1,4 @@
--- The assembler lines of the operations of the core form. Value x of a function's assembler code is variable x of its core form; the values behind
+-- The assembler lines of the forms of the core form. Value x of a function's assembler code is variable x of its core form; the values behind
 -- all variables, from `base` on, are temporaries. An `int32` is its word, `()` is the word 1, `False` is 1 and `True` is 3.
 use Rattle.std.specs.Prelude.{◌≡◌, ℕ, ◌+◌, ◌*◌, ◌^◌, ◌<◌, List, [], ◌∷◌, ◌++◌, length, Some, None, slice_get}
 use Rattle.kk_syntax.specs.declared.operator.UnaryOperator.TheVariants.{Negate, Not}
@@ -7,7 +7,9 @@ use Rattle.kk_syntax.specs.declared.operator.BinaryOperator.TheVariants.{Add, Su
 use Rattle.kk_syntax.specs.declared.operator.PrintForm.{PrintForm}
 use Rattle.kk_syntax.specs.declared.operator.PrintForm.TheVariants as OfPrint
 use Rattle.kk_syntax.specs.declared.program.Form.{Form}
-use Rattle.kk_syntax.specs.declared.program.Form.TheVariants.{Unary, Binary, Print, Construct, Call}
+use Rattle.kk_syntax.specs.declared.program.Form.TheVariants.{Number, Unit as Nothing, ReadByte, PrintText, Unary, Binary, Print, Construct, Call}
+use Rattle.kk_syntax.specs.Programs.{text_at}
+use Rattle.kk_source.specs.FormEffects.{piece_of}
 use Rattle.rv_isa.specs.declared.asm.Action.{Action}
 use Rattle.rv_isa.specs.declared.asm.Operation.{Operation as AsmOperation}
 use Rattle.rv_isa.specs.declared.asm.Operation.TheVariants as Op
@@ -20,7 +22,6 @@ use Rattle.rv_isa.specs.declared.immediate.ShiftAmount.{ShiftAmount}
 use Rattle.rv_isa.specs.declared.routine.Routine.{Routine}
 use Rattle.rv_isa.specs.Arithmetic.{signed}
 use Rattle.rv_isa.specs.AsmCode.{Line}
-use Rattle.kk_source.specs.FormEffects.{piece_of}
 
 -- an operation on values, whose word a value takes
 abbrev pub computes : AsmOperation → List ℕ → ℕ → Line
@@ -104,24 +105,32 @@ PrintLines base texts (byte ∷ bytes) lines =
     (index : ℕ) × (slice_get texts index ≡ Some (byte ∷ bytes))
     × (lines ≡ computes (Op.La index) [] base ∷ sets (length (byte ∷ bytes)) (base + 1) ∷ acts (Action.Routine Routine.PrintText) (base ∷ (base + 1) ∷ []) ∷ [])
 
--- A form on variables. One with another number of arguments is none, and so is a construction with fields.
-abbrev pub FormLines : ℕ → ℕ → Form → List ℕ → List Line → Type 0
-FormLines base x (Unary Negate) (a ∷ []) lines = lines ≡ sets 0 base ∷ registers x base a (Op.Register Register.Sub) ∷ []
-FormLines base x (Unary Not) (a ∷ []) lines =
+-- A form with arguments, on variables. One with another number of arguments is none, and so is a construction with fields.
+abbrev pub AppliedLines : ℕ → ℕ → Form → List ℕ → List Line → Type 0
+AppliedLines base x (Unary Negate) (a ∷ []) lines = lines ≡ sets 0 base ∷ registers x base a (Op.Register Register.Sub) ∷ []
+AppliedLines base x (Unary Not) (a ∷ []) lines =
     (two : ImmediateWord) × (two.word ≡ 2) × (lines ≡ computes (Op.Immediate Immediate.Xori two) (a ∷ []) x ∷ [])
-FormLines base x (Binary operator) (a ∷ b ∷ []) lines = BinaryLines base x operator a b lines
-FormLines base x (Print form) (a ∷ []) lines =
+AppliedLines base x (Binary operator) (a ∷ b ∷ []) lines = BinaryLines base x operator a b lines
+AppliedLines base x (Print form) (a ∷ []) lines =
     lines ≡ copies_to a base ∷ sets (choice_of form) (base + 1) ∷ acts (Action.Routine Routine.PrintInt) (base ∷ (base + 1) ∷ []) ∷ sets unit_word x ∷ []
-FormLines base x (Construct c) [] lines = lines ≡ sets (constant_word c) x ∷ []
-FormLines base x (Call f) arguments lines =
+AppliedLines base x (Construct c) [] lines = lines ≡ sets (constant_word c) x ∷ []
+AppliedLines base x (Call f) arguments lines =
     lines ≡ copies base arguments ++ record { action = Action.Call f; args = temporaries base arguments; into = Some x } ∷ []
-FormLines base x form arguments lines = Unit {0}
+AppliedLines base x form arguments lines = Unit {0}
 
--- an operation, whose value variable x takes
-abbrev pub OperationLines : ℕ → List (List ℕ) → ℕ → Operation → List Line → Type 0
-OperationLines base texts x (number value) lines = (word : ℕ) × (signed word ≡ value) × (word < 2 ^ 32) × (lines ≡ sets word x ∷ [])
-OperationLines base texts x unit lines = lines ≡ sets unit_word x ∷ []
-OperationLines base texts x read_byte lines = lines ≡ record { action = Action.Routine Routine.ReadByte; args = []; into = Some x } ∷ []
-OperationLines base texts x (print_text form text) lines =
-    (print : List Line) × PrintLines base texts (piece_of form text) print × (lines ≡ print ++ sets unit_word x ∷ [])
-OperationLines base texts x (apply form arguments) lines = FormLines base x form arguments lines
+-- the string literals of the core form, and the constant bytes of the assembler code, each by its number
+pub record Texts : Type 0 where
+  pub literals : List (List ℕ)
+  pub constants : List (List ℕ)
+
+-- a form on variables, whose value variable x takes
+abbrev pub FormLines : ℕ → Texts → ℕ → Form → List ℕ → List Line → Type 0
+FormLines base texts x (Number value) arguments lines =
+    (word : ℕ) × (signed word ≡ value) × (word < 2 ^ 32) × (lines ≡ sets word x ∷ [])
+FormLines base texts x Nothing arguments lines = lines ≡ sets unit_word x ∷ []
+FormLines base texts x ReadByte arguments lines =
+    lines ≡ record { action = Action.Routine Routine.ReadByte; args = []; into = Some x } ∷ []
+FormLines base texts x (PrintText form text) arguments lines =
+    (print : List Line) × PrintLines base texts.constants (piece_of form (text_at texts.literals text)) print
+    × (lines ≡ print ++ sets unit_word x ∷ [])
+FormLines base texts x form arguments lines = AppliedLines base x form arguments lines

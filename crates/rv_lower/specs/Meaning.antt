@@ -8,8 +8,8 @@ use Rattle.kk_source.specs.Ends.{exit_of}
 use Rattle.kk_source.specs.Notes.{events_of}
 use Rattle.kk_core.specs.Codes.{ProgramCode}
 use Rattle.kk_core.specs.CoreTyping.{all_forms}
-use Rattle.kk_core.specs.CoreStates.{CoreSetting, core_first_state}
-use Rattle.kk_core.specs.CoreMachine.{core_machine, CoreState}
+use Rattle.kk_core.specs.CoreStates.{CoreSetting, CoreState, core_first_state}
+use Rattle.kk_core.specs.CoreMachine.{core_machine}
 use Rattle.rv_isa.specs.Processor.{Ending, exited}
 use Rattle.rv_isa.specs.AsmCode.{Lines}
 use Rattle.rv_isa.specs.AsmMachine.{asm_machine, asm_start}

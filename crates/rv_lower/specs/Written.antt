@@ -1,5 +1,6 @@
 -- What was written of a function's assembler code.
 use Rattle.std.specs.Prelude.{◌≡◌, ℕ, ◌+◌, ◌*◌, ◌≤◌, List, [], ◌∷◌, ◌++◌, Option, Some, None, map, length}
+use Rattle.kk_syntax.specs.declared.program.Form.{Form}
 use Rattle.kk_core.specs.Codes.{Code, Piece, plug, FunctionCode}
 use Rattle.kk_core.specs.CoreTyping.{all_forms}
 use Rattle.kk_core.specs.Sizes.{forms}
@@ -9,7 +10,7 @@ use Rattle.rv_lower.specs.declared.line.Reads.{Reads}
 use Rattle.rv_lower.specs.declared.line.Reads.TheVariants.{Nothing, One, Two}
 use Rattle.rv_lower.specs.declared.line.Short.{Short}
 use Rattle.rv_lower.specs.declared.lowering.Lowering.{Lowering}
-use Rattle.rv_lower.specs.Lines.{OperationLines, PrintLines}
+use Rattle.rv_lower.specs.Lines.{Texts, FormLines, PrintLines}
 use Rattle.rv_lower.specs.declared.block.Goal.{Goal as CodeGoal}
 use Rattle.rv_lower.specs.declared.block.Goal.TheVariants as OfGoal
 use Rattle.rv_lower.specs.Lowered.{Goal, returns, joins, CodeLines, IsFunctionLowered, AreFunctionsLowered}
@@ -28,6 +29,10 @@ lines_written lowering = map line_of lowering.code.items
 
 abbrev pub texts_written : Lowering → List (List ℕ)
 texts_written lowering = lowering.texts.items
+
+-- the texts, where these constant bytes stand there
+abbrev pub texts_of : List (List ℕ) → List (List ℕ) → Texts
+texts_of literals constants = record { literals = literals; constants = constants }
 
 -- lines were written, and nothing else
 pub record Wrote (lines : List Line) (old new : Lowering) : Type 0 where
@@ -52,27 +57,27 @@ pub record Grows (n : ℕ) (lines : List Line) (old new : Lowering) : Type 0 whe
   pub texts : texts_written new ≡ texts_written old ++ more
   pub few : length (all_bytes more) ≤ 256 * n
 
--- The lines of an operation were written. They are its lines however many texts come later.
-pub record WroteOperation (x : ℕ) (operation : Operation) (old new : Lowering) : Type 0 where
+-- The lines of a form on variables were written. They are its lines however many texts come later.
+pub record WroteForm (literals : List (List ℕ)) (x : ℕ) (form : Form) (arguments : List ℕ) (old new : Lowering) : Type 0 where
   pub lines : List Line
   pub grows : Grows 1 lines old new
   pub label : new.next_label ≡ old.next_label
-  pub are : (later : List (List ℕ)) → OperationLines old.base (texts_written new ++ later) x operation lines
+  pub are : (later : List (List ℕ)) → FormLines old.base (texts_of literals (texts_written new ++ later)) x form arguments lines
 
 -- the same of a code
-pub record WroteCode (goal : Goal) (code : Code) (old new : Lowering) : Type 0 where
+pub record WroteCode (literals : List (List ℕ)) (goal : Goal) (code : Code) (old new : Lowering) : Type 0 where
   pub lines : List Line
   pub grows : Grows (forms code) lines old new
-  pub are : (later : List (List ℕ)) → CodeLines old.base (texts_written new ++ later) goal old.next_label code lines new.next_label
+  pub are : (later : List (List ℕ)) → CodeLines old.base (texts_of literals (texts_written new ++ later)) goal old.next_label code lines new.next_label
 
 -- the lines of steps were written: those of any code that follows stand behind them
-pub record WroteSteps (pieces : List Piece) (old new : Lowering) : Type 0 where
+pub record WroteSteps (literals : List (List ℕ)) (pieces : List Piece) (old new : Lowering) : Type 0 where
   pub lines : List Line
   pub n : ℕ
   pub grows : Grows n lines old new
   pub counted : (rest : Code) → forms (plug pieces rest) ≡ n + forms rest
-  pub are : (later : List (List ℕ)) (goal : Goal) (rest : Code) (more : List Line) (high : ℕ) → CodeLines old.base (texts_written new ++ later) goal new.next_label rest more high
-      → CodeLines old.base (texts_written new ++ later) goal old.next_label (plug pieces rest) (lines ++ more) high
+  pub are : (later : List (List ℕ)) (goal : Goal) (rest : Code) (more : List Line) (high : ℕ) → CodeLines old.base (texts_of literals (texts_written new ++ later)) goal new.next_label rest more high
+      → CodeLines old.base (texts_of literals (texts_written new ++ later)) goal old.next_label (plug pieces rest) (lines ++ more) high
 
 -- lines of a kind were written, and nothing else
 pub record WroteLines (Kind : List Line → Type 0) (old new : Lowering) : Type 0 where
@@ -106,13 +111,13 @@ goal_of OfGoal.Return = returns
 goal_of (OfGoal.Join variable label) = joins variable label
 
 -- a function was lowered, and texts were added behind those that stood there
-pub record LoweredFunction (function : FunctionCode) (lines : Lines) (old new : List (List ℕ)) : Type 0 where
+pub record LoweredFunction (literals : List (List ℕ)) (function : FunctionCode) (lines : Lines) (old new : List (List ℕ)) : Type 0 where
   pub more : List (List ℕ)
   pub texts : new ≡ old ++ more
   pub few : length (all_bytes more) ≤ 256 * forms function.body
-  pub is : (later : List (List ℕ)) → IsFunctionLowered (new ++ later) function lines
+  pub is : (later : List (List ℕ)) → IsFunctionLowered (texts_of literals (new ++ later)) function lines
 
 -- functions were lowered, and these are their texts: they are lowered however many texts come later
-pub record LoweredFunctions (functions : List FunctionCode) (each : List Lines) (texts : List (List ℕ)) : Type 0 where
+pub record LoweredFunctions (literals : List (List ℕ)) (functions : List FunctionCode) (each : List Lines) (texts : List (List ℕ)) : Type 0 where
   pub few : length (all_bytes texts) ≤ 256 * all_forms functions
-  pub are : (later : List (List ℕ)) → AreFunctionsLowered (texts ++ later) functions each
+  pub are : (later : List (List ℕ)) → AreFunctionsLowered (texts_of literals (texts ++ later)) functions each

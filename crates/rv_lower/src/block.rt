@@ -1,6 +1,6 @@
 // The code of blocks.
 
-ghost use Rattle.std.specs.Prelude.{◌≡◌, [], ◌∷◌, map, OnOk};
+ghost use Rattle.std.specs.Prelude.{◌≡◌, ℕ, List, [], ◌∷◌, map, OnOk};
 ghost use Rattle.kk_core.specs.Codes.{block_code, last_code, step_piece, give, tail_call};
 ghost use Rattle.rv_isa.specs.declared.asm.Action.TheVariants.{Label};
 ghost use Rattle.rv_lower.specs.Lines.{acts};
@@ -12,6 +12,7 @@ use crate::lowering::Lowering;
 use crate::operation::constant_of;
 use kk_base::NoMemory;
 use kk_core::{Block, Last, Step};
+use kk_syntax::StringLiteral;
 use rv_isa::{Action, Condition};
 
 /// Where the value of a block goes.
@@ -26,44 +27,64 @@ pub enum Goal {
 /// The number of the constructor `True`.
 const TRUE: u32 = 1;
 
-/// Writes the code of a block. The recursion is as deep as the block.
+/// Writes the code of a block of a program with these string literals. The recursion is as deep as the block.
 #[cycle(lower)]
-pub fn write_block(lowering: &mut Lowering, block: &Block, goal: Goal) -> Result<(), NoMemory>
-    ensures { OnOk result (WroteCode (goal_of goal) (block_code block.now) lowering.old lowering.new) }
+pub fn write_block(
+    lowering: &mut Lowering,
+    literals: &[StringLiteral],
+    block: &Block,
+    goal: Goal,
+) -> Result<(), NoMemory>
+    ensures { OnOk result (WroteCode literals.now (goal_of goal) (block_code block.now) lowering.old lowering.new) }
 {
-    write_steps(lowering, &block.steps)?;
-    write_last(lowering, &block.last, goal)
+    write_steps(lowering, literals, &block.steps)?;
+    write_last(lowering, literals, &block.last, goal)
 }
 
 #[cycle(lower)]
-fn write_steps(lowering: &mut Lowering, steps: &[Step]) -> Result<(), NoMemory>
-    ensures { OnOk result (WroteSteps (map step_piece steps.now) lowering.old lowering.new) }
+fn write_steps(
+    lowering: &mut Lowering,
+    literals: &[StringLiteral],
+    steps: &[Step],
+) -> Result<(), NoMemory>
+    ensures { OnOk result (WroteSteps literals.now (map step_piece steps.now) lowering.old lowering.new) }
 {
     for step in steps {
-        write_step(lowering, step)?;
+        write_step(lowering, literals, step)?;
     }
     Ok(())
 }
 
 #[cycle(lower)]
-fn write_step(lowering: &mut Lowering, step: &Step) -> Result<(), NoMemory>
-    ensures { OnOk result (WroteSteps (step_piece step.now ∷ []) lowering.old lowering.new) }
+fn write_step(
+    lowering: &mut Lowering,
+    literals: &[StringLiteral],
+    step: &Step,
+) -> Result<(), NoMemory>
+    ensures { OnOk result (WroteSteps literals.now (step_piece step.now ∷ []) lowering.old lowering.new) }
 {
     match step {
-        Step::Let(variable, operation) => lowering.operation(*variable, operation),
+        Step::Let(variable, form, arguments) => {
+            lowering.form(literals, *variable, *form, arguments)
+        }
         Step::Use(_) => Ok(()),
-        Step::Open(_, _) => Ok(()),
+        Step::Open(_, _, _) => Ok(()),
         Step::Inside(variable, block) => {
             let label = lowering.take_label()?;
-            write_block(lowering, block, Goal::Join(*variable, label))?;
+            write_block(lowering, literals, block, Goal::Join(*variable, label))?;
             write_label(lowering, label)
         }
     }
 }
 
 #[cycle(lower)]
-fn write_last(lowering: &mut Lowering, last: &Last, goal: Goal) -> Result<(), NoMemory>
-    ensures { OnOk result (WroteCode (goal_of goal) (last_code last.now) lowering.old lowering.new) }
+fn write_last(
+    lowering: &mut Lowering,
+    literals: &[StringLiteral],
+    last: &Last,
+    goal: Goal,
+) -> Result<(), NoMemory>
+    ensures { OnOk result (WroteCode literals.now (goal_of goal) (last_code last.now) lowering.old lowering.new) }
 {
     match last {
         Last::Return(variable) => write_value(lowering, *variable, goal),
@@ -73,9 +94,9 @@ fn write_last(lowering: &mut Lowering, last: &Last, goal: Goal) -> Result<(), No
         Last::If(variable, positive, negative) => {
             let label = lowering.take_label()?;
             write_test(lowering, *variable, label)?;
-            write_block(lowering, positive, goal)?;
+            write_block(lowering, literals, positive, goal)?;
             write_label(lowering, label)?;
-            write_block(lowering, negative, goal)
+            write_block(lowering, literals, negative, goal)
         }
         Last::Case(_, _) => Ok(()),
     }
@@ -105,7 +126,7 @@ fn write_test(lowering: &mut Lowering, variable: u32, label: u32) -> Result<(), 
 
 /// The value of a variable goes to the goal.
 fn write_value(lowering: &mut Lowering, variable: u32, goal: Goal) -> Result<(), NoMemory>
-    ensures { OnOk result (WroteCode (goal_of goal) (give variable) lowering.old lowering.new) }
+    ensures { (literals : List (List ℕ)) → OnOk result (WroteCode literals (goal_of goal) (give variable) lowering.old lowering.new) }
 {
     match goal {
         Goal::Return => lowering.write(&[act(Action::Return, Reads::One(variable))]),
@@ -122,7 +143,7 @@ fn write_tail_call(
     arguments: &[u32],
     goal: Goal,
 ) -> Result<(), NoMemory>
-    ensures { OnOk result (WroteCode (goal_of goal) (tail_call function arguments.now) lowering.old lowering.new) }
+    ensures { (literals : List (List ℕ)) → OnOk result (WroteCode literals (goal_of goal) (tail_call function arguments.now) lowering.old lowering.new) }
 {
     let handed = lowering.hand_over(arguments)?;
     lowering.push(Action::TailCall(function), &handed, None)

@@ -6,7 +6,5 @@ mod line;
 mod lowering;
 mod operation;
 mod program;
-#[cfg(test)]
-mod tests;
 
 pub use program::lower;

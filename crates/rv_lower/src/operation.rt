@@ -1,20 +1,19 @@
-// The lines of operations.
+// The lines of forms on variables.
 
 ghost use Rattle.std.specs.Prelude.{◌≡◌, ◌≤◌, [], ◌∷◌, map, length, OnOk, IfOk};
 ghost use Rattle.kk_syntax.specs.declared.program.Form.TheVariants.{Unary, Binary, Print, Construct, Call};
 ghost use Rattle.kk_syntax.specs.declared.operator.BinaryOperator.TheVariants.{Divide, Equal, NotEqual};
-ghost use Rattle.kk_core.specs.Codes.{operation_of};
+ghost use Rattle.kk_syntax.specs.Programs.{text_at};
+ghost use Rattle.kk_source.specs.FormEffects.{piece_of};
 ghost use Rattle.rv_isa.specs.declared.asm.Operation.TheVariants.{Register};
 ghost use Rattle.rv_isa.specs.declared.asm.RegisterOperation.TheVariants.{Slt};
 ghost use Rattle.rv_isa.specs.Frames.{only_of};
-ghost use Rattle.rv_lower.specs.Lines.{choice_of, constant_word, registers, Compares, ComparesWithOne, ComparesNot, BinaryLines, FormLines, PrintLines};
-ghost use Rattle.rv_lower.specs.Written.{pair_of, short_line, Wrote, WroteLines, WrotePrint, WroteOperation};
-ghost use Rattle.kk_source.specs.FormEffects.{piece_of};
+ghost use Rattle.rv_lower.specs.Lines.{choice_of, constant_word, registers, Compares, ComparesWithOne, ComparesNot, BinaryLines, AppliedLines};
+ghost use Rattle.rv_lower.specs.Written.{pair_of, short_line, Wrote, WroteLines, WrotePrint, WroteForm};
 
 use crate::line::{Reads, Short, act, binary, constant, copy, set, unary};
 use crate::lowering::Lowering;
 use kk_base::{NoMemory, Text};
-use kk_core::Operation as CoreOperation;
 use kk_syntax::{BinaryOperator, Form, PrintForm, StringLiteral, UnaryOperator};
 use rv_isa::{
     Action, Immediate, ImmediateOperation, Operation, RegisterOperation, Routine, ShiftAmount,
@@ -66,12 +65,24 @@ fn choice(form: PrintForm) -> u32
     }
 }
 
+/// The string literal of this number. Behind the last, where no program looks, it is empty.
+fn literal(literals: &[StringLiteral], number: u32) -> &[u8]
+    ensures bytes { result.now ≡ text_at literals.now number }
+    ensures short { length result.now ≤ 255 }
+{
+    match literals.get(number as usize) {
+        Some(literal) => literal.as_slice(),
+        None => &[],
+    }
+}
+
 /// The bytes of a print.
-fn piece(alloc: Global, form: PrintForm, text: &StringLiteral) -> Result<Text, NoMemory>
+fn piece(alloc: Global, form: PrintForm, text: &[u8]) -> Result<Text, NoMemory>
+    requires { length text.now ≤ 255 }
     ensures bytes { IfOk result (λ piece. piece ≡ piece_of form text.now) }
     ensures short { IfOk result (λ piece. length piece ≤ 256) }
 {
-    let mut bytes = Vec::from_slice(alloc, text.as_slice())?;
+    let mut bytes = Vec::from_slice(alloc, text)?;
     match form {
         PrintForm::Print => Ok(Text::from_vec(bytes)),
         PrintForm::PrintLine => {
@@ -82,29 +93,24 @@ fn piece(alloc: Global, form: PrintForm, text: &StringLiteral) -> Result<Text, N
 }
 
 impl Lowering {
-    /// Writes the lines of an operation, whose value `into` takes.
-    pub fn operation(&mut self, into: u32, operation: &CoreOperation) -> Result<(), NoMemory>
-        ensures { OnOk result (WroteOperation into (operation_of operation.now) self.old self.new) }
-    {
-        match operation {
-            CoreOperation::Number(value) => self.write(&[set(value.cast_unsigned(), into)]),
-            CoreOperation::Unit => self.write(&[set(UNIT, into)]),
-            CoreOperation::ReadByte => {
-                self.push(Action::Routine(Routine::ReadByte), &[], Some(into))
-            }
-            CoreOperation::PrintText(form, text) => {
-                self.print_text(*form, text)?;
-                self.write(&[set(UNIT, into)])
-            }
-            CoreOperation::Apply(form, arguments) => self.apply(into, *form, arguments),
-        }
-    }
-
-    /// Writes a form on variables. One with another number of arguments is none.
-    fn apply(&mut self, into: u32, form: Form, arguments: &[u32]) -> Result<(), NoMemory>
-        ensures { OnOk result (WroteLines (FormLines self.old.base into form arguments.now) self.old self.new) }
+    /// Writes the lines of a form on variables, whose value `into` takes. A form with another number of arguments has none.
+    pub fn form(
+        &mut self,
+        literals: &[StringLiteral],
+        into: u32,
+        form: Form,
+        arguments: &[u32],
+    ) -> Result<(), NoMemory>
+        ensures { OnOk result (WroteForm literals.now into form arguments.now self.old self.new) }
     {
         match form {
+            Form::Number(value) => self.write(&[set(value.cast_unsigned(), into)]),
+            Form::Unit => self.write(&[set(UNIT, into)]),
+            Form::ReadByte => self.push(Action::Routine(Routine::ReadByte), &[], Some(into)),
+            Form::PrintText(form, text) => {
+                self.print_text(form, literal(literals, text))?;
+                self.write(&[set(UNIT, into)])
+            }
             Form::Unary(operator) => self.unary(into, operator, arguments),
             Form::Binary(operator) => self.binary(into, operator, arguments),
             Form::Print(form) => self.print(into, form, arguments),
@@ -119,7 +125,7 @@ impl Lowering {
         operator: UnaryOperator,
         arguments: &[u32],
     ) -> Result<(), NoMemory>
-        ensures { OnOk result (WroteLines (FormLines self.old.base into (Unary operator) arguments.now) self.old self.new) }
+        ensures { OnOk result (WroteLines (AppliedLines self.old.base into (Unary operator) arguments.now) self.old self.new) }
     {
         let Some(value) = only(arguments) else {
             return Ok(());
@@ -149,7 +155,7 @@ impl Lowering {
         operator: BinaryOperator,
         arguments: &[u32],
     ) -> Result<(), NoMemory>
-        ensures { OnOk result (WroteLines (FormLines self.old.base into (Binary operator) arguments.now) self.old self.new) }
+        ensures { OnOk result (WroteLines (AppliedLines self.old.base into (Binary operator) arguments.now) self.old self.new) }
     {
         let Some((first, second)) = pair(arguments) else {
             return Ok(());
@@ -290,7 +296,7 @@ impl Lowering {
     }
 
     fn print(&mut self, into: u32, form: PrintForm, arguments: &[u32]) -> Result<(), NoMemory>
-        ensures { OnOk result (WroteLines (FormLines self.old.base into (Print form) arguments.now) self.old self.new) }
+        ensures { OnOk result (WroteLines (AppliedLines self.old.base into (Print form) arguments.now) self.old self.new) }
     {
         let Some(value) = only(arguments) else {
             return Ok(());
@@ -308,7 +314,7 @@ impl Lowering {
     }
 
     fn construct(&mut self, into: u32, constructor: u32, arguments: &[u32]) -> Result<(), NoMemory>
-        ensures { OnOk result (WroteLines (FormLines self.old.base into (Construct constructor) arguments.now) self.old self.new) }
+        ensures { OnOk result (WroteLines (AppliedLines self.old.base into (Construct constructor) arguments.now) self.old self.new) }
     {
         if !arguments.is_empty() {
             return Ok(());
@@ -318,14 +324,15 @@ impl Lowering {
     }
 
     fn call(&mut self, into: u32, function: u32, arguments: &[u32]) -> Result<(), NoMemory>
-        ensures { OnOk result (WroteLines (FormLines self.old.base into (Call function) arguments.now) self.old self.new) }
+        ensures { OnOk result (WroteLines (AppliedLines self.old.base into (Call function) arguments.now) self.old self.new) }
     {
         let handed = self.hand_over(arguments)?;
         self.push(Action::Call(function), &handed, Some(into))
     }
 
     /// A print of constant bytes. No bytes are not printed.
-    fn print_text(&mut self, form: PrintForm, text: &StringLiteral) -> Result<(), NoMemory>
+    fn print_text(&mut self, form: PrintForm, text: &[u8]) -> Result<(), NoMemory>
+        requires { length text.now ≤ 255 }
         ensures { OnOk result (WrotePrint (piece_of form text.now) self.old self.new) }
     {
         let bytes = piece(self.alloc, form, text)?;

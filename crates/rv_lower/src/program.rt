@@ -13,6 +13,7 @@ use crate::block::{Goal, write_block};
 use crate::lowering::Lowering;
 use kk_base::{NoMemory, Text};
 use kk_core::{Core, CoreFunction};
+use kk_syntax::StringLiteral;
 use rv_isa::{Asm, AsmFunction};
 use std::alloc::Global;
 
@@ -27,13 +28,15 @@ fn parameters(alloc: Global, count: u32) -> Result<Vec<u32>, NoMemory>
     Ok(params)
 }
 
-/// The assembler code of a function, and the texts of the program with its own behind them.
+/// The assembler code of a function of a program with these string literals, and the constant bytes of the program with its
+/// own behind them.
 pub fn lower_function(
     alloc: Global,
+    literals: &[StringLiteral],
     function: &CoreFunction,
     texts: Vec<Text>,
 ) -> Result<(AsmFunction, Vec<Text>), NoMemory>
-    ensures { IfOk result (λ r. LoweredFunction (function_code function.now) (lines_of r.0) texts.items r.1.items) }
+    ensures { IfOk result (λ r. LoweredFunction literals.now (function_code function.now) (lines_of r.0) texts.items r.1.items) }
 {
     let mut lowering = Lowering {
         alloc,
@@ -42,7 +45,7 @@ pub fn lower_function(
         base: function.variables,
         next_label: 0,
     };
-    write_block(&mut lowering, &function.body, Goal::Return)?;
+    write_block(&mut lowering, literals, &function.body, Goal::Return)?;
     let params = parameters(alloc, function.parameters)?;
     let Lowering { code, texts, .. } = lowering;
     Ok((AsmFunction { params, code }, texts))
@@ -57,7 +60,7 @@ fn lower_core(alloc: Global, core: &Core) -> Result<Asm, NoMemory>
     let mut functions = Vec::new(alloc);
     let mut constants = Vec::new(alloc);
     for function in &core.functions {
-        let (lowered, texts) = lower_function(alloc, function, constants)?;
+        let (lowered, texts) = lower_function(alloc, &core.texts, function, constants)?;
         constants = texts;
         functions.push(lowered)?;
     }

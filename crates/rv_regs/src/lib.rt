@@ -18,6 +18,3 @@ mod walk;
 pub use assigning::assign;
 pub use checking::valid;
 pub use keeps::{Execution, valid_forms_keep_meaning};
-
-#[cfg(test)]
-mod tests;

@@ -9,6 +9,3 @@ mod registers;
 
 pub use halt::Halt;
 pub use machine::Machine;
-
-#[cfg(test)]
-mod tests;

@@ -1,6 +1,6 @@
 use Rattle.std.proofs.Common.{[], cond, map, ap, sym, ◌∙◌}
 use Rattle.kk_syntax.specs.Trees.{expr_tree, statement_tree}
-use Rattle.kk_syntax.proofs.Blocks.{block_tree}
+use Rattle.kk_syntax.proofs.Views.{block_tree}
 use Rattle.kk_borrow.specs.Demands.{origins_in}
 use Rattle.kk_borrow.proofs.Blocks.{origins_block, none_map, none_by}
 use Rattle.kk_borrow.proofs.tail_call.+origins_in.Goals as goal

@@ -1,6 +1,6 @@
 use Rattle.std.proofs.Common.{◌≡◌, ◌++◌, List, map, OnOk, ap, sym, ◌∙◌, subst}
 use Rattle.kk_syntax.specs.Trees.{expr_tree, statement_tree}
-use Rattle.kk_syntax.proofs.Blocks.{block_tree}
+use Rattle.kk_syntax.proofs.Views.{block_tree}
 use Rattle.kk_borrow.specs.Rules.{RuleTree, rule_trees}
 use Rattle.kk_borrow.specs.Demands.{tail_rules}
 use Rattle.kk_borrow.proofs.Blocks.{tail_block}

@@ -1,7 +1,7 @@
 use Rattle.kk_syntax.specs.Trees.{expr_tree, row_tree, statement_tree}
 use Rattle.kk_mono.specs.Instances.{calls}
 use Rattle.kk_mono.specs.Labels.{left_in, labelled, row_calls, labelled_row, statement_calls, labelled_statement}
-use Rattle.kk_mono.proofs.Relabelled.{each_more, apply_labelled, branch_labelled, match_labelled, block_copied, row_copied, statement_copied}
+use Rattle.kk_mono.proofs.Labelled.{each_more, apply_labelled, branch_labelled, match_labelled, block_copied, row_copied, statement_copied}
 use Rattle.kk_mono.proofs.body.+labelled.Goals as goal
 
 pub labelled-returns-in_ok-arguments-in-Apply-clause-tree : goal.labelled-returns-in_ok-arguments-in-Apply-clause-tree

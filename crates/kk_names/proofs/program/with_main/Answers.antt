@@ -5,14 +5,14 @@ use Rattle.kk_names.proofs.program.with_main.Goals as goal
 
 pub returns-in_default : goal.returns-in_default
 returns-in_default c =
-    lacking_main (map function_tree c.args.functions.items) c.args.length c.no_main.result
+    lacking_main (map function_tree c.args.functions.items) c.args.texts.items c.args.length c.no_main.result
     (main_seen c.args.functions.items c.as_slice.result.now c.as_slice.ensures.value ∙ sym c.in_default.ensures.value) c.no_main.ensures
 
 pub returns-then-not-is_main_shaped : goal.returns-then-not-is_main_shaped
 returns-then-not-is_main_shaped c =
     let functions = c.args.functions.items in
     let within : c.in-Some.main < length functions = omega (arith, c.in-Some.ensures.within, ap length c.as_slice.ensures.value) in
-    other_main functions c.args.length (length functions) c.in-Some.main c.index-function.result.now c.other_main.result
+    other_main functions c.args.texts.items c.args.length (length functions) c.in-Some.main c.index-function.result.now c.other_main.result
     (main_seen functions c.as_slice.result.now c.as_slice.ensures.value ∙ sym c.in-Some.ensures.value) refl within c.index-function.ensures
     (λ shape. (let yes = sym c.if-not-is_main_shaped.true ∙ c.is_main_shaped.ensures.1 shape in cc yes)) c.other_main.ensures
 
@@ -20,6 +20,6 @@ pub returns-in-Ok : goal.returns-in-Ok
 returns-in-Ok c =
     let functions = c.args.functions.items in
     let within : c.in-Some.main < length functions = omega (arith, c.in-Some.ensures.within, ap length c.as_slice.ensures.value) in
-    makes_program functions (length functions) c.in-Some.main c.index-function.result.now (program_tree c.in-Ok.program)
+    makes_program functions c.args.texts.items (length functions) c.in-Some.main c.index-function.result.now (program_tree c.in-Ok.program)
     (main_seen functions c.as_slice.result.now c.as_slice.ensures.value ∙ sym c.in-Some.ensures.value) refl within c.index-function.ensures
     (c.is_main_shaped.ensures.0 c.if-not-is_main_shaped.false) c.in-Ok.ensures

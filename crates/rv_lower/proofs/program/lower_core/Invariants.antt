@@ -5,4 +5,4 @@ use Rattle.rv_lower.specs.Written.{LoweredFunctions}
 use Rattle.rv_lower.proofs.program.lower_core.Given as goal
 
 abbrev pub invariant-loop-function : goal.invariant-loop-function
-invariant-loop-function l = LoweredFunctions (map function_code (take l.function-index l.core.functions.items)) (map lines_of l.functions.items) l.constants.items
+invariant-loop-function l = LoweredFunctions l.core.texts.items (map function_code (take l.function-index l.core.functions.items)) (map lines_of l.functions.items) l.constants.items

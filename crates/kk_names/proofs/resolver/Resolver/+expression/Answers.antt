@@ -5,20 +5,20 @@ use Rattle.std.proofs.lemmas.Result.{IfOk-weaker}
 use Rattle.kk_syntax.specs.declared.program.Binder.TheVariants as OfBinder
 use Rattle.kk_syntax.specs.declared.program.Expr.{Expr}
 use Rattle.kk_syntax.specs.declared.program.Expr.TheVariants.{Block}
-use Rattle.kk_syntax.specs.declared.program.Form.TheVariants.{Binary}
+use Rattle.kk_syntax.specs.declared.program.Form.TheVariants.{Unit as Nothing, Binary, Construct}
 use Rattle.kk_syntax.specs.declared.tree.SurfaceExpr.{SurfaceExpr}
 use Rattle.kk_syntax.specs.Surface.{Written, Writtens, WrittenStatement, construct, both, either, branch, branch_alone, block_of, written, written_expr, written_statement, writtens_of}
-use Rattle.kk_syntax.proofs.Blocks.{block_tree}
+use Rattle.kk_syntax.proofs.Views.{apply_is, block_tree, statement_tree_is}
 use Rattle.kk_syntax.specs.Trees as OfTree
 use Rattle.kk_syntax.specs.Trees.{Tree, StatementTree, expr_tree, statement_tree, trees_of}
-use Rattle.kk_names.specs.Expressions.{truth}
+use Rattle.kk_names.specs.Expressions.{alone}
 use Rattle.kk_names.specs.declared.resolver.Resolver.{Resolver}
 use Rattle.kk_names.specs.Methods.{choice_of, Resolves, ResolvesAll, ResolvesStatement}
 use Rattle.kk_names.specs.Tables.{meaning_in}
 use Rattle.kk_names.proofs.Arguments.{AllSoFar, all_more, all_done, first_resolved, call_resolved, construct_resolved, dot_call_resolved}
 use Rattle.kk_names.proofs.Growing.{binary_resolved, both_resolved, either_resolved, alone_resolved, branch_resolved, as_written}
 use Rattle.kk_names.proofs.Statements.{block_resolved, StatementsSoFar, statements_more, variable_statement}
-use Rattle.kk_names.proofs.Written.{call_written, construct_written, binary_written, next_expr, next_statement, variable_written, statement_made, apply_tree, unit_tree}
+use Rattle.kk_names.proofs.Written.{call_written, construct_written, binary_written, next_expr, next_statement, variable_written}
 use Rattle.kk_names.proofs.resolver.Resolver.+expression.Goals as goal
 use Rattle.kk_names.proofs.resolver.Resolver.+expression.Goals.{choice-in-Some+in_ok-negative-in-Some, choice-in-None}
 
@@ -52,7 +52,7 @@ expression-returns-in_ok-arguments-in-Binary t c =
     let left = c.in_ok-left-in-Binary.left in
     let right = c.in_ok-right-in-Binary.right in
     as_written _ _ c.args.self.now c.expression-in-Binary-2.new.self _ _ (binary_written c.args.expr.now c.in-Binary.operator c.in-Binary.left c.in-Binary.right c.deref-in-Binary.result.now c.deref-in-Binary-2.result.now c.in-Binary.is c.deref-in-Binary.ensures c.deref-in-Binary-2.ensures)
-    (apply_tree _ (Binary c.in-Binary.operator) c.in_ok-arguments-in-Binary.arguments (left ∷ right ∷ []) refl c.in_ok-arguments-in-Binary.ensures.items)
+    (apply_is _ (Binary c.in-Binary.operator) c.in_ok-arguments-in-Binary.arguments (left ∷ right ∷ []) refl (sym c.in_ok-arguments-in-Binary.ensures.items))
     (binary_resolved c.in-Binary.operator _ _ c.args.self.now c.expression-in-Binary.new.self c.expression-in-Binary-2.new.self (expr_tree left) (expr_tree right) c.in_ok-left-in-Binary.ensures c.in_ok-right-in-Binary.ensures)
 
 pub dot_call-returns : goal.dot_call-returns
@@ -82,8 +82,8 @@ both-returns t c =
     let right = written_expr c.args.right.now in
     IfOk-weaker c.conditional.result _ _
     (λ e made.
-    as_written (both left right) (both left right) c.args.self.now c.expression-2.new.self (expr_tree e) (OfTree.branch first second (truth 0)) refl
-    (made ∙ ap (OfTree.branch first second) c.truth-negative.ensures)
+    as_written (both left right) (both left right) c.args.self.now c.expression-2.new.self (expr_tree e) (OfTree.branch first second (alone (Construct 0))) refl
+    (made ∙ ap (OfTree.branch first second) c.alone-negative.ensures)
     (both_resolved left right c.args.self.now c.expression.new.self c.expression-2.new.self first second c.in_ok-condition.ensures c.in_ok-positive.ensures))
     c.conditional.ensures
 
@@ -95,8 +95,8 @@ either-returns t c =
     let right = written_expr c.args.right.now in
     IfOk-weaker c.conditional.result _ _
     (λ e made.
-    as_written (either left right) (either left right) c.args.self.now c.expression-2.new.self (expr_tree e) (OfTree.branch first (truth 1) second) refl
-    (made ∙ ap (λ b. OfTree.branch first b second) c.truth-positive.ensures)
+    as_written (either left right) (either left right) c.args.self.now c.expression-2.new.self (expr_tree e) (OfTree.branch first (alone (Construct 1)) second) refl
+    (made ∙ ap (λ b. OfTree.branch first b second) c.alone-positive.ensures)
     (either_resolved left right c.args.self.now c.expression.new.self c.expression-2.new.self first second c.in_ok-condition.ensures c.in_ok-negative.ensures))
     c.conditional.ensures
 
@@ -122,10 +122,10 @@ choice-returns t c =
       | choice-in-None w ↦
           IfOk-weaker c.conditional.result _ _
           (λ x made.
-          as_written (chosen c.args.negative.now) (branch_alone e p) c.args.self.now c.match-negative.self (expr_tree x) (OfTree.branch first second OfTree.unit)
+          as_written (chosen c.args.negative.now) (branch_alone e p) c.args.self.now c.match-negative.self (expr_tree x) (OfTree.branch first second (alone Nothing))
           (ap chosen w.in-None.is)
-          (made ∙ ap (OfTree.branch first second) (unit_tree c.match-negative.negative w.negative-is))
-          (subst (λ (r : Resolver). Resolves (branch_alone e p) c.args.self.now r (OfTree.branch first second OfTree.unit)) (sym w.self-is)
+          (made ∙ ap (OfTree.branch first second) (ap expr_tree w.negative-is ∙ w.alone-negative.ensures))
+          (subst (λ (r : Resolver). Resolves (branch_alone e p) c.args.self.now r (OfTree.branch first second (alone Nothing))) (sym w.self-is)
           (alone_resolved e p c.args.self.now c.expression.new.self c.expression-2.new.self first second c.in_ok-condition.ensures c.in_ok-positive.ensures)))
           c.conditional.ensures
     ]
@@ -133,7 +133,7 @@ choice-returns t c =
 pub block-returns : goal.block-returns
 block-returns t c =
     let old = c.args.self.now in
-    let new : Resolver = record { alloc = c.expression.new.self.alloc; functions = c.expression.new.self.functions; scope = c.truncate.new.self; next = c.expression.new.self.next; first = c.expression.new.self.first } in
+    let new : Resolver = record { alloc = c.expression.new.self.alloc; functions = c.expression.new.self.functions; scope = c.truncate.new.self; next = c.expression.new.self.next; texts = c.expression.new.self.texts; first = c.expression.new.self.first } in
     let statements = map written_statement c.args.statements.now in
     let last = written_expr c.args.value.now in
     let made = map statement_tree c.in_ok-statements.statements.items in
@@ -166,11 +166,11 @@ pub statement-returns-in_ok-bind-in-Variable : goal.statement-returns-in_ok-bind
 statement-returns-in_ok-bind-in-Variable t c =
     let s = c.args.statement.now in
     let number = c.in_ok-number-in-Variable.number in
-    let made = statement_made (record { binder = OfBinder.Variable number; value = c.in_ok-value-in-Variable.value }) in
+    let made = statement_tree_is (record { binder = OfBinder.Variable number; value = c.in_ok-value-in-Variable.value }) in
     subst (λ (x : StatementTree). ResolvesStatement (written_statement s) c.args.self.now c.bind.new.self x) (sym made)
     (variable_statement (written_statement s) c.in-Variable.name number (written_expr s.value) c.args.self.now c.number.new.self c.expression-in-Variable.new.self c.bind.new.self (record { binder = OfBinder.Variable number; value = expr_tree c.in_ok-value-in-Variable.value })
     (variable_written s c.in-Variable.name s.value c.in-Variable.is refl)
-    c.in_ok-number-in-Variable.ensures.number c.in_ok-number-in-Variable.ensures.next c.in_ok-number-in-Variable.ensures.functions c.in_ok-number-in-Variable.ensures.scope c.in_ok-number-in-Variable.ensures.first
+    c.in_ok-number-in-Variable.ensures.number c.in_ok-number-in-Variable.ensures.before c.in_ok-number-in-Variable.ensures.functions c.in_ok-number-in-Variable.ensures.scope c.in_ok-number-in-Variable.ensures.first
     c.in_ok-value-in-Variable.ensures c.in_ok-bind-in-Variable.ensures refl)
 
 pub statements-loop-statement-preserved : goal.statements-loop-statement-preserved

@@ -1,9 +1,8 @@
-use Rattle.std.proofs.Common.{◌∙◌, ap, refl}
-use Rattle.kk_syntax.specs.declared.program.Expr.TheVariants as program
+use Rattle.std.proofs.Common.{◌∙◌, ap}
 use Rattle.kk_names.specs.Methods.{newest_first}
 use Rattle.kk_names.specs.Scopes.{number_in}
 use Rattle.kk_names.proofs.Arguments.{variable_found, variable_unknown}
-use Rattle.kk_names.proofs.Written.{variable_tree, unit_tree}
+use Rattle.kk_syntax.proofs.Views.{variable_tree}
 use Rattle.kk_names.proofs.resolver.Resolver.variable.Goals as goal
 
 pub returns-in-Some : goal.returns-in-Some
@@ -14,4 +13,4 @@ returns-in-Some c =
 pub returns-in_ok-note-in-None : goal.returns-in_ok-note-in-None
 returns-in_ok-note-in-None c =
     variable_unknown c.args.name.now c.args.self.now c.note.new.self _
-    (c.in-None.ensures ∙ ap (λ all. number_in (newest_first all) c.args.name.now.name) c.as_slice.ensures.value) (unit_tree program.Unit refl) c.in_ok-note-in-None.ensures
+    (c.in-None.ensures ∙ ap (λ all. number_in (newest_first all) c.args.name.now.name) c.as_slice.ensures.value) c.alone.ensures c.in_ok-note-in-None.ensures

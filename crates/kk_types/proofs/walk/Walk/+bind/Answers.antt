@@ -2,7 +2,8 @@ use Rattle.std.proofs.Common.{[], map, refl, ap, sym, ◌∙◌, subst}
 use Rattle.kk_syntax.specs.Patterns.{pattern_tree, patterns_of}
 use Rattle.kk_syntax.specs.Shapes.{bound, bound_all}
 use Rattle.kk_types.specs.Steps.{BindsEach}
-use Rattle.kk_types.proofs.Patterns.{nothing_bound, variable_tree, constructor_tree, binds_none, binds_one, binds_part}
+use Rattle.kk_syntax.proofs.PatternViews.{variable_tree, constructor_tree}
+use Rattle.kk_types.proofs.Patterns.{nothing_bound, binds_none, binds_one, binds_part}
 use Rattle.kk_types.proofs.walk.Walk.+bind.Goals as goal
 
 pub loop-part-init : goal.loop-part-init

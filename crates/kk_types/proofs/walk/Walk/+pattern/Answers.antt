@@ -4,12 +4,12 @@ use Rattle.kk_syntax.specs.declared.program.Pat.TheViews.{the_lemmas}
 use Rattle.kk_syntax.specs.Patterns.{pattern_tree}
 use Rattle.kk_syntax.specs.Programs.{program_tree}
 use Rattle.kk_syntax.specs.Typing.{constructing, constructor_scheme}
+use Rattle.kk_syntax.proofs.PatternViews.{wildcard_tree, variable_tree, number_tree, constructor_tree}
 use Rattle.kk_types.specs.Claims.{typed_as, pattern_at}
 use Rattle.kk_types.specs.Steps.{nodes_of, size_of, Goes, Walked, AnswersInstance}
 use Rattle.kk_types.specs.Walks.{AreBoundBelow, Done}
 use Rattle.kk_types.proofs.Going.{still_inside, still_bound, goes_reworded}
 use Rattle.kk_types.proofs.Parts.{parts_at, other_length, part_refused, part_goes, parts_done, not_of_type, of_type, parts_asked}
-use Rattle.kk_types.proofs.Patterns.{wildcard_tree, variable_tree, number_tree, constructor_tree}
 use Rattle.kk_types.proofs.Refining.{below_more}
 use Rattle.kk_types.proofs.walk.Walk.+pattern.Goals as goal
 

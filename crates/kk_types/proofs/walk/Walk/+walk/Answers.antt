@@ -4,6 +4,7 @@ use Rattle.std.proofs.lemmas.List.{get_or_default, drop_all}
 use Rattle.kk_syntax.specs.declared.program.Expr.TheViews.{the_lemmas}
 use Rattle.kk_syntax.specs.Programs.{program_tree}
 use Rattle.kk_syntax.specs.Trees.{expr_tree, row_tree, statement_tree, rows_of, trees_of}
+use Rattle.kk_syntax.proofs.Views.{variable_tree, apply_is, branch_is, match_is, block_is}
 use Rattle.kk_unify.specs.GraphOf.{graph_of, variables_of}
 use Rattle.kk_types.specs.declared.walk.Walk.{Walk}
 use Rattle.kk_types.specs.Claims.{expression_at, expressions_at}
@@ -14,7 +15,6 @@ use Rattle.kk_types.proofs.Going.{still_bound, goes_reworded}
 use Rattle.kk_types.proofs.Listing.{left_of, too_many, argument_walked, argument_refused}
 use Rattle.kk_types.proofs.Refining.{below_more, bound_more}
 use Rattle.kk_types.proofs.Stating.{into_first, none_stated, statement_refused, statement_walked, block_walked}
-use Rattle.kk_types.proofs.Views.{variable_tree, apply_is, branch_is, match_is, block_is, of_unit, of_number}
 use Rattle.kk_types.proofs.RowsOf.{cases_at, cases_done, pattern_fails, body_fails, row_goes}
 use Rattle.kk_types.proofs.walk.Walk.+walk.Goals as goal
 
@@ -57,14 +57,6 @@ arguments-returns t c =
     let none = drop_all c.loop-index.index c.args.wants.now (omega (arith, c.if-arguments-wants.false, c.loop-index-test.false)) in
     subst (λ ws. Goes c.args.self.now c.loop-index.self whole (expressions_at program c.args.self.now.scope.items (trees_of []) ws)) none
     (subst (λ es. Goes c.args.self.now c.loop-index.self whole (expressions_at program c.args.self.now.scope.items (trees_of (map expr_tree es)) (drop c.loop-index.index c.args.wants.now))) all c.loop-index.invariant)
-
-pub expression-returns-in-Number : goal.expression-returns-in-Number
-expression-returns-in-Number t c =
-    of_number (λ e. Walked c.args.self.now c.is-in-Number.new.self (expression_at (program_tree c.args.program.now) c.args.self.now.scope.items e c.args.want) c.is-in-Number.result) c.args.expr.now c.in-Number.is (λ value. c.is-in-Number.ensures) c.is-in-Number.ensures
-
-pub expression-returns-in-Unit : goal.expression-returns-in-Unit
-expression-returns-in-Unit t c =
-    of_unit (λ e. Walked c.args.self.now c.is.new.self (expression_at (program_tree c.args.program.now) c.args.self.now.scope.items e c.args.want) c.is.result) c.args.expr.now c.in-Unit.is c.is.ensures (λ form text. c.is.ensures)
 
 pub expression-returns-in-Variable : goal.expression-returns-in-Variable
 expression-returns-in-Variable t c =

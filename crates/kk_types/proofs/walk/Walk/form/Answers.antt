@@ -1,4 +1,17 @@
+use Rattle.std.proofs.Common.{inl, inr}
 use Rattle.kk_types.proofs.walk.Walk.form.Goals as goal
+
+pub returns-in_ok-instance-in-Number : goal.returns-in_ok-instance-in-Number
+returns-in_ok-instance-in-Number c = elim c.in-Number.is [
+  | inl is ↦ rw is.1 c.in_ok-instance-in-Number.ensures
+  | inr is ↦ rw is c.in_ok-instance-in-Number.ensures
+]
+
+pub returns-in_ok-instance-in-Unit : goal.returns-in_ok-instance-in-Unit
+returns-in_ok-instance-in-Unit c = elim c.in-Unit.is [
+  | inl is ↦ rw is c.in_ok-instance-in-Unit.ensures
+  | inr is ↦ rw is.2 c.in_ok-instance-in-Unit.ensures
+]
 
 pub returns-in_ok-instance-in-Unary : goal.returns-in_ok-instance-in-Unary
 returns-in_ok-instance-in-Unary c = rw c.in-Unary.is c.in_ok-instance-in-Unary.ensures
