@@ -5,7 +5,7 @@ use Rattle.kk_base.specs.Trace.{Event}
 use Rattle.kk_base.specs.Machines.{Machine, weighing, mapped}
 use Rattle.kk_syntax.specs.declared.program.Form.{Form}
 use Rattle.kk_syntax.specs.Shapes.{is_among}
-use Rattle.kk_source.specs.State.{Value, integer, unit, constant, place, Cell, Environment, End, ended, heap_full, stack_full}
+use Rattle.kk_source.specs.State.{Value, place, Cell, Environment, End, ended, heap_full, stack_full}
 use Rattle.kk_source.specs.Live.{value_of}
 use Rattle.kk_source.specs.Matching.{and_then}
 use Rattle.kk_source.specs.Notes.{Note, events_of}
@@ -53,7 +53,8 @@ case_step (Some body) environment joins from = goes (at_counted body environment
 
 -- At the end of a block inside its variable takes the value. At the end of a function's body the function that waits
 -- takes it, or the run ends with that of the first one.
-abbrev pub give_step : Value → List CountedJoin → List CountedFrame → Environment → CountedConfiguration → Action CountedConfiguration
+abbrev pub give_step : Value → List CountedJoin → List CountedFrame → Environment → CountedConfiguration
+    → Action CountedConfiguration
 give_step v (join ∷ joins) frames environment from = goes (bound_then join.variable v join.rest environment joins from)
 give_step v [] (frame ∷ older) environment from =
     goes (bound_then frame.variable v frame.rest frame.environment frame.joins (record from { frames = older }))
@@ -86,7 +87,9 @@ pub record Named : Type 0 where
 
 abbrev pub cell_named : ℕ → ℕ → Heap → Value → Option Named
 cell_named c count heap v =
-    and_then (place_of v) (λ at. and_then (cell_at heap at) (λ cell. and_then (if_made_by c count cell) (λ fields. Some (record { at = at; fields = fields }))))
+    and_then (place_of v) (λ at.
+    and_then (cell_at heap at) (λ cell.
+    and_then (if_made_by c count cell) (λ fields. Some (record { at = at; fields = fields }))))
 
 -- the values of the fields whose variables are used, or of the others
 abbrev pub values_where : (ℕ → Bool) → List ℕ → List Value → List Value
@@ -112,7 +115,8 @@ unique_heap (suc zero) at used others heap = drop_all others (set_count at 0 hea
 unique_heap (suc (suc count)) at used others heap = dup_all used (set_count at (suc count) heap)
 
 -- the fields bound, where there is such a cell, and the heap changed as the form says
-abbrev pub open_step : Option Named → (Named → Option Heap) → List ℕ → Counted → Environment → List CountedJoin → CountedConfiguration → Action CountedConfiguration
+abbrev pub open_step : Option Named → (Named → Option Heap) → List ℕ → Counted → Environment → List CountedJoin
+    → CountedConfiguration → Action CountedConfiguration
 open_step None heap fields rest environment joins from = goes (at_stuck from)
 open_step (Some named) heap fields rest environment joins from =
     goes (with_heap (heap named) from (at_counted rest (bind_fields fields named.fields environment) joins from))
@@ -123,7 +127,9 @@ module _ (setting : CountedSetting) where
   abbrev pub construct_step : ℕ → List Value → (Value → CountedConfiguration) → CountedConfiguration → Action CountedConfiguration
   construct_step c fields to from =
       build_step setting.cells (busy from.heap) (at_end heap_full from)
-      (record (to (place (length from.heap))) { heap = record { count = 1; cell = record { made_by = c; fields = fields } } ∷ from.heap })
+      (record (to (place (length from.heap))) {
+        heap = record { count = 1; cell = record { made_by = c; fields = fields } } ∷ from.heap;
+      })
 
   -- A call that is no tail call stops with a full stack exactly where as many call frames stand as the stack has. Else the
   -- running function waits, and the body is entered. Where there is no such function the machine is stuck.
@@ -134,11 +140,14 @@ module _ (setting : CountedSetting) where
       (in_code function values (record from { frames = waiting ∷ from.frames }))
 
   -- a form on values, whose value a variable takes, and the rest comes
-  abbrev pub form_step : Form → List Value → ℕ → Counted → Environment → List CountedJoin → CountedConfiguration → Action CountedConfiguration
+  abbrev pub form_step : Form → List Value → ℕ → Counted → Environment → List CountedJoin → CountedConfiguration
+      → Action CountedConfiguration
   form_step form values x rest environment joins from =
       effect_step (λ v. bound_then x v rest environment joins from)
       (λ c fields. construct_step c fields (λ v. bound_then x v rest environment joins from) from)
-      (λ f arguments. call_step (slice_get setting.program.functions f) arguments (record { variable = x; rest = rest; joins = joins; environment = environment }) from)
+      (λ f arguments.
+      call_step (slice_get setting.program.functions f) arguments
+      (record { variable = x; rest = rest; joins = joins; environment = environment }) from)
       (form_effect setting.program.texts form values)
 
   -- the step at a code
@@ -155,13 +164,16 @@ module _ (setting : CountedSetting) where
   counted_code_step (inside x block rest) environment joins from =
       goes (at_counted block environment (record { variable = x; rest = rest } ∷ joins) from)
   counted_code_step (read x c fields rest) environment joins from =
-      open_step (cell_named c (length fields) from.heap (value_of environment x)) (λ named. Some from.heap) fields rest environment joins from
+      open_step (cell_named c (length fields) from.heap (value_of environment x))
+      (λ named. Some from.heap) fields rest environment joins from
   counted_code_step (open_cell x c fields used rest) environment joins from =
       open_step (cell_named c (length fields) from.heap (value_of environment x))
       (λ named. opened_heap named.at (used_values used fields named.fields) from.heap) fields rest environment joins from
   counted_code_step (if_unique x c fields used rest) environment joins from =
       open_step (cell_named c (length fields) from.heap (value_of environment x))
-      (λ named. unique_heap (count_at from.heap named.at) named.at (used_values used fields named.fields) (other_values used fields named.fields) from.heap)
+      (λ named.
+      unique_heap (count_at from.heap named.at) named.at (used_values used fields named.fields)
+      (other_values used fields named.fields) from.heap)
       fields rest environment joins from
   counted_code_step (dup x rest) environment joins from =
       goes (with_heap (dup_value (value_of environment x) from.heap) from (at_counted rest environment joins from))

@@ -54,6 +54,10 @@ counted_start setting =
       heap = [];
     }
 
+-- the machine at its start, with its whole input left
+abbrev pub counted_first_state : CountedSetting → List ℕ → CountedState
+counted_first_state setting input = record { machine = counted_start setting; input = input }
+
 -- its end, if it is there
 abbrev pub counted_end_at : CountedControl → Option End
 counted_end_at (stopped by) = Some by

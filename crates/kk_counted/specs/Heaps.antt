@@ -1,6 +1,6 @@
 -- Heaps of counted cells. Cells are named by the order in which they were made, from 0, and no name is used again: so the
 -- values of the core machine and of the counted machine are equal. A cell of count 0 is free; what it held is never read.
-use Rattle.std.specs.Prelude.{ℕ, zero, suc, ◌+◌, ◌==◌, List, [], ◌∷◌, ◌++◌, length, Option, Some, None, option_map, if◌then◌else◌}
+use Rattle.std.specs.Prelude.{ℕ, zero, suc, ◌+◌, ◌==◌, List, [], ◌∷◌, ◌++◌, length, Option, Some, None, if◌then◌else◌}
 use Rattle.kk_source.specs.State.{Value, integer, unit, constant, place, Cell, Store}
 use Rattle.kk_source.specs.Matching.{and_then}
 
@@ -69,8 +69,12 @@ dup_all [] heap = Some heap
 dup_all (v ∷ vs) heap = and_then (dup_value v heap) (dup_all vs)
 
 -- the fields of a cell, counted or not
+abbrev pub fields_if_held : Option Held → List Value
+fields_if_held None = []
+fields_if_held (Some held) = held.cell.fields
+
 abbrev pub fields_held : Heap → ℕ → List Value
-fields_held heap at = elim (held_at heap at) [ None ↦ [] | Some held ↦ held.cell.fields ]
+fields_held heap at = fields_if_held (held_at heap at)
 
 -- the fields of all counted cells, which is how many references can be given up beyond those that are asked for
 abbrev pub weight_if : ℕ → List Value → ℕ
@@ -91,10 +95,10 @@ give_up (suc turns) (unit ∷ vs) heap = give_up turns vs heap
 give_up (suc turns) (constant c ∷ vs) heap = give_up turns vs heap
 give_up (suc turns) (place at ∷ vs) heap =
     elim (count_at heap at) [
-      zero ↦ None |
-      suc count ↦ elim count [
-        zero ↦ give_up turns (fields_held heap at ++ vs) (set_count at 0 heap) |
-        suc others ↦ give_up turns vs (set_count at (suc others) heap)
+      | zero ↦ None
+      | suc count ↦ elim count [
+        | zero ↦ give_up turns (fields_held heap at ++ vs) (set_count at 0 heap)
+        | suc others ↦ give_up turns vs (set_count at (suc others) heap)
       ]
     ]
 
