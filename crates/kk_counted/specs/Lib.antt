@@ -2,3 +2,4 @@ pub mod CountedCodes
 pub mod CountedMachine
 pub mod CountedStates
 pub mod Heaps
+pub mod References
