@@ -1,0 +1,5 @@
+use Rattle.kk_counted.proofs.SoundRuns.{sound_heap_is, openings_are_alike}
+use Rattle.kk_counted.proofs.law.sound_heaps_are_functions.Goals as goal
+
+pub returns : goal.returns
+returns c = record { function = sound_heap_is; openings = openings_are_alike }
