@@ -1,5 +1,5 @@
-use kk_cover::{CoverError, cover, example_text, uncovered};
 use kk_base::Name;
+use kk_cover::{CoverError, cover, example_text, uncovered};
 use kk_syntax::{Constructor, Expr, Form, Fun, Pat, Program, Row, Ty, Typed};
 use std::alloc::{AllocError, Global};
 use std::test::Fail;

@@ -2,9 +2,9 @@
 use Rattle.std.proofs.Common.{◌≡◌, ℕ, ℤ, zero, suc, List, [], ◌∷◌, ◌++◌, map, take, drop, replicate, refl, sym, ap, ◌∙◌}
 use Rattle.std.proofs.lemmas.List.{map-append}
 use Rattle.kk_syntax.specs.declared.program.Pat.{Pat}
-use Rattle.kk_syntax.specs.declared.program.Pat.TheVariants.{Wildcard, rolls-Wildcard, Number, rolls-Number, Constructor, rolls-Constructor}
-use Rattle.kk_syntax.specs.declared.program.Pat.TheFolds.{fold-roll-Pat}
-use Rattle.kk_syntax.specs.Patterns.{Pattern, patterns_of, pattern_step, pattern_tree}
+use Rattle.kk_syntax.specs.declared.program.Pat.TheVariants.{Wildcard, Number, Constructor}
+use Rattle.kk_syntax.specs.Patterns.{patterns_of, pattern_tree}
+use Rattle.kk_syntax.proofs.PatternViews.{wildcard_tree, number_tree, constructor_tree}
 use Rattle.kk_cover.specs.declared.problem.Slot.{Slot}
 use Rattle.kk_cover.specs.declared.problem.Slot.TheVariants.{Any}
 use Rattle.kk_syntax.specs.Outlines.{Outline, any, exactly, made, outline, outline_of, outlines_of, outline_list, pattern_outline}
@@ -28,15 +28,13 @@ parts_outlines [] = refl
 parts_outlines (p ∷ ps) = ap (outline (pattern_outline p)) (parts_outlines ps)
 
 pub constructor_outline : (c : ℕ) (ps : _) → pattern_outline (Constructor c ps) ≡ made c (outline_list (map pattern_outline ps.items))
-constructor_outline c ps =
-    ap pattern_outline (sym (rolls-Constructor c ps))
-    ∙ (ap outline_of (fold-roll-Pat Pattern pattern_step _) ∙ ap (made c) (parts_outlines ps.items))
+constructor_outline c ps = ap outline_of (constructor_tree c ps) ∙ ap (made c) (parts_outlines ps.items)
 
 pub wildcard_outline : pattern_outline Wildcard ≡ any
-wildcard_outline = ap pattern_outline (sym rolls-Wildcard) ∙ ap outline_of (fold-roll-Pat Pattern pattern_step _)
+wildcard_outline = ap outline_of wildcard_tree
 
 pub number_outline : (n : ℤ) → pattern_outline (Number n) ≡ exactly n
-number_outline n = ap pattern_outline (sym (rolls-Number n)) ∙ ap outline_of (fold-roll-Pat Pattern pattern_step _)
+number_outline n = ap outline_of (number_tree n)
 
 pub back_view : (k : ℕ) (slots : List Slot) → back k (row_view slots) ≡ row_view (drop k slots)
 back_view zero slots = refl

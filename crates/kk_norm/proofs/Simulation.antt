@@ -5,7 +5,7 @@ use Rattle.std.proofs.lemmas.Option.{slice_get-map}
 use Rattle.kk_base.specs.Machines.{Machine}
 use Rattle.kk_syntax.specs.declared.program.Form.{Form}
 use Rattle.kk_syntax.specs.declared.program.Form.TheVariants.{Construct, Call}
-use Rattle.kk_syntax.specs.Trees.{Tree, variable, apply, branch as if_tree, match, sequence, Trees, tree}
+use Rattle.kk_syntax.specs.Trees.{Tree, sequence, Trees, tree}
 use Rattle.kk_syntax.specs.declared.program.Binder.{Binder}
 use Rattle.kk_syntax.specs.declared.program.Binder.TheVariants as OfBinder
 use Rattle.kk_syntax.specs.Shapes.{free, nodes_of, without, is_among, bound_by, variable_of}
@@ -18,11 +18,11 @@ use Rattle.kk_source.specs.Actions.{Action, goes as leads_to, calls, print_step,
 use Rattle.kk_source.specs.FormEffects.{is_true, byte_value, FormEffect, gives, prints, reads, makes, enters, form_effect, effect_step}
 use Rattle.kk_source.specs.SourceAfter.{State}
 use Rattle.kk_source.specs.Step.{bind_parameters, call_frames, lent_places, at_end, at_value, in_body, form_step, call_step, push_step}
-use Rattle.kk_core.specs.Codes.{Code, give, tail_call, branch, FunctionCode}
+use Rattle.kk_core.specs.Codes.{Code, give, tail_call, FunctionCode}
 use Rattle.kk_core.specs.CoreStates.{Join, CallFrame, CoreConfiguration, CoreState}
 use Rattle.kk_core.specs.CoreMachine as Core
 use Rattle.kk_norm.specs.Names.{Names}
-use Rattle.kk_norm.specs.Normalized.{Then, final, next, size, atom, after, within, joined, finish, finish_call, code, normal_function}
+use Rattle.kk_norm.specs.Normalized.{Then, final, next, size, atom, after, within, joined, finish, finish_call, code, choice_code, normal_function}
 use Rattle.kk_norm.specs.NoCells.{NoCells, MakesNoCell, IsPlain}
 use Rattle.kk_norm.specs.Meaning.{core_setting}
 use Rattle.kk_norm.proofs.Variables.{same_number, Stands, stands_left, stands_right, stands_later}
@@ -32,11 +32,8 @@ use Rattle.kk_norm.proofs.Delivery as Delivery
 
 -- each expression has a node
 pub some_nodes : (e : Tree) → 1 ≤ nodes_of e
-some_nodes (variable x) = omega arith
-some_nodes (apply form es) = omega arith
-some_nodes (if_tree e positive negative) = omega arith
-some_nodes (match e of) = omega arith
 some_nodes (sequence binder first rest) = omega (arith, some_nodes first)
+some_nodes e = omega arith
 
 -- a form with arguments that makes no cell is no construction
 pub makes_nothing_of : (form : Form) (e : Tree) (es : Trees) → MakesNoCell form (tree e es) → MakesNothing form
@@ -273,10 +270,10 @@ module _ (setting : Setting) (most cost : ℕ) (weight : CoreState → ℕ) (lig
   pub branch_goes : (test : Bool) (k : Then) (positive negative : Tree) (names : Names) (environment : Environment) (n low top : ℕ) (core : Environment) (joins : List Join) (x : ℕ) (frames : List CallFrame) (fs : List Frame) (store : Store) (input : List ℕ) (credit idle : ℕ)
       → is_true (value_of core x) ≡ test → low ≤ n → Stands names environment core low (free positive ++ free negative) → NoCells positive → NoCells negative → nodes_of positive + nodes_of negative ≤ most
       → Fresh k joins (n + size positive + size negative + 1) top → Waits most fs (goal_of k (n + size positive + size negative) joins) core low top frames
-      → Follows credit idle [] (source_at (expression (if test then positive else negative) environment) fs store input) (core_at (joined k (n + size positive + size negative) (branch x (code (within k) names n positive) (code (within k) names (n + size positive) negative))) core joins frames store input)
+      → Follows credit idle [] (source_at (expression (if test then positive else negative) environment) fs store input) (core_at (joined k (n + size positive + size negative) (choice_code (within k) names n x positive negative)) core joins frames store input)
   branch_goes test (final tail) positive negative names environment n low top core joins x frames fs store input credit idle is le stands plain_positive plain_negative small fresh waits =
       let k : Then = final tail in
-      Delivery.follows_step setting most cost weight light credit idle most 0 [] (source_at (expression (if test then positive else negative) environment) fs store input) (core_at (branch x (code k names n positive) (code k names (n + size positive) negative)) core joins frames store input)
+      Delivery.follows_step setting most cost weight light credit idle most 0 [] (source_at (expression (if test then positive else negative) environment) fs store input) (core_at (choice_code k names n x positive negative) core joins frames store input)
       (core_at (if test then code k names n positive else code k names (n + size positive) negative) core joins frames store input)
       (ap (λ (b : Bool). ([], core_at (if b then code k names n positive else code k names (n + size positive) negative) core joins frames store input)) is)
       (omega arith) (omega arith) refl
@@ -287,12 +284,12 @@ module _ (setting : Setting) (most cost : ℕ) (weight : CoreState → ℕ) (lig
       let k : Then = final false in
       let m : ℕ = n + size positive + size negative in
       let join : Join = record { variable = m; rest = rest } in
-      let between : CoreState = core_at (branch x (code k names n positive) (code k names (n + size positive) negative)) core (join ∷ joins) frames store input in
+      let between : CoreState = core_at (choice_code k names n x positive negative) core (join ∷ joins) frames store input in
       let taken : CoreState = core_at (if test then code k names n positive else code k names (n + size positive) negative) core (join ∷ joins) frames store input in
       let goes : lower.step between ≡ ([], taken)
       = ap (λ (b : Bool). ([], core_at (if b then code k names n positive else code k names (n + size positive) negative) core (join ∷ joins) frames store input)) is in
       let s : State = source_at (expression (if test then positive else negative) environment) fs store input in
-      Delivery.follows_step setting most cost weight light credit idle most 1 [] s (core_at (joined (next rest) m (branch x (code k names n positive) (code k names (n + size positive) negative))) core joins frames store input)
+      Delivery.follows_step setting most cost weight light credit idle most 1 [] s (core_at (joined (next rest) m (choice_code k names n x positive negative)) core joins frames store input)
       between refl (omega arith) (omega arith)
       (subst (λ (one : List Note × CoreState). one.0 ++ [] ≡ []) (sym goes) refl)
       (subst (λ (one : List Note × CoreState). Related most credit most s one.1) (sym goes)

@@ -12,10 +12,10 @@ use Rattle.kk_source.specs.Actions.{performed}
 use Rattle.kk_source.specs.FormEffects.{is_true}
 use Rattle.kk_source.specs.Step.{bind, form_step}
 use Rattle.kk_source.specs.SourceAfter.{step, State}
-use Rattle.kk_core.specs.Codes.{Code, give, branch}
+use Rattle.kk_core.specs.Codes.{Code, give}
 use Rattle.kk_core.specs.CoreStates.{Join, CallFrame, CoreState, core_end_at}
 use Rattle.kk_norm.specs.Names.{Names, name_of, named}
-use Rattle.kk_norm.specs.Normalized.{Then, next, size, size_all, atom, atoms, within, joined, finish, code, code_all}
+use Rattle.kk_norm.specs.Normalized.{Then, next, size, size_all, atom, atoms, within, joined, finish, code, code_all, choice_code}
 use Rattle.kk_norm.specs.NoCells.{NoCells}
 use Rattle.kk_norm.specs.Meaning.{heavy_store_machine}
 use Rattle.kk_norm.proofs.Variables.{Stands, stands_left, stands_right, stands_later, stands_bound, all_below_more, all_below_one_more, values_one_more}
@@ -75,7 +75,7 @@ module _ (setting : Setting) (most cost : ℕ) (weight : CoreState → ℕ) (lig
       let n : ℕ = a.n + size e in
       let m : ℕ = n + size positive + size negative in
       let x : ℕ = atom a.names a.n e in
-      let rest : Code = joined a.k m (branch x (code (within a.k) a.names n positive) (code (within a.k) a.names (n + size positive) negative)) in
+      let rest : Code = joined a.k m (choice_code (within a.k) a.names n x positive negative) in
       let waits : Waits most (branches positive negative environment ∷ fs) (goes_on rest x a.joins) a.core a.n n a.frames
       = record {
         at = record { k = a.k; names = a.names; n = n; top = a.top };
@@ -115,9 +115,9 @@ module _ (setting : Setting) (most cost : ℕ) (weight : CoreState → ℕ) (lig
   branch_step : (k : Then) (positive negative : Tree) (names : Names) (environment : Environment) (n low top : ℕ) (core : Environment) (joins : List Join) (x : ℕ) (v : Value) (frames : List CallFrame) (fs : List Frame) (store : Store) (input : List ℕ) (credit idle : ℕ)
       → value_of core x ≡ v → low ≤ n → Stands names environment core low (free positive ++ free negative) → NoCells positive → NoCells negative → nodes_of positive + nodes_of negative ≤ most
       → Fresh k joins (n + size positive + size negative + 1) top → Waits most fs (goal_of k (n + size positive + size negative) joins) core low top frames
-      → Steps credit idle (source_at (value v) (branches positive negative environment ∷ fs) store input) (core_at (joined k (n + size positive + size negative) (branch x (code (within k) names n positive) (code (within k) names (n + size positive) negative))) core joins frames store input)
+      → Steps credit idle (source_at (value v) (branches positive negative environment ∷ fs) store input) (core_at (joined k (n + size positive + size negative) (choice_code (within k) names n x positive negative)) core joins frames store input)
   branch_step k positive negative names environment n low top core joins x v frames fs store input credit idle has le stands plain_positive plain_negative small fresh waits =
-      subst (λ (v : Value). Steps credit idle (source_at (value v) (branches positive negative environment ∷ fs) store input) (core_at (joined k (n + size positive + size negative) (branch x (code (within k) names n positive) (code (within k) names (n + size positive) negative))) core joins frames store input)) has
+      subst (λ (v : Value). Steps credit idle (source_at (value v) (branches positive negative environment ∷ fs) store input) (core_at (joined k (n + size positive + size negative) (choice_code (within k) names n x positive negative)) core joins frames store input)) has
       (Forms.branch_goes setting most cost weight light plain (is_true (value_of core x)) k positive negative names environment n low top core joins x frames fs store input credit idle refl le stands plain_positive plain_negative small fresh waits)
 
   -- at a value

@@ -8,10 +8,10 @@ use Rattle.kk_syntax.specs.Shapes.{free, free_all, nodes_of, nodes_of_all, witho
 use Rattle.kk_source.specs.State.{Value, Environment, Frame, arguments, branches, rows, statement, call}
 use Rattle.kk_source.specs.Live.{value_of, awaited}
 use Rattle.kk_source.specs.Step.{call_frames}
-use Rattle.kk_core.specs.Codes.{Code, branch}
+use Rattle.kk_core.specs.Codes.{Code}
 use Rattle.kk_core.specs.CoreStates.{Join, CallFrame}
 use Rattle.kk_norm.specs.Names.{Names, named}
-use Rattle.kk_norm.specs.Normalized.{Then, final, next, size, size_all, atom, atoms, after, within, joined, finish, code, code_all}
+use Rattle.kk_norm.specs.Normalized.{Then, final, next, size, size_all, atom, atoms, after, within, joined, finish, code, code_all, choice_code}
 use Rattle.std.specs.Prelude.{slice_get}
 use Rattle.kk_syntax.specs.Programs.{FunctionTree}
 use Rattle.kk_norm.specs.NoCells.{NoCells, NoCellsAll, IsPlain}
@@ -83,7 +83,7 @@ pub record ArgumentsWait (most : ℕ) (form : Form) (vs : List Value) (es : Tree
 
 pub record BranchesWait (most : ℕ) (positive negative : Tree) (environment : Environment) (rest : Code) (a : ℕ) (joins : List Join) (core : Environment) (low high : ℕ) (Later : Goal → ℕ → Type 0) : Type 0 where
   pub at : Place
-  pub rest_is : rest ≡ joined at.k (at.n + size positive + size negative) (branch a (code (within at.k) at.names at.n positive) (code (within at.k) at.names (at.n + size positive) negative))
+  pub rest_is : rest ≡ joined at.k (at.n + size positive + size negative) (choice_code (within at.k) at.names at.n a positive negative)
   pub stands : Stands at.names environment core low (free positive ++ free negative)
   pub plain_positive : NoCells positive
   pub plain_negative : NoCells negative

@@ -152,6 +152,11 @@ abbrev mutual
   arms k names a n (row pattern body rest) =
       arm pattern (opened a n pattern (code k (pattern_names a n pattern names) (n + pattern_size pattern) body)) (arms k names a (n + pattern_size pattern + size body) rest)
 
+-- the code that an `if` on variable a ends with, where the numbers of its branches begin at n
+abbrev pub choice_code : Then → Names → ℕ → ℕ → Tree → Tree → Code
+choice_code k names n a positive negative =
+    Core.branch a (code k names n positive) (code k names (n + size positive) negative)
+
 -- the core form of a function and of a program
 abbrev pub normal_function : FunctionTree → FunctionCode
 normal_function function = record {

@@ -1,11 +1,11 @@
 -- What a call that writes code adds to what was written before it.
 use Rattle.std.specs.Prelude.{◌≡◌, ◌+◌, ℕ, List, [], ◌∷◌, map, length, take, Bool}
 use Rattle.kk_syntax.specs.Trees.{Tree, Trees, StatementTree, block_of}
-use Rattle.kk_core.specs.Codes.{Code, branch, Piece, put, plug, step_piece}
+use Rattle.kk_core.specs.Codes.{Code, Piece, put, plug, step_piece}
 use Rattle.kk_norm.specs.declared.naming.Named.{Named}
 use Rattle.kk_norm.specs.declared.writer.Writer.{Writer}
 use Rattle.kk_norm.specs.Names.{Names}
-use Rattle.kk_norm.specs.Normalized.{Then, final, next, size, size_all, atom, atoms, code, code_all}
+use Rattle.kk_norm.specs.Normalized.{Then, final, next, size, size_all, atom, atoms, code, code_all, choice_code}
 
 -- names in the order in which they are given, before older ones
 abbrev pub names_before : Names → List Named → Names
@@ -66,7 +66,7 @@ pub record WritesEnd (tail : Bool) (e : Tree) (old new : Writer) (last : Code) :
 pub record WritesChoice (tail : Bool) (e positive negative : Tree) (old new : Writer) (last : Code) : Type 0 where
   pub number : new.next ≡ old.next + size e + size positive + size negative
   pub names : new.names.items ≡ old.names.items
-  pub last_is : last ≡ branch (atom (names_of old.names.items) old.next e) (code (final tail) (names_of old.names.items) (old.next + size e) positive) (code (final tail) (names_of old.names.items) (old.next + size e + size positive) negative)
+  pub last_is : last ≡ choice_code (final tail) (names_of old.names.items) (old.next + size e) (atom (names_of old.names.items) old.next e) positive negative
   pub steps : (rest : Code) → behind new rest ≡ behind old (code (next rest) (names_of old.names.items) old.next e)
 
 -- an expression is written as a block of its own, and nothing is added to the steps

@@ -1,5 +1,5 @@
 -- Each step keeps states sound.
-use Rattle.std.proofs.Common.{◌≡◌, ℕ, zero, suc, ◌+◌, ◌≤◌, ℤ, pos, Bool, true, false, List, [], ◌∷◌, ◌++◌, length, Option, Some, None, arith, subst, length-append}
+use Rattle.std.proofs.Common.{◌≡◌, ℕ, zero, suc, ◌+◌, ◌≤◌, ℤ, Bool, true, false, List, [], ◌∷◌, ◌++◌, length, Option, Some, None, arith, subst, length-append}
 use Rattle.std.specs.Prelude.{slice_get, if◌then◌else◌, ◌==◌}
 use Rattle.kk_syntax.specs.declared.operator.UnaryOperator.{UnaryOperator}
 use Rattle.kk_syntax.specs.declared.operator.UnaryOperator.TheVariants.{Negate, Not}

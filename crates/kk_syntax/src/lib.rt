@@ -15,7 +15,8 @@ mod typed;
 
 pub use accepted::Accepted;
 pub use copy::{
-    copied_constructors, copied_declarations, copied_pattern, copied_texts, copied_type, copied_types,
+    copied_constructors, copied_declarations, copied_pattern, copied_texts, copied_type,
+    copied_types,
 };
 pub use ground::{Ground, GroundType, Instance};
 pub use literal::StringLiteral;

@@ -5,7 +5,7 @@ use Rattle.std.proofs.lemmas.List.{map-append, get_or-map, get_or_past, length-m
 use Rattle.kk_base.specs.declared.error.NoMemory.{NoMemory}
 use Rattle.kk_syntax.specs.declared.program.Ty.{Ty}
 use Rattle.kk_syntax.specs.declared.program.Ty.TheVariants.{Int32, Unit as Nothing, Variable, Named}
-use Rattle.kk_syntax.specs.Types.{TypeTree, int32, unit_type, type_variable, named, types_of, put, put_each, type_at, type_tree}
+use Rattle.kk_syntax.specs.Types.{TypeTree, int32, unit_type, named, types_of, put, put_each, type_at, type_tree}
 use Rattle.kk_syntax.proofs.TypeViews.{int32_tree, unit_tree, variable_tree, named_tree}
 use Rattle.kk_unify.specs.Graphs.{NodeTree, Assignment, Adds, IsFormed}
 use Rattle.kk_types.specs.Walks.{AreBelow, Agree, Builds, BuildsEach}

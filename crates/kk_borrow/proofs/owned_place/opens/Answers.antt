@@ -1,7 +1,6 @@
 use Rattle.std.proofs.Common.{not, map, ap, sym, ◌∙◌}
-use Rattle.kk_syntax.specs.declared.program.Pat.TheVariants.{rolls-Constructor}
-use Rattle.kk_syntax.specs.declared.program.Pat.TheFolds.{fold-roll-Pat}
-use Rattle.kk_syntax.specs.Patterns.{Pattern, pattern_step, pattern_tree}
+use Rattle.kk_syntax.specs.Patterns.{pattern_tree}
+use Rattle.kk_syntax.proofs.PatternViews.{constructor_tree}
 use Rattle.kk_borrow.specs.OwnedPlaces.{opens}
 use Rattle.kk_borrow.proofs.Blocks.{opens_by, none_map, none_by}
 use Rattle.kk_borrow.proofs.owned_place.opens.Goals as goal
@@ -11,5 +10,5 @@ returns-in-Constructor c =
     let parts = c.in-Constructor.parts in
     let none = none_map pattern_tree parts.items ∙ none_by parts.items parts.len c.is_empty.result parts.ok.0 c.is_empty.ensures in
     sym (ap (λ p. opens (pattern_tree p)) c.in-Constructor.is
-    ∙ (ap (λ p. opens (pattern_tree p)) (sym (rolls-Constructor c.in-Constructor.field-0 parts))
-    ∙ (ap opens (fold-roll-Pat Pattern pattern_step _) ∙ (opens_by c.in-Constructor.field-0 (map pattern_tree parts.items) ∙ ap not none))))
+    ∙ (ap opens (constructor_tree c.in-Constructor.field-0 parts)
+    ∙ (opens_by c.in-Constructor.field-0 (map pattern_tree parts.items) ∙ ap not none)))
