@@ -1,9 +1,11 @@
 -- A drop takes one turn for itself, and one for each field of a cell that it frees: so it pays for itself.
-use Rattle.std.proofs.Common.{◌≡◌, ℕ, zero, suc, ◌+◌, ◌*◌, List, [], ◌∷◌, ◌++◌, length, Option, Some, None, arith, refl, ap, length-append}
+use Rattle.std.proofs.Common.{◌≡◌, ℕ, zero, suc, ◌+◌, ◌*◌, List, [], ◌∷◌, ◌++◌, length, Option, Some, None, arith, refl, sym, ap, ◌∙◌, length-append}
 use Rattle.kk_source.specs.State.{Value, integer, unit, constant, place}
-use Rattle.kk_counted.specs.Heaps.{Heap, count_at, set_count, fields_held, weight, give_up, drop_value}
+use Rattle.kk_source.specs.Matching.{and_then}
+use Rattle.kk_counted.specs.Heaps.{Heap, count_at, set_count, more, dup_value, dup_all, fields_held, weight, give_up, drop_value}
+use Rattle.kk_counted.specs.CountedMachine.{opened_heap}
 use Rattle.kk_counted.specs.Spending.{total, AreEven}
-use Rattle.kk_counted.specs.Cost.{turns_taken, drop_turns, saved}
+use Rattle.kk_counted.specs.Cost.{turns_taken, drop_turns, saved, turns_if, opening_turns}
 use Rattle.kk_counted.proofs.Counting.{kept_weight, freed_weight}
 
 some_is : (heap after : Heap) → Some heap ≡ Some after → heap ≡ after
@@ -44,3 +46,31 @@ lengths_even (x ∷ xs) = omega (arith, lengths_even xs)
 pub drop_pays : (v : Value) (heap after : Heap) (x : ℕ) (owned kept : List ℕ) → AreEven owned (x ∷ kept) → drop_value v heap ≡ Some after → (16 + 16 * drop_turns v heap) + saved kept after ≡ saved owned heap
 drop_pays v heap after x owned kept even gives =
     omega (arith, drop_cost v heap after gives, even (λ y. 1), lengths_even owned, lengths_even kept)
+
+-- ---- a dup leaves the weight, and an opening pays for its own drop
+
+pub dup_weight : (v : Value) (heap after : Heap) → dup_value v heap ≡ Some after → weight after ≡ weight heap
+dup_weight (integer n) heap after gives = ap weight (sym (some_is heap after gives))
+dup_weight unit heap after gives = ap weight (sym (some_is heap after gives))
+dup_weight (constant c) heap after gives = ap weight (sym (some_is heap after gives))
+dup_weight (place at) heap after gives = by_count (count_at heap at) refl gives
+  where
+    by_count : (count : ℕ) → count_at heap at ≡ count → more at count heap ≡ Some after → weight after ≡ weight heap
+    by_count zero counted gives = none_is _ after gives
+    by_count (suc k) counted gives =
+        ap weight (sym (some_is (set_count at (suc (suc k)) heap) after gives)) ∙ kept_weight at (suc k) k heap counted
+
+pub dups_weight : (vs : List Value) (heap after : Heap) → dup_all vs heap ≡ Some after → weight after ≡ weight heap
+dups_weight [] heap after gives = ap weight (sym (some_is heap after gives))
+dups_weight (v ∷ vs) heap after gives = by_first (dup_value v heap) refl gives (λ between. dups_weight vs between after)
+  where
+    by_first : (first : Option Heap) → dup_value v heap ≡ first → and_then first (dup_all vs) ≡ Some after → ((between : Heap) → dup_all vs between ≡ Some after → weight after ≡ weight between) → weight after ≡ weight heap
+    by_first None is gives later = none_is _ after gives
+    by_first (Some between) is gives later = later between gives ∙ dup_weight v heap between is
+
+pub opening_cost : (at : ℕ) (used : List Value) (heap after : Heap) → opened_heap at used heap ≡ Some after → opening_turns at used heap + weight after ≡ 1 + weight heap
+opening_cost at used heap after gives = by_first (dup_all used heap) refl gives
+  where
+    by_first : (first : Option Heap) → dup_all used heap ≡ first → and_then first (drop_value (place at)) ≡ Some after → turns_if (place at) first + weight after ≡ 1 + weight heap
+    by_first None is gives = none_is _ after gives
+    by_first (Some between) is gives = omega (arith, drop_cost (place at) between after gives, dups_weight used heap between is)

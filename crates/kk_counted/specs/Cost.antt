@@ -1,7 +1,7 @@
 -- What a drop costs: the references that it gives up, one in each turn; and what is saved for that.
-use Rattle.std.specs.Prelude.{ℕ, zero, suc, ◌+◌, ◌*◌, List, [], ◌∷◌, ◌++◌, length}
+use Rattle.std.specs.Prelude.{ℕ, zero, suc, ◌+◌, ◌*◌, List, [], ◌∷◌, ◌++◌, length, Option, Some, None}
 use Rattle.kk_source.specs.State.{Value, integer, unit, constant, place}
-use Rattle.kk_counted.specs.Heaps.{Heap, count_at, set_count, fields_held, weight}
+use Rattle.kk_counted.specs.Heaps.{Heap, count_at, set_count, dup_all, fields_held, weight}
 
 -- how many of the turns are taken
 abbrev pub turns_taken : ℕ → List Value → Heap → ℕ
@@ -25,3 +25,11 @@ drop_turns v heap = turns_taken (suc (weight heap)) (v ∷ []) heap
 -- a price for each owned variable and one for each field of a counted cell
 abbrev pub saved : List ℕ → Heap → ℕ
 saved owned heap = 32 * length owned + 16 * weight heap
+
+-- an opening drops its cell when the used fields have got a reference more
+abbrev pub turns_if : Value → Option Heap → ℕ
+turns_if v None = 0
+turns_if v (Some heap) = drop_turns v heap
+
+abbrev pub opening_turns : ℕ → List Value → Heap → ℕ
+opening_turns at used heap = turns_if (place at) (dup_all used heap)

@@ -7,11 +7,11 @@ ghost use Rattle.kk_core.specs.Decisions.{NodeTree, chosen};
 ghost use Rattle.kk_counted.specs.CountedCodes.{Counted, CountedArms, give, case};
 ghost use Rattle.kk_counted.specs.CountedMachine.{opened_heap, unique_heap, NotStuck};
 ghost use Rattle.kk_counted.specs.CountedStates.{CountedSetting, CountedJoin, CountedState, running};
-ghost use Rattle.kk_counted.specs.Heaps.{Heap, forwards, count_at, cell_at, fields_held, busy, weight, drop_value};
+ghost use Rattle.kk_counted.specs.Heaps.{Heap, forwards, count_at, cell_at, fields_held, busy, weight, dup_value, drop_value};
 ghost use Rattle.kk_counted.specs.Keeping.{HasNoCell, uses, IsKept, counted_after, FitsAlways, HasShapeAlways};
 ghost use Rattle.kk_counted.specs.References.{refs, IsSound, IsCounted, cells_of, counted};
 ghost use Rattle.kk_counted.specs.Spending.{AreEven, IsSpent};
-ghost use Rattle.kk_counted.specs.Cost.{drop_turns, saved};
+ghost use Rattle.kk_counted.specs.Cost.{drop_turns, saved, opening_turns};
 
 /// Code that spends each reference that it owns keeps its heap sound: in each state of a run the count of each cell is the
 /// number of the references that own it, fields name older cells, and the cell of each lent variable is reached from what an
@@ -84,11 +84,15 @@ pub fn counted_cells_are_live()
 {}
 
 /// What a drop costs: one turn for its reference, and one for each field of a cell that it frees. So with 32 saved for each
-/// owned variable and 16 for each field of a counted cell, a drop pays for itself exactly. It is a law, and does nothing.
+/// owned variable and 16 for each field of a counted cell, a drop pays for itself exactly. A dup leaves what is saved for
+/// fields, and an opening's drop costs no more than any. It is a law, and does nothing.
 pub fn drops_pay_for_themselves()
     ensures turns { (v : Value) (heap after : Heap) → drop_value v heap ≡ Some after
         → drop_turns v heap + weight after ≡ 1 + weight heap }
     ensures pays { (v : Value) (heap after : Heap) (x : ℕ) (owned kept : List ℕ) → AreEven owned (x ∷ kept)
         → drop_value v heap ≡ Some after
         → (16 + 16 * drop_turns v heap) + saved kept after ≡ saved owned heap }
+    ensures dups { (v : Value) (heap after : Heap) → dup_value v heap ≡ Some after → weight after ≡ weight heap }
+    ensures openings { (at : ℕ) (used : List Value) (heap after : Heap) → opened_heap at used heap ≡ Some after
+        → opening_turns at used heap + weight after ≡ 1 + weight heap }
 {}
