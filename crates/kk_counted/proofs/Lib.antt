@@ -12,3 +12,4 @@ pub mod Cost
 pub mod Places
 pub mod Looks
 pub mod SoundGoing
+pub mod Functions

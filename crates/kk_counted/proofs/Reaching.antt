@@ -96,7 +96,7 @@ pub same_fields : (heap other : Heap) (at : ℕ) → cells_of heap ≡ cells_of 
 same_fields heap other at cells =
     sym (store_fields heap at) ∙ (ap (λ store. fields_at store at) (same_store heap other cells) ∙ store_fields other at)
 
-cells_length : (heap : Heap) → length heap ≡ length (cells_of heap)
+pub cells_length : (heap : Heap) → length heap ≡ length (cells_of heap)
 cells_length [] = refl
 cells_length (held ∷ heap) = ap suc (cells_length heap)
 
@@ -149,7 +149,7 @@ reached_counted outside heap counts vs goal named r =
 
 -- ---- a new cell
 
-none_beyond : (heap : Heap) (at : ℕ) → length heap ≤ at → count_at heap at ≡ 0
+pub none_beyond : (heap : Heap) (at : ℕ) → length heap ≤ at → count_at heap at ≡ 0
 none_beyond [] at le = refl
 none_beyond (held ∷ heap) at le = by_test (length heap == at) refl (none_beyond heap at (omega (arith, le)))
   where

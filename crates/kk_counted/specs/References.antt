@@ -45,6 +45,11 @@ abbrev pub cells_of : Heap → List Cell
 cells_of [] = []
 cells_of (held ∷ heap) = held.cell ∷ cells_of heap
 
+-- each cell names older ones
+abbrev pub AreOlder : List Cell → Type 0
+AreOlder [] = Unit {0}
+AreOlder (cell ∷ cells) = AllWithin (length cells) cell.fields × AreOlder cells
+
 -- the references to older cells, with those of a cell of that count
 abbrev pub spread : ℕ → List Value → (ℕ → ℕ) → ℕ → ℕ
 spread count fields outside at = refs (fields_if count fields) at + outside at

@@ -1,15 +1,16 @@
-ghost use Rattle.std.specs.Prelude.{◌≡◌, ◌↔◌, ◌+◌, ◌*◌, ◌≤◌, ℕ, true, List, [], ◌∷◌, Some, slice_get};
+ghost use Rattle.std.specs.Prelude.{◌≡◌, ◌↔◌, ◌+◌, ◌*◌, ◌≤◌, ℕ, true, List, [], ◌∷◌, length, Some, slice_get};
 ghost use Rattle.kk_syntax.specs.Shapes.{is_among};
 ghost use Rattle.kk_syntax.specs.PositionsOf.{PositionTable};
-ghost use Rattle.kk_source.specs.State.{Value, place, Environment};
+ghost use Rattle.kk_source.specs.State.{Value, place, Cell, Environment};
 ghost use Rattle.kk_source.specs.Live.{value_of, Reached, live};
+ghost use Rattle.kk_source.specs.Sound.{AllWithin};
 ghost use Rattle.kk_core.specs.Decisions.{NodeTree, chosen};
 ghost use Rattle.kk_counted.specs.CountedCodes.{Counted, CountedArms, give, case};
 ghost use Rattle.kk_counted.specs.CountedMachine.{opened_heap, unique_heap, NotStuck};
 ghost use Rattle.kk_counted.specs.CountedStates.{CountedSetting, CountedJoin, CountedState, running};
 ghost use Rattle.kk_counted.specs.Heaps.{Heap, forwards, count_at, cell_at, fields_held, busy, weight, dup_value, drop_value};
 ghost use Rattle.kk_counted.specs.Keeping.{HasNoCell, uses, IsKept, counted_after, FitsAlways, HasShapeAlways};
-ghost use Rattle.kk_counted.specs.References.{refs, IsSound, IsCounted, cells_of, counted};
+ghost use Rattle.kk_counted.specs.References.{refs, IsSound, IsCounted, cells_of, AreOlder, counted};
 ghost use Rattle.kk_counted.specs.Spending.{AreEven, IsSpent};
 ghost use Rattle.kk_counted.specs.Cost.{drop_turns, saved, opening_turns};
 
@@ -66,10 +67,12 @@ pub fn judged_code_leaves_no_cell()
         → busy (counted_after weight setting input n).heap ≡ 0 }
 {}
 
-/// A sound heap is a function of its cells and of the references that own it from outside. So both ways to open a cell lead
-/// to the same heap. It is a law, and does nothing.
+/// A sound heap is a function of its cells and of the references that own it from outside, and where cells name older ones
+/// that function gives a sound heap. So both ways to open a cell lead to the same heap. It is a law, and does nothing.
 pub fn sound_heaps_are_functions()
     ensures function { (owned : List Value) (heap : Heap) → IsSound owned heap → heap ≡ counted (refs owned) (cells_of heap) }
+    ensures sound { (owned : List Value) (cells : List Cell) → AreOlder cells → AllWithin (length cells) owned
+        → IsSound owned (counted (refs owned) cells) }
     ensures openings { (at : ℕ) (used others kept : List Value) (heap : Heap) → IsSound (place at ∷ kept) heap
         → ((q : ℕ) → refs (fields_held heap at) q ≡ refs used q + refs others q)
         → unique_heap (count_at heap at) at used others heap ≡ opened_heap at used heap }
