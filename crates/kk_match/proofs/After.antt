@@ -1,10 +1,10 @@
 -- What is left of a state once a position's answer is known.
-use Rattle.std.proofs.Common.{◌≡◌, ◌≢◌, ℕ, ◌+◌, ◌<◌, ◌≤◌, Bool, true, false, nat_eq, Option, None, Some, option_map, List, [], ◌∷◌, length, refl, sym, ap, ◌∙◌, subst, arith, zero-add}
+use Rattle.std.proofs.Common.{◌≡◌, ℕ, ◌+◌, ◌<◌, ◌≤◌, Bool, true, false, nat_eq, Option, None, Some, option_map, List, [], ◌∷◌, length, refl, sym, ap, ◌∙◌, subst, arith, zero-add}
 use Rattle.std.specs.Prelude.{if◌then◌else◌}
 use lib.Pointwise.{pointwise, bytes_decides}
 use Rattle.kk_core.specs.declared.decisions.Answer.{Answer}
 use Rattle.kk_match.specs.Parts.{Part}
-use Rattle.kk_match.specs.Graphs.{LineTree, StateTree, agrees, left_after, kept_line, after, first_of, test_of}
+use Rattle.kk_match.specs.Graphs.{StateTree, agrees, left_after, kept_line, after, first_of, test_of}
 use Rattle.kk_match.specs.Built.{AreBelow}
 
 -- rows stay below a number

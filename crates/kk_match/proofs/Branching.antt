@@ -1,5 +1,5 @@
 -- The edges of a test lead on for each answer of its kind.
-use Rattle.std.proofs.Common.{◌≡◌, ℕ, zero, suc, ◌+◌, ◌<◌, Bool, true, false, not, ◌&&◌, ◌||◌, ◌⊎◌, nat_eq, Option, None, Some, List, [], ◌∷◌, ◌++◌, length, map, refl, sym, ap, ◌∙◌, subst, inl, inr, arith, add-zero, add-one}
+use Rattle.std.proofs.Common.{◌≡◌, ℕ, zero, suc, ◌+◌, ◌<◌, Bool, true, false, not, ◌&&◌, ◌||◌, ◌⊎◌, nat_eq, Option, None, Some, List, [], ◌∷◌, ◌++◌, length, map, refl, sym, ap, ◌∙◌, subst, inl, inr, arith, add-zero}
 use Rattle.std.specs.Prelude.{slice_get, if◌then◌else◌, ◌==◌}
 use Rattle.std.specs.List.{list_any}
 use Rattle.std.proofs.lemmas.Bool.{cases_Bool, both_ways, eqb-true, eq-eqb}
@@ -11,13 +11,13 @@ use Rattle.kk_syntax.specs.Shapes.{is_among}
 use Rattle.kk_core.specs.declared.decisions.Answer.{Answer}
 use Rattle.kk_core.specs.declared.decisions.Answer.TheVariants.{Number, Constructor}
 use Rattle.kk_core.specs.declared.decisions.Edge.{Edge}
-use Rattle.kk_core.specs.Decisions.{NodeTree, tests, targets, is_answer, next_by}
+use Rattle.kk_core.specs.Decisions.{tests, targets, is_answer, next_by}
 use Rattle.kk_match.specs.Parts.{Part, both_same, is_kind, IsKind}
-use Rattle.kk_match.specs.Graphs.{LineTree, StateTree, agrees, after, test_of}
+use Rattle.kk_match.specs.Graphs.{StateTree, after, test_of}
 use Rattle.kk_match.specs.Outcomes.{is_listed, with_asked, with_parts, with_lines, unlisted_from, unlisted, IsOutcome}
 use Rattle.kk_match.specs.Built.{Names, Branches}
 use Rattle.kk_match.proofs.After.{LacksIn, Lacks, after_same}
-use Rattle.kk_match.proofs.Keyed.{and_both, answer_decides}
+use Rattle.kk_match.proofs.Keyed.{answer_decides}
 
 either : (a b : Bool) → (a || b) ≡ true → (a ≡ true) ⊎ (b ≡ true)
 either true b any = inl refl

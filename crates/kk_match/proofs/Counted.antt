@@ -1,5 +1,5 @@
 -- The types of constructors, counted and looked through.
-use Rattle.std.proofs.Common.{◌≡◌, ℕ, ◌+◌, ◌<◌, Bool, true, false, not, ◌&&◌, Some, List, [], ◌∷◌, length, map, get_or, drop, refl, sym, ap, ◌∙◌}
+use Rattle.std.proofs.Common.{◌≡◌, ℕ, ◌+◌, ◌<◌, true, false, not, ◌&&◌, Some, List, [], ◌∷◌, length, drop, refl, sym, ap, ◌∙◌}
 use Rattle.std.specs.Prelude.{◌==◌, count_by, cond, if◌then◌else◌}
 use Rattle.std.proofs.lemmas.List.{drop_more}
 use Rattle.std.proofs.lemmas.List.Sums.{sum_by-cons}

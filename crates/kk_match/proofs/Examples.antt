@@ -1,10 +1,10 @@
 -- The states of a match, found by hand: `type duo { Duo(a: bool, b: bool) }`, and the rows `Duo(True, True)`,
 -- `Duo(False, True)` and `Duo(_, False)`. Three states test.
-use Rattle.std.proofs.Common.{◌≡◌, ℕ, None, Some, List, [], ◌∷◌, refl}
+use Rattle.std.proofs.Common.{◌≡◌, ℕ, Some, List, [], ◌∷◌, refl}
 use Rattle.kk_syntax.specs.Patterns.{Pattern, anything, constructor, no_part, part}
 use Rattle.kk_core.specs.declared.decisions.Answer.TheVariants.{Constructor}
 use Rattle.kk_match.specs.Parts.{Part}
-use Rattle.kk_match.specs.Graphs.{StateTree, after, test_of, row_of, lines_from, testing}
+use Rattle.kk_match.specs.Graphs.{StateTree, after, test_of, lines_from, testing}
 
 -- False and True are of type 0, and Duo is of type 1
 abbrev types : List ℕ

@@ -1,7 +1,6 @@
 -- States that are equal in memory are equal.
-use Rattle.std.proofs.Common.{◌≡◌, ℕ, ℤ, ◌<◌, Bool, true, false, ◌&&◌, nat_eq, option_map, List, [], ◌∷◌, ◌++◌, length, map, get_or, Some, None, refl, sym, ap, ◌∙◌, arith}
+use Rattle.std.proofs.Common.{◌≡◌, ℕ, Bool, true, false, ◌&&◌, nat_eq, option_map, List, [], ◌∷◌, map, get_or, Some, refl, sym, ap, ◌∙◌}
 use Rattle.std.specs.Prelude.{slice_get, position}
-use Rattle.std.specs.Ordering.{int_eq}
 use Rattle.std.proofs.lemmas.Bool.{eqb-true, both_ways}
 use Rattle.std.proofs.lemmas.Bool.Decides.{Decides-int_eq}
 use Rattle.std.proofs.lemmas.List.Quantifiers.{position-Some}
@@ -17,8 +16,6 @@ use Rattle.kk_match.specs.declared.state.State.{State}
 use Rattle.kk_match.specs.contracts.question.QuestionPartialEq.TheImpl as OfQuestion
 use Rattle.kk_match.specs.contracts.state.LinePartialEq.TheImpl as OfLine
 use Rattle.kk_match.specs.contracts.state.StatePartialEq.TheImpl as OfState
-use Rattle.kk_match.specs.Parts.{Part}
-use Rattle.kk_match.specs.Graphs.{LineTree, StateTree}
 use Rattle.kk_match.specs.Views.{part_of, line_tree, state_tree}
 
 pub and_both : (a b : Bool) → (a && b) ≡ true → (a ≡ true) × (b ≡ true)

@@ -53,7 +53,8 @@ pub fn asked(
     test: &Question,
     state: &State,
 ) -> Result<Vec<Answer>, NoMemory>
-    ensures { IfOk result (λ answers. answers.items ≡ with_lines (types_of constructors.now) (part_of test.now) [] (state_tree state.now)) }
+    ensures { IfOk result (λ answers. answers.items
+        ≡ with_lines (types_of constructors.now) (part_of test.now) [] (state_tree state.now)) }
 {
     let mut answers = Vec::new(alloc);
     for line in &state.lines {
@@ -68,7 +69,8 @@ fn add_asked(
     questions: &[&Question],
     answers: &mut Vec<Answer>,
 ) -> Result<(), NoMemory>
-    ensures { OnOk result (answers.new.items ≡ with_parts (types_of constructors.now) (part_of test.now) answers.old.items (map (λ q. part_of q.now) questions.now)) }
+    ensures { OnOk result (answers.new.items
+        ≡ with_parts (types_of constructors.now) (part_of test.now) answers.old.items (map (λ q. part_of q.now) questions.now)) }
 {
     for question in questions {
         if question.at == test.at
@@ -101,7 +103,8 @@ fn unlisted_constructor(
     of: u32,
     answers: &[Answer],
 ) -> Result<Option<Option<Answer>>, NoMemory>
-    ensures { IfOk result (λ rest. rest ≡ unlisted_from (types_of constructors.now) (Answer.Constructor of) answers.now 0 (types_of constructors.now)) }
+    ensures { IfOk result (λ rest. rest
+        ≡ unlisted_from (types_of constructors.now) (Answer.Constructor of) answers.now 0 (types_of constructors.now)) }
 {
     for place in 0..constructors.len() {
         let Ok(number) = u32::try_from(place) else {
@@ -116,7 +119,8 @@ fn unlisted_constructor(
 
 // Whether a constructor is of the type of one of a number, and not listed.
 fn is_unlisted(constructors: &[Constructor], of: u32, answers: &[Answer], number: u32) -> bool
-    ensures { result ≡ (is_kind (types_of constructors.now) (Answer.Constructor of) (Answer.Constructor number) && not (is_listed answers.now (Answer.Constructor number))) }
+    ensures { result ≡ (is_kind (types_of constructors.now) (Answer.Constructor of) (Answer.Constructor number)
+        && not (is_listed answers.now (Answer.Constructor number))) }
 {
     let found = Answer::Constructor(number);
     is_kind(constructors, Answer::Constructor(of), found) && !is_listed(answers, found)

@@ -49,7 +49,8 @@ pub fn questions(
     constructors: &[Constructor],
     pattern: &Pat,
 ) -> Result<Vec<Question>, NoMemory>
-    ensures { IfOk result (λ found. map part_of found.items ≡ parts_of (types_of constructors.now) [] (pattern_tree pattern.now)) }
+    ensures { IfOk result (λ found. map part_of found.items
+        ≡ parts_of (types_of constructors.now) [] (pattern_tree pattern.now)) }
 {
     let mut found = Vec::new(alloc);
     add_questions(alloc, constructors, pattern, &[], &mut found)?;
@@ -65,7 +66,8 @@ fn add_questions(
     at: &[u32],
     found: &mut Vec<Question>,
 ) -> Result<(), NoMemory>
-    ensures { OnOk result (map part_of found.new.items ≡ map part_of found.old.items ++ parts_of (types_of constructors.now) at.now (pattern_tree pattern.now)) }
+    ensures { OnOk result (map part_of found.new.items
+        ≡ map part_of found.old.items ++ parts_of (types_of constructors.now) at.now (pattern_tree pattern.now)) }
 {
     match pattern {
         Pat::Wildcard | Pat::Variable(_) => Ok(()),
