@@ -1,11 +1,12 @@
--- The plain meaning of giving up references: what it leaves, that it exists, and that credit pays it. And the same of the turns without a stack.
-use Rattle.std.proofs.Common.{◌≡◌, ◌≢◌, ◌≤◌, ℕ, zero, suc, ◌+◌, ◌*◌, ◌%◌, inl, inr, List, [], ◌∷◌, ◌++◌, length, refl, ap, arith, length-append}
+-- The plain meaning of giving up references: what it leaves, that it exists, and that credit pays it. And what the turns without a stack leave.
+use Rattle.std.proofs.Common.{◌≡◌, ◌≢◌, ◌≤◌, ℕ, zero, suc, ◌+◌, ◌*◌, ◌%◌, ◌⊎◌, inl, inr, List, [], ◌∷◌, ◌++◌, length, refl, ap, arith, length-append}
+use Rattle.std.proofs.lemmas.Bool.{cases_eq}
 use Rattle.cell_heap.specs.Cells.{Body, Cell, free, waiting, counted, Heap, changed, references}
 use Rattle.cell_heap.specs.GivingUp.{GivesUp, all_given, constant, lowered, last}
 use Rattle.cell_heap.specs.Counts.{HasCounts, credit_of, credit}
-use Rattle.cell_heap.proofs.Counting.{IsListed, counted-some, waiting-some, is-some, IsListed-changed, credit-changed, HasCounts-constant, HasCounts-lowered, HasCounts-freed, HasCounts-next}
+use Rattle.cell_heap.proofs.Counting.{IsListed, counted-some, is-some, IsListed-changed, credit-changed, HasCounts-constant, HasCounts-lowered, HasCounts-freed, HasCounts-next}
 use Rattle.cell_heap.proofs.Leaving.{IsLeft, IsLeft-counted, IsLeft-opened}
-use Rattle.cell_heap.proofs.Turns.{Turns, ended, passed, lower, waits_now, opened, IsReady, IsReady-passed, IsReady-lower, IsReady-waits, IsReady-opened, odd-or-even, left_to_do}
+use Rattle.cell_heap.specs.Turns.{Turns, ended, passed, lower, waits_now, opened}
 
 -- ---- what is left
 
@@ -35,13 +36,6 @@ Turns-left start settled (waits_now {x = x} {body = body} even is rest) left =
 Turns-left start settled (opened {x = x} {body = body} is rest) left =
     Turns-left start settled rest (IsLeft-opened x body settled is left)
 
-pub Turns-ready : {places : List ℕ} {roots : ℕ → ℕ} {refs waits frees left_free : List ℕ} {heap end : Heap} {gave freed : ℕ} → Turns refs waits frees heap gave freed left_free end → IsReady places roots refs waits heap → IsReady places roots [] [] end
-Turns-ready ended ready = ready
-Turns-ready (passed odd rest) ready = Turns-ready rest (IsReady-passed odd ready)
-Turns-ready (lower even is rest) ready = Turns-ready rest (IsReady-lower is ready)
-Turns-ready (waits_now even is rest) ready = Turns-ready rest (IsReady-waits is ready)
-Turns-ready (opened is rest) ready = Turns-ready rest (IsReady-opened is ready)
-
 -- ---- credit
 
 module _ (places : List ℕ) (a_cell a_reference : ℕ) where
@@ -68,26 +62,14 @@ module _ (places : List ℕ) (a_cell a_reference : ℕ) where
       let joined = ap (λ n. a_reference * n) (length-append (references body) xs) in
       omega arith
 
-  pub Turns-paid : {refs waits frees left_free : List ℕ} {heap end : Heap} {gave freed : ℕ} → Turns refs waits frees heap gave freed left_free end → IsListed places heap
-      → credit a_cell a_reference places end + a_cell * freed + a_reference * gave ≡ credit a_cell a_reference places heap + a_reference * length refs
-  Turns-paid ended listed = omega arith
-  Turns-paid (passed odd rest) listed = let e = Turns-paid rest listed in omega arith
-  Turns-paid (lower {x = x} {heap = heap} {count = count} {body = body} even is rest) listed =
-      let e = Turns-paid rest (IsListed-changed x _ (is-some heap x _ is (counted-some _ body)) listed) in
-      let moves = credit-moves heap x _ body (counted (suc count) body) listed is in
-      omega arith
-  Turns-paid (waits_now {x = x} {heap = heap} {body = body} even is rest) listed =
-      let e = Turns-paid rest (IsListed-changed x _ (is-some heap x _ is (counted-some _ body)) listed) in
-      let moves = credit-moves heap x _ body (waiting body) listed is in
-      omega arith
-  Turns-paid (opened {x = x} {heap = heap} {body = body} is rest) listed =
-      let some = is-some heap x _ is (waiting-some body) in
-      let e = Turns-paid rest (IsListed-changed x _ some listed) in
-      let moves = credit-changed places heap x free (listed.once x some) a_cell a_reference in
-      let had = ap (λ c. credit_of a_cell a_reference c) is in
-      omega arith
-
 -- ---- it exists
+
+-- each turn takes a reference, or a cell with its references, off what is left
+abbrev pub left_to_do : List ℕ → List ℕ → Heap → ℕ
+left_to_do places refs heap = length refs + credit 1 1 places heap
+
+pub odd-or-even : (x : ℕ) → (x % 2 ≡ 1) ⊎ (x % 2 ≡ 0)
+odd-or-even x = elim (cases_eq (x % 2) 0) [ inl e ↦ inr e | inr some ↦ inl (grind arith) ]
 
 abbrev pub Given : List ℕ → Heap → Type 0
 Given refs heap = (gave freed : ℕ) × (end : Heap) × GivesUp refs heap gave freed end

@@ -6,8 +6,9 @@ pub mod Counting
 pub mod Leaving
 pub mod Turns
 pub mod GivingUp
-pub mod OneEnd
 pub mod Waits
+pub mod Orders
+pub mod InTurns
 pub mod Choosing
 pub mod Borders
 pub mod Held
@@ -16,3 +17,5 @@ pub mod Counted
 pub mod FreeCells
 pub mod Sound
 pub mod Credits
+pub mod Blocks
+pub mod Dropping

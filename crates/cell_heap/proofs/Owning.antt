@@ -10,17 +10,10 @@ use Rattle.cell_heap.specs.Cells.{Body, Cell, no_cell, free, token, waiting, cou
 use Rattle.cell_heap.specs.Pool.{Pool, IsUsable}
 use Rattle.cell_heap.specs.View.{View}
 use Rattle.cell_heap.specs.Memory.{word, HasWords, Shows, IsChain, IsHeldChain, Memory}
+use Rattle.cell_heap.specs.Known.{SameRoots}
 use Rattle.cell_heap.proofs.Frames.{changed-by, changed-same, SameBut, SameBut-store, SameInside, SameSlots, HasWords-same, HasBody-same, IsShown-changed, IsShown-outside, IsChain-changed, IsChain-outside, IsHeldChain-changed, IsHeldChain-outside, shown-cell, shows-at}
 use Rattle.cell_heap.proofs.Waits.{IsChain-apart, IsChain-below, SameWords-first}
 use Rattle.cell_heap.proofs.Borders.{HasFrees-changed, HasFrees-freed}
-
--- the registers of the chains and the border, and the parts, are the same
-pub record SameRoots (s t : Processor) : Type 0 where
-  pub parts : t.parts ≡ s.parts
-  pub chain : value t.registers 8 ≡ value s.registers 8
-  pub held : value t.registers 9 ≡ value s.registers 9
-  pub border : value t.registers 18 ≡ value s.registers 18
-  pub end : value t.registers 19 ≡ value s.registers 19
 
 -- a cell that belongs to the code: neither free nor held
 pub record IsOwn (view : View) (at : ℕ) : Type 0 where

@@ -3,6 +3,9 @@ pub mod Pool
 pub mod View
 pub mod Memory
 pub mod GivingUp
+pub mod Turns
 pub mod Counts
 pub mod Sound
 pub mod FreeCells
+pub mod Blocks
+pub mod Known

@@ -5,22 +5,22 @@ use Rattle.rv_isa.specs.Execution.{Leads}
 use Rattle.rv_isa.specs.Standing.{Code, Has, Stands}
 use Rattle.rv_isa.proofs.Standing.{Has-get, Stands-leads}
 use Rattle.cell_heap.specs.Cells.{Body, Heap, waiting, chosen}
-use Rattle.cell_heap.specs.Pool.{Pool, places}
+use Rattle.cell_heap.specs.Pool.{Pool}
 use Rattle.cell_heap.specs.View.{View}
 use Rattle.cell_heap.specs.Memory.{IsHeldChain}
-use Rattle.cell_heap.proofs.Turns.{Turns, ended, passed, lower, waits_now, opened, Done}
+use Rattle.cell_heap.specs.Turns.{Turns, ended, passed, lower, waits_now, opened}
+use Rattle.cell_heap.proofs.Turns.{Turns-settled}
 use Rattle.cell_heap.proofs.Waits.{AreCells-waiting}
-use Rattle.cell_heap.proofs.Counting.{IsListed}
 use Rattle.cell_heap.proofs.Leaving.{IsLeft-same}
-use Rattle.cell_heap.proofs.Borders.{IsPlaced, IsPlaced-shown, IsPlaced-listed, Turns-border}
+use Rattle.cell_heap.proofs.Borders.{IsPlaced, IsPlaced-shown, Turns-border}
 use Rattle.cell_heap.proofs.Held.{IsHeldChain-kept}
-use Rattle.cell_heap.proofs.OneEnd.{IsSettled, turns, Turns-end, Turns-give_up}
+use Rattle.cell_heap.proofs.GivingUp.{Turns-left}
 use Rattle.rv_isa.specs.declared.routine.Routine.TheVariants.{Drop}
 use Rattle.rv_isa.specs.declared.placed.Symbol.TheVariants.{Routine}
 use Rattle.cell_runtime.specs.Registers.{KeptBy}
 use Rattle.cell_runtime.specs.Calls.{IsAt}
 use Rattle.cell_runtime.specs.Lines.{Makes}
-use Rattle.cell_runtime.specs.Drops.{IsDrop, BeforeDrop, AfterDrop}
+use Rattle.cell_runtime.specs.Drops.{Dropped, IsDrop, BeforeDrop, AfterDrop}
 use Rattle.cell_runtime.proofs.Spelling.{plain, plain_makes}
 use Rattle.cell_runtime.proofs.DropRows.{drop_code, row_start}
 use Rattle.cell_runtime.proofs.DropStates.{IsQuiet, kept-12, kept-13, IsWithin, IsScanning, Comes, Comes-from, Comes-weaker}
@@ -107,15 +107,9 @@ module _ (code : Code) (at : ℕ) (has : Has code at drop_code) where
       let whole = code-whole s stands in
       omega arith
 
-  module _ (pool : Pool) (roots : ℕ → ℕ) (reference : ℕ) (view : View) (s : Processor) (here : IsAt code at s) (before : BeforeDrop pool roots reference view s) where
-    settled : IsSettled view.heap
-    settled = record { none = before.memory.settled }
-
+  module _ (pool : Pool) (reference : ℕ) (view : View) (dropped : Dropped) (s : Processor) (here : IsAt code at s) (before : BeforeDrop pool reference view dropped s) where
     placed : IsPlaced pool view.heap
     placed = IsPlaced-shown before.memory.shown
-
-    listed : IsListed (places pool) view.heap
-    listed = IsPlaced-listed before.memory.usable.aligned placed
 
     started : Processor
     started = record s { registers = put 12 0 (put 13 0 s.registers); pc = at + 8; executed = s.executed + 1 + 1 }
@@ -147,40 +141,31 @@ module _ (code : Code) (at : ℕ) (has : Has code at drop_code) where
     unfolding started
     starts-scanning = record { mask_is = refl; below = lit< tt; fields = tt }
 
-    done : Done (reference ∷ []) [] view.frees view.heap
-    done = turns (reference ∷ []) view.frees view.heap listed before.acyclic settled before.counts
-
-    comes : (gave freed : ℕ) (left : List ℕ) (end : Heap) → Turns (reference ∷ []) [] view.frees view.heap gave freed left end → Comes pool view.heap end left (8 * gave + 52 * freed + 5) s
+    comes : Comes pool view.heap dropped.heap dropped.frees (8 * dropped.gave + 52 * dropped.freed + 5) s
     unfolding started
-    comes gave freed left end taken =
+    comes =
         Comes-from starts starts-quiet refl (omega arith)
-        (from-give code at has (code-fits s here.stands) (code-whole s here.stands) pool view.heap before.memory.settled taken 0 [] started refl refl before.reference_is starts-within starts-scanning)
+        (from-give code at has (code-fits s here.stands) (code-whole s here.stands) pool view.heap before.memory.settled before.turns 0 [] started refl refl before.reference_is starts-within starts-scanning)
 
-    after : (gave freed : ℕ) (left : List ℕ) (end : Heap) → Turns (reference ∷ []) [] view.frees view.heap gave freed left end → (t : Processor) × AfterDrop pool reference view s t
-    after gave freed left end taken =
-        let came = comes gave freed left end taken in
-        let ends = Turns-end (reference ∷ []) view.frees view.heap listed before.acyclic settled before.counts taken in
+    after : (t : Processor) × AfterDrop pool view dropped s t
+    after =
+        let came = comes in
+        let left = Turns-left view.heap before.memory.settled before.turns (IsLeft-same view.heap) in
         let quiet = came.quiet in (
           came.last,
           record {
-            gave = gave;
-            freed = freed;
             count = came.count;
-            after = record view { heap = end; frees = left };
-            given_up = Turns-give_up (reference ∷ []) view.frees view.heap listed before.acyclic settled before.counts taken;
-            border = refl;
-            held = refl;
             memory = record {
               usable = came.cells.usable;
               shown = came.cells.shown;
-              settled = ends.settled.none;
+              settled = Turns-settled before.turns before.memory.settled;
               chain = came.cells.chain;
-              held = subst (λ p. IsHeldChain pool p came.last.memory end (value came.last.registers 9) view.held) (sym quiet.parts)
-                  (subst (λ w. IsHeldChain pool s.parts came.last.memory end w view.held) (sym (quiet.registers 9 kept_9))
-                  (IsHeldChain-kept before.memory.usable.aligned before.memory.shown ends.left quiet.others s.parts (value s.registers 9) view.held before.memory.held));
+              held = subst (λ p. IsHeldChain pool p came.last.memory dropped.heap (value came.last.registers 9) view.held) (sym quiet.parts)
+                  (subst (λ w. IsHeldChain pool s.parts came.last.memory dropped.heap w view.held) (sym (quiet.registers 9 kept_9))
+                  (IsHeldChain-kept before.memory.usable.aligned before.memory.shown left quiet.others s.parts (value s.registers 9) view.held before.memory.held));
               border = quiet.registers 18 kept_18 ∙ before.memory.border;
               end = quiet.registers 19 kept_19 ∙ before.memory.end;
-              has_border = Turns-border view taken placed before.memory.has_border;
+              has_border = Turns-border view before.turns placed before.memory.has_border;
             };
             returns = record { leads = came.leads; back = came.back; registers = quiet.registers; parts = quiet.parts };
             bounded = came.within;
@@ -191,9 +176,8 @@ module _ (code : Code) (at : ℕ) (has : Has code at drop_code) where
         )
 
 does : (code : Code) (at : ℕ) → Has code at drop_code → IsDrop code at
-does code at has pool roots reference view s here before =
-    let taken = done code at has pool roots reference view s here before in
-    after code at has pool roots reference view s here before taken.0 taken.1 taken.2 taken.3 taken.4
+does code at has pool reference view dropped s here before =
+    after code at has pool reference view dropped s here before
 
 pub drop_makes : Makes (plain drop_code) 28 0 (λ memory. IsDrop)
 drop_makes = plain_makes drop_code (λ memory. does)

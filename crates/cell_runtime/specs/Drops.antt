@@ -1,42 +1,45 @@
 -- The routine that gives up a reference.
-use Rattle.std.specs.Prelude.{◌≡◌, ℕ, ◌+◌, ◌*◌, ◌≤◌, [], ◌∷◌}
+use Rattle.std.specs.Prelude.{◌≡◌, ℕ, ◌+◌, ◌*◌, ◌≤◌, List, [], ◌∷◌}
 use Rattle.rv_isa.specs.Processor.{Processor, value}
 use Rattle.rv_isa.specs.Standing.{Code}
-use Rattle.cell_heap.specs.Pool.{Pool, places}
+use Rattle.cell_heap.specs.Cells.{Heap}
+use Rattle.cell_heap.specs.Pool.{Pool}
 use Rattle.cell_heap.specs.View.{View}
 use Rattle.cell_heap.specs.Memory.{Memory, IsNoCount}
-use Rattle.cell_heap.specs.GivingUp.{GivesUp}
-use Rattle.cell_heap.specs.Counts.{HasCounts, IsAcyclic}
+use Rattle.cell_heap.specs.Turns.{Turns}
 use Rattle.rv_isa.specs.declared.routine.Routine.TheVariants.{Drop}
 use Rattle.rv_isa.specs.declared.placed.Symbol.TheVariants.{Routine}
 use Rattle.cell_runtime.specs.Calls.{IsAt, HasWayBack, Returns}
 
--- x10 holds the reference. Counts are right with it and with `roots`, the references from elsewhere that stay, and no cell can be reached from
--- itself
-pub record BeforeDrop (pool : Pool) (roots : ℕ → ℕ) (reference : ℕ) (view : View) (s : Processor) : Type 0 where
+-- what the turns of giving up a reference come to, from the cells that a reader sees: so many references are given up, so many cells are freed, and
+-- these free cells and this heap are left
+pub record Dropped : Type 0 where
+  pub gave : ℕ
+  pub freed : ℕ
+  pub frees : List ℕ
+  pub heap : Heap
+
+abbrev pub Drops : ℕ → View → Dropped → Type 0
+Drops reference view dropped = Turns (reference ∷ []) [] view.frees view.heap dropped.gave dropped.freed dropped.frees dropped.heap
+
+-- x10 holds the reference, and each turn of giving it up can be taken. Whether counts are right does not matter
+pub record BeforeDrop (pool : Pool) (reference : ℕ) (view : View) (dropped : Dropped) (s : Processor) : Type 0 where
   pub way_back : HasWayBack s
   pub reference_is : value s.registers 10 ≡ reference
   pub memory : Memory pool view s
-  pub counts : HasCounts (places pool) roots (reference ∷ []) view.heap
-  pub acyclic : IsAcyclic view.heap
+  pub turns : Drops reference view dropped
 
--- the reference is given up, with all that it was the last to hold, and that alone: border, held tokens and every other byte of memory stay. That
--- takes 8 instructions at most for each reference that is given up, 52 for each cell that is freed, and 5
-pub record AfterDrop (pool : Pool) (reference : ℕ) (view : View) (s t : Processor) : Type 0 where
-  pub gave : ℕ
-  pub freed : ℕ
+-- The heap and the chain of free cells are exactly those that the turns come to. Border, held tokens and every byte of memory that is none of a
+-- count stay. That takes 8 instructions at most for each reference that is given up, 52 for each cell that is freed, and 5
+pub record AfterDrop (pool : Pool) (view : View) (dropped : Dropped) (s t : Processor) : Type 0 where
   pub count : ℕ
-  pub after : View
-  pub given_up : GivesUp (reference ∷ []) view.heap gave freed after.heap
-  pub border : after.border ≡ view.border
-  pub held : after.held ≡ view.held
-  pub memory : Memory pool after t
+  pub memory : Memory pool (record view { heap = dropped.heap; frees = dropped.frees }) t
   pub returns : Returns (Routine Drop) count s t
-  pub bounded : count ≤ 8 * gave + 52 * freed + 5
+  pub bounded : count ≤ 8 * dropped.gave + 52 * dropped.freed + 5
   pub trace : t.trace ≡ s.trace
   pub left : t.left ≡ s.left
   pub others : (x : ℕ) → IsNoCount view.heap x → t.memory x ≡ s.memory x
 
 abbrev pub IsDrop : Code → ℕ → Type 0
 IsDrop code at =
-    (pool : Pool) (roots : ℕ → ℕ) (reference : ℕ) (view : View) (s : Processor) → IsAt code at s → BeforeDrop pool roots reference view s → (t : Processor) × AfterDrop pool reference view s t
+    (pool : Pool) (reference : ℕ) (view : View) (dropped : Dropped) (s : Processor) → IsAt code at s → BeforeDrop pool reference view dropped s → (t : Processor) × AfterDrop pool view dropped s t

@@ -5,13 +5,9 @@
 #[cfg(test)]
 mod cover;
 #[cfg(test)]
-mod layout;
-#[cfg(test)]
 mod lexer;
 #[cfg(test)]
 mod owned;
-#[cfg(test)]
-mod parser;
 #[cfg(test)]
 mod types;
 #[cfg(test)]

@@ -38,7 +38,8 @@ use Rattle.rv_place.specs.Images.{IsPlacedImage, first_processor, outside_lines}
 use Rattle.rv_place.specs.Running.{NeverStuck}
 use Rattle.rv_place.specs.Texts.{ArePlaceable, ArePlacedWords, map_of, constants_of, text_bytes, all_items}
 use Rattle.rv_place.proofs.BootFits.{FitsImage, fits-image}
-use Rattle.rv_place.proofs.BootSizes.{bytes_most}
+use Rattle.rv_place.proofs.BootSizes.{bytes_most, page_multiple}
+use Rattle.cell_runtime.specs.Layouts.{next_page}
 use Rattle.rv_place.specs.declared.words.Words.{Words}
 use Rattle.kk_back.specs.Images.{IsImageOf, step_instructions}
 use Rattle.kk_back.proofs.Placeable.{frame_most, as_many}
@@ -68,10 +69,12 @@ placeable code cells depth asm placed runtime small made valid plain runtime_is 
     let few_functions : length functions ≤ 1024 = omega (arith, made.as_many, few) in
     let bytes : length (all_bytes (placed_constants placed)) ≡ length (all_bytes (asm_constants asm)) = ap (λ (texts : List (List ℕ)). length (all_bytes texts)) valid.constants in
     let both = placeable_sizes (all_forms code.functions) (all_lines functions) (Shape.all_items placed_are) (length functions) (length (all_bytes (asm_constants asm))) small.all few_functions made.few_lines plain.few_items made.few_bytes in
+    let bottom_is : runtime.memory.stack_bottom ≡ next_page (32 + 32 * cells + 4) = ap (λ (memory : DataSection). memory.stack_bottom) runtime_is.memory in
     record {
       lines = runtime_is.within;
       runtime_size = omega (arith, runtime_is.words);
-      bottom = omega (arith, ap (λ (memory : DataSection). memory.stack_bottom) runtime_is.memory, sizes.few_cells);
+      bottom = omega (arith, bottom_is, sizes.few_cells);
+      bottom_page = omega (arith, bottom_is, page_multiple (32 + 32 * cells + 4));
       frames = frame;
       few_functions = omega (arith, same, few_functions);
       few_items = omega (arith, same_items placed_are, both.0);

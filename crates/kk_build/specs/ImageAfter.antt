@@ -4,6 +4,7 @@ pub use Rattle.rv_isa.specs.Processor.{Processor, Ending, going, exited, trapped
 pub use Rattle.rv_isa.specs.InstructionSet.{go_on}
 pub use Rattle.rv_isa.specs.Execution.{step, run, image_after}
 pub use Rattle.rv_isa.specs.ProcessorMachine.{ExitsWell}
+pub use Rattle.rv_isa.specs.FreeCells.{free_cells}
 use Rattle.elf_image.specs.Fields.{entry_of}
 use Rattle.elf_image.specs.Loaded.{loaded_parts}
 

@@ -29,6 +29,10 @@ newest_is items newest some at = newest_first items (length items) newest refl s
 pub one_newer : {X : Type 0} (items : List X) (newest : X) → reverse (items ++ newest ∷ []) ≡ newest ∷ reverse items
 one_newer items newest = reverse-append items (newest ∷ [])
 
+pub no_items : {X : Type 0} (items : List X) → length items ≡ 0 → items ≡ []
+no_items [] none = refl
+no_items (x ∷ items) none = absurd (omega (arith, none))
+
 -- frames keep their view while the bindings that they use stay
 pub frames_agree : (links others : List Link) (n : ℕ) (fs : List Frame) → Agree links others n → FramesFit n fs → map (frame_view links) fs ≡ map (frame_view others) fs
 frames_agree links others n [] a f = refl

@@ -14,7 +14,7 @@ use Rattle.kk_source.specs.Step.{bind_parameters}
 use Rattle.kk_meaning.specs.declared.value.Value.{Value as Value'}
 use Rattle.kk_meaning.specs.declared.binding.Bound.{Bound}
 use Rattle.kk_meaning.specs.View.{value_view, bound_view, pushed}
-use Rattle.kk_meaning.proofs.Views.{row_tree_is}
+use Rattle.kk_syntax.proofs.Views.{row_tree_is}
 
 pub pushed_more : (bs : List Binding) (b : Binding) (environment : Environment) → pushed (bs ++ b ∷ []) environment ≡ b ∷ pushed bs environment
 pushed_more [] b environment = refl

@@ -1,14 +1,15 @@
 -- Turns at a value, by the newest frame.
-use Rattle.std.proofs.Common.{◌≡◌, ℕ, ◌+◌, ◌≤◌, ◌<◌, suc, zero, Bool, true, false, List, [], ◌∷◌, ◌++◌, Option, Some, None, refl, sym, ap, ◌∙◌, arith, cond, length, Result, Ok, Err, OnErr, IfOk}
+use Rattle.std.proofs.Common.{◌≡◌, ℕ, ◌+◌, ◌≤◌, ◌<◌, suc, zero, Bool, true, false, List, [], ◌∷◌, ◌++◌, map, Option, Some, None, refl, sym, ap, ◌∙◌, arith, cond, length, Result, Ok, Err, OnErr, IfOk}
 use Rattle.std.specs.Prelude.{nat_le}
-use Rattle.kk_syntax.specs.Trees.{Tree, Trees, tree, Rows}
+use Rattle.kk_syntax.specs.Trees.{Tree, Trees, apply, no_tree, tree, trees_of, Rows, expr_tree}
+use Rattle.kk_syntax.specs.declared.program.Expr.{Expr}
 use Rattle.kk_syntax.specs.declared.program.Form.{Form}
 use Rattle.kk_syntax.specs.Programs.{FunctionTree}
 use Rattle.kk_syntax.specs.PositionsOf.{is_lent}
 use Rattle.kk_source.specs.State.{Setting, Value, Store, Environment, Frame, arguments, rows, statement, call, stack_full, end_at, Control, expression, value, stopped, Configuration}
 use Rattle.kk_source.specs.Live.{counted, live, is_live}
 use Rattle.kk_source.specs.Matching.{Chosen, first_match}
-use Rattle.kk_source.specs.Step.{at_end, in_body, bind, bind_parameters, call_frames, lent_places, choice_step, call_step, push_step, value_step}
+use Rattle.kk_source.specs.Step.{at_end, in_body, bind, bind_parameters, call_frames, lent_places, choice_step, call_step, push_step, form_step, expression_step, value_step}
 use Rattle.kk_meaning.specs.Turns.{quiet_turn, turn_of}
 use Rattle.kk_meaning.specs.declared.turn.Turn.{Turn}
 use Rattle.kk_meaning.specs.declared.turn.Turn.TheVariants.{Went, StackFull}
@@ -91,3 +92,11 @@ pushed_turn setting f function values older frames c control store lt control_is
     let room : false ≡ nat_le setting.depth (call_frames older) = grind arith in
     rw (control_is, frames_are, store_is)
     (ap (λ t. turn_of c (calls (call_frames older) (cond t (at_end stack_full c) (in_body function values (record c { frames = call (lent_places (is_lent setting.positions f) 0 values) ∷ older }))))) room)
+
+-- a form without arguments acts at once, over the frames that are there
+pub form_at_once : (setting : Setting) (form : Form) (es : List Expr) (environment : Environment) (c : Configuration) (vs : List Value) (frames : List Frame) → es ≡ [] → vs ≡ [] → frames ≡ c.frames → expression_step setting (apply form (trees_of (map expr_tree es))) environment c ≡ form_step setting form vs frames c
+form_at_once setting form es environment c vs frames none no_values same = rw (none, no_values, same) refl
+
+-- the last argument has come, and the form acts over the older frames
+pub form_with_last : (setting : Setting) (v : Value) (form : Form) (vs all : List Value) (environment : Environment) (older frames before : List Frame) (c : Configuration) → before ≡ arguments form vs no_tree environment ∷ older → all ≡ vs ++ v ∷ [] → frames ≡ older → value_step setting v before c ≡ form_step setting form all frames c
+form_with_last setting v form vs all environment older frames before c newest values same = rw (newest, values, same) refl

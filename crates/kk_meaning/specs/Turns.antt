@@ -2,7 +2,7 @@
 use Rattle.std.specs.Prelude.{◌≡◌, ℕ, List, [], ◌∷◌, Option, Some, None}
 use Rattle.kk_base.specs.Trace.{Event, output, input as taken, input_end}
 use Rattle.kk_source.specs.Notes.{seen}
-use Rattle.kk_source.specs.State.{Setting, End, ended, heap_full, stack_full, Control, stopped, Configuration}
+use Rattle.kk_source.specs.State.{Setting, End, ended, heap_full, stack_full, Frame, arguments, Control, value, stopped, Configuration}
 use Rattle.kk_source.specs.SourceAfter.{step}
 use Rattle.kk_meaning.specs.declared.turn.Turn.{Turn}
 use Rattle.kk_meaning.specs.declared.turn.Turn.TheVariants.{Went, Printed, WantsInput, Ended, HeapFull, StackFull}
@@ -17,7 +17,7 @@ quiet_turn _ = Went
 
 -- A step's turn, and the machine after it, by the machine before it. A step that takes a byte is not done: the machine
 -- stays, and the turn asks for the byte.
-abbrev pub turn_of : Configuration → Action → Turn × Configuration
+abbrev pub turn_of : Configuration → Action Configuration → Turn × Configuration
 turn_of before (goes to) = (quiet_turn to.control, to)
 turn_of before (puts piece to) = (Printed piece, to)
 turn_of before (takes to) = (WantsInput, before)
@@ -25,12 +25,17 @@ turn_of before (builds found to) = (quiet_turn to.control, to)
 turn_of before (calls found to) = (quiet_turn to.control, to)
 
 -- the step takes a byte of the input
-abbrev pub TakesByte : Action → Type 0
+abbrev pub TakesByte : Action Configuration → Type 0
 TakesByte (goes to) = ⊥
 TakesByte (puts piece to) = ⊥
 TakesByte (takes to) = Unit {0}
 TakesByte (builds found to) = ⊥
 TakesByte (calls found to) = ⊥
+
+-- the frames without that of a form which has its last argument
+abbrev pub without_read : Control → List Frame → List Frame
+without_read (value v) (arguments form values left environment ∷ older) = older
+without_read _ frames = frames
 
 -- From a machine a step leads to another, where it is given the next byte of the input or, by no byte, its end: whatever
 -- comes behind that byte, the step takes it alone.

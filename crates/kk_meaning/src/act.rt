@@ -3,12 +3,13 @@ ghost use Rattle.kk_syntax.specs.Programs.{function_tree, program_tree};
 ghost use Rattle.kk_source.specs.State.{end_at};
 ghost use Rattle.kk_source.specs.Live.{held_by_all, live as live_of};
 ghost use Rattle.kk_source.specs.Sound.{IsOlder};
-ghost use Rattle.kk_source.specs.Step.{at_value, in_body, form_step, construct_step, call_step, push_step};
+ghost use Rattle.kk_source.specs.Step.{at_value, in_body, step_of, form_step, call_step, push_step};
 ghost use Rattle.kk_meaning.specs.View.{value_view};
 ghost use Rattle.kk_meaning.specs.Machines.{setting_of, configuration_of, frames_below, Fits, IsBelow, IsCallBelow, HasNoCall};
-ghost use Rattle.kk_meaning.specs.Turns.{turn_of};
+ghost use Rattle.kk_meaning.specs.Turns.{turn_of, TakesByte, without_read};
 ghost use Rattle.kk_meaning.specs.Performs.{Performs};
 ghost use Rattle.kk_source.specs.Actions.{goes};
+ghost use Rattle.kk_syntax.specs.declared.program.Form.TheVariants.{Construct};
 
 use crate::arithmetic::{binary, unary};
 use crate::call::{lent, parameters};
@@ -16,7 +17,7 @@ use crate::cell::{Cell, live};
 use crate::frame::Frame;
 use crate::held::hold_frames;
 use crate::machine::{Control, Machine, Stop};
-use crate::print::number_piece;
+use crate::print::{number_piece, text_piece};
 use crate::turn::Turn;
 use crate::value::{Value, argument};
 use kk_base::NoMemory;
@@ -35,6 +36,14 @@ impl<'a> Machine<'a> {
             self.old self.new result }
     {
         match form {
+            Form::Number(number) => Ok(self.give_back(Value::Integer(number), older)),
+            Form::Unit => Ok(self.give_back(Value::Unit, older)),
+            Form::ReadByte => Ok(Turn::WantsInput),
+            Form::PrintText(form, text) => {
+                let piece = text_piece(self.alloc, self.program, form, text)?;
+                self.give_back(Value::Unit, older);
+                Ok(Turn::of_print(piece))
+            }
             Form::Unary(operator) => {
                 let result = unary(operator, argument(values.as_slice(), 0));
                 Ok(self.give_back(result, older))
@@ -56,7 +65,7 @@ impl<'a> Machine<'a> {
     }
 
     // A form has its value, and its frame is given up.
-    fn give_back(&mut self, value: Value, older: usize) -> Turn
+    pub fn give_back(&mut self, value: Value, older: usize) -> Turn
         requires fits { Fits self.old }
         requires below { IsBelow older self.old.frames.items }
         ensures setting { setting_of self.new ≡ setting_of self.old }
@@ -70,6 +79,23 @@ impl<'a> Machine<'a> {
         Turn::Went
     }
 
+    /// The number of frames without that of a read. A read has a frame where it has waited for arguments, as in no typed
+    /// program.
+    pub fn frames_without_read(&self) -> usize
+        requires { TakesByte (step_of (setting_of self.now) (configuration_of self.now)) }
+        ensures below { IsBelow result self.now.frames.items }
+        ensures frames { frames_below result self.now
+            ≡ without_read (configuration_of self.now).control (configuration_of self.now).frames }
+    {
+        let Control::Value(_) = self.control else {
+            return self.frames.len();
+        };
+        match self.frames.last() {
+            Some(Frame::Arguments { .. }) => self.frames.len() - 1,
+            _ => self.frames.len(),
+        }
+    }
+
     // A construction has all its arguments.
     fn construct(
         &mut self,
@@ -80,7 +106,7 @@ impl<'a> Machine<'a> {
         requires fits { Fits self.old }
         requires store { IsOlder (configuration_of self.old).store }
         requires below { IsBelow older self.old.frames.items }
-        ensures { Performs (construct_step (setting_of self.old) constructor
+        ensures { Performs (form_step (setting_of self.old) (Construct constructor)
             (map value_view values.items) (frames_below older self.old) (configuration_of self.old))
             self.old self.new result }
     {

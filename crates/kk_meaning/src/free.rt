@@ -39,7 +39,6 @@ impl FreeVariables {
             ≡ self.old.found.items ++ without self.old.bound.items (free (expr_tree expr.now))) }
     {
         match expr {
-            Expr::Number(_) | Expr::Unit | Expr::ReadByte | Expr::PrintText(_, _) => Ok(()),
             Expr::Variable(variable) => self.of_variable(*variable),
             Expr::Apply(_, arguments) => self.of_each(arguments),
             Expr::If(condition, positive, negative) => {

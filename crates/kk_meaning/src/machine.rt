@@ -13,7 +13,6 @@ ghost use Rattle.kk_source.specs.Actions.{goes};
 use crate::binding::Bindings;
 use crate::cell::Cell;
 use crate::frame::{Block, Frame};
-use crate::print::piece;
 use crate::turn::Turn;
 use crate::value::Value;
 use kk_base::NoMemory;
@@ -83,17 +82,9 @@ impl<'a> Machine<'a> {
             self.old self.new result }
     {
         match expr {
-            Expr::Number(number) => Ok(self.go_to(Value::Integer(*number))),
-            Expr::Unit => Ok(self.go_to(Value::Unit)),
             Expr::Variable(variable) => {
                 let value = self.bindings.value_of(environment, *variable);
                 Ok(self.go_to(value))
-            }
-            Expr::ReadByte => Ok(Turn::WantsInput),
-            Expr::PrintText(form, text) => {
-                let piece = piece(self.alloc, *form, text.as_slice())?;
-                self.control = Control::Value(Value::Unit);
-                Ok(Turn::of_print(piece))
             }
             Expr::Apply(form, arguments) => self.apply(*form, arguments, environment),
             Expr::If(condition, positive, negative) => {

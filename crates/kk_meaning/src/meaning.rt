@@ -92,6 +92,7 @@ impl<'a> Meaning<'a> {
         ensures step { Reads (setting_of self.old.machine) byte
             (configuration_of self.old.machine) (configuration_of self.new.machine) }
     {
-        self.machine.control = Control::Value(Value::of_byte(byte));
+        let older = self.machine.frames_without_read();
+        self.machine.give_back(Value::of_byte(byte), older);
     }
 }

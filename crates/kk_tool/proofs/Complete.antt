@@ -1,5 +1,5 @@
 -- Where no count of faults rises, no fault is answered.
-use Rattle.std.proofs.Common.{◌≡◌, ℕ, List, Bool, true, false, not, cond, Option, refl, ap, subst, ◌∙◌}
+use Rattle.std.proofs.Common.{◌≡◌, ◌==◌, ℕ, List, Bool, true, false, not, cond, Option, refl, ap, subst, ◌∙◌}
 use Rattle.kk_base.specs.Faults.{Rose, Rises}
 use Rattle.kk_base.specs.Sink.{SinkState}
 use Rattle.kk_base.specs.declared.refusal.Refusal.{Refusal}
@@ -10,8 +10,10 @@ use Rattle.kk_front.specs.Judgement.{wants_memory}
 use Rattle.kk_tool.specs.declared.answer.Answer.{Answer}
 use Rattle.kk_tool.specs.declared.answer.RunEnd.{RunEnd}
 use Rattle.kk_tool.specs.declared.answer.RunEnd.TheVariants as OfRun
-use Rattle.kk_tool.specs.Answer.{fault_status, run_status, status_of}
-use Rattle.kk_tool.specs.Answers.{Answers, usage, no_memory, unread, refused, checked, built, unwritten, ran, EndsWith, Faultless, is_fault_status}
+use Rattle.rv_sim.specs.declared.halt.Halt.{Halt}
+use Rattle.rv_sim.specs.declared.halt.Halt.TheVariants as OfHalt
+use Rattle.kk_tool.specs.Answer.{fault_status, run_status, halt_status, status_of}
+use Rattle.kk_tool.specs.Answers.{Answers, usage, no_memory, unread, refused, checked, built, unwritten, ran, measured, bad_image, simulated, EndsWith, Faultless, is_fault_status}
 use Rattle.kk_tool.specs.ImageRuns.{RunsImage}
 use Rattle.kk_tool.specs.Outside.{Outside}
 use Rattle.kk_tool.specs.Requests.{Request}
@@ -30,6 +32,10 @@ by_want : (refusal : Refusal) (wants : Bool) → is_fault_status (cond wants OfS
 by_want refusal true = refl
 by_want refusal false = fault_no_fault refusal
 
+by_exit : (ends_well : Bool) → is_fault_status (cond ends_well OfStatus.Done OfStatus.ImageExit) ≡ false
+by_exit true = refl
+by_exit false = refl
+
 -- a line that was not put whole is a fault of its sink
 failed_line : (answer : Answer) (status : Status) (err err' : SinkState) (ends : EndsWith answer status err err') → ends.whole ≡ false → Rose err.faults err'.faults
 failed_line answer status err err' ends is =
@@ -45,6 +51,13 @@ module _ (before after : Outside) (err err' : SinkState) (faultless : Faultless 
   no_run_fault image steps OfRun.InputFault runs = absurd (faultless.input runs.input_faults)
   no_run_fault image steps OfRun.OutputFault runs = absurd (faultless.out runs.output_faults)
 
+  no_halt_fault : (image : List ℕ) (steps : ℕ) (halt : Halt) → RunsImage image steps halt before.input after.input before.out after.out → is_fault_status (halt_status halt) ≡ false
+  no_halt_fault image steps (OfHalt.Exit number) runs = by_exit (number == 0)
+  no_halt_fault image steps OfHalt.StepsSpent runs = refl
+  no_halt_fault image steps (OfHalt.Trap cause pc word) runs = refl
+  no_halt_fault image steps OfHalt.InputFault runs = absurd (faultless.input runs.input_faults)
+  no_halt_fault image steps OfHalt.OutputFault runs = absurd (faultless.out runs.output_faults)
+
   no_answer_fault : (request : Option Request) (answer : Answer) → Answers before after request answer → is_fault_status (status_of answer) ≡ false
   no_answer_fault _ _ (usage kept) = refl
   no_answer_fault _ _ (no_memory request files streams image) = refl
@@ -53,7 +66,10 @@ module _ (before after : Outside) (err err' : SinkState) (faultless : Faultless 
   no_answer_fault _ _ (checked file text program has is kept) = refl
   no_answer_fault _ _ (built file out cells depth made written streams) = refl
   no_answer_fault _ _ (unwritten file out cells depth name is made fails streams) = absurd (faultless.files fails.fails.faults)
-  no_answer_fault _ _ (ran file cells depth steps end made runs means kept) = no_run_fault after.image steps end runs
+  no_answer_fault _ _ (ran file cells depth steps stats end quiet made runs means kept) = no_run_fault after.image steps end runs
+  no_answer_fault _ _ (measured file cells depth steps stats instructions free asked made runs means is kept) = refl
+  no_answer_fault _ _ (bad_image file steps reason condition has is number kept streams) = refl
+  no_answer_fault _ _ (simulated file steps halt has loads runs kept) = no_halt_fault after.image steps halt runs
 
   by_line : (answer : Answer) (status : Status) → is_fault_status (status_of answer) ≡ false → EndsWith answer status err err' → is_fault_status status ≡ false
   by_line answer status none ends =

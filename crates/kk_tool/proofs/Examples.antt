@@ -1,11 +1,19 @@
 -- Lines of words, and what they ask for.
-use Rattle.std.proofs.Common.{◌≡◌, [], ◌∷◌, codes, Some, None, refl}
+use Rattle.std.proofs.Common.{◌≡◌, [], ◌∷◌, codes, Some, None, true, false, refl}
 use Rattle.clap.proofs.OnLiterals.{clap_on_literals}
-use Rattle.kk_tool.specs.Requests.{request_of, check, build, run}
+use Rattle.kk_tool.specs.Requests.{request_of, check, build, run, sim}
 
-runs : request_of (codes "kokarv" ∷ codes "run" ∷ codes "a.kk" ∷ []) ≡ Some (run (codes "a.kk") 65536 4096 1000000000)
+runs : request_of (codes "kokarv" ∷ codes "run" ∷ codes "a.kk" ∷ []) ≡ Some (run (codes "a.kk") 65536 4096 1000000000 false)
 unfolding clap_on_literals
 runs = refl
+
+runs_with_stats : request_of (codes "kokarv" ∷ codes "run" ∷ codes "--stats" ∷ codes "a.kk" ∷ []) ≡ Some (run (codes "a.kk") 65536 4096 1000000000 true)
+unfolding clap_on_literals
+runs_with_stats = refl
+
+simulates : request_of (codes "kokarv" ∷ codes "sim" ∷ codes "a.elf" ∷ codes "--steps" ∷ codes "7" ∷ []) ≡ Some (sim (codes "a.elf") 7)
+unfolding clap_on_literals
+simulates = refl
 
 builds : request_of (codes "kokarv" ∷ codes "build" ∷ codes "-o" ∷ codes "b" ∷ codes "a.kk" ∷ codes "--cells=3" ∷ codes "--depth" ∷ codes "1" ∷ []) ≡ Some (build (codes "a.kk") (codes "b") 3 1)
 unfolding clap_on_literals
@@ -34,3 +42,15 @@ leading_zero = refl
 twice : request_of (codes "kokarv" ∷ codes "run" ∷ codes "a.kk" ∷ codes "--cells" ∷ codes "1" ∷ codes "--cells" ∷ codes "1" ∷ []) ≡ None
 unfolding clap_on_literals
 twice = refl
+
+stats_twice : request_of (codes "kokarv" ∷ codes "run" ∷ codes "a.kk" ∷ codes "--stats" ∷ codes "--stats" ∷ []) ≡ None
+unfolding clap_on_literals
+stats_twice = refl
+
+stats_with_value : request_of (codes "kokarv" ∷ codes "run" ∷ codes "a.kk" ∷ codes "--stats=true" ∷ []) ≡ None
+unfolding clap_on_literals
+stats_with_value = refl
+
+no_cells_for_images : request_of (codes "kokarv" ∷ codes "sim" ∷ codes "a.elf" ∷ codes "--cells" ∷ codes "1" ∷ []) ≡ None
+unfolding clap_on_literals
+no_cells_for_images = refl

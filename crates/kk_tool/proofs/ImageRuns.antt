@@ -1,4 +1,4 @@
--- The run of a loaded machine is the run of the image in its file.
+-- The run of a loaded machine is the run of the image in its file, and the machine tells what it took.
 use Rattle.std.proofs.Common.{◌≡◌, ◌<◌, ℕ, ◌+◌, ◌-◌, List, [], ◌∷◌, ◌++◌, refl, sym, ap, subst, ◌∙◌, arith}
 use Rattle.kk_base.specs.Faults.{Rises}
 use Rattle.kk_base.specs.Sink.{SinkState}
@@ -13,9 +13,10 @@ use Rattle.rv_sim.specs.Simulation.{Simulation, processor_of, progress_of}
 use Rattle.rv_sim.specs.Devices.{ending_at, ComesTo, HasRun, is_input_fault, is_output_fault, asked}
 use Rattle.rv_sim.specs.declared.halt.Halt.{Halt}
 use Rattle.rv_sim.specs.declared.halt.Halt.TheVariants.{Exit, StepsSpent, Trap, InputFault, OutputFault}
-use Rattle.kk_build.specs.ImageAfter.{Ending, going, Progress, goes, start, go_on, step, run, image_after, file_after}
+use Rattle.kk_build.specs.ImageAfter.{Ending, going, Progress, goes, start, go_on, step, run, image_after, file_after, free_cells}
 use Rattle.kk_build.proofs.FileSteps.{one_more}
-use Rattle.kk_tool.specs.ImageRuns.{HasDone, Stops, RunsImage}
+use Rattle.kk_tool.specs.ImageRuns.{HasDone, IsMeasured, Stops}
+use Rattle.kk_tool.specs.Internal.{HasStopped}
 
 fewer : (executed before steps : ℕ) → before ≡ 0 → executed < before + steps → executed - before < steps
 fewer executed before steps none less = omega arith
@@ -36,6 +37,11 @@ module _ (file : List ℕ) (entry : ℕ) (parts : List Part) (loaded : IsLoaded 
       let is = comes_to count events comes input rest takes in
       (ap (λ (a : Progress). a.processor.trace) is, ap (λ (a : Progress). a.ending) is ∙ ends)
 
+  is_measured : (count : ℕ) (events : List Event) → ComesTo count events old new → (cells : ℕ) → IsMeasured file count events cells new.executed (free_cells cells (processor_of new [] []))
+  is_measured count events comes cells input rest takes =
+      let is = comes_to count events comes input rest takes in
+      (ap (λ (a : Progress). a.processor.executed) is, ap (λ (a : Progress). free_cells cells a.processor) is)
+
   next_is : (count : ℕ) (events : List Event) (event : List ℕ → Event) → ComesTo count events old new → new.ending ≡ going
       → ((left : List ℕ) (trace : List Event) → (step (processor_of new left trace)).processor.trace ≡ trace ++ event left ∷ [])
       → (input rest : List ℕ) → TakesFrom events input rest → (file_after file input (count + 1)).processor.trace ≡ events ++ event rest ∷ []
@@ -46,32 +52,35 @@ module _ (file : List ℕ) (entry : ℕ) (parts : List Part) (loaded : IsLoaded 
 
   module _ (steps : ℕ) (input input' : SourceState) (out out' : SinkState) (nothing : old.executed ≡ 0) where
     so_far : (halt : Halt) (ran : HasRun halt steps old new input input' out out') → Rises (is_input_fault halt) input.faults input'.faults → Rises (is_output_fault halt) out.faults out'.faults
-        → (count : ℕ) → ComesTo count ran.events old new → Stops halt file steps count ran.events ran.cut → RunsImage file steps halt input input' out out'
+        → (count : ℕ) → ComesTo count ran.events old new → Stops halt file steps count ran.events ran.cut → HasStopped file steps halt new input input' out out'
     so_far halt ran in_faults out_faults count comes stops = record {
-      events = ran.events;
-      cut = ran.cut;
-      count = count;
-      given = ran.given.content;
-      bytes = ran.given.bytes;
-      some_input = some-input ran.events input.ended input'.ended ran.given.once;
-      held = ran.held;
-      input_faults = in_faults;
-      output_faults = out_faults;
-      done = has_done count ran.events (ending_at halt) comes ran.ending;
-      stops = stops;
+      runs = record {
+        events = ran.events;
+        cut = ran.cut;
+        count = count;
+        given = ran.given.content;
+        bytes = ran.given.bytes;
+        some_input = some-input ran.events input.ended input'.ended ran.given.once;
+        held = ran.held;
+        input_faults = in_faults;
+        output_faults = out_faults;
+        done = has_done count ran.events (ending_at halt) comes ran.ending;
+        stops = stops;
+      };
+      measured = is_measured count ran.events comes;
     }
 
     -- all of the budget counts, but where a device has failed
-    pub runs_image : (halt : Halt) → HasRun halt steps old new input input' out out' → Rises (is_input_fault halt) input.faults input'.faults → Rises (is_output_fault halt) out.faults out'.faults
-        → RunsImage file steps halt input input' out out'
-    runs_image (Exit code) ran in_faults out_faults = so_far (Exit code) ran in_faults out_faults steps ran.comes (refl, ran.fails)
-    runs_image StepsSpent ran in_faults out_faults = so_far StepsSpent ran in_faults out_faults steps ran.comes (refl, ran.fails)
-    runs_image (Trap cause pc word) ran in_faults out_faults = so_far (Trap cause pc word) ran in_faults out_faults steps ran.comes (refl, ran.fails)
-    runs_image InputFault ran in_faults out_faults =
+    pub has_stopped : (halt : Halt) → HasRun halt steps old new input input' out out' → Rises (is_input_fault halt) input.faults input'.faults → Rises (is_output_fault halt) out.faults out'.faults
+        → HasStopped file steps halt new input input' out out'
+    has_stopped (Exit code) ran in_faults out_faults = so_far (Exit code) ran in_faults out_faults steps ran.comes (refl, ran.fails)
+    has_stopped StepsSpent ran in_faults out_faults = so_far StepsSpent ran in_faults out_faults steps ran.comes (refl, ran.fails)
+    has_stopped (Trap cause pc word) ran in_faults out_faults = so_far (Trap cause pc word) ran in_faults out_faults steps ran.comes (refl, ran.fails)
+    has_stopped InputFault ran in_faults out_faults =
         let count = new.executed - old.executed in
         so_far InputFault ran in_faults out_faults count ran.comes
         (fewer new.executed old.executed steps nothing ran.executed, ran.fails.0, next_is count ran.events asked ran.comes ran.ending ran.fails.1)
-    runs_image OutputFault ran in_faults out_faults =
+    has_stopped OutputFault ran in_faults out_faults =
         let count = new.executed - old.executed in
         let put = ran.fails in
         so_far OutputFault ran in_faults out_faults count ran.comes (
@@ -87,5 +96,6 @@ module _ (file : List ℕ) (entry : ℕ) (parts : List Part) (loaded : IsLoaded 
         )
 
 -- a run that stops for the same cause
-pub stops_alike : (image : List ℕ) (steps : ℕ) (halt other : Halt) (input input' : SourceState) (out out' : SinkState) → other ≡ halt → RunsImage image steps halt input input' out out' → RunsImage image steps other input input' out out'
-stops_alike image steps halt other input input' out out' same runs = subst (λ (h : Halt). RunsImage image steps h input input' out out') (sym same) runs
+pub stops_alike : (image : List ℕ) (steps : ℕ) (halt other : Halt) (machine : Simulation) (input input' : SourceState) (out out' : SinkState) → other ≡ halt
+    → HasStopped image steps halt machine input input' out out' → HasStopped image steps other machine input input' out out'
+stops_alike image steps halt other machine input input' out out' same has = subst (λ (h : Halt). HasStopped image steps h machine input input' out out') (sym same) has

@@ -1,6 +1,10 @@
 -- How each command comes to its answers.
-use Rattle.std.proofs.Common.{◌≡◌, ℕ, List, Bool, true, false, cond, Option, Some, None, refl, sym, ap, subst, ◌∙◌, inl, inr}
+use Rattle.std.proofs.Common.{◌≡◌, ℕ, List, [], Bool, true, false, cond, Option, Some, None, refl, sym, ap, subst, ◌∙◌, inl, inr}
 use Rattle.std.specs.Borrow.{Bor}
+use Rattle.elf_image.specs.declared.bad_image.BadImage.{BadImage as Reason}
+use Rattle.elf_image.specs.declared.bad_image.BadImage.TheVariants as OfReason
+use Rattle.elf_image.specs.Loaded.{reason_of, IsReason}
+use Rattle.elf_image.specs.Reasons.{reason_number_of}
 use Rattle.kk_base.specs.Faults.{Counts}
 use Rattle.kk_base.specs.Sink.{SinkState}
 use Rattle.kk_base.specs.Source.{SourceState}
@@ -10,15 +14,20 @@ use Rattle.kk_base.specs.declared.outside.StoreCall.TheVariants.{Reading, Writin
 use Rattle.kk_base.specs.declared.refusal.Refusal.{Refusal}
 use Rattle.kk_front.specs.Judgement.{IsProgramOf, Refuses, wants_memory}
 use Rattle.kk_build.specs.Built.{ProgramTree, IsBuilt}
+use Rattle.kk_build.specs.ImageAfter.{free_cells}
+use Rattle.rv_sim.specs.Simulation.{Simulation, processor_of}
+use Rattle.rv_sim.specs.declared.halt.Halt.{Halt}
 use Rattle.kk_tool.specs.declared.answer.Answer.{Answer}
-use Rattle.kk_tool.specs.declared.answer.Answer.TheVariants.{Done, Usage, Refused, NoMemory, FileFault, Ran}
+use Rattle.kk_tool.specs.declared.answer.Answer.TheVariants.{Done, Usage, Refused, NoMemory, FileFault, Ran, Measured, Simulated}
 use Rattle.kk_tool.specs.declared.answer.RunEnd.{RunEnd}
-use Rattle.kk_tool.specs.Answers.{HasText, IsImageOfFile, Answers, usage, no_memory, unread, refused, checked, built, unwritten, ran}
-use Rattle.kk_tool.specs.Internal.{answer_of_refusal}
-use Rattle.kk_tool.specs.Requests.{Request, check, build, run, file_of}
-use Rattle.kk_tool.specs.ImageRuns.{RunsImage}
+use Rattle.kk_tool.specs.declared.answer.RunEnd.TheVariants as OfRun
+use Rattle.kk_tool.specs.Answers.{HasText, HasImage, IsImageOfFile, Answers, usage, no_memory, unread, refused, checked, built, unwritten, ran, measured, bad_image, simulated, tells_statistics}
+use Rattle.kk_tool.specs.Internal.{answer_of_refusal, answer_of_condition, HasStopped, AnswersRun, without_statistics, with_statistics}
+use Rattle.kk_tool.specs.ImageRuns.{IsMeasured}
+use Rattle.kk_tool.specs.Requests.{Request, check, build, run, sim, file_of}
 use Rattle.kk_tool.specs.Outside.{Outside, KeepsFiles, KeepsStreams, KeepsAll}
 use Rattle.kk_tool.specs.SourceRuns.{halt_for}
+use Rattle.kk_tool.proofs.ImageRuns.{stops_alike}
 use Rattle.kk_tool.proofs.SourceRuns.{means_run}
 use Rattle.kk_tool.proofs.Stores.{same_files, then_kept, then_written, then_unwritten}
 
@@ -81,6 +90,9 @@ module _ (store : StoreState) (input : SourceState) (out : SinkState) (image : L
   pub no_words : (request : Option Request) → Answers (outside store input out image) (outside store input out image) request NoMemory
   no_words request = no_memory request nothing_changed (same_streams store store input out image image) (inl refl)
 
+never : false ≡ true → ⊥
+never is = cc
+
 -- what becomes of an image that was built: it is written, or it could not be, or it is run
 module _ (first second : StoreState) (kept : KeepsFiles first second) (image image' : List ℕ) (file : List ℕ) (cells depth : ℕ) (made : IsImageOfFile file cells depth first image') where
   module _ (third : StoreState) (input : SourceState) (output : SinkState) where
@@ -100,16 +112,80 @@ module _ (first second : StoreState) (kept : KeepsFiles first second) (image ima
     image_left out call same counts remembers =
         no_memory (Some (build file out cells depth)) (then_kept call first second third kept same counts remembers) (record { input = refl; out = refl }) (inr made)
 
-  module _ (input input' : SourceState) (output output' : SinkState) (steps : ℕ) where
-    ran_so : (end : RunEnd) → RunsImage image' steps (halt_for end) input input' output output'
-        → Answers (outside first input output image) (outside second input' output' image') (Some (run file cells depth steps)) (Ran end cells depth steps)
-    ran_so end runs = ran file cells depth steps end made runs (means_run made.built.program image' cells depth made.built.agrees end runs.count runs.events runs.done) kept
+  module _ (input input' : SourceState) (output output' : SinkState) (steps : ℕ) (stats : Bool) where
+    -- what a run of the image comes to, by its answer
+    abbrev Comes : Answer → Type 0
+    Comes answer = Answers (outside first input output image) (outside second input' output' image') (Some (run file cells depth steps stats)) answer
 
-    pub image_ran : (slice : List ℕ) (end : RunEnd) → slice ≡ image' → RunsImage slice steps (halt_for end) input input' output output'
-        → Answers (outside first input output image) (outside second input' output' image') (Some (run file cells depth steps)) (Ran end cells depth steps)
-    image_ran slice end same runs =
-        let P : List ℕ → Type 0 = λ bytes. RunsImage bytes steps (halt_for end) input input' output output' in
-        ran_so end (subst P same runs)
+    ran_so : (machine : Simulation) (end : RunEnd) → tells_statistics stats end ≡ false → HasStopped image' steps (halt_for end) machine input input' output output'
+        → Comes (Ran end cells depth steps)
+    ran_so machine end quiet has =
+        ran file cells depth steps stats end quiet made has.runs
+        (means_run made.built.program image' cells depth made.built.agrees end has.runs.count has.runs.events has.runs.done) kept
 
-    pub image_idle : input' ≡ input → output' ≡ output → Answers (outside first input output image) (outside second input' output' image') (Some (run file cells depth steps)) NoMemory
-    image_idle same_input same_out = no_memory (Some (run file cells depth steps)) kept (record { input = same_input; out = same_out }) (inr made)
+    measured_so : (machine : Simulation) (end : RunEnd) (instructions free : ℕ) → tells_statistics stats end ≡ true → HasStopped image' steps (halt_for end) machine input input' output output'
+        → instructions ≡ machine.executed → free ≡ free_cells cells (processor_of machine [] []) → Comes (Measured instructions free cells)
+    measured_so machine OfRun.Ended instructions free asked has executed left =
+        let is : IsMeasured image' has.runs.count has.runs.events cells instructions free =
+        λ input rest takes. let both = has.measured cells input rest takes in (both.0 ∙ sym executed, both.1 ∙ sym left) in
+        measured file cells depth steps stats instructions free asked made has.runs
+        (means_run made.built.program image' cells depth made.built.agrees OfRun.Ended has.runs.count has.runs.events has.runs.done) is kept
+    measured_so machine OfRun.HeapFull instructions free asked has executed left = absurd (never asked)
+    measured_so machine OfRun.StackFull instructions free asked has executed left = absurd (never asked)
+    measured_so machine OfRun.StepsSpent instructions free asked has executed left = absurd (never asked)
+    measured_so machine OfRun.InputFault instructions free asked has executed left = absurd (never asked)
+    measured_so machine OfRun.OutputFault instructions free asked has executed left = absurd (never asked)
+
+    by_answer : (halt : Halt) (machine : Simulation) (answer : Answer) → HasStopped image' steps halt machine input input' output output'
+        → AnswersRun halt machine cells depth steps stats answer → Comes answer
+    by_answer halt machine _ has (without_statistics end is quiet) = ran_so machine end quiet (stops_alike image' steps halt (halt_for end) machine input input' output output' is has)
+    by_answer halt machine _ has (with_statistics end instructions free is asked executed left) =
+        measured_so machine end instructions free asked (stops_alike image' steps halt (halt_for end) machine input input' output output' is has) executed left
+
+    pub image_ran : (slice : List ℕ) (halt : Halt) (machine : Simulation) (answer : Answer) → slice ≡ image' → HasStopped slice steps halt machine input input' output output'
+        → AnswersRun halt machine cells depth steps stats answer → Answers (outside first input output image) (outside second input' output' image') (Some (run file cells depth steps stats)) answer
+    image_ran slice halt machine answer same has answers =
+        let P : List ℕ → Type 0 = λ bytes. HasStopped bytes steps halt machine input input' output output' in
+        by_answer halt machine answer (subst P same has) answers
+
+    pub image_idle : input' ≡ input → output' ≡ output → Answers (outside first input output image) (outside second input' output' image') (Some (run file cells depth steps stats)) NoMemory
+    image_idle same_input same_out = no_memory (Some (run file cells depth steps stats)) kept (record { input = same_input; out = same_out }) (inr made)
+
+-- an error that has a number is the reason of its file
+numbered : (file : List ℕ) (reason : Reason) (number : ℕ) → reason_number_of reason ≡ Some number → IsReason reason file → reason_of file ≡ Some reason
+numbered file OfReason.Short number is says = says
+numbered file OfReason.NotElf number is says = says
+numbered file OfReason.NotRv32 number is says = says
+numbered file OfReason.NotExec number is says = says
+numbered file OfReason.BadHeaders number is says = says
+numbered file OfReason.PartOutside number is says = says
+numbered file OfReason.PartsOverlap number is says = says
+numbered file OfReason.TooLarge number is says = says
+numbered file OfReason.BadEntry number is says = says
+numbered file OfReason.NoMemory number is says = cc
+
+-- what becomes of an image that was read: it cannot be loaded, or it is run
+module _ (first second : StoreState) (kept : KeepsFiles first second) (image image' : List ℕ) (file : List ℕ) (steps : ℕ) (has : HasImage file image' first) where
+  module _ (input : SourceState) (output : SinkState) where
+    by_condition : (reason : Reason) (condition : Option ℕ) → reason_number_of reason ≡ condition → IsReason reason image'
+        → Answers (outside first input output image) (outside second input output image') (Some (sim file steps)) (answer_of_condition condition)
+    by_condition reason (Some number) is says = bad_image file steps reason number has (numbered image' reason number is says) is kept (record { input = refl; out = refl })
+    by_condition reason None is says = no_memory (Some (sim file steps)) kept (record { input = refl; out = refl }) (inr has)
+
+    pub image_refused : (slice : List ℕ) (reason : Reason) (answer : Answer) → slice ≡ image' → answer ≡ answer_of_condition (reason_number_of reason) → IsReason reason slice
+        → Answers (outside first input output image) (outside second input output image') (Some (sim file steps)) answer
+    image_refused slice reason answer same is says =
+        let A : Answer → Type 0 = λ a. Answers (outside first input output image) (outside second input output image') (Some (sim file steps)) a in
+        let P : List ℕ → Type 0 = λ bytes. IsReason reason bytes in
+        subst A (sym is) (by_condition reason (reason_number_of reason) refl (subst P same says))
+
+  module _ (input input' : SourceState) (output output' : SinkState) where
+    pub image_simulated : (slice : List ℕ) (halt : Halt) (machine : Simulation) → slice ≡ image' → reason_of slice ≡ None → HasStopped slice steps halt machine input input' output output'
+        → Answers (outside first input output image) (outside second input' output' image') (Some (sim file steps)) (Simulated halt steps)
+    image_simulated slice halt machine same loads stopped =
+        let L : List ℕ → Type 0 = λ bytes. reason_of bytes ≡ None in
+        let P : List ℕ → Type 0 = λ bytes. HasStopped bytes steps halt machine input input' output output' in
+        simulated file steps halt has (subst L same loads) (subst P same stopped).runs kept
+
+    pub image_not_simulated : input' ≡ input → output' ≡ output → Answers (outside first input output image) (outside second input' output' image') (Some (sim file steps)) NoMemory
+    image_not_simulated same_input same_out = no_memory (Some (sim file steps)) kept (record { input = same_input; out = same_out }) (inr has)

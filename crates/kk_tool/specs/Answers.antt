@@ -1,6 +1,9 @@
 -- The answers of the commands, and the causes of each.
-use Rattle.std.specs.Prelude.{◌≡◌, ◌⊎◌, ℕ, ◌+◌, List, take, Bool, true, false, if◌then◌else◌, Option, Some, None}
+use Rattle.std.specs.Prelude.{◌≡◌, ◌⊎◌, ℕ, ◌+◌, List, [], take, Bool, true, false, if◌then◌else◌, Option, Some, None, unwrap_or}
 use Rattle.std.specs.Borrow.{Bor}
+use Rattle.elf_image.specs.declared.bad_image.BadImage.{BadImage as Reason}
+use Rattle.elf_image.specs.Loaded.{greatest_file, reason_of}
+use Rattle.elf_image.specs.Reasons.{reason_number_of}
 use Rattle.kk_base.specs.Faults.{Rose}
 use Rattle.kk_base.specs.Limits.{greatest_of}
 use Rattle.kk_base.specs.Sink.{SinkState}
@@ -11,20 +14,30 @@ use Rattle.kk_base.specs.declared.status.Status.{Status}
 use Rattle.kk_base.specs.declared.status.Status.TheVariants as OfStatus
 use Rattle.kk_front.specs.Judgement.{IsProgramOf, IsRefusalOf}
 use Rattle.kk_build.specs.Built.{ProgramTree, IsBuilt}
+use Rattle.rv_sim.specs.declared.halt.Halt.{Halt}
 use Rattle.kk_tool.specs.declared.answer.Answer.{Answer}
-use Rattle.kk_tool.specs.declared.answer.Answer.TheVariants.{Done, Usage, Refused, NoMemory, FileFault, Ran}
+use Rattle.kk_tool.specs.declared.answer.Answer.TheVariants.{Done, Usage, Refused, NoMemory, FileFault, Ran, Measured, BadImage, Simulated}
 use Rattle.kk_tool.specs.declared.answer.RunEnd.{RunEnd}
+use Rattle.kk_tool.specs.declared.answer.RunEnd.TheVariants as OfRun
 use Rattle.kk_tool.specs.Answer.{status_of}
-use Rattle.kk_tool.specs.Requests.{Request, check, build, run, file_of}
-use Rattle.kk_tool.specs.ImageRuns.{RunsImage}
+use Rattle.kk_tool.specs.Requests.{Request, check, build, run, sim, file_of}
+use Rattle.kk_tool.specs.ImageRuns.{RunsImage, IsMeasured}
 use Rattle.kk_tool.specs.SourceRuns.{halt_for, MeansRun}
 use Rattle.kk_tool.specs.Line.{line_of}
 use Rattle.kk_tool.specs.Outside.{Outside, KeepsFiles, KeepsStreams, KeepsAll, FailsToRead, FailsToWrite, WritesAlone, Puts}
 
--- A file's text, where the store tells it: no more than its first 65,537 bytes are read, which tell whether there are more than 65,536.
+-- the first bytes of a file, at most so many, where the store tells them
+abbrev pub BeginsFile : ℕ → List ℕ → List ℕ → StoreState → Type 0
+BeginsFile count file bytes store =
+    (files : Files) → store.files ≡ Some files → (content : List ℕ) × (files file ≡ Some content) × (bytes ≡ take count content)
+
+-- A file's text: no more than its first 65,537 bytes are read, which tell whether there are more than 65,536.
 abbrev pub HasText : List ℕ → List ℕ → StoreState → Type 0
-HasText file text store =
-    (files : Files) → store.files ≡ Some files → (content : List ℕ) × (files file ≡ Some content) × (text ≡ take (greatest_of Source + 1) content)
+HasText file text store = BeginsFile (greatest_of Source + 1) file text store
+
+-- A file's image: no more than its first 268,435,457 bytes are read, which tell whether there are more than 268,435,456.
+abbrev pub HasImage : List ℕ → List ℕ → StoreState → Type 0
+HasImage file image store = BeginsFile (greatest_file + 1) file image store
 
 -- these bytes are the image of the text in a file
 pub record IsImageOfFile (file : List ℕ) (cells depth : ℕ) (store : StoreState) (image : List ℕ) : Type 0 where
@@ -32,11 +45,17 @@ pub record IsImageOfFile (file : List ℕ) (cells depth : ℕ) (store : StoreSta
   pub has_text : HasText file text store
   pub built : IsBuilt text cells depth image
 
--- these bytes are the image that is asked for
+-- these bytes are the image that is asked for: it was built, or read
 abbrev pub IsRequestedImage : Option Request → StoreState → List ℕ → Type 0
 IsRequestedImage (Some (build file out cells depth)) store image = IsImageOfFile file cells depth store image
-IsRequestedImage (Some (run file cells depth steps)) store image = IsImageOfFile file cells depth store image
+IsRequestedImage (Some (run file cells depth steps stats)) store image = IsImageOfFile file cells depth store image
+IsRequestedImage (Some (sim file steps)) store image = HasImage file image store
 IsRequestedImage _ store image = ⊥
+
+-- a run whose statistics are told: they were asked for, and the program ended by itself
+abbrev pub tells_statistics : Bool → RunEnd → Bool
+tells_statistics stats OfRun.Ended = stats
+tells_statistics stats _ = false
 
 -- The answers that the words of a line may have, with what each does to the outside. There is no other.
 pub data Answers (before after : Outside) : Option Request → Answer → Type 0 where
@@ -45,7 +64,7 @@ pub data Answers (before after : Outside) : Option Request → Answer → Type 0
   -- memory was refused, before anything was written or run
   no_memory : (request : Option Request) → KeepsFiles before.files after.files → KeepsStreams before after
       → (after.image ≡ before.image) ⊎ IsRequestedImage request before.files after.image → Answers before after request NoMemory
-  -- FILE could not be read
+  -- FILE or IMAGE could not be read
   unread : (request : Request) (name : Bor (List ℕ)) → name.now ≡ file_of request
       → FailsToRead (file_of request) before.files after.files → KeepsStreams before after → after.image ≡ before.image → Answers before after (Some request) (FileFault name)
   -- the text is refused, for its first failure
@@ -61,18 +80,32 @@ pub data Answers (before after : Outside) : Option Request → Answer → Type 0
   unwritten : (file out : List ℕ) (cells depth : ℕ) (name : Bor (List ℕ)) → name.now ≡ out → IsImageOfFile file cells depth before.files after.image
       → FailsToWrite out before.files after.files → KeepsStreams before after → Answers before after (Some (build file out cells depth)) (FileFault name)
   -- run: the image ran, for at most `steps` instructions, and stopped so; what it did is what the program means
-  ran : (file : List ℕ) (cells depth steps : ℕ) (end : RunEnd) (made : IsImageOfFile file cells depth before.files after.image)
+  ran : (file : List ℕ) (cells depth steps : ℕ) (stats : Bool) (end : RunEnd) → tells_statistics stats end ≡ false → (made : IsImageOfFile file cells depth before.files after.image)
       (runs : RunsImage after.image steps (halt_for end) before.input after.input before.out after.out)
       → MeansRun made.built.program cells depth end runs.events → KeepsFiles before.files after.files
-      → Answers before after (Some (run file cells depth steps)) (Ran end cells depth steps)
+      → Answers before after (Some (run file cells depth steps stats)) (Ran end cells depth steps)
+  -- run --stats: the same, where the program ended by itself; so many instructions were executed, and so many of the cells are free
+  measured : (file : List ℕ) (cells depth steps : ℕ) (stats : Bool) (instructions free : ℕ) → tells_statistics stats OfRun.Ended ≡ true
+      → (made : IsImageOfFile file cells depth before.files after.image)
+      (runs : RunsImage after.image steps (halt_for OfRun.Ended) before.input after.input before.out after.out)
+      → MeansRun made.built.program cells depth OfRun.Ended runs.events → IsMeasured after.image runs.count runs.events cells instructions free
+      → KeepsFiles before.files after.files → Answers before after (Some (run file cells depth steps stats)) (Measured instructions free cells)
+  -- sim: the bytes of IMAGE cannot be loaded, for the first condition that they fail, which has this number
+  bad_image : (file : List ℕ) (steps : ℕ) (reason : Reason) (condition : ℕ) → HasImage file after.image before.files → reason_of after.image ≡ Some reason
+      → reason_number_of reason ≡ Some condition → KeepsFiles before.files after.files → KeepsStreams before after
+      → Answers before after (Some (sim file steps)) (BadImage condition)
+  -- sim: the bytes of IMAGE were loaded and ran, for at most `steps` instructions, and stopped so
+  simulated : (file : List ℕ) (steps : ℕ) (halt : Halt) → HasImage file after.image before.files → reason_of after.image ≡ None
+      → RunsImage after.image steps halt before.input after.input before.out after.out → KeepsFiles before.files after.files
+      → Answers before after (Some (sim file steps)) (Simulated halt steps)
 
--- an answer ends a command with its status, where its line was put; or where putting the line failed, with an output fault. A command that
--- did its work has no line, and nothing is put
+-- an answer ends a command with its status, where its line was put; or where putting the line failed, with an output fault. Where an answer
+-- has no line, nothing is put
 pub record EndsWith (answer : Answer) (status : Status) (err err' : SinkState) : Type 0 where
   pub whole : Bool
-  pub line : Puts whole (line_of answer) err err'
+  pub line : Puts whole (unwrap_or (line_of answer) []) err err'
   pub told : status ≡ (if whole then status_of answer else OfStatus.OutputFault)
-  pub silent : status_of answer ≡ OfStatus.Done → (whole ≡ true) × (err' ≡ err)
+  pub silent : line_of answer ≡ None → (whole ≡ true) × (err' ≡ err)
 
 -- the words of a line end with a status, by one of their answers
 pub record Ends (request : Option Request) (status : Status) (before after : Outside) (err err' : SinkState) : Type 0 where

@@ -7,12 +7,18 @@ use Rattle.kk_base.specs.Trace.{Event, output, output_of, input_of, TakesBytes, 
 use Rattle.rv_sim.specs.Devices.{GivesContent, asked, ending_at, is_input_fault, is_output_fault}
 use Rattle.rv_sim.specs.declared.halt.Halt.{Halt}
 use Rattle.rv_sim.specs.declared.halt.Halt.TheVariants.{InputFault, OutputFault}
-use Rattle.kk_build.specs.ImageAfter.{Ending, file_after}
+use Rattle.kk_build.specs.ImageAfter.{Ending, file_after, free_cells}
 
 -- on each input that the events can have taken, the image has done them after so many instructions, and has ended so
 abbrev pub HasDone : List ℕ → ℕ → List Event → Ending → Type 0
 HasDone image count events ending =
     (input rest : List ℕ) → TakesFrom events input rest → ((file_after image input count).processor.trace ≡ events) × ((file_after image input count).ending ≡ ending)
+
+-- on each such input, so many instructions are executed then, and so many of the cells are free
+abbrev pub IsMeasured : List ℕ → ℕ → List Event → ℕ → ℕ → ℕ → Type 0
+IsMeasured image count events cells instructions free =
+    (input rest : List ℕ) → TakesFrom events input rest
+    → ((file_after image input count).processor.executed ≡ instructions) × (free_cells cells (file_after image input count).processor ≡ free)
 
 -- the instruction after so many asks for a byte
 abbrev pub AsksNext : List ℕ → ℕ → List Event → Type 0

@@ -1,5 +1,5 @@
 -- The line that tells an answer on the error sink. Numbers are decimal, and each line ends with a line feed.
-use Rattle.std.specs.Prelude.{ℕ, List, [], ◌∷◌, ◌++◌, codes, decimal, Option, Some, None}
+use Rattle.std.specs.Prelude.{ℕ, ◌==◌, List, [], ◌∷◌, ◌++◌, codes, decimal, Option, Some, None, if◌then◌else◌}
 use Rattle.kk_base.specs.Limits.{limit_word_of}
 use Rattle.kk_base.specs.Numbers.{lex_number_of, parse_number_of, name_number_of}
 use Rattle.kk_base.specs.declared.limit.Limit.{Limit}
@@ -11,8 +11,10 @@ use Rattle.kk_base.specs.declared.error.NameError.{NameError}
 use Rattle.kk_base.specs.declared.error.NameError.TheVariants as OfName
 use Rattle.kk_base.specs.declared.refusal.Refusal.{Refusal}
 use Rattle.kk_base.specs.declared.refusal.Refusal.TheVariants as OfText
+use Rattle.rv_sim.specs.declared.halt.Halt.{Halt}
+use Rattle.rv_sim.specs.declared.halt.Halt.TheVariants as OfHalt
 use Rattle.kk_tool.specs.declared.answer.Answer.{Answer}
-use Rattle.kk_tool.specs.declared.answer.Answer.TheVariants.{Done, Usage, Refused, NoMemory, FileFault, Ran}
+use Rattle.kk_tool.specs.declared.answer.Answer.TheVariants.{Done, Usage, Refused, NoMemory, FileFault, Ran, Measured, BadImage, Simulated}
 use Rattle.kk_tool.specs.declared.answer.RunEnd.{RunEnd}
 use Rattle.kk_tool.specs.declared.answer.RunEnd.TheVariants as OfRun
 
@@ -98,20 +100,51 @@ refusal_line (OfText.NotCovered function example) = not_covered_line function ex
 refusal_line (OfText.Over limit) = limit_line limit
 refusal_line OfText.NoMemory = no_memory_line
 
--- a run of an image with so many cells and such a depth, out of a budget of `steps`; none where the program ended by itself
-abbrev pub run_line : RunEnd → ℕ → ℕ → ℕ → List ℕ
-run_line OfRun.Ended cells depth steps = []
-run_line OfRun.HeapFull cells depth steps = codes "heap full: " ++ (decimal cells ++ (codes " cells" ++ line_feed))
-run_line OfRun.StackFull cells depth steps = codes "stack full: " ++ (decimal depth ++ (codes " calls" ++ line_feed))
-run_line OfRun.StepsSpent cells depth steps = codes "steps spent: " ++ (decimal steps ++ line_feed)
-run_line OfRun.InputFault cells depth steps = codes "input fault" ++ line_feed
-run_line OfRun.OutputFault cells depth steps = codes "output fault" ++ line_feed
+-- a budget of instructions is spent; a device of the image failed
+abbrev pub steps_spent_line : ℕ → List ℕ
+steps_spent_line steps = codes "steps spent: " ++ (decimal steps ++ line_feed)
 
--- the line of an answer; none where the command did its work
-abbrev pub line_of : Answer → List ℕ
-line_of Done = []
-line_of Usage = codes "usage: kokarv check FILE, build FILE -o OUT, run FILE, sim IMAGE, eval FILE, bench SEED SIZE" ++ line_feed
-line_of (Refused refusal) = refusal_line refusal
-line_of NoMemory = no_memory_line
-line_of (FileFault name) = codes "file fault: " ++ (name.now ++ line_feed)
+abbrev pub input_fault_line : List ℕ
+input_fault_line = codes "input fault" ++ line_feed
+
+abbrev pub output_fault_line : List ℕ
+output_fault_line = codes "output fault" ++ line_feed
+
+-- a run of a program with so many cells and such a depth, out of a budget of `steps`; none where the program ended by itself
+abbrev pub run_line : RunEnd → ℕ → ℕ → ℕ → Option (List ℕ)
+run_line OfRun.Ended cells depth steps = None
+run_line OfRun.HeapFull cells depth steps = Some (codes "heap full: " ++ (decimal cells ++ (codes " cells" ++ line_feed)))
+run_line OfRun.StackFull cells depth steps = Some (codes "stack full: " ++ (decimal depth ++ (codes " calls" ++ line_feed)))
+run_line OfRun.StepsSpent cells depth steps = Some (steps_spent_line steps)
+run_line OfRun.InputFault cells depth steps = Some input_fault_line
+run_line OfRun.OutputFault cells depth steps = Some output_fault_line
+
+-- stats: instructions N free F of C
+abbrev pub stats_line : ℕ → ℕ → ℕ → List ℕ
+stats_line instructions free cells =
+    codes "stats: instructions " ++ (decimal instructions ++ (codes " free " ++ (decimal free ++ (codes " of " ++ (decimal cells ++ line_feed)))))
+
+-- trap: cause K pc P word W
+abbrev pub trap_line : ℕ → ℕ → ℕ → List ℕ
+trap_line cause pc word =
+    codes "trap: cause " ++ (decimal cause ++ (codes " pc " ++ (decimal pc ++ (codes " word " ++ (decimal word ++ line_feed)))))
+
+-- a run of an image, out of a budget of `steps`; none where it exited with 0
+abbrev pub halt_line : Halt → ℕ → Option (List ℕ)
+halt_line (OfHalt.Exit number) steps = if number == 0 then None else Some (codes "image exit: " ++ (decimal number ++ line_feed))
+halt_line OfHalt.StepsSpent steps = Some (steps_spent_line steps)
+halt_line (OfHalt.Trap cause pc word) steps = Some (trap_line cause pc word)
+halt_line OfHalt.InputFault steps = Some input_fault_line
+halt_line OfHalt.OutputFault steps = Some output_fault_line
+
+-- the line of an answer; none where the command did its work and has nothing to tell
+abbrev pub line_of : Answer → Option (List ℕ)
+line_of Done = None
+line_of Usage = Some (codes "usage: kokarv check FILE, build FILE -o OUT, run FILE, sim IMAGE, eval FILE, bench SEED SIZE" ++ line_feed)
+line_of (Refused refusal) = Some (refusal_line refusal)
+line_of NoMemory = Some no_memory_line
+line_of (FileFault name) = Some (codes "file fault: " ++ (name.now ++ line_feed))
 line_of (Ran end cells depth steps) = run_line end cells depth steps
+line_of (Measured instructions free cells) = Some (stats_line instructions free cells)
+line_of (BadImage condition) = Some (codes "bad image: " ++ (decimal condition ++ line_feed))
+line_of (Simulated halt steps) = halt_line halt steps

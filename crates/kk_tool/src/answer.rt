@@ -1,8 +1,9 @@
 ghost use Rattle.std.specs.Prelude.{◌≡◌};
 ghost use Rattle.kk_front.specs.Judgement.{wants_memory};
-ghost use Rattle.kk_tool.specs.Answer.{fault_status, refusal_status, run_status, status_of};
+ghost use Rattle.kk_tool.specs.Answer.{fault_status, refusal_status, run_status, halt_status, status_of};
 
 use kk_base::{LexError, NameError, ParseError, Refusal, Status};
+use rv_sim::Halt;
 
 /// How a command came to its end, with all that its line tells.
 #[derive(Debug, Drop)]
@@ -24,6 +25,21 @@ pub enum Answer<'a> {
         end: RunEnd,
         cells: u32,
         depth: u32,
+        steps: u64,
+    },
+    /// The program ended by itself, after so many instructions of its image, and so many of its cells are free.
+    Measured {
+        instructions: u64,
+        free: u32,
+        cells: u32,
+    },
+    /// The file is no image that can be loaded: the first condition that it fails has this number.
+    BadImage {
+        condition: u8,
+    },
+    /// The image in the file was run for at most so many instructions, and stopped so.
+    Simulated {
+        halt: Halt,
         steps: u64,
     },
 }
@@ -57,6 +73,9 @@ impl Answer<'_> {
             Answer::NoMemory => Status::NoMemory,
             Answer::FileFault { .. } => Status::FileFault,
             Answer::Ran { end, .. } => end.status(),
+            Answer::Measured { .. } => Status::Done,
+            Answer::BadImage { .. } => Status::BadImage,
+            Answer::Simulated { halt, .. } => halt_status(*halt),
         }
     }
 }
@@ -74,6 +93,20 @@ impl RunEnd {
             RunEnd::InputFault => Status::InputFault,
             RunEnd::OutputFault => Status::OutputFault,
         }
+    }
+}
+
+/// The status of a run of an image that stopped so.
+fn halt_status(halt: Halt) -> Status
+    ensures { result ≡ halt_status halt }
+{
+    match halt {
+        Halt::Exit(0) => Status::Done,
+        Halt::Exit(_) => Status::ImageExit,
+        Halt::StepsSpent => Status::StepsSpent,
+        Halt::Trap { .. } => Status::Trap,
+        Halt::InputFault => Status::InputFault,
+        Halt::OutputFault => Status::OutputFault,
     }
 }
 

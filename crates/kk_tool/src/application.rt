@@ -1,10 +1,10 @@
 //! The line of the program, for clap.
-ghost use Rattle.std.specs.Prelude.{◌≡◌, false, IfOk};
-ghost use Rattle.clap.specs.Words.{app_of, rule_of};
+ghost use Rattle.std.specs.Prelude.{◌≡◌, false, codes, IfOk};
+ghost use Rattle.clap.specs.Words.{app_of, rule_of, with_subcommand};
 ghost use Rattle.clap.specs.declared.builder.command.Command.TheViews.{out-Command as fields_of};
-ghost use Rattle.kk_tool.specs.Requests.{required, optional, file_rule, out_rule, check_app, with_sizes, build_app, run_app, bare_app, line_app};
+ghost use Rattle.kk_tool.specs.Requests.{required, optional, flag, file_rule, image_rule, steps_rule, out_rule, check_app, with_sizes, build_app, run_app, sim_app, bare_app, line_app};
 
-use clap::{Arg, Command as App};
+use clap::{Arg, ArgAction, Command as App};
 use std::alloc::{AllocError, Global};
 
 /// The argument FILE.
@@ -13,6 +13,14 @@ fn file<'a>(alloc: Global) -> Arg<'a>
     ensures local { result.global ≡ false }
 {
     Arg::new(alloc, "file").required(true)
+}
+
+/// The argument IMAGE.
+fn image<'a>(alloc: Global) -> Arg<'a>
+    ensures rule { rule_of result ≡ image_rule }
+    ensures local { result.global ≡ false }
+{
+    Arg::new(alloc, "image").required(true)
 }
 
 /// The option `-o OUT`.
@@ -29,6 +37,24 @@ fn number_option<'a>(alloc: Global, name: &'a str) -> Arg<'a>
     ensures local { result.global ≡ false }
 {
     Arg::new(alloc, name).long(name)
+}
+
+/// The option `--steps N`.
+fn steps<'a>(alloc: Global) -> Arg<'a>
+    ensures rule { rule_of result ≡ steps_rule }
+    ensures local { result.global ≡ false }
+{
+    number_option(alloc, "steps")
+}
+
+/// The flag `--stats`.
+fn stats<'a>(alloc: Global) -> Arg<'a>
+    ensures rule { rule_of result ≡ flag (codes "stats") }
+    ensures local { result.global ≡ false }
+{
+    Arg::new(alloc, "stats")
+        .long("stats")
+        .action(ArgAction::SetTrue)
 }
 
 fn check_command<'a>(alloc: Global) -> Result<App<'a>, AllocError>
@@ -62,7 +88,16 @@ fn run_command<'a>(alloc: Global) -> Result<App<'a>, AllocError>
     ensures local { IfOk result (λ c. (fields_of c).has_globals ≡ false) }
 {
     let command = App::new(alloc, "run").arg(file(alloc))?;
-    with_size_options(alloc, command)?.arg(number_option(alloc, "steps"))
+    with_size_options(alloc, command)?
+        .arg(steps(alloc))?
+        .arg(stats(alloc))
+}
+
+fn sim_command<'a>(alloc: Global) -> Result<App<'a>, AllocError>
+    ensures app { IfOk result (λ c. app_of c ≡ sim_app) }
+    ensures local { IfOk result (λ c. (fields_of c).has_globals ≡ false) }
+{
+    App::new(alloc, "sim").arg(image(alloc))?.arg(steps(alloc))
 }
 
 /// The program before its commands: no help and no version, and one of its commands has to be there.
@@ -75,12 +110,21 @@ fn bare_application<'a>(alloc: Global) -> App<'a>
         .subcommand_required(true)
 }
 
+/// Adds the commands that run images.
+fn with_run_commands<'a>(alloc: Global, command: App<'a>) -> Result<App<'a>, AllocError>
+    ensures { IfOk result (λ c. app_of c ≡ with_subcommand (with_subcommand (app_of command.entry) run_app.top) sim_app.top) }
+{
+    command
+        .subcommand(run_command(alloc)?)?
+        .subcommand(sim_command(alloc)?)
+}
+
 /// The program with its commands, as clap reads its line.
 pub fn application<'a>(alloc: Global) -> Result<App<'a>, AllocError>
     ensures app { IfOk result (λ c. app_of c ≡ line_app) }
 {
-    bare_application(alloc)
+    let command = bare_application(alloc)
         .subcommand(check_command(alloc)?)?
-        .subcommand(build_command(alloc)?)?
-        .subcommand(run_command(alloc)?)
+        .subcommand(build_command(alloc)?)?;
+    with_run_commands(alloc, command)
 }

@@ -10,6 +10,17 @@ pub struct Sizes {
     pub ghost allowed: { AreSizes cells depth },
 }
 
+/// How a program is run.
+#[derive(Clone, Copy, Debug, PartialEq, Eq)]
+pub struct RunOptions {
+    /// The sizes that its image is built with.
+    pub sizes: Sizes,
+    /// How many instructions are executed at most.
+    pub steps: u64,
+    /// Whether it is told what the run took, where the program ends by itself.
+    pub stats: bool,
+}
+
 /// What the words of the line ask for.
 #[derive(Clone, Copy, Debug, PartialEq, Eq)]
 pub enum Command<'a> {
@@ -23,10 +34,14 @@ pub enum Command<'a> {
         out: &'a str,
         sizes: Sizes,
     },
-    /// `run FILE`: run the image of the text in the file, for at most so many instructions.
+    /// `run FILE`: run the image of the text in the file.
     Run {
         file: &'a str,
-        sizes: Sizes,
+        options: RunOptions,
+    },
+    /// `sim IMAGE`: run the image in the file, for at most so many instructions.
+    Sim {
+        image: &'a str,
         steps: u64,
     },
 }

@@ -10,10 +10,14 @@ use kk_base::{Bytes, NoMemory, Sink, Source, Status, Store};
 use std::alloc::Global;
 
 /// Does the command that `words` are, over the devices of the outside, and tells how it ended: by its status, and by a
-/// line on `err` where the status is not `Done`.
+/// line on `err` where the answer has one: where the status is not `Done`, and for `run --stats`.
 ///
-/// The first word is the program's name. At the return `image` holds the bytes of the image that this call built; it is
-/// as before where the call came to none.
+/// The first word is the program's name. At the return `image` holds the bytes of the image that this call built (`build`,
+/// `run`) or read (`sim`); it is as before where the call came to none. What `run` and `sim` load and run, for at most
+/// `--steps` instructions, are these bytes.
+///
+/// `sim` ends with `ImageExit`, `Trap`, `StepsSpent` or `Done` exactly as the image does by the table of instructions, and
+/// with `BadImage` exactly where its bytes fail a condition on images. No memory is wanted once an image is loaded.
 pub fn kokarv<F: Store, I: Source, O: Sink, E: Sink>(
     alloc: Global,
     words: &[String],

@@ -1,8 +1,6 @@
 //! The line for the user that tells how a command ended.
-ghost use Rattle.std.specs.Prelude.{◌≡◌, ◌≢◌, ◌≤◌, length, [], Some, None, IfSome, option_map, unwrap_or};
-ghost use Rattle.kk_base.specs.declared.status.Status.TheVariants.{Done};
-ghost use Rattle.kk_tool.specs.Answer.{run_status, status_of};
-ghost use Rattle.kk_tool.specs.Line.{line_of, run_line, refusal_line, lex_line, lex_place_of, parse_line, parse_line_of, parse_column_of, name_line, name_spelled_of, name_place_of, limit_line, no_memory_line};
+ghost use Rattle.std.specs.Prelude.{◌≡◌, ◌≤◌, length, option_map};
+ghost use Rattle.kk_tool.specs.Line.{line_of, run_line, halt_line, steps_spent_line, stats_line, trap_line, refusal_line, lex_line, lex_place_of, parse_line, parse_line_of, parse_column_of, name_line, name_spelled_of, name_place_of, limit_line, no_memory_line};
 ghost use Rattle.kk_tool.specs.Internal.{bytes_of, joined};
 ghost use Rattle.kk_tool.specs.Outside.{Puts};
 
@@ -10,6 +8,7 @@ use crate::answer::{Answer, RunEnd};
 use arrayvec::ArrayVec;
 use itoa::Buffer;
 use kk_base::{LexError, Limit, NameError, ParseError, Put, Refusal, Sink};
+use rv_sim::Halt;
 
 const USAGE: &str =
     "usage: kokarv check FILE, build FILE -o OUT, run FILE, sim IMAGE, eval FILE, bench SEED SIZE\n";
@@ -66,10 +65,9 @@ impl<'a> Line<'a> {
 }
 
 impl Answer<'_> {
-    /// The line that tells the answer; none where the command did its work.
+    /// The line that tells the answer; none where the command did its work and has nothing to tell.
     pub fn line(&self) -> Option<Line<'_>>
-        ensures said { unwrap_or (option_map (λ line. joined line.pieces.items) result) [] ≡ line_of self.now }
-        ensures some { IfSome result (λ line. status_of self.now ≢ Done) }
+        ensures { option_map (λ line. joined line.pieces.items) result ≡ line_of self.now }
     {
         match self {
             Answer::Done => None,
@@ -87,6 +85,17 @@ impl Answer<'_> {
                 depth,
                 steps,
             } => run_line(*end, *cells, *depth, *steps),
+            Answer::Measured {
+                instructions,
+                free,
+                cells,
+            } => Some(stats_line(*instructions, *free, *cells)),
+            Answer::BadImage { condition } => Some(Line::new(&[
+                Piece::Text("bad image: "),
+                Piece::Number(u64::from(*condition)),
+                Piece::Text("\n"),
+            ])),
+            Answer::Simulated { halt, steps } => halt_line(*halt, *steps),
         }
     }
 }
@@ -98,8 +107,7 @@ fn no_memory_line<'a>() -> Line<'a>
 }
 
 fn run_line<'a>(end: RunEnd, cells: u32, depth: u32, steps: u64) -> Option<Line<'a>>
-    ensures said { unwrap_or (option_map (λ line. joined line.pieces.items) result) [] ≡ run_line end cells depth steps }
-    ensures some { IfSome result (λ line. run_status end ≢ Done) }
+    ensures { option_map (λ line. joined line.pieces.items) result ≡ run_line end cells depth steps }
 {
     match end {
         RunEnd::Ended => None,
@@ -113,14 +121,65 @@ fn run_line<'a>(end: RunEnd, cells: u32, depth: u32, steps: u64) -> Option<Line<
             Piece::Number(u64::from(depth)),
             Piece::Text(" calls\n"),
         ])),
-        RunEnd::StepsSpent => Some(Line::new(&[
-            Piece::Text("steps spent: "),
-            Piece::Number(steps),
-            Piece::Text("\n"),
-        ])),
+        RunEnd::StepsSpent => Some(steps_spent_line(steps)),
         RunEnd::InputFault => Some(Line::text("input fault\n")),
         RunEnd::OutputFault => Some(Line::text("output fault\n")),
     }
+}
+
+fn halt_line<'a>(halt: Halt, steps: u64) -> Option<Line<'a>>
+    ensures { option_map (λ line. joined line.pieces.items) result ≡ halt_line halt steps }
+{
+    match halt {
+        Halt::Exit(0) => None,
+        Halt::Exit(number) => Some(Line::new(&[
+            Piece::Text("image exit: "),
+            Piece::Number(u64::from(number)),
+            Piece::Text("\n"),
+        ])),
+        Halt::StepsSpent => Some(steps_spent_line(steps)),
+        Halt::Trap { cause, pc, word } => Some(trap_line(cause, pc, word)),
+        Halt::InputFault => Some(Line::text("input fault\n")),
+        Halt::OutputFault => Some(Line::text("output fault\n")),
+    }
+}
+
+fn steps_spent_line<'a>(steps: u64) -> Line<'a>
+    ensures { joined result.pieces.items ≡ steps_spent_line steps }
+{
+    Line::new(&[
+        Piece::Text("steps spent: "),
+        Piece::Number(steps),
+        Piece::Text("\n"),
+    ])
+}
+
+fn stats_line<'a>(instructions: u64, free: u32, cells: u32) -> Line<'a>
+    ensures { joined result.pieces.items ≡ stats_line instructions free cells }
+{
+    Line::new(&[
+        Piece::Text("stats: instructions "),
+        Piece::Number(instructions),
+        Piece::Text(" free "),
+        Piece::Number(u64::from(free)),
+        Piece::Text(" of "),
+        Piece::Number(u64::from(cells)),
+        Piece::Text("\n"),
+    ])
+}
+
+fn trap_line<'a>(cause: u8, pc: u32, word: u32) -> Line<'a>
+    ensures { joined result.pieces.items ≡ trap_line cause pc word }
+{
+    Line::new(&[
+        Piece::Text("trap: cause "),
+        Piece::Number(u64::from(cause)),
+        Piece::Text(" pc "),
+        Piece::Number(u64::from(pc)),
+        Piece::Text(" word "),
+        Piece::Number(u64::from(word)),
+        Piece::Text("\n"),
+    ])
 }
 
 fn refusal_line(refusal: &Refusal) -> Line<'_>

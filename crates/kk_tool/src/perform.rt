@@ -1,30 +1,43 @@
 //! What the commands do.
-ghost use Rattle.std.specs.Prelude.{◌≡◌, ℕ, ◌+◌, List, Some, None, IfOk, IfErr, OnOk, OnErr};
-ghost use Rattle.elf_image.specs.Loaded.{reason_of};
-ghost use Rattle.kk_base.specs.Limits.{greatest_of};
-ghost use Rattle.kk_base.specs.declared.limit.LimitKind.TheVariants.{Source};
+ghost use Rattle.std.specs.Prelude.{◌≡◌, ℕ, List, Some, None, IfOk, IfErr, OnOk, OnErr};
+ghost use Rattle.elf_image.specs.Loaded.{IsLoaded, reason_of};
+ghost use Rattle.elf_image.specs.Reasons.{reason_number_of};
 ghost use Rattle.kk_base.specs.Sink.{SinkState};
 ghost use Rattle.kk_base.specs.Source.{SourceState};
 ghost use Rattle.kk_build.specs.SourceMeaning.{exit_of};
 ghost use Rattle.kk_build.specs.ImageAfter.{exited, ExitsWell};
 ghost use Rattle.rv_sim.specs.Devices.{ending_at};
 ghost use Rattle.rv_sim.specs.declared.halt.Halt.TheVariants.{Exit};
-ghost use Rattle.kk_tool.specs.Answers.{Answers, HasText, IsImageOfFile};
-ghost use Rattle.kk_tool.specs.Internal.{answer_of_refusal, EndsWell};
-ghost use Rattle.kk_tool.specs.Requests.{Request, check, build, run, file_of};
+ghost use Rattle.kk_tool.specs.Answers.{Answers, BeginsFile, HasText, HasImage, IsImageOfFile, tells_statistics};
+ghost use Rattle.kk_tool.specs.Internal.{answer_of_refusal, answer_of_condition, AnswersRun, EndsWell, HasStopped};
+ghost use Rattle.kk_tool.specs.Requests.{Request, check, build, run, sim, file_of};
 ghost use Rattle.kk_tool.specs.Internal.{request_read};
-ghost use Rattle.kk_tool.specs.ImageRuns.{RunsImage};
 ghost use Rattle.kk_tool.specs.SourceRuns.{halt_for};
 ghost use Rattle.kk_tool.specs.Outside.{KeepsFiles, outside};
 
 use crate::answer::{Answer, RunEnd, wants_memory};
-use crate::command::{Command, Sizes};
-use elf_image::BadImage;
-use kk_base::{Bytes, LimitKind, NoMemory, Read, Refusal, Sink, Source, Store, Wrote};
+use crate::command::{Command, RunOptions, Sizes};
+use elf_image::{BadImage, Image};
+use kk_base::{Bytes, NoMemory, Read, Refusal, Sink, Source, Store, Wrote};
 use kk_build::{Ending, build};
 use kk_front::read;
 use rv_sim::{Halt, Machine};
 use std::alloc::Global;
+
+/// How many bytes of a text are read: one more than it may have.
+const MOST_OF_TEXT: usize = 65_537;
+
+/// How many bytes of an image are read: one more than it may have.
+const MOST_OF_IMAGE: usize = 268_435_457;
+
+/// An image that was run.
+#[derive(Drop)]
+struct Stopped {
+    /// The machine as the run left it.
+    machine: Machine,
+    /// Why it stopped.
+    halt: Halt,
+}
 
 /// Does a command.
 pub fn perform<'a, F: Store, I: Source, O: Sink>(
@@ -40,8 +53,9 @@ pub fn perform<'a, F: Store, I: Source, O: Sink>(
     match command {
         Command::Check { file } => check_file(alloc, file, files),
         Command::Build { file, out, sizes } => build_file(alloc, file, out, sizes, files, image),
-        Command::Run { file, sizes, steps } => {
-            run_file(alloc, file, sizes, steps, files, input, out, image)
+        Command::Run { file, options } => run_file(alloc, file, options, files, input, out, image),
+        Command::Sim { image: file, steps } => {
+            simulate_file(alloc, file, steps, files, input, out, image)
         }
     }
 }
@@ -85,26 +99,50 @@ fn build_file<'a, F: Store>(
 fn run_file<'a, F: Store, I: Source, O: Sink>(
     alloc: Global,
     file: &'a str,
-    sizes: Sizes,
+    options: RunOptions,
+    files: &mut F,
+    input: &mut I,
+    out: &mut O,
+    image: &mut Bytes,
+) -> Answer<'a>
+    ensures { Answers (outside (F.state files.old) (I.state input.old) (O.state out.old) image.old) (outside (F.state files.new) (I.state input.new) (O.state out.new) image.new) (Some (run file.now options.sizes.cells options.sizes.depth options.steps options.stats)) result }
+{
+    match build_image(alloc, file, options.sizes, files, image) {
+        Ok(()) => match run_built(alloc, image.as_slice(), options.steps, input, out) {
+            Ok(stopped) => run_answer(&stopped, options),
+            Err(NoMemory) => Answer::NoMemory,
+        },
+        Err(answer) => answer,
+    }
+}
+
+/// Runs the image in a file.
+fn simulate_file<'a, F: Store, I: Source, O: Sink>(
+    alloc: Global,
+    file: &'a str,
     steps: u64,
     files: &mut F,
     input: &mut I,
     out: &mut O,
     image: &mut Bytes,
 ) -> Answer<'a>
-    ensures { Answers (outside (F.state files.old) (I.state input.old) (O.state out.old) image.old) (outside (F.state files.new) (I.state input.new) (O.state out.new) image.new) (Some (run file.now sizes.cells sizes.depth steps)) result }
+    ensures { Answers (outside (F.state files.old) (I.state input.old) (O.state out.old) image.old) (outside (F.state files.new) (I.state input.new) (O.state out.new) image.new) (Some (sim file.now steps)) result }
 {
-    match build_image(alloc, file, sizes, files, image) {
-        Ok(()) => match run_image(alloc, image.as_slice(), steps, input, out) {
-            Ok(end) => Answer::Ran {
-                end,
-                cells: sizes.cells,
-                depth: sizes.depth,
-                steps,
-            },
-            Err(NoMemory) => Answer::NoMemory,
+    let bytes = match read_image(alloc, file, files) {
+        Ok(bytes) => bytes,
+        Err(answer) => return answer,
+    };
+    *image = bytes;
+    let loaded = match elf_image::read(alloc, image.as_slice()) {
+        Ok(loaded) => loaded,
+        Err(error) => return bad_image_answer(&error),
+    };
+    match run_image(alloc, &loaded, steps, input, out) {
+        Ok(stopped) => Answer::Simulated {
+            halt: stopped.halt,
+            steps,
         },
-        Err(answer) => answer,
+        Err(NoMemory) => Answer::NoMemory,
     }
 }
 
@@ -114,19 +152,39 @@ fn read_text<'a, F: Store>(alloc: Global, file: &'a str, files: &mut F) -> Resul
     ensures kept { OnOk result (KeepsFiles (F.state files.old) (F.state files.new)) }
     ensures err { IfErr result (λ answer. (input : SourceState) (out : SinkState) (image : List ℕ) (request : Request) → file_of request ≡ file.now → Answers (outside (F.state files.old) input out image) (outside (F.state files.new) input out image) (Some request) answer) }
 {
-    let at_most = most_read();
+    read_first(alloc, file, MOST_OF_TEXT, files)
+}
+
+/// The bytes of the image in a file, of which no more are read than tell whether they are too many; or the answer where they
+/// cannot be had.
+fn read_image<'a, F: Store>(
+    alloc: Global,
+    file: &'a str,
+    files: &mut F,
+) -> Result<Bytes, Answer<'a>>
+    ensures image { IfOk result (λ image. HasImage file.now image (F.state files.old)) }
+    ensures kept { OnOk result (KeepsFiles (F.state files.old) (F.state files.new)) }
+    ensures err { IfErr result (λ answer. (input : SourceState) (out : SinkState) (image : List ℕ) (request : Request) → file_of request ≡ file.now → Answers (outside (F.state files.old) input out image) (outside (F.state files.new) input out image) (Some request) answer) }
+{
+    read_first(alloc, file, MOST_OF_IMAGE, files)
+}
+
+/// The first `at_most` bytes of a file; or the answer where they cannot be had.
+fn read_first<'a, F: Store>(
+    alloc: Global,
+    file: &'a str,
+    at_most: usize,
+    files: &mut F,
+) -> Result<Bytes, Answer<'a>>
+    ensures first { IfOk result (λ bytes. BeginsFile at_most file.now bytes (F.state files.old)) }
+    ensures kept { OnOk result (KeepsFiles (F.state files.old) (F.state files.new)) }
+    ensures err { IfErr result (λ answer. (input : SourceState) (out : SinkState) (image : List ℕ) (request : Request) → file_of request ≡ file.now → Answers (outside (F.state files.old) input out image) (outside (F.state files.new) input out image) (Some request) answer) }
+{
     match files.read(alloc, file, at_most) {
-        Read::Bytes(text) => Ok(text),
+        Read::Bytes(bytes) => Ok(bytes),
         Read::Failed => Err(Answer::FileFault { name: file }),
         Read::NoMemory => Err(Answer::NoMemory),
     }
-}
-
-/// How many bytes of a text are read: one more than it may have.
-fn most_read() -> usize
-    ensures { result ≡ greatest_of Source + 1 }
-{
-    LimitKind::Source.greatest() as usize + 1
 }
 
 /// Makes `image` the image of the text in a file, or gives the answer where there is none.
@@ -165,28 +223,85 @@ fn refusal_answer<'a>(refusal: Refusal) -> Answer<'a>
     }
 }
 
-/// Runs the image that a file loads, for at most so many instructions. It exits only as programs end.
-fn run_image<I: Source, O: Sink>(
+/// The answer to a file that is no image, or that was not judged for want of memory.
+fn bad_image_answer<'a>(error: &BadImage) -> Answer<'a>
+    ensures { result ≡ answer_of_condition (reason_number_of error.now) }
+{
+    match error.number() {
+        Some(condition) => Answer::BadImage { condition },
+        None => Answer::NoMemory,
+    }
+}
+
+/// Runs the image that a file loads, for at most so many instructions.
+fn run_built<I: Source, O: Sink>(
     alloc: Global,
     file: &[u8],
     steps: u64,
     input: &mut I,
     out: &mut O,
-) -> Result<RunEnd, NoMemory>
-    requires loads { reason_of file.now ≡ None }
-    requires ends_well { EndsWell file.now }
-    ensures ran { IfOk result (λ end. RunsImage file.now steps (halt_for end) (I.state input.old) (I.state input.new) (O.state out.old) (O.state out.new)) }
+) -> Result<Stopped, NoMemory>
+    requires { reason_of file.now ≡ None }
+    ensures ran { IfOk result (λ stopped. HasStopped file.now steps stopped.halt stopped.machine (I.state input.old) (I.state input.new) (O.state out.old) (O.state out.new)) }
     ensures input_kept { OnErr result (I.state input.new ≡ I.state input.old) }
     ensures out_kept { OnErr result (O.state out.new ≡ O.state out.old) }
 {
-    let image = match elf_image::read(alloc, file) {
-        Ok(image) => image,
-        Err(BadImage::NoMemory) => return Err(NoMemory),
+    match elf_image::read(alloc, file) {
+        Ok(image) => run_image(alloc, &image, steps, input, out),
+        Err(BadImage::NoMemory) => Err(NoMemory),
         Err(_) => unreachable!(),
-    };
-    let mut machine = Machine::load(alloc, &image)?;
+    }
+}
+
+/// Loads an image, and runs it for at most so many instructions.
+fn run_image<I: Source, O: Sink>(
+    alloc: Global,
+    image: &Image,
+    steps: u64,
+    input: &mut I,
+    out: &mut O,
+) -> Result<Stopped, NoMemory>
+    ensures ran { IfOk result (λ stopped. (file : List ℕ) → IsLoaded file image.now.entry image.now.parts → HasStopped file steps stopped.halt stopped.machine (I.state input.old) (I.state input.new) (O.state out.old) (O.state out.new)) }
+    ensures input_kept { OnErr result (I.state input.new ≡ I.state input.old) }
+    ensures out_kept { OnErr result (O.state out.new ≡ O.state out.old) }
+{
+    let mut machine = Machine::load(alloc, image)?;
     let halt = machine.run(steps, input, out);
-    Ok(run_end(halt))
+    Ok(Stopped { machine, halt })
+}
+
+/// The answer to a run of a program, by what became of its image.
+fn run_answer<'a>(stopped: &Stopped, options: RunOptions) -> Answer<'a>
+    requires { ExitsWell exit_of (ending_at stopped.now.halt) }
+    ensures { AnswersRun stopped.now.halt stopped.now.machine options.sizes.cells options.sizes.depth options.steps options.stats result }
+{
+    let end = run_end(stopped.halt);
+    let cells = options.sizes.cells;
+    let is_measured = tells_statistics(options.stats, end);
+    if is_measured {
+        Answer::Measured {
+            instructions: stopped.machine.executed(),
+            free: stopped.machine.free_cells(cells),
+            cells,
+        }
+    } else {
+        Answer::Ran {
+            end,
+            cells,
+            depth: options.sizes.depth,
+            steps: options.steps,
+        }
+    }
+}
+
+/// Whether the statistics of a run that ended so are told.
+fn tells_statistics(stats: bool, end: RunEnd) -> bool
+    ensures { result ≡ tells_statistics stats end }
+{
+    match end {
+        RunEnd::Ended => stats,
+        _ => false,
+    }
 }
 
 /// How a run ended, by why the image stopped.

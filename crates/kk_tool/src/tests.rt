@@ -33,7 +33,7 @@ const NONE: Refused = Refused {
     err: 0,
 };
 
-static ROWS: [Row; 15] = [
+static ROWS: [Row; 18] = [
     Row {
         line: "kokarv run a.kk",
         text: "fun main() { println(1 + 2 * 3) }",
@@ -203,6 +203,88 @@ static ROWS: [Row; 15] = [
         err: "",
         writes: false,
     },
+    Row {
+        line: "kokarv run a.kk --stats --cells 5",
+        text: "fun main() { println(1 + 2 * 3) }",
+        refused: NONE,
+        status: Status::Done,
+        out: "7\n",
+        err: "stats: instructions 69 free 5 of 5\n",
+        writes: false,
+    },
+    Row {
+        line: "kokarv run a.kk --stats",
+        text: "fun main() { print(1) }",
+        refused: Refused {
+            files: 0,
+            out: 0,
+            err: 1,
+        },
+        status: Status::OutputFault,
+        out: "1",
+        err: "",
+        writes: false,
+    },
+    Row {
+        line: "kokarv sim a.kk",
+        text: "fun main() { print(1) }",
+        refused: NONE,
+        status: Status::BadImage,
+        out: "",
+        err: "bad image: 1\n",
+        writes: false,
+    },
+];
+
+/// The beginning of an image file, behind which 12 bytes of code stand: they are read and executed at 0x10000.
+static HEADERS: [u8; 84] = [
+    0x7f, 0x45, 0x4c, 0x46, 1, 1, 1, 0, 0, 0, 0, 0, 0, 0, 0, 0, // identification
+    2, 0, 243, 0, 1, 0, 0, 0, // type, machine, version
+    0, 0, 1, 0, // entry
+    52, 0, 0, 0, 0, 0, 0, 0, 0, 0, 0, 0, // program headers, section headers, flags
+    52, 0, 32, 0, 1, 0, 0, 0, 0, 0, 0, 0, // sizes and numbers
+    1, 0, 0, 0, 84, 0, 0, 0, 0, 0, 1, 0, 0, 0, 0, 0, // type, offset, addresses
+    12, 0, 0, 0, 12, 0, 0, 0, 5, 0, 0, 0, 4, 0, 0, 0, // sizes, flags, alignment
+];
+
+/// addi x10, x0, 3; addi x17, x0, 93; ecall
+const EXITS_WITH_3: [u8; 12] = [
+    0x13, 0x05, 0x30, 0x00, 0x93, 0x08, 0xd0, 0x05, 0x73, 0x00, 0x00, 0x00,
+];
+
+/// addi x10, x0, 3; ebreak; ecall
+const BREAKS: [u8; 12] = [
+    0x13, 0x05, 0x30, 0x00, 0x73, 0x00, 0x10, 0x00, 0x73, 0x00, 0x00, 0x00,
+];
+
+/// A run of an image whose code this is, and what it is to end with.
+#[derive(Clone, Copy)]
+struct ImageRow<'a> {
+    line: &'a str,
+    code: [u8; 12],
+    status: Status,
+    err: &'a str,
+}
+
+static IMAGE_ROWS: [ImageRow; 3] = [
+    ImageRow {
+        line: "kokarv sim b.elf",
+        code: EXITS_WITH_3,
+        status: Status::ImageExit,
+        err: "image exit: 3\n",
+    },
+    ImageRow {
+        line: "kokarv sim b.elf --steps 2",
+        code: EXITS_WITH_3,
+        status: Status::StepsSpent,
+        err: "steps spent: 2\n",
+    },
+    ImageRow {
+        line: "kokarv sim b.elf",
+        code: BREAKS,
+        status: Status::Trap,
+        err: "trap: cause 1 pc 65540 word 1048691\n",
+    },
 ];
 
 /// The devices of a command.
@@ -275,6 +357,28 @@ fn check_row(rt: &impl Abort, alloc: Global, row: &Row<'_>) -> Result<(), NoMemo
 fn answers_commands(rt: HostRuntime) -> Result<(), NoMemory> {
     for row in &ROWS {
         check_row(&rt, rt.alloc(), row)?;
+    }
+    Ok(())
+}
+
+/// Does the command of a row, and compares what it ends with. The bytes that were read are the image.
+fn check_image_row(rt: &impl Abort, alloc: Global, row: &ImageRow<'_>) -> Result<(), NoMemory> {
+    let words = words_of(alloc, row.line)?;
+    let mut devices = Devices::new(alloc, "", NONE)?;
+    let mut file = Vec::from_slice(alloc, &HEADERS)?;
+    file.extend_from_slice(&row.code)?;
+    devices.files.add_file("b.elf", &file)?;
+    let status = devices.command(alloc, words.as_slice());
+    assert_eq!(rt; status, row.status);
+    assert_eq!(rt; devices.err.held_bytes(), row.err.as_bytes());
+    assert_eq!(rt; devices.image.as_slice(), file.as_slice());
+    Ok(())
+}
+
+#[test]
+fn runs_images(rt: HostRuntime) -> Result<(), NoMemory> {
+    for row in &IMAGE_ROWS {
+        check_image_row(&rt, rt.alloc(), row)?;
     }
     Ok(())
 }

@@ -1,11 +1,11 @@
 ghost use Rattle.std.specs.Prelude.{◌≡◌, ◌≤◌, map, string_bytes, IfOk, IfSome, option_map};
 ghost use Rattle.clap.specs.Words.{found_of, rows_of, first_of, subcommand_rows_of};
 ghost use Rattle.kk_base.specs.Sizes.{greatest_cells, greatest_depth};
-ghost use Rattle.kk_tool.specs.Requests.{request_of, request_named, entered_request, check_in, build_in, run_in, cells_in, depth_in, steps_in};
+ghost use Rattle.kk_tool.specs.Requests.{request_of, request_named, entered_request, check_in, build_in, run_in, sim_in, cells_in, depth_in, steps_in, stats_in};
 ghost use Rattle.kk_tool.specs.Internal.{request_read};
 
 use crate::application::application;
-use crate::command::{Command, Sizes};
+use crate::command::{Command, RunOptions, Sizes};
 use crate::number::number_in;
 use clap::ArgMatches;
 use clap::error::ErrorKind;
@@ -47,6 +47,7 @@ fn command_named<'a>(name: &str, matches: &ArgMatches<'a>) -> Option<Command<'a>
         "check" => check_in(matches),
         "build" => build_in(matches),
         "run" => run_in(matches),
+        "sim" => sim_in(matches),
         _ => None,
     }
 }
@@ -81,9 +82,20 @@ fn run_in<'a>(matches: &ArgMatches<'a>) -> Option<Command<'a>>
     let steps = steps_in(matches)?;
     Some(Command::Run {
         file,
-        sizes: Sizes { cells, depth },
-        steps,
+        options: RunOptions {
+            sizes: Sizes { cells, depth },
+            steps,
+            stats: stats_in(matches),
+        },
     })
+}
+
+fn sim_in<'a>(matches: &ArgMatches<'a>) -> Option<Command<'a>>
+    ensures { option_map request_read result ≡ sim_in (rows_of (found_of matches.now)) }
+{
+    let image = value_of(matches, "image")?;
+    let steps = steps_in(matches)?;
+    Some(Command::Sim { image, steps })
 }
 
 fn cells_in(matches: &ArgMatches<'_>) -> Option<u32>
@@ -113,6 +125,15 @@ fn steps_in(matches: &ArgMatches<'_>) -> Option<u64>
     match value_of(matches, "steps") {
         Some(text) => number_in(0, GREATEST_STEPS, text),
         None => Some(DEFAULT_STEPS),
+    }
+}
+
+fn stats_in(matches: &ArgMatches<'_>) -> bool
+    ensures { result ≡ stats_in (rows_of (found_of matches.now)) }
+{
+    match value_of(matches, "stats") {
+        Some(text) => text == "true",
+        None => false,
     }
 }
 

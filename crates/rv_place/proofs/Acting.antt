@@ -1,11 +1,12 @@
 -- Actions, lines and functions as instructions.
-use Rattle.std.proofs.Common.{◌≡◌, ℕ, ◌+◌, ◌*◌, ◌^◌, ◌<◌, List, [], ◌∷◌, Option, Some, refl, sym, ap, ◌∙◌, subst}
+use Rattle.std.proofs.Common.{◌≡◌, ℕ, ◌+◌, ◌*◌, ◌^◌, ◌<◌, List, [], ◌∷◌, Option, Some, refl, sym, ap, ◌∙◌, subst, arith}
 use Rattle.std.specs.List.{slice_get}
 use Rattle.std.specs.Ordering.{nat_cmp}
 use Rattle.std.specs.BTreeMap.{get}
 use Rattle.rv_isa.specs.declared.register.Register.{Register}
 use Rattle.rv_isa.specs.declared.instr.Instr.{Instr}
 use Rattle.rv_isa.specs.declared.asm.Condition.{Condition}
+use Rattle.rv_isa.specs.declared.asm.Condition.TheVariants.{Equal}
 use Rattle.rv_isa.specs.declared.asm.Operation.{Operation}
 use Rattle.rv_isa.specs.declared.asm.Action.{Action}
 use Rattle.rv_isa.specs.declared.asm.Action.TheVariants.{Compute, Jump, Branch, Call, TailCall, Return, Routine}
@@ -17,110 +18,213 @@ use Rattle.rv_isa.specs.declared.placed.Symbol.TheVariants as symbol
 use Rattle.rv_isa.specs.declared.routine.Routine as routine
 use Rattle.rv_isa.specs.PlacedCode.{PlacedLine, moves, PlacedLines}
 use Rattle.rv_isa.specs.Standing.{Code}
-use Rattle.rv_place.specs.Instructions.{JumpsTo, CallsTo, words_of_operation}
-use Rattle.rv_place.specs.Addresses.{words_of_action, words_of_line, words_of_lines, entry_words, words_of_function, words_of_functions}
-use Rattle.rv_place.specs.Lines.{EntersAt, LinesAt, BranchesTo}
+use Rattle.rv_isa.proofs.Same.{same_register}
+use Rattle.rv_place.specs.Registers.{sp, t0}
+use Rattle.rv_place.specs.Instructions.{words_of_jump, JumpsTo, CallsTo, BranchesOn, words_of_operation}
+use Rattle.rv_place.specs.Addresses.{words_of_action, words_of_line, words_of_lines, forms_of, entry_words, entries_from, words_of_function, words_of_functions}
+use Rattle.rv_place.specs.Lines.{Map, IsSymbolAt, EntersAt, LinesAt, FunctionsAt, BranchesTo}
+use Rattle.rv_place.specs.declared.reach.Forms.{Forms}
+use Rattle.rv_place.specs.declared.reach.Reach.{Reach}
+use Rattle.rv_place.specs.declared.reach.Reach.TheVariants.{Near, Far}
 use Rattle.rv_place.specs.declared.chart.Chart.{Chart}
 use Rattle.rv_place.specs.declared.labels.Labels.{Labels}
-use Rattle.rv_place.specs.Emitted.{Grew, AreSymbols, IsAddressOf, register_or_zero, BranchesBy, ReturnBy, HasLabels, OperationBy, ActionBy, LineBy, LinesBy, MoveBy, EntryBy, FunctionBy, FunctionsBy}
+use Rattle.rv_place.specs.Emitted.{Grew, Charts, JumpReaches, BranchReaches, IsInText, IsInFunction, AreSymbols, IsAddressOf, register_or_zero, ReturnBy, HasLabels, OperationBy, ActionBy, LineBy, LinesBy, MoveBy, EntryBy, FunctionBy, FunctionsBy}
 use Rattle.rv_place.proofs.Emitting.{grew_so, grew_then}
+use Rattle.rv_place.proofs.Near.{short_function, jump_reaches, text_reaches, label_reaches, branch_reaches, function_front, function_back, text_front, text_back}
+use Rattle.rv_place.proofs.Jumping.{BranchGrew}
 use Rattle.rv_place.proofs.Operands.{register_in, operand_register}
 
 -- a branch on the registers of its arguments, one or two
-branches_to : (code : Code) (at : ℕ) (condition : Condition) (registers : List Register) (target : ℕ)
-    → BranchesBy code at condition (register_in registers 0) (register_in registers 1) target → BranchesTo code at condition registers target
-branches_to code at condition [] target branches = tt
-branches_to code at condition (a ∷ []) target branches = branches
-branches_to code at condition (a ∷ b ∷ []) target branches = branches
-branches_to code at condition (a ∷ b ∷ more ∷ rest) target branches = tt
+branches_to : (forms : Forms) (code : Code) (at : ℕ) (condition : Condition) (registers : List Register) (target : ℕ)
+    → BranchesOn forms.jumps forms.branches code at condition (register_in registers 0) (register_in registers 1) target → BranchesTo forms code at condition registers target
+branches_to forms code at condition [] target branches = tt
+branches_to forms code at condition (a ∷ []) target branches = branches
+branches_to forms code at condition (a ∷ b ∷ []) target branches = branches
+branches_to forms code at condition (a ∷ b ∷ more ∷ rest) target branches = tt
 
-module _ (chart : Chart) (labels : Labels) (args : List Operand) (into : Option Operand) {old new : List Instr} {action : Action} where
-  pub on_operation : {operation : Operation} → action ≡ Compute operation → Grew (words_of_operation operation) (OperationBy chart operation args into) old new
-      → Grew (words_of_action action) (ActionBy chart labels action args into) old new
-  on_operation is emitted =
-      subst (λ a. Grew (words_of_action a) (ActionBy chart labels a args into) old new) (sym is) (grew_so refl (λ code at here map charts start whole has. here map charts) emitted)
+module _ (chart : Chart) (labels : Labels) (from : ℕ) (args : List Operand) (into : Option Operand) where
+  abbrev jumps : Reach
+  jumps = labels.forms.jumps
 
-  pub on_jump : {l word : ℕ} → action ≡ Jump l → ((address : ℕ) → get nat_cmp labels.addresses l ≡ Some address → word ≡ address)
-      → Grew 2 (λ code at. JumpsTo code at word) old new → Grew (words_of_action action) (ActionBy chart labels action args into) old new
-  on_jump {l} {word} is word_is emitted =
-      subst (λ a. Grew (words_of_action a) (ActionBy chart labels a args into) old new) (sym is)
-      (grew_so refl (λ code at here map charts start whole has target there. subst (JumpsTo code at) (word_is target (has l ∙ there)) here) emitted)
+  -- an action was added
+  abbrev Acted : List Instr → List Instr → Action → Type 0
+  Acted old new a = Grew (words_of_action labels.forms a) (ActionBy chart labels from a args into) old new
 
-  pub on_branch : {condition : Condition} {l word : ℕ} {a b : Register} → action ≡ Branch condition l → ((address : ℕ) → get nat_cmp labels.addresses l ≡ Some address → word ≡ address)
-      → a ≡ register_or_zero (slice_get args 0) → b ≡ register_or_zero (slice_get args 1)
-      → Grew 3 (λ code at. BranchesBy code at condition a b word) old new → Grew (words_of_action action) (ActionBy chart labels action args into) old new
-  on_branch {condition} {l} {word} {a} {b} is word_is a_is b_is emitted =
-      subst (λ x. Grew (words_of_action x) (ActionBy chart labels x args into) old new) (sym is)
-      (grew_so refl
-      (λ code at here map charts start whole has registers target are there.
-      branches_to code at condition registers target
-      (subst (λ w. BranchesBy code at condition (register_in registers 0) (register_in registers 1) w) (word_is target (has l ∙ there))
-      (subst (λ r. BranchesBy code at condition (register_in registers 0) r word) (b_is ∙ operand_register args registers 1 are)
-      (subst (λ r. BranchesBy code at condition r b word) (a_is ∙ operand_register args registers 0 are) here))))
-      emitted)
+  -- a jump, and a call, to a word that is an address that it reaches
+  jumps_to : (code : Code) (at word target : ℕ) → at ≡ from → (at ≡ from → JumpReaches jumps at word → JumpsTo jumps code at word) → word ≡ target → JumpReaches jumps at target → JumpsTo jumps code at target
+  jumps_to code at word target is_at here same reaches = subst (JumpsTo jumps code at) same (here is_at (subst (JumpReaches jumps at) (sym same) reaches))
 
-  pub on_call : {f word : ℕ} → action ≡ Call f → ((entry : ℕ) → slice_get chart.entries.items f ≡ Some entry → word ≡ entry)
-      → Grew 2 (λ code at. CallsTo code at word) old new → Grew (words_of_action action) (ActionBy chart labels action args into) old new
-  on_call {f} {word} is word_is emitted =
-      subst (λ a. Grew (words_of_action a) (ActionBy chart labels a args into) old new) (sym is)
-      (grew_so refl
-      (λ code at here map charts start whole has entry there.
-      subst (CallsTo code at) (word_is entry (subst (λ entries. slice_get entries f ≡ Some entry) (sym charts.entries) there)) here)
-      emitted)
+  calls_to : (code : Code) (at word target : ℕ) → at ≡ from → (at ≡ from → JumpReaches jumps at word → CallsTo jumps code at word) → word ≡ target → JumpReaches jumps at target → CallsTo jumps code at target
+  calls_to code at word target is_at here same reaches = subst (CallsTo jumps code at) same (here is_at (subst (JumpReaches jumps at) (sym same) reaches))
 
-  pub on_tail_call : {f word : ℕ} → action ≡ TailCall f
-      → ((entry : ℕ) → slice_get chart.entries.items f ≡ Some entry → entry + 4 * entry_words < 2 ^ 32 → word ≡ entry + 4 * entry_words)
-      → Grew 2 (λ code at. JumpsTo code at word) old new → Grew (words_of_action action) (ActionBy chart labels action args into) old new
-  on_tail_call {f} {word} is word_is emitted =
-      subst (λ a. Grew (words_of_action a) (ActionBy chart labels a args into) old new) (sym is)
-      (grew_so refl
-      (λ code at here map charts start whole has entry there.
-      subst (JumpsTo code at) (word_is entry (subst (λ entries. slice_get entries f ≡ Some entry) (sym charts.entries) there) (charts.low f entry there)) here)
-      emitted)
+  module _ {old new : List Instr} {action : Action} where
+    pub on_operation : {operation : Operation} → action ≡ Compute operation → Grew (words_of_operation operation) (OperationBy chart operation args into) old new → Acted old new action
+    on_operation is emitted = subst (Acted old new) (sym is) (grew_so refl (λ code at here is_at map charts start whole has inside. here map charts) emitted)
 
-  pub on_return : action ≡ Return → Grew 3 (ReturnBy chart) old new → Grew (words_of_action action) (ActionBy chart labels action args into) old new
-  on_return is emitted =
-      subst (λ a. Grew (words_of_action a) (ActionBy chart labels a args into) old new) (sym is) (grew_so refl (λ code at here map charts start whole has. here map charts) emitted)
+    pub on_jump : {l word : ℕ} → action ≡ Jump l → ((address : ℕ) → get nat_cmp labels.addresses l ≡ Some address → word ≡ address)
+        → Grew (words_of_jump jumps) (λ code at. at ≡ from → JumpReaches jumps at word → JumpsTo jumps code at word) old new → Acted old new action
+    on_jump {l} {word} is word_is emitted =
+        subst (Acted old new) (sym is)
+        (grew_so refl
+        (λ code at here is_at map charts start whole has inside target there.
+        jumps_to code at word target is_at here (word_is target (has l ∙ there)) (label_reaches charts inside l target there))
+        emitted)
 
-  pub on_routine : {of : routine.Routine} {word : ℕ} → action ≡ Routine of
-      → ((runtime : ℕ) (labels : List (Symbol × ℕ)) → AreSymbols runtime labels chart.symbols → IsAddressOf runtime labels (symbol.Routine of) word)
-      → Grew 2 (λ code at. CallsTo code at word) old new → Grew (words_of_action action) (ActionBy chart labels action args into) old new
-  on_routine {of} {word} is word_is emitted =
-      subst (λ a. Grew (words_of_action a) (ActionBy chart labels a args into) old new) (sym is)
-      (grew_so refl
-      (λ code at here map charts start whole has target there.
-      subst (CallsTo code at) (word_is map.runtime map.labels charts.symbols there.0 there.1 ∙ sym there.2) here)
-      emitted)
+    pub on_branch : {condition : Condition} {l word : ℕ} {a b : Register} → action ≡ Branch condition l → ((address : ℕ) → get nat_cmp labels.addresses l ≡ Some address → word ≡ address)
+        → a ≡ register_or_zero (slice_get args 0) → b ≡ register_or_zero (slice_get args 1)
+        → BranchGrew from jumps labels.forms.branches condition a b word old new → Acted old new action
+    on_branch {condition} {l} {word} {a} {b} is word_is a_is b_is emitted =
+        subst (Acted old new) (sym is)
+        (grew_so refl
+        (λ code at here is_at map charts start whole has inside registers target are there.
+        let branches : Register → Register → ℕ → Type 0 = λ x y to. BranchesOn jumps labels.forms.branches code at condition x y to in
+        let same : word ≡ target = word_is target (has l ∙ there) in
+        let reaches = subst (BranchReaches jumps labels.forms.branches at) (sym same) (branch_reaches charts inside l target there) in
+        branches_to labels.forms code at condition registers target
+        (subst (λ w. branches (register_in registers 0) (register_in registers 1) w) same
+        (subst (λ r. branches (register_in registers 0) r word) (b_is ∙ operand_register args registers 1 are)
+        (subst (λ r. branches r b word) (a_is ∙ operand_register args registers 0 are) (here is_at reaches)))))
+        emitted)
+
+    pub on_call : {f word : ℕ} → action ≡ Call f → ((entry : ℕ) → slice_get chart.entries.items f ≡ Some entry → word ≡ entry)
+        → Grew (words_of_jump jumps) (λ code at. at ≡ from → JumpReaches jumps at word → CallsTo jumps code at word) old new → Acted old new action
+    on_call {f} {word} is word_is emitted =
+        subst (Acted old new) (sym is)
+        (grew_so refl
+        (λ code at here is_at map charts start whole has inside entry there.
+        let place = charts.entries_in f entry there in
+        calls_to code at word entry is_at here (word_is entry (subst (λ entries. slice_get entries f ≡ Some entry) (sym charts.entries) there))
+        (text_reaches charts inside entry place.word place.low (omega (arith, place.high))))
+        emitted)
+
+    pub on_tail_call : {f word : ℕ} → action ≡ TailCall f
+        → ((entry : ℕ) → slice_get chart.entries.items f ≡ Some entry → entry + 4 * entry_words chart.jumps < 2 ^ 32 → word ≡ entry + 4 * entry_words chart.jumps)
+        → Grew (words_of_jump jumps) (λ code at. at ≡ from → JumpReaches jumps at word → JumpsTo jumps code at word) old new → Acted old new action
+    on_tail_call {f} {word} is word_is emitted =
+        subst (Acted old new) (sym is)
+        (grew_so refl
+        (λ code at here is_at map charts start whole has inside entry there.
+        let place = charts.entries_in f entry there in
+        let below : entry + 4 * entry_words map.jumps < 2 ^ 32 = omega (arith, place.high, charts.below) in
+        let same : word ≡ entry + 4 * entry_words map.jumps =
+        subst (λ (j : Reach). entry + 4 * entry_words j < 2 ^ 32 → word ≡ entry + 4 * entry_words j) charts.jumps
+        (word_is entry (subst (λ entries. slice_get entries f ≡ Some entry) (sym charts.entries) there)) below in
+        jumps_to code at word (entry + 4 * entry_words map.jumps) is_at here same
+        (text_reaches charts inside (entry + 4 * entry_words map.jumps) (omega (arith, place.word)) (omega (arith, place.low)) place.high))
+        emitted)
+
+    pub on_return : action ≡ Return → Grew 3 (ReturnBy chart) old new → Acted old new action
+    on_return is emitted = subst (Acted old new) (sym is) (grew_so refl (λ code at here is_at map charts start whole has inside. here map charts) emitted)
+
+    pub on_routine : {of : routine.Routine} {word : ℕ} → action ≡ Routine of
+        → ((runtime : ℕ) (labels : List (Symbol × ℕ)) → AreSymbols runtime labels chart.symbols → IsAddressOf runtime labels (symbol.Routine of) word)
+        → Grew (words_of_jump jumps) (λ code at. at ≡ from → JumpReaches jumps at word → CallsTo jumps code at word) old new → Acted old new action
+    on_routine {of} {word} is word_is emitted =
+        subst (Acted old new) (sym is)
+        (grew_so refl
+        (λ code at here is_at map charts start whole has inside target there.
+        let high = charts.symbols_in (symbol.Routine of) there.0 there.1 in
+        let target_is : target ≡ map.runtime + 4 * there.0 = there.2 in
+        calls_to code at word target is_at here (word_is map.runtime map.labels charts.symbols there.0 there.1 ∙ sym target_is)
+        (text_reaches charts inside target (omega (arith, target_is, charts.first_word)) (omega (arith, target_is)) (omega (arith, target_is, high))))
+        emitted)
+
+-- the branch of an entry, to the stop for a full stack
+pub entry_branch : {chart : Chart} {map : Map} → Charts chart map → (code : Code) (at target from : ℕ) → at ≡ from → IsInText map at (entry_words map.jumps) → {a b : Register} → a.number ≡ 2 → b.number ≡ 5
+    → IsSymbolAt map symbol.StackFull target
+    → (at + 4 ≡ from + 4 → JumpReaches chart.jumps (at + 4 + 4) chart.symbols.stack_full → BranchesOn chart.jumps Far code (at + 4) Equal a b chart.symbols.stack_full)
+    → BranchesOn map.jumps Far code (at + 4) Equal sp t0 target
+entry_branch {chart} {map} charts code at target from is inside {a} {b} a_is b_is (before, behind, target_is) here =
+    let same : chart.symbols.stack_full ≡ target = charts.symbols.stack_full before behind ∙ sym target_is in
+    let high = charts.symbols_in symbol.StackFull before behind in
+    let reaches : JumpReaches chart.jumps (at + 4 + 4) target =
+    jump_reaches charts chart.jumps charts.jumps (at + 4 + 4) target (omega (arith, inside.word)) (omega (arith, target_is, charts.first_word)) (omega (arith, inside.low)) (omega (arith, inside.high))
+    (omega (arith, target_is)) (omega (arith, target_is, high)) in
+    let there = here (ap (λ p. p + 4) is) (subst (JumpReaches chart.jumps (at + 4 + 4)) (sym same) reaches) in
+    subst (λ (j : Reach). BranchesOn j Far code (at + 4) Equal sp t0 target) charts.jumps
+    (subst (λ (w : ℕ). BranchesOn chart.jumps Far code (at + 4) Equal sp t0 w) same
+    (subst (λ (r : Register). BranchesOn chart.jumps Far code (at + 4) Equal r t0 chart.symbols.stack_full) (same_register a sp a_is)
+    (subst (λ (r : Register). BranchesOn chart.jumps Far code (at + 4) Equal a r chart.symbols.stack_full) (same_register b t0 b_is) there)))
 
 -- ---- lines and functions, one behind the other
 
 module _ (chart : Chart) {old new : List Instr} where
-  pub on_move : (labels : Labels) {line : PlacedLine} {alive : List Listed} {value : ℕ} {way : Way} → line ≡ moves alive value way
-      → Grew 1 (MoveBy chart way) old new → Grew (words_of_line line) (LineBy chart labels line) old new
-  on_move labels is emitted =
-      subst (λ l. Grew (words_of_line l) (LineBy chart labels l) old new) (sym is) (grew_so refl (λ code at here map charts start whole has. here map charts) emitted)
+  pub on_move : (labels : Labels) (from : ℕ) {line : PlacedLine} {alive : List Listed} {value : ℕ} {way : Way} → line ≡ moves alive value way
+      → Grew 1 (MoveBy chart way) old new → Grew (words_of_line labels.forms line) (LineBy chart labels from line) old new
+  on_move labels from is emitted =
+      subst (λ l. Grew (words_of_line labels.forms l) (LineBy chart labels from l) old new) (sym is) (grew_so refl (λ code at here is_at map charts start whole has inside. here map charts) emitted)
+
+-- the lines of a function behind its entry
+lines_behind : (map : Map) (code : Code) (entry : ℕ) (lines : List PlacedLine) (forms : Forms) (jumps : Reach) → jumps ≡ map.jumps → forms ≡ forms_of jumps lines
+    → LinesAt map forms code (entry + 4 * entry_words jumps) lines (entry + 4 * entry_words jumps) lines
+    → LinesAt map (forms_of map.jumps lines) code (entry + 4 * entry_words map.jumps) lines (entry + 4 * entry_words map.jumps) lines
+lines_behind map code entry lines forms jumps same forms_is stand =
+    subst (λ (j : Reach). LinesAt map (forms_of j lines) code (entry + 4 * entry_words j) lines (entry + 4 * entry_words j) lines) same
+    (subst (λ (f : Forms). LinesAt map f code (entry + 4 * entry_words jumps) lines (entry + 4 * entry_words jumps) lines) forms_is stand)
+
+-- all lines of a function are in it
+whole_function : {map : Map} (entry : ℕ) (lines : List PlacedLine) (forms : Forms) (jumps : Reach) → jumps ≡ map.jumps → forms ≡ forms_of jumps lines
+    → IsInText map entry (entry_words jumps + words_of_lines forms lines)
+    → IsInFunction map forms (entry + 4 * entry_words jumps) lines (entry + 4 * entry_words jumps) (words_of_lines forms lines)
+whole_function entry lines forms jumps same forms_is inside =
+    let behind = text_back (entry_words jumps) (words_of_lines forms lines) inside in record {
+      jumps = ap (λ (f : Forms). f.jumps) forms_is ∙ same;
+      text = behind;
+      short = subst (λ (f : Forms). f.branches ≡ Near → words_of_lines f lines < 1024) (sym forms_is) (short_function jumps lines);
+      word = behind.word;
+      low = omega arith;
+      high = omega arith;
+    }
 
 module _ (chart : Chart) {old between new : List Instr} where
-  pub line_then : (labels : Labels) (line : PlacedLine) (rest : List PlacedLine)
-      → Grew (words_of_line line) (LineBy chart labels line) old between → Grew (words_of_lines rest) (LinesBy chart labels rest) between new
-      → Grew (words_of_lines (line ∷ rest)) (LinesBy chart labels (line ∷ rest)) old new
-  line_then labels line rest first behind =
-      grew_so refl (λ code at both map charts start whole has. (both.0 map charts start whole has, both.1 map charts start whole has)) (grew_then first behind)
-
-  pub entry_then : (labels : Labels) (entry : ℕ) (function : PlacedLines) (lines : List PlacedLine) → lines ≡ function.code → HasLabels labels (entry + 4 * entry_words) function.code
-      → Grew 7 (EntryBy chart) old between → Grew (words_of_lines lines) (LinesBy chart labels lines) between new
-      → Grew (words_of_function function) (FunctionBy chart entry function) old new
-  entry_then labels entry function lines same has first behind =
+  pub line_then : (labels : Labels) (from words : ℕ) (line : PlacedLine) (rest : List PlacedLine) → words ≡ words_of_line labels.forms line
+      → Grew (words_of_line labels.forms line) (LineBy chart labels from line) old between → Grew (words_of_lines labels.forms rest) (LinesBy chart labels (from + 4 * words) rest) between new
+      → Grew (words_of_lines labels.forms (line ∷ rest)) (LinesBy chart labels from (line ∷ rest)) old new
+  line_then labels from words line rest same first behind =
       grew_so refl
-      (λ code at both is map charts. record {
-        entry = subst (EntersAt map code) is (both.0 map charts);
-        lines = subst (λ a. LinesAt map code (entry + 4 * entry_words) function.code (a + 4 * entry_words) function.code) is (both.1 map charts (entry + 4 * entry_words) function.code has);
-      })
-      (grew_then first (subst (λ ls. Grew (words_of_lines ls) (LinesBy chart labels ls) between new) same behind))
+      (λ code at both is_at map charts start whole has inside. (
+        both.0 is_at map charts start whole has (function_front (words_of_line labels.forms line) (words_of_lines labels.forms rest) inside),
+        both.1 (ap (λ a. a + 4 * words_of_line labels.forms line) is_at) map charts start whole has (function_back (words_of_line labels.forms line) (words_of_lines labels.forms rest) inside),
+      ))
+      (grew_then first (subst (λ w. Grew (words_of_lines labels.forms rest) (LinesBy chart labels (from + 4 * w) rest) between new) same behind))
 
-  pub function_then : (entry words : ℕ) (function : PlacedLines) (rest : List PlacedLines) → words ≡ words_of_function function
-      → Grew (words_of_function function) (FunctionBy chart entry function) old between → Grew (words_of_functions rest) (FunctionsBy chart (entry + 4 * words) rest) between new
-      → Grew (words_of_functions (function ∷ rest)) (FunctionsBy chart entry (function ∷ rest)) old new
+  pub entry_then : (labels : Labels) (entry : ℕ) (function : PlacedLines) (lines : List PlacedLine) → lines ≡ function.code → labels.forms ≡ forms_of chart.jumps function.code
+      → HasLabels labels (entry + 4 * entry_words chart.jumps) function.code
+      → Grew (entry_words chart.jumps) (EntryBy chart entry) old between → Grew (words_of_lines labels.forms lines) (LinesBy chart labels (entry + 4 * entry_words chart.jumps) lines) between new
+      → Grew (words_of_function chart.jumps function) (FunctionBy chart entry function) old new
+  entry_then labels entry function lines same forms_is has first behind =
+      let size : words_of_lines labels.forms function.code ≡ words_of_lines (forms_of chart.jumps function.code) function.code = ap (λ (f : Forms). words_of_lines f function.code) forms_is in
+      let start : ℕ = entry + 4 * entry_words chart.jumps in
+      grew_so (ap (λ n. entry_words chart.jumps + n) size)
+      (λ code at both is map charts inside.
+      let sized : IsInText map entry (entry_words chart.jumps + words_of_lines labels.forms function.code) =
+      subst (λ (n : ℕ). IsInText map entry (entry_words chart.jumps + n)) (sym size) (subst (λ (j : Reach). IsInText map entry (words_of_function j function)) (sym charts.jumps) inside) in
+      let text : IsInText map entry (entry_words chart.jumps) = text_front (entry_words chart.jumps) (words_of_lines labels.forms function.code) sized in
+      let there : LinesAt map labels.forms code start function.code (at + 4 * entry_words chart.jumps) function.code =
+      both.1 (ap (λ a. a + 4 * entry_words chart.jumps) is) map charts start function.code has
+      (subst (λ (a : ℕ). IsInFunction map labels.forms start function.code (a + 4 * entry_words chart.jumps) (words_of_lines labels.forms function.code)) (sym is)
+      (whole_function entry function.code labels.forms chart.jumps charts.jumps forms_is sized)) in
+      record {
+        entry = subst (EntersAt map code) is (both.0 is map charts (subst (λ (j : Reach). IsInText map at (entry_words j)) charts.jumps (subst (λ (a : ℕ). IsInText map a (entry_words chart.jumps)) (sym is) text)));
+        lines = lines_behind map code entry function.code labels.forms chart.jumps charts.jumps forms_is
+            (subst (λ (a : ℕ). LinesAt map labels.forms code start function.code (a + 4 * entry_words chart.jumps) function.code) is there);
+      })
+      (grew_then first (subst (λ ls. Grew (words_of_lines labels.forms ls) (LinesBy chart labels start ls) between new) same behind))
+
+  pub function_then : (entry words : ℕ) (function : PlacedLines) (rest : List PlacedLines) → words ≡ words_of_function chart.jumps function
+      → Grew (words_of_function chart.jumps function) (FunctionBy chart entry function) old between → Grew (words_of_functions chart.jumps rest) (FunctionsBy chart (entry + 4 * words) rest) between new
+      → Grew (words_of_functions chart.jumps (function ∷ rest)) (FunctionsBy chart entry (function ∷ rest)) old new
   function_then entry words function rest same first behind =
-      grew_so refl (λ code at both is map charts. (both.0 is map charts, both.1 (ap (λ a. a + 4 * words_of_function function) is) map charts))
-      (grew_then first (subst (λ w. Grew (words_of_functions rest) (FunctionsBy chart (entry + 4 * w) rest) between new) same behind))
+      grew_so refl
+      (λ code at both is map charts inside.
+      let parted : IsInText map entry (words_of_function map.jumps function + words_of_functions map.jumps rest) = inside in
+      let next : ℕ = entry + 4 * words_of_function map.jumps function in
+      let here : at + 4 * words_of_function chart.jumps function ≡ entry + 4 * words_of_function chart.jumps function = ap (λ a. a + 4 * words_of_function chart.jumps function) is in
+      let later : at + 4 * words_of_function chart.jumps function ≡ entry + 4 * words_of_function chart.jumps function → (m : Map) → Charts chart m
+      → IsInText m (entry + 4 * words_of_function chart.jumps function) (words_of_functions m.jumps rest)
+      → FunctionsAt m code (entries_from m.jumps (entry + 4 * words_of_function chart.jumps function) rest) rest = both.1 in (
+        both.0 is map charts (text_front (words_of_function map.jumps function) (words_of_functions map.jumps rest) parted),
+        subst (λ (j : Reach). IsInText map (entry + 4 * words_of_function j function) (words_of_functions map.jumps rest) → FunctionsAt map code (entries_from map.jumps (entry + 4 * words_of_function j function) rest) rest)
+            charts.jumps (later here map charts) (text_back (words_of_function map.jumps function) (words_of_functions map.jumps rest) parted),
+      ))
+      (grew_then first (subst (λ w. Grew (words_of_functions chart.jumps rest) (FunctionsBy chart (entry + 4 * w) rest) between new) same behind))

@@ -14,6 +14,7 @@ use Rattle.rv_isa.proofs.Memory.{bytes_at-with_number_apart}
 use Rattle.rv_world.specs.World.{World}
 use Rattle.rv_world.specs.Operations.{all_bytes}
 use Rattle.rv_place.specs.Images.{first_world}
+use Rattle.rv_place.specs.Addresses.{entry_words}
 use Rattle.rv_place.specs.Lines.{Map, FunctionAt}
 use Rattle.rv_place.specs.Grounds.{stack_end, constant_bytes, Ground, Rests}
 use Rattle.rv_place.specs.Running.{AllPlain, most_lines, FramesAt, Running}
@@ -61,7 +62,7 @@ module _ {map : Map} {functions : List PlacedLines} {depth buffer stop : ℕ} {c
   allowed : can_store parts base 4 ≡ true
   allowed = ground.stores base above (omega (arith, base_is, ground.some_frame)) base_word
 
-  takes : Shifts code 5 (5 ∷ 2 ∷ []) (with_number base 4 stop s.memory) base (entry + 28) s
+  takes : Shifts code 4 (5 ∷ 2 ∷ []) (with_number base 4 stop s.memory) base (entry + 4 * entry_words map.jumps) s
   takes =
       let full = ground.stack_full in
       let more : base + map.frame ≢ map.bottom = λ e. omega (arith, above, ground.some_frame) in
@@ -74,13 +75,13 @@ module _ {map : Map} {functions : List PlacedLines} {depth buffer stop : ℕ} {c
       ∙ bytes_at-with_number_apart base 4 stop s.memory map.constants.first (constant_bytes map) (ground.constants_kept base 4 allowed (omega arith))
       ∙ before.rests.constants
 
-  frames_stand : FramesAt map code (most_lines functions) stop (stack_end map depth) (with_number base 4 stop s.memory) (entry + 28) base (placed_entered main ∷ [])
+  frames_stand : FramesAt map code (most_lines functions) stop (stack_end map depth) (with_number base 4 stop s.memory) (entry + 4 * entry_words map.jumps) base (placed_entered main ∷ [])
   frames_stand =
-      frames_pushed map code (most_lines functions) stop (stack_end map depth) ground.some_frame s.memory base stop (entry + 28) (placed_entered main) [] ground.stop_below
+      frames_pushed map code (most_lines functions) stop (stack_end map depth) ground.some_frame s.memory base stop (entry + 4 * entry_words map.jumps) (placed_entered main) [] ground.stop_below
       (entered_in (most_lines functions) entry main before.rests.stands ground.below main_at (plain_found functions plain 0 main first) (few_found functions 0 main first))
       (λ k w e. cc) refl refl (refl, base_is)
 
-  pub entry-begins : Begins map functions depth stop code parts main input 5 s
+  pub entry-begins : Begins map functions depth stop code parts main input 4 s
   entry-begins = record {
     after = takes.after;
     leads = takes.done.leads;

@@ -22,8 +22,9 @@ use Rattle.cell_runtime.specs.Texts.{pool_of}
 use Rattle.rv_world.specs.World.{primitives}
 use Rattle.rv_place.specs.declared.words.Words.{Words}
 use Rattle.rv_place.specs.Addresses.{frame_size, entries_from}
+use Rattle.rv_place.specs.declared.reach.Reach.{Reach}
 use Rattle.rv_place.specs.Lines.{FunctionAt}
-use Rattle.rv_place.specs.Texts.{text_bytes, memory_of, constants_of, map_of}
+use Rattle.rv_place.specs.Texts.{text_bytes, memory_of, constants_of, map_of, jumps_of}
 use Rattle.rv_place.specs.Images.{first_processor, parts_of, code_in, main_entry, first_world, outside_lines, IsPlacedImage}
 use Rattle.rv_place.specs.Grounds.{stack_end, constant_bytes, Ground, Rests}
 use Rattle.rv_place.specs.Running.{NeverStuck, Related, Any}
@@ -35,9 +36,9 @@ use Rattle.rv_place.proofs.BootFirst.{usable, first-stands, first-rests}
 use Rattle.rv_place.proofs.BootEntry.{first_frame, Begins, IsBefore, entry-begins}
 
 -- the first function stands first
-first_entry : (at : ℕ) (functions : List PlacedLines) (entry : ℕ) → slice_get (entries_from at functions) 0 ≡ Some entry → entry ≡ at
-first_entry at [] entry is = cc
-first_entry at (function ∷ functions) entry is = cc
+first_entry : (jumps : Reach) (at : ℕ) (functions : List PlacedLines) (entry : ℕ) → slice_get (entries_from jumps at functions) 0 ≡ Some entry → entry ≡ at
+first_entry jumps at [] entry is = cc
+first_entry jumps at (function ∷ functions) entry is = cc
 
 module _ {cells depth : ℕ} {runtime program : Placed} {words : Words} {text : List ℕ} {main : PlacedLines} (image : IsPlacedImage cells depth runtime program words text main) where
   bytes_are : length text ≡ text_bytes runtime program
@@ -57,7 +58,7 @@ module _ {cells depth : ℕ} {runtime program : Placed} {words : Words} {text : 
   main-at =
       let found = function_found (map_of runtime program) (code_in words) (map_of runtime program).entries (placed_functions program) image.words_are.functions 0 main image.first in
       let entry_is : found.0 ≡ main_entry =
-      first_entry (text_start + 4 * words_of runtime.natives.items) (placed_functions program) found.0 found.1 ∙ ap (λ n. text_start + 4 * n) image.runtime_is.words in
+      first_entry (jumps_of runtime program) (text_start + 4 * words_of runtime.natives.items) (placed_functions program) found.0 found.1 ∙ ap (λ n. text_start + 4 * n) image.runtime_is.words in
       subst (λ entry. FunctionAt (map_of runtime program) (code_in words) entry main) entry_is found.2
 
   -- the stack ends with the memory
@@ -97,8 +98,8 @@ module _ {cells depth : ℕ} {runtime program : Placed} {words : Words} {text : 
       left_is = started.1.left;
     }
 
-    -- 14 silent instructions lead to the begin of main's lines
-    pub image-begins : Begins (map_of runtime program) (placed_functions program) depth stop_address (code_in words) (parts_of text runtime) main input 14 (first_processor text runtime.memory.size input)
+    -- 13 silent instructions lead to the begin of main's lines
+    pub image-begins : Begins (map_of runtime program) (placed_functions program) depth stop_address (code_in words) (parts_of text runtime) main input 13 (first_processor text runtime.memory.size input)
     image-begins =
         let frame : ℕ = frame_size (placed_functions program) in
         let base : ℕ = stack_end (map_of runtime program) depth - frame in
@@ -116,4 +117,4 @@ module _ {cells depth : ℕ} {runtime program : Placed} {words : Words} {text : 
 
       pub image-agrees : Agree (placed_machine (primitives (constants_of runtime program)) depth (placed_functions program)) (processor_machine rv32im) outside_lines (λ m. m * pace + length main.code + 1) (placed_start main (first_world input)) (goes (first_processor text runtime.memory.size input))
       image-agrees =
-          agree_after_instructions _ 3 14 (λ m. m * pace + length main.code + 1) (placed_start main (first_world input)) (first_processor text runtime.memory.size input) image-begins.after image-begins.leads image-begins.told begins-agree
+          agree_after_instructions _ 3 13 (λ m. m * pace + length main.code + 1) (placed_start main (first_world input)) (first_processor text runtime.memory.size input) image-begins.after image-begins.leads image-begins.told begins-agree

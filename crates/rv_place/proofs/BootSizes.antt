@@ -12,8 +12,11 @@ use Rattle.cell_runtime.specs.Layouts.{next_page}
 use Rattle.rv_world.specs.Operations.{all_bytes}
 use Rattle.rv_place.specs.declared.words.Words.{Words}
 use Rattle.rv_place.specs.Instructions.{words_of_operation}
-use Rattle.rv_place.specs.Addresses.{words_of_action, words_of_line, words_of_lines, words_of_functions}
-use Rattle.rv_place.specs.Texts.{all_items, ArePlaceable, text_words, text_bytes, memory_of, ArePlacedWords}
+use Rattle.rv_place.specs.Addresses.{words_of_action, words_of_line, words_of_lines, words_of_functions, forms_of}
+use Rattle.rv_place.specs.declared.reach.Forms.{Forms}
+use Rattle.rv_place.specs.declared.reach.Reach.{Reach}
+use Rattle.rv_place.proofs.RunningLines.{jump_most, branch_most}
+use Rattle.rv_place.specs.Texts.{all_items, ArePlaceable, text_words, text_bytes, memory_of, ArePlacedWords, jumps_of}
 use Rattle.rv_place.specs.Bytes.{IsTextOf}
 
 -- ---- how many instructions code is
@@ -28,29 +31,29 @@ operation_most (Operation.La index) = omega arith
 operation_most (Operation.Lw offset) = omega arith
 operation_most (Operation.Sw offset) = omega arith
 
-action_most : (action : Action) → words_of_action action ≤ 3
-action_most (Compute operation) = operation_most operation
-action_most (Label l) = omega arith
-action_most (Jump l) = omega arith
-action_most (Branch condition l) = omega arith
-action_most (Call f) = omega arith
-action_most (TailCall f) = omega arith
-action_most Return = omega arith
-action_most (Routine routine) = omega arith
-action_most Hold = omega arith
-action_most Unhold = omega arith
+action_most : (forms : Forms) (action : Action) → words_of_action forms action ≤ 3
+action_most forms (Compute operation) = operation_most operation
+action_most forms (Label l) = omega arith
+action_most forms (Jump l) = omega (arith, jump_most forms.jumps)
+action_most forms (Branch condition l) = branch_most forms.jumps forms.branches
+action_most forms (Call f) = omega (arith, jump_most forms.jumps)
+action_most forms (TailCall f) = omega (arith, jump_most forms.jumps)
+action_most forms Return = omega arith
+action_most forms (Routine routine) = omega (arith, jump_most forms.jumps)
+action_most forms Hold = omega (arith, jump_most forms.jumps)
+action_most forms Unhold = omega (arith, jump_most forms.jumps)
 
-line_most : (line : PlacedLine) → words_of_line line ≤ 3
-line_most (does alive action args into) = action_most action
-line_most (moves alive value way) = omega arith
+line_most : (forms : Forms) (line : PlacedLine) → words_of_line forms line ≤ 3
+line_most forms (does alive action args into) = action_most forms action
+line_most forms (moves alive value way) = omega arith
 
-lines_most : (lines : List PlacedLine) → words_of_lines lines ≤ 3 * length lines
-lines_most [] = omega arith
-lines_most (line ∷ lines) = omega (arith, line_most line, lines_most lines)
+lines_most : (forms : Forms) (lines : List PlacedLine) → words_of_lines forms lines ≤ 3 * length lines
+lines_most forms [] = omega arith
+lines_most forms (line ∷ lines) = omega (arith, line_most forms line, lines_most forms lines)
 
-functions_most : (functions : List PlacedLines) → words_of_functions functions ≤ 7 * length functions + 3 * all_items functions
-functions_most [] = omega arith
-functions_most (function ∷ functions) = omega (arith, lines_most function.code, functions_most functions)
+pub functions_most : (jumps : Reach) (functions : List PlacedLines) → words_of_functions jumps functions ≤ 6 * length functions + 3 * all_items functions
+functions_most jumps [] = omega arith
+functions_most jumps (function ∷ functions) = omega (arith, jump_most jumps, lines_most (forms_of jumps function.code) function.code, functions_most jumps functions)
 
 -- ---- pages
 
@@ -81,7 +84,7 @@ stack_most depth frame few small = mul-le depth frame greatest_depth 2044 few sm
 module _ {runtime program : Placed} (placeable : ArePlaceable runtime program) where
   pub words_most : text_words runtime program ≤ 25174016
   words_most =
-      omega (arith, functions_most (placed_functions program), placeable.runtime_size, placeable.few_functions, placeable.few_items)
+      omega (arith, functions_most (jumps_of runtime program) (placed_functions program), placeable.runtime_size, placeable.few_functions, placeable.few_items)
 
   pub bytes_most : text_bytes runtime program ≤ 109084672
   bytes_most = omega (arith, words_most, placeable.few_bytes)

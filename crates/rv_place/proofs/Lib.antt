@@ -24,5 +24,7 @@ pub mod Symbolic
 pub mod Moving
 pub mod Operands
 pub mod Operating
+pub mod Near
+pub mod Jumping
 pub mod Acting
 pub mod Texting

@@ -1,5 +1,6 @@
 -- Instructions of placed code, executed: what they change is told by facts, so that no state of the machine stands in what follows.
 use Rattle.std.proofs.Common.{◌≡◌, ◌≢◌, ◌<◌, ℕ, ◌+◌, ◌%◌, ◌^◌, List, [], ◌∷◌, ◌++◌, Some, Bool, true, false, not, refl, sym, ap, ◌∙◌, subst, arith}
+use Rattle.rv_isa.specs.declared.immediate.JumpOffset.{JumpOffset}
 use Rattle.rv_isa.specs.declared.register.Register.{Register}
 use Rattle.rv_isa.specs.declared.immediate.Immediate.{Immediate}
 use Rattle.rv_isa.specs.declared.immediate.UpperImmediate.{UpperImmediate}
@@ -26,10 +27,10 @@ use Rattle.rv_isa.specs.Standing.{Code, Stands}
 use Rattle.rv_isa.proofs.Fits.{EffectFits, effect_of_fits}
 use Rattle.rv_isa.proofs.Runs.{Leads-then}
 use Rattle.rv_isa.proofs.Standing.{Stands-leads}
-use Rattle.rv_isa.proofs.Instructions.{value-put_same, value-put_other, leads-sets, leads-to, leads-lw, leads-sw, leads-jalr}
+use Rattle.rv_isa.proofs.Instructions.{value-put_same, value-put_other, leads-sets, leads-to, leads-lw, leads-sw, leads-jal, leads-jalr}
 use Rattle.cell_runtime.specs.Registers.{IsOutside}
 use Rattle.rv_world.specs.Operations.{register_word, immediate_word, shift_word, compares}
-use Rattle.rv_place.specs.Instructions.{register_instruction, immediate_instruction, shift_instruction, opposite_branch}
+use Rattle.rv_place.specs.Instructions.{register_instruction, immediate_instruction, shift_instruction, branch_instruction, opposite}
 
 -- ---- the table
 
@@ -83,19 +84,28 @@ shift_row Srai rd a amount = record { rd_is = refl; rs1_is = refl; rs2_is = refl
 pub plain_fits : {i : Instr} {rd a b : ℕ} {word : ℕ → ℕ → ℕ} → IsPlain i rd a b word → (x y : ℕ) → x < 2 ^ 32 → y < 2 ^ 32 → word x y < 2 ^ 32
 plain_fits {i} plain x y x_fits y_fits = (subst EffectFits (plain.effect 0 x y) (effect_of_fits i 0 x y x_fits y_fits)).act
 
+-- a branch goes to its target where its condition holds
+pub branch_effect : (condition : Condition) (a b : Register) (offset : BranchOffset) (s : Processor)
+    → effect_at s (branch_instruction condition a b offset) ≡ branches s.pc (compares condition (value s.registers a.number) (value s.registers b.number)) offset
+branch_effect Equal a b offset s = refl
+branch_effect NotEqual a b offset s = refl
+branch_effect Less a b offset s = refl
+branch_effect GreaterEqual a b offset s = refl
+branch_effect LessUnsigned a b offset s = refl
+branch_effect GreaterEqualUnsigned a b offset s = refl
+
 twice : (test : Bool) → not (not test) ≡ test
 twice true = refl
 twice false = refl
 
--- the opposite branch goes to its target where the condition does not hold
-pub branch_effect : (condition : Condition) (a b : Register) (over : BranchOffset) (s : Processor)
-    → effect_at s (opposite_branch condition a b over) ≡ branches s.pc (not (compares condition (value s.registers a.number) (value s.registers b.number))) over
-branch_effect Equal a b over s = refl
-branch_effect NotEqual a b over s = ap (λ t. branches s.pc t over) (sym (twice _))
-branch_effect Less a b over s = refl
-branch_effect GreaterEqual a b over s = ap (λ t. branches s.pc t over) (sym (twice _))
-branch_effect LessUnsigned a b over s = refl
-branch_effect GreaterEqualUnsigned a b over s = ap (λ t. branches s.pc t over) (sym (twice _))
+-- the opposite condition holds where a condition does not
+pub opposite_compares : (condition : Condition) (x y : ℕ) → compares (opposite condition) x y ≡ not (compares condition x y)
+opposite_compares Equal x y = refl
+opposite_compares NotEqual x y = sym (twice _)
+opposite_compares Less x y = refl
+opposite_compares GreaterEqual x y = sym (twice _)
+opposite_compares LessUnsigned x y = refl
+opposite_compares GreaterEqualUnsigned x y = sym (twice _)
 
 -- ---- what instructions have done
 
@@ -164,8 +174,8 @@ done_on first second = done_as (done_then first second) first.memory_is refl (λ
 pub next_of : (at : ℕ) → at + 4 < 2 ^ 32 → sum_word at 4 ≡ at + 4
 next_of at below = omega arith
 
-pub target_of : (at : ℕ) → at + 12 < 2 ^ 32 → sum_word at 12 ≡ at + 12
-target_of at below = omega arith
+pub target_of : (at distance : ℕ) → at + distance < 2 ^ 32 → sum_word at distance ≡ at + distance
+target_of at distance below = omega arith
 
 -- ---- one instruction
 
@@ -227,6 +237,12 @@ module _ {code : Code} (below : (at : ℕ) (i : Instr) → code at ≡ Some i �
       → Gets code 1 (back.number ∷ []) back.number (at + 4) target s
   jump_gets {back} {by} {offset} {target} here target_is aligned =
       one_gets back.number (at + 4) target (leads-jalr stands {rd = back} {rs1 = by} {imm = offset} {next = target} {back = at + 4} (here_is here) target_is aligned (next_is here))
+
+  pub near_gets : {back : Register} {offset : JumpOffset} {target : ℕ} → code at ≡ Some (Instr.Jal back offset) → sum_word at offset.word ≡ target → target % 4 ≡ 0
+      → Gets code 1 (back.number ∷ []) back.number (at + 4) target s
+  near_gets {back} {offset} {target} here target_is aligned =
+      let target_at : sum_word s.pc offset.word ≡ target = ap (λ pc. sum_word pc offset.word) pc_is ∙ target_is in
+      one_gets back.number (at + 4) target (leads-jal stands {rd = back} {offset = offset} {next = target} {back = at + 4} (here_is here) target_at aligned (next_is here))
 
   -- an instruction that does nothing but go on at an address
   pub branch_goes : (i : Instr) (target : ℕ) {next : ℕ} → code at ≡ Some i → effect_at s i ≡ record { next = target; act = Act.Nothing } → target ≡ next → next % 4 ≡ 0 → Goes code 1 [] s.memory next s

@@ -1,5 +1,5 @@
 -- Jumps, branches, calls and returns of the machine of the placed form, followed by the processor.
-use Rattle.std.proofs.Common.{◌≡◌, ◌≢◌, ◌≤◌, ◌<◌, ◌⊎◌, inl, inr, ℕ, suc, add-zero, ◌+◌, ◌-◌, ◌%◌, ◌^◌, List, [], ◌∷◌, length, Option, Some, None, Bool, true, false, cond, map, nat_le, slice_get, IsSome, refl, sym, ap, ◌∙◌, subst, arith}
+use Rattle.std.proofs.Common.{◌≡◌, ◌≢◌, ◌≤◌, ◌<◌, ◌⊎◌, inl, inr, ℕ, suc, add-zero, ◌+◌, ◌-◌, ◌%◌, ◌^◌, List, [], ◌∷◌, length, Option, Some, None, Bool, true, false, cond, map, nat_le, slice_get, IsSome, refl, sym, ap, ◌∙◌, subst, arith, ◌*◌}
 use Rattle.std.proofs.lemmas.Bool.{and_parts, eqb-true}
 use Rattle.std.proofs.lemmas.Bool.Decides.{nat_tests}
 use Rattle.kk_base.specs.Memory.{Part}
@@ -26,15 +26,18 @@ use Rattle.cell_runtime.specs.Registers.{IsOutside}
 use Rattle.rv_world.specs.Operations.{holds}
 use Rattle.rv_world.specs.World.{World, primitives}
 use Rattle.rv_place.specs.Registers.{zero_register, ra}
-use Rattle.rv_place.specs.Addresses.{label_address}
-use Rattle.rv_place.specs.Instructions.{JumpsTo, CallsTo}
+use Rattle.rv_place.specs.Addresses.{label_address, entry_words}
+use Rattle.rv_place.specs.Instructions.{words_of_jump, JumpsTo, CallsTo, words_of_branch}
+use Rattle.rv_place.specs.declared.reach.Forms.{Forms}
+use Rattle.rv_place.specs.declared.reach.Reach.{Reach}
+use Rattle.rv_place.specs.declared.reach.Reach.TheVariants.{Far}
 use Rattle.rv_place.specs.Lines.{Map, ReturnsFrom, BranchesTo, FunctionAt, ActsAt, IsSymbolAt}
 use Rattle.rv_place.specs.Grounds.{Ground, stack_end}
 use Rattle.rv_place.specs.Running.{AllPlain, most_lines, IsIn, AwaitsFirst, FramesAt, Agrees, Running}
 use Rattle.rv_place.proofs.RunningExecuting.{Goes, done_then, done_as}
-use Rattle.rv_place.proofs.RunningRows.{Shifts, jump_to, entry_full, entry_takes, return_goes}
+use Rattle.rv_place.proofs.RunningRows.{Shifts, jump_to, jump_last, branch_last, entry_full, entry_takes, return_goes}
 use Rattle.rv_place.proofs.RunningFrames.{known_put, agrees_put, frames_pushed}
-use Rattle.rv_place.proofs.RunningLines.{Labelled, label_found, label_there, jump_below, function_found, plain_found, few_found, entered_in, goes_to_label}
+use Rattle.rv_place.proofs.RunningLines.{Labelled, label_found, label_there, jump_below, function_found, plain_found, few_found, entered_in, goes_to_label, jump_some, jump_most, branch_some, branch_most, branch_below}
 use Rattle.rv_place.proofs.RunningWords.{words_in, in_registers, passed_known, branches_taken, branches_passed}
 use Rattle.rv_place.proofs.RunningComes.{or_stuck_some, Comes, comes_go, comes_ended, runs_on, agrees_done, sp_low, sp_word, sp_high, sp_room, sp_last, constants_kept, stays}
 
@@ -79,54 +82,60 @@ module _ {map_of : Map} {functions : List PlacedLines} {depth buffer stop : ℕ}
   abbrev stands_in : IsIn map_of code (most_lines functions) s.pc f
   stands_in = running.frames.0
 
-  labelled : (l : ℕ) (lines : List PlacedLine) → found (is_label_line l) f.whole ≡ Some lines → Labelled map_of code stands_in.start f.whole (most_lines functions) (label_address l stands_in.start f.whole) lines
-  labelled l lines found_is = label_found map_of code stands_in.start f.whole (most_lines functions) l stands_in.start f.whole lines stands_in.start_word stands_in.whole stands_in.whole_plain stands_in.few_whole found_is
+  labelled : (l : ℕ) (lines : List PlacedLine) → found (is_label_line l) f.whole ≡ Some lines → Labelled map_of stands_in.forms code stands_in.start f.whole (most_lines functions) (label_address stands_in.forms l stands_in.start f.whole) lines
+  labelled l lines found_is = label_found map_of stands_in.forms code stands_in.start f.whole (most_lines functions) l stands_in.start f.whole lines stands_in.start_word stands_in.whole stands_in.whole_plain stands_in.few_whole found_is
 
   -- instructions that lead to a label
-  to_label : (most : ℕ) {n : ℕ} (l : ℕ) (lines : List PlacedLine) (label : Labelled map_of code stands_in.start f.whole (most_lines functions) (label_address l stands_in.start f.whole) lines) → label.target < 2 ^ 32
+  to_label : (most : ℕ) {n : ℕ} (l : ℕ) (lines : List PlacedLine) (label : Labelled map_of stands_in.forms code stands_in.start f.whole (most_lines functions) (label_address stands_in.forms l stands_in.start f.whole) lines) → label.target < 2 ^ 32
       → Goes code n (1 ∷ 0 ∷ []) s.memory label.target s → 1 ≤ n → n ≤ most → Comes map_of functions depth stop code parts most old (placed_goes (record f { code = lines }) fs known world) s
   to_label most l lines label fits goes some within =
       stays ground f fs known world s running most old goes.after lines known goes.done ((λ e. cc), ((λ e. cc), tt))
       (goes_to_label stands_in l lines (record f { code = lines }) refl refl label fits) (agrees_done s goes.after known goes.done (refl, (refl, tt)) running.registers) some within
 
-  pub follow_jump : (l : ℕ) (args : List Operand) (into : Option Operand) (words : List ℕ) (turn : PlacedTurn World Ending) → ActsAt map_of code stands_in.start f.whole s.pc (Jump l) args into
+  pub follow_jump : (l : ℕ) (args : List Operand) (into : Option Operand) (words : List ℕ) (turn : PlacedTurn World Ending) → ActsAt map_of stands_in.forms code stands_in.start f.whole s.pc (Jump l) args into
       → placed_acts (primitives map_of.constants) depth functions behind fs known world (Jump l) args into words ≡ turn → turn ≢ stuck → Comes map_of functions depth stop code parts 2 old turn s
   follow_jump l args into words turn here is good =
       let result = or_stuck_some (found (is_label_line l) f.whole) (λ lines. placed_goes (record behind { code = lines }) fs known world) turn is good in
       let label = labelled l result.0 result.1 in
-      let jumps : JumpsTo code s.pc label.target = here label.target label.target_is in
-      let gets = jump_to ground.below running.rests.stands s.pc refl ra zero_register label.target jumps (λ e. cc) label.word in
+      let reach : Reach = stands_in.forms.jumps in
+      let jumps : JumpsTo reach code s.pc label.target = here label.target label.target_is in
+      let gets = jump_to ground.below running.rests.stands reach s.pc refl zero_register label.target jumps label.word in
       subst (λ t. Comes map_of functions depth stop code parts 2 old t s) result.2
-      (to_label 2 l result.0 label (jump_below code s.pc ra zero_register label.target jumps) (record { after = gets.after; done = gets.done }) (omega arith) (omega arith))
+      (to_label 2 l result.0 label (jump_below reach code s.pc zero_register label.target jumps) (record { after = gets.after; done = gets.done }) (jump_some reach) (jump_most reach))
 
   -- the address behind a branch, and that of its label, are words
-  branch_fits : (condition : Condition) (rs : List Register) (target : ℕ) (taken : Bool) → holds condition (words_in s.registers rs) ≡ Some taken → BranchesTo code s.pc condition rs target → (target < 2 ^ 32) × (s.pc + 12 < 2 ^ 32)
+  branch_fits : (condition : Condition) (rs : List Register) (target : ℕ) (taken : Bool) → holds condition (words_in s.registers rs) ≡ Some taken → BranchesTo stands_in.forms code s.pc condition rs target
+      → (target < 2 ^ 32) × (s.pc + 4 * words_of_branch stands_in.forms.jumps stands_in.forms.branches < 2 ^ 32)
   branch_fits condition [] target taken holds_is branch = cc
-  branch_fits condition (a ∷ []) target taken holds_is (over, over_is, branch, jump) =
-      let last = ground.below (s.pc + 4 + 4) _ jump.3.1.0 in (jump_below code (s.pc + 4) ra zero_register target jump, omega arith)
-  branch_fits condition (a ∷ b ∷ []) target taken holds_is (over, over_is, branch, jump) =
-      let last = ground.below (s.pc + 4 + 4) _ jump.3.1.0 in (jump_below code (s.pc + 4) ra zero_register target jump, omega arith)
+  branch_fits condition (a ∷ []) target taken holds_is branch = (
+    branch_below stands_in.forms.jumps stands_in.forms.branches code s.pc condition a zero_register target branch,
+    branch_last ground.below stands_in.forms.jumps stands_in.forms.branches s.pc condition a zero_register target branch,
+  )
+  branch_fits condition (a ∷ b ∷ []) target taken holds_is branch = (
+    branch_below stands_in.forms.jumps stands_in.forms.branches code s.pc condition a b target branch,
+    branch_last ground.below stands_in.forms.jumps stands_in.forms.branches s.pc condition a b target branch,
+  )
   branch_fits condition (a ∷ b ∷ c ∷ rs) target taken holds_is branch = cc
 
-  module _ (is_behind : (next : ℕ) → s.pc + 12 ≡ next → next < 2 ^ 32 → IsIn map_of code (most_lines functions) next behind) (condition : Condition) (l : ℕ) where
+  module _ (is_behind : (next : ℕ) → s.pc + 4 * words_of_branch stands_in.forms.jumps stands_in.forms.branches ≡ next → next < 2 ^ 32 → IsIn map_of code (most_lines functions) next behind) (condition : Condition) (l : ℕ) where
     branch_by : (taken : Bool) (rs : List Register) (turn : PlacedTurn World Ending) (lines : List PlacedLine) → found (is_label_line l) f.whole ≡ Some lines → holds condition (words_in s.registers rs) ≡ Some taken
-        → (label : Labelled map_of code stands_in.start f.whole (most_lines functions) (label_address l stands_in.start f.whole) lines) → BranchesTo code s.pc condition rs label.target
+        → (label : Labelled map_of stands_in.forms code stands_in.start f.whole (most_lines functions) (label_address stands_in.forms l stands_in.start f.whole) lines) → BranchesTo stands_in.forms code s.pc condition rs label.target
         → cond taken (placed_jumps l behind fs known world) (placed_goes behind fs known world) ≡ turn → turn ≢ stuck → Comes map_of functions depth stop code parts 3 old turn s
     branch_by true rs turn lines there holds_is label branch is good =
         let result = or_stuck_some (found (is_label_line l) f.whole) (λ lines. placed_goes (record behind { code = lines }) fs known world) turn is good in
         let same : lines ≡ result.0 = some_same lines result.0 (sym there ∙ result.1) in
         let fits = branch_fits condition rs label.target true holds_is branch in
-        let goes = branches_taken ground.below running.rests.stands s.pc refl condition label.target rs label.word holds_is branch in
+        let goes = branches_taken ground.below running.rests.stands s.pc refl stands_in.forms condition label.target rs label.word holds_is branch in
         subst (λ t. Comes map_of functions depth stop code parts 3 old t s) (ap (λ c. placed_goes (record behind { code = c }) fs known world) same ∙ result.2)
-        (to_label 3 l lines label fits.0 goes (omega arith) (omega arith))
+        (to_label 3 l lines label fits.0 goes (branch_some stands_in.forms.jumps stands_in.forms.branches) (branch_most stands_in.forms.jumps stands_in.forms.branches))
     branch_by false rs turn lines there holds_is label branch is good =
         let fits = branch_fits condition rs label.target false holds_is branch in
-        let goes = branches_passed ground.below running.rests.stands s.pc refl condition label.target rs holds_is branch in
+        let goes = branches_passed ground.below running.rests.stands s.pc refl stands_in.forms condition label.target rs holds_is branch in
         subst (λ t. Comes map_of functions depth stop code parts 3 old t s) is
-        (stays ground f fs known world s running 3 old goes.after rest known goes.done tt (is_behind (s.pc + 12) refl fits.1) (agrees_done s goes.after known goes.done tt running.registers) (omega arith) (omega arith))
+        (stays ground f fs known world s running 3 old goes.after rest known goes.done tt (is_behind (s.pc + 4 * words_of_branch stands_in.forms.jumps stands_in.forms.branches) refl fits.1) (agrees_done s goes.after known goes.done tt running.registers) (omega arith) (omega arith))
 
     pub follow_branch : (args : List Operand) (into : Option Operand) (words : List ℕ) (turn : PlacedTurn World Ending)
-        → ActsAt map_of code stands_in.start f.whole s.pc (Branch condition l) args into → IsSome (found (is_label_line l) f.whole) → conforms (Branch condition l) args into ≡ true → all_of (map (λ (arg : Operand). read_at known f.cells arg.place) args) ≡ Some words
+        → ActsAt map_of stands_in.forms code stands_in.start f.whole s.pc (Branch condition l) args into → IsSome (found (is_label_line l) f.whole) → conforms (Branch condition l) args into ≡ true → all_of (map (λ (arg : Operand). read_at known f.cells arg.place) args) ≡ Some words
         → placed_acts (primitives map_of.constants) depth functions behind fs known world (Branch condition l) args into words ≡ turn → turn ≢ stuck → Comes map_of functions depth stop code parts 3 old turn s
     follow_branch args into words turn here there conform words_are is good =
         let fit = and_parts (take_from (Branch condition l) 0 args) (gives_into (Branch condition l) into) conform in
@@ -140,12 +149,12 @@ module _ {map_of : Map} {functions : List PlacedLines} {depth buffer stop : ℕ}
 
 module _ {map_of : Map} {functions : List PlacedLines} {depth buffer stop : ℕ} {code : Code} {parts : List Part} (ground : Ground map_of functions depth buffer stop code parts) (plain : AllPlain functions)
     (f : Frame PlacedLine) (fs : List (Frame PlacedLine)) (known : ℕ → Option ℕ) (world : World) (s : Processor)
-    (running : Running map_of functions depth stop code parts (record { frames = f ∷ fs; registers = known; shared = world }) s) (rest : List PlacedLine) (old : ℕ) where
+    (running : Running map_of functions depth stop code parts (record { frames = f ∷ fs; registers = known; shared = world }) s) (rest : List PlacedLine) (old : ℕ) (forms : Forms) where
   abbrev left_behind : Frame PlacedLine
   left_behind = record f { code = rest }
 
   -- a callee, and where it stands
-  callee_in : (g : ℕ) (callee : PlacedLines) (entry : ℕ) → slice_get functions g ≡ Some callee → FunctionAt map_of code entry callee → IsIn map_of code (most_lines functions) (entry + 28) (placed_entered callee)
+  callee_in : (g : ℕ) (callee : PlacedLines) (entry : ℕ) → slice_get functions g ≡ Some callee → FunctionAt map_of code entry callee → IsIn map_of code (most_lines functions) (entry + 4 * entry_words map_of.jumps) (placed_entered callee)
   callee_in g callee entry callee_is function =
       entered_in (most_lines functions) entry callee running.rests.stands ground.below function (plain_found functions plain g callee callee_is) (few_found functions g callee callee_is)
 
@@ -155,7 +164,7 @@ module _ {map_of : Map} {functions : List PlacedLines} {depth buffer stop : ℕ}
   passed_agree action args words takes taken words_are = agrees_less known (passed 0 words) s.registers (passed_known known f.cells s.registers running.registers action 0 args words takes taken words_are) running.registers
 
   pub follow_tail_call : (g : ℕ) (args : List Operand) (into : Option Operand) (words : List ℕ) (start : ℕ) (turn : PlacedTurn World Ending)
-      → ActsAt map_of code start f.whole s.pc (TailCall g) args into → conforms (TailCall g) args into ≡ true → all_of (map (λ (arg : Operand). read_at known f.cells arg.place) args) ≡ Some words
+      → ActsAt map_of forms code start f.whole s.pc (TailCall g) args into → conforms (TailCall g) args into ≡ true → all_of (map (λ (arg : Operand). read_at known f.cells arg.place) args) ≡ Some words
       → placed_acts (primitives map_of.constants) depth functions left_behind fs known world (TailCall g) args into words ≡ turn → turn ≢ stuck → Comes map_of functions depth stop code parts 2 old turn s
   follow_tail_call g args into words start turn here conform words_are is good =
       let fit = and_parts (take_from (TailCall g) 0 args) (gives_into (TailCall g) into) conform in
@@ -163,27 +172,27 @@ module _ {map_of : Map} {functions : List PlacedLines} {depth buffer stop : ℕ}
       let result = or_stuck_some (slice_get functions g) (λ callee. placed_goes (placed_entered callee) fs (passed 0 words) world) turn (none_held f.held (or_stuck (slice_get functions g) (λ callee. placed_goes (placed_entered callee) fs (passed 0 words) world)) turn stand.2 is) good in
       let function = function_found map_of code map_of.entries functions ground.functions_at g result.0 result.1 in
       let inside = callee_in g result.0 function.0 result.1 function.2 in
-      let gets = jump_to ground.below running.rests.stands s.pc refl ra zero_register (function.0 + 28) (here function.0 function.1) (λ e. cc) inside.at_word in
+      let gets = jump_to ground.below running.rests.stands forms.jumps s.pc refl zero_register (function.0 + 4 * entry_words map_of.jumps) (here function.0 function.1) inside.at_word in
       subst (λ t. Comes map_of functions depth stop code parts 2 old t s) result.2
-      (comes_go map_of functions depth stop code parts 2 old (record { frames = placed_entered result.0 ∷ fs; registers = passed 0 words; shared = world }) s gets.after 2 gets.done.leads
+      (comes_go map_of functions depth stop code parts 2 old (record { frames = placed_entered result.0 ∷ fs; registers = passed 0 words; shared = world }) s gets.after (words_of_jump forms.jumps) gets.done.leads
       (runs_on map_of functions depth stop code parts (record { frames = f ∷ fs; registers = known; shared = world }) s gets.after (placed_entered result.0 ∷ fs) (passed 0 words) (value s.registers 2) running gets.done refl running.room
       (gets.done.kept 2 ((λ e. cc), ((λ e. cc), tt))) (inside, (λ k w none. cc), refl, tt, stand.4)
-      (agrees_done s gets.after (passed 0 words) gets.done (refl, (refl, tt)) (passed_agree (TailCall g) args words (λ k place is_one. is_one) fit.0 words_are))) (omega arith) (omega arith))
+      (agrees_done s gets.after (passed 0 words) gets.done (refl, (refl, tt)) (passed_agree (TailCall g) args words (λ k place is_one. is_one) fit.0 words_are))) (jump_some forms.jumps) (jump_most forms.jumps))
 
   -- ---- a call that finds no frame left
 
-  full_comes : (g : ℕ) (callee : PlacedLines) (entry : ℕ) → FunctionAt map_of code entry callee → CallsTo code s.pc entry → depth ≤ length (f ∷ fs)
+  full_comes : (g : ℕ) (callee : PlacedLines) (entry : ℕ) → FunctionAt map_of code entry callee → CallsTo forms.jumps code s.pc entry → depth ≤ length (f ∷ fs)
       → Comes map_of functions depth stop code parts 12 old (ended (primitives map_of.constants).stack_full world) s
   full_comes g callee entry function calls full =
-      let word = running.rests.stands.aligned entry _ function.entry.bottom.3.0 in
+      let word = running.rests.stands.aligned entry _ function.entry.sets in
       let full_at = ground.stack_full in
-      let called = jump_to ground.below running.rests.stands s.pc refl ra ra entry calls (λ e. cc) word in
+      let called = jump_to ground.below running.rests.stands forms.jumps s.pc refl ra entry calls word in
       let last : value called.after.registers 2 ≡ map_of.bottom = called.done.kept 2 ((λ e. cc), ((λ e. cc), tt)) ∙ sp_last ground f fs known world s running full in
       let goes = entry_full ground.below called.done.stands map_of entry called.done.pc_is function.entry full_at.0 full_at.1 (symbol_word full_at.0 full_at.1) last in
       let done = done_then called.done goes.done in
       let exits = full_at.2 goes.after (record { stands = done.stands; pc_is = done.pc_is }) in
-      comes_ended map_of functions depth stop code parts 12 old (primitives map_of.constants).stack_full world s 10 (record { processor = exits.last; ending = exited 102 }) (exit_runs s goes.after done.leads exits)
-      (refl, exits.trace ∙ (done.trace_is ∙ running.trace)) (omega arith) (omega arith)
+      comes_ended map_of functions depth stop code parts 12 old (primitives map_of.constants).stack_full world s (words_of_jump forms.jumps + (1 + words_of_branch map_of.jumps Far) + 3) (record { processor = exits.last; ending = exited 102 }) (exit_runs s goes.after done.leads exits)
+      (refl, exits.trace ∙ (done.trace_is ∙ running.trace)) (omega arith) (omega (arith, jump_most forms.jumps, jump_most map_of.jumps))
     where
       symbol_word : (target : ℕ) → IsSymbolAt map_of symbol.StackFull target → target % 4 ≡ 0
       symbol_word target (before, behind, is) = let word = ground.runtime_word in omega arith
@@ -198,16 +207,16 @@ module _ {map_of : Map} {functions : List PlacedLines} {depth buffer stop : ℕ}
       by (register r) gives = eqb-true r.number 10 gives
       by (slot k) gives = tt
 
-  call_comes : (g : ℕ) (callee : PlacedLines) (entry : ℕ) (args : List Operand) (into : Option Operand) (words : List ℕ) → slice_get functions g ≡ Some callee → FunctionAt map_of code entry callee → CallsTo code s.pc entry
-      → ((next : ℕ) → s.pc + 8 ≡ next → next < 2 ^ 32 → IsIn map_of code (most_lines functions) next (record left_behind { into = awaited into }))
+  call_comes : (g : ℕ) (callee : PlacedLines) (entry : ℕ) (args : List Operand) (into : Option Operand) (words : List ℕ) → slice_get functions g ≡ Some callee → FunctionAt map_of code entry callee → CallsTo forms.jumps code s.pc entry
+      → ((next : ℕ) → s.pc + 4 * words_of_jump forms.jumps ≡ next → next < 2 ^ 32 → IsIn map_of code (most_lines functions) next (record left_behind { into = awaited into }))
       → gives_into (Call g) into ≡ true → Agrees (passed 0 words) s.registers → suc (length (f ∷ fs)) ≤ depth
       → Comes map_of functions depth stop code parts 12 old (placed_goes (placed_entered callee) (record left_behind { into = awaited into } ∷ fs) (passed 0 words) world) s
   call_comes g callee entry args into words callee_is function calls is_behind gives agrees room =
       let stand = running.frames in
-      let word = running.rests.stands.aligned entry _ function.entry.bottom.3.0 in
+      let word = running.rests.stands.aligned entry _ function.entry.sets in
       let full_at = ground.stack_full in
-      let called = jump_to ground.below running.rests.stands s.pc refl ra ra entry calls (λ e. cc) word in
-      let last = ground.below (s.pc + 4) _ calls.3.1.0 in
+      let called = jump_to ground.below running.rests.stands forms.jumps s.pc refl ra entry calls word in
+      let last = jump_last ground.below forms.jumps s.pc ra entry calls in
       let base = value s.registers 2 - map_of.frame in
       let sp = value s.registers 2 in
       let low = sp_room ground f fs known world s running room in
@@ -218,27 +227,27 @@ module _ {map_of : Map} {functions : List PlacedLines} {depth buffer stop : ℕ}
       let sp_is : value called.after.registers 2 ≡ base + map_of.frame = called.done.kept 2 ((λ e. cc), ((λ e. cc), tt)) ∙ base_is in
       let base_words : base % 4 ≡ 0 = (let a = sp_word ground f fs known world s running in let b = ground.frame_words in omega arith) in
       let allowed : can_store parts base 4 ≡ true = ground.stores base (omega arith) (omega arith) base_words in
-      let takes = entry_takes ground.below called.done.stands map_of entry called.done.pc_is function.entry full_at.0 full_at.1 base (s.pc + 8) sp_is (called.value_is (λ e. cc)) (omega arith) ground.small_frame (omega arith) base_words
+      let takes = entry_takes ground.below called.done.stands map_of entry called.done.pc_is function.entry full_at.0 full_at.1 base (s.pc + 4 * words_of_jump forms.jumps) sp_is (called.value_is (λ e. cc)) (omega arith) ground.small_frame (omega arith) base_words
       (rw (called.done.parts_are, running.rests.parts_are) allowed) in
-      let done = done_as {changed' = 1 ∷ 1 ∷ 5 ∷ 2 ∷ []} (done_then called.done takes.done) (ap (λ m. with_number base 4 (s.pc + 8) m) called.done.memory_is) refl (λ x out. out) in
+      let done = done_as {changed' = 1 ∷ 1 ∷ 5 ∷ 2 ∷ []} (done_then called.done takes.done) (ap (λ m. with_number base 4 (s.pc + 4 * words_of_jump forms.jumps) m) called.done.memory_is) refl (λ x out. out) in
       let after : PlacedState World = record { frames = placed_entered callee ∷ record left_behind { into = awaited into } ∷ fs; registers = passed 0 words; shared = world } in
-      let waiting : FramesAt map_of code (most_lines functions) stop (stack_end map_of depth) s.memory (s.pc + 8) (base + map_of.frame) (record left_behind { into = awaited into } ∷ fs) =
-      subst (λ b. FramesAt map_of code (most_lines functions) stop (stack_end map_of depth) s.memory (s.pc + 8) b (record left_behind { into = awaited into } ∷ fs)) base_is
-      (is_behind (s.pc + 8) refl (omega arith), stand.1, stand.2, awaits_first g into gives, stand.4) in
-      comes_go map_of functions depth stop code parts 12 old after s takes.after 7 done.leads
+      let waiting : FramesAt map_of code (most_lines functions) stop (stack_end map_of depth) s.memory (s.pc + 4 * words_of_jump forms.jumps) (base + map_of.frame) (record left_behind { into = awaited into } ∷ fs) =
+      subst (λ b. FramesAt map_of code (most_lines functions) stop (stack_end map_of depth) s.memory (s.pc + 4 * words_of_jump forms.jumps) b (record left_behind { into = awaited into } ∷ fs)) base_is
+      (is_behind (s.pc + 4 * words_of_jump forms.jumps) refl (omega arith), stand.1, stand.2, awaits_first g into gives, stand.4) in
+      comes_go map_of functions depth stop code parts 12 old after s takes.after (words_of_jump forms.jumps + 4) done.leads
       (runs_on map_of functions depth stop code parts (record { frames = f ∷ fs; registers = known; shared = world }) s takes.after after.frames (passed 0 words) base running done
-      (constants_kept ground f fs known world s running base (s.pc + 8) allowed) room takes.base_is
-      (frames_pushed map_of code (most_lines functions) stop (stack_end map_of depth) ground.some_frame s.memory base (s.pc + 8) (entry + 28) (placed_entered callee) (record left_behind { into = awaited into } ∷ fs) (omega arith)
+      (constants_kept ground f fs known world s running base (s.pc + 4 * words_of_jump forms.jumps) allowed) room takes.base_is
+      (frames_pushed map_of code (most_lines functions) stop (stack_end map_of depth) ground.some_frame s.memory base (s.pc + 4 * words_of_jump forms.jumps) (entry + 4 * entry_words map_of.jumps) (placed_entered callee) (record left_behind { into = awaited into } ∷ fs) (omega arith)
       (callee_in g callee entry callee_is function) (λ k w none. cc) refl refl waiting)
-      (agrees_same (passed 0 words) s.registers takes.after.registers agrees (λ x w is. done.kept x (outside_entry x (passed_high 0 words x w is))))) (omega arith) (omega arith)
+      (agrees_same (passed 0 words) s.registers takes.after.registers agrees (λ x w is. done.kept x (outside_entry x (passed_high 0 words x w is))))) (omega arith) (omega (arith, jump_most forms.jumps))
 
   -- what a call comes to, by whether the stack is full
   abbrev called : Option Operand → List ℕ → Bool → PlacedLines → PlacedTurn World Ending
   called into words full callee = cond full (ended (primitives map_of.constants).stack_full world) (placed_goes (placed_entered callee) (record left_behind { into = awaited into } ∷ fs) (passed 0 words) world)
 
   call_by : (full : Bool) (g : ℕ) (callee : PlacedLines) (args : List Operand) (into : Option Operand) (words : List ℕ) → nat_le depth (length (f ∷ fs)) ≡ full → slice_get functions g ≡ Some callee
-      → ((entry : ℕ) → slice_get map_of.entries g ≡ Some entry → CallsTo code s.pc entry)
-      → ((next : ℕ) → s.pc + 8 ≡ next → next < 2 ^ 32 → IsIn map_of code (most_lines functions) next (record left_behind { into = awaited into }))
+      → ((entry : ℕ) → slice_get map_of.entries g ≡ Some entry → CallsTo forms.jumps code s.pc entry)
+      → ((next : ℕ) → s.pc + 4 * words_of_jump forms.jumps ≡ next → next < 2 ^ 32 → IsIn map_of code (most_lines functions) next (record left_behind { into = awaited into }))
       → gives_into (Call g) into ≡ true → Agrees (passed 0 words) s.registers → Comes map_of functions depth stop code parts 12 old (called into words full callee) s
   call_by true g callee args into words test callee_is here is_behind gives agrees =
       let function = function_found map_of code map_of.entries functions ground.functions_at g callee callee_is in
@@ -250,8 +259,8 @@ module _ {map_of : Map} {functions : List PlacedLines} {depth buffer stop : ℕ}
       call_comes g callee function.0 args into words callee_is function.2 (here function.0 function.1) is_behind gives agrees room
 
   pub follow_call : (g : ℕ) (args : List Operand) (into : Option Operand) (words : List ℕ) (start : ℕ) (turn : PlacedTurn World Ending)
-      → ((next : ℕ) → s.pc + 8 ≡ next → next < 2 ^ 32 → IsIn map_of code (most_lines functions) next (record left_behind { into = awaited into }))
-      → ActsAt map_of code start f.whole s.pc (Call g) args into → conforms (Call g) args into ≡ true → all_of (map (λ (arg : Operand). read_at known f.cells arg.place) args) ≡ Some words
+      → ((next : ℕ) → s.pc + 4 * words_of_jump forms.jumps ≡ next → next < 2 ^ 32 → IsIn map_of code (most_lines functions) next (record left_behind { into = awaited into }))
+      → ActsAt map_of forms code start f.whole s.pc (Call g) args into → conforms (Call g) args into ≡ true → all_of (map (λ (arg : Operand). read_at known f.cells arg.place) args) ≡ Some words
       → placed_acts (primitives map_of.constants) depth functions left_behind fs known world (Call g) args into words ≡ turn → turn ≢ stuck → Comes map_of functions depth stop code parts 12 old turn s
   follow_call g args into words start turn is_behind here conform words_are is good =
       let fit = and_parts (take_from (Call g) 0 args) (gives_into (Call g) into) conform in

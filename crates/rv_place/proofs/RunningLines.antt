@@ -1,5 +1,6 @@
 -- Lines as they stand in the code: where labels and functions are found, and what is kept of the code that is left.
 use Rattle.std.proofs.Common.{◌≡◌, ◌≤◌, ◌<◌, ℕ, zero, suc, ◌+◌, ◌*◌, ◌%◌, ◌^◌, max, List, [], ◌∷◌, length, Option, Some, None, Bool, true, false, cond, slice_get, IsSome, refl, sym, ap, subst, arith}
+use Rattle.rv_isa.specs.declared.asm.Condition.{Condition}
 use Rattle.rv_isa.specs.declared.instr.Instr.{Instr}
 use Rattle.rv_isa.specs.declared.register.Register.{Register}
 use Rattle.rv_isa.specs.PlacedCode.{PlacedLine, PlacedLines}
@@ -7,43 +8,47 @@ use Rattle.rv_isa.specs.Frames.{Frame, found}
 use Rattle.rv_isa.specs.PlacedMachine.{is_label_line, placed_entered}
 use Rattle.rv_isa.specs.Processor.{Processor}
 use Rattle.rv_isa.specs.Standing.{Code, Stands}
-use Rattle.rv_place.specs.Addresses.{words_of_line, label_address}
-use Rattle.rv_place.specs.Instructions.{JumpsBy}
+use Rattle.rv_place.specs.Addresses.{words_of_line, label_address, forms_of, entry_words}
+use Rattle.rv_place.specs.Instructions.{words_of_jump, JumpsBy, words_of_branch, BranchesOn}
+use Rattle.rv_place.specs.Registers.{zero_register}
+use Rattle.rv_place.specs.declared.reach.Forms.{Forms}
+use Rattle.rv_place.specs.declared.reach.Reach.{Reach}
+use Rattle.rv_place.specs.declared.reach.Reach.TheVariants.{Near, Far}
 use Rattle.rv_place.specs.Lines.{Map, LineAt, LinesAt, FunctionAt, FunctionsAt}
 use Rattle.rv_place.specs.Running.{IsPlain, ArePlain, AllPlain, most_lines, IsIn}
 
 -- ---- labels
 
 -- the lines from a label on, which stand at its address
-pub record Labelled (map : Map) (code : Code) (start : ℕ) (whole : List PlacedLine) (most : ℕ) (address : Option ℕ) (lines : List PlacedLine) : Type 0 where
+pub record Labelled (map : Map) (forms : Forms) (code : Code) (start : ℕ) (whole : List PlacedLine) (most : ℕ) (address : Option ℕ) (lines : List PlacedLine) : Type 0 where
   pub target : ℕ
   pub target_is : address ≡ Some target
   pub word : target % 4 ≡ 0
-  pub stand : LinesAt map code start whole target lines
+  pub stand : LinesAt map forms code start whole target lines
   pub plain : ArePlain whole lines
   pub few : length lines ≤ most
 
-module _ (map : Map) (code : Code) (start : ℕ) (whole : List PlacedLine) (most l : ℕ) where
-  label_step : (b : Bool) (at : ℕ) (lines later behind : List PlacedLine) (address : Option ℕ) (rest : Option (List PlacedLine)) → at % 4 ≡ 0 → LinesAt map code start whole at lines → ArePlain whole lines → length lines ≤ most
-      → (rest ≡ Some behind → Labelled map code start whole most address behind) → cond b (Some lines) rest ≡ Some behind → Labelled map code start whole most (cond b (Some at) address) behind
+module _ (map : Map) (forms : Forms) (code : Code) (start : ℕ) (whole : List PlacedLine) (most l : ℕ) where
+  label_step : (b : Bool) (at : ℕ) (lines later behind : List PlacedLine) (address : Option ℕ) (rest : Option (List PlacedLine)) → at % 4 ≡ 0 → LinesAt map forms code start whole at lines → ArePlain whole lines → length lines ≤ most
+      → (rest ≡ Some behind → Labelled map forms code start whole most address behind) → cond b (Some lines) rest ≡ Some behind → Labelled map forms code start whole most (cond b (Some at) address) behind
   label_step true at lines later behind address rest word stand plain few further is =
       let same : lines ≡ behind = cc in
       record {
         target = at;
         target_is = refl;
         word = word;
-        stand = subst (λ c. LinesAt map code start whole at c) same stand;
+        stand = subst (λ c. LinesAt map forms code start whole at c) same stand;
         plain = subst (ArePlain whole) same plain;
         few = subst (λ (c : List PlacedLine). length c ≤ most) same few;
       }
   label_step false at lines later behind address rest word stand plain few further is = further is
 
-  pub label_found : (at : ℕ) (lines behind : List PlacedLine) → at % 4 ≡ 0 → LinesAt map code start whole at lines → ArePlain whole lines → length lines ≤ most
-      → found (is_label_line l) lines ≡ Some behind → Labelled map code start whole most (label_address l at lines) behind
+  pub label_found : (at : ℕ) (lines behind : List PlacedLine) → at % 4 ≡ 0 → LinesAt map forms code start whole at lines → ArePlain whole lines → length lines ≤ most
+      → found (is_label_line l) lines ≡ Some behind → Labelled map forms code start whole most (label_address forms l at lines) behind
   label_found at [] behind word stand plain few is = cc
   label_found at (line ∷ lines) behind word stand plain few is =
-      label_step (is_label_line l line) at (line ∷ lines) lines behind (label_address l (at + 4 * words_of_line line) lines) (found (is_label_line l) lines) word stand plain few
-      (λ later. label_found (at + 4 * words_of_line line) lines behind (omega arith) stand.1 plain.1 (omega arith) later) is
+      label_step (is_label_line l line) at (line ∷ lines) lines behind (label_address forms l (at + 4 * words_of_line forms line) lines) (found (is_label_line l) lines) word stand plain few
+      (λ later. label_found (at + 4 * words_of_line forms line) lines behind (omega arith) stand.1 plain.1 (omega arith) later) is
 
 -- a label that is there
 pub label_there : {A : Type 0} (o : Option A) → IsSome o → (a : A) × (o ≡ Some a)
@@ -51,8 +56,32 @@ label_there None some = cc
 label_there (Some a) some = (a, refl)
 
 -- the address of a jump is a word
-pub jump_below : (code : Code) (at : ℕ) (by back : Register) (target : ℕ) → JumpsBy code at by back target → target < 2 ^ 32
-jump_below code at by back target (upper, lower, sum, has) = omega arith
+pub jump_below : (reach : Reach) (code : Code) (at : ℕ) (back : Register) (target : ℕ) → JumpsBy reach code at back target → target < 2 ^ 32
+jump_below Near code at back target (offset, sum, here) = omega arith
+jump_below Far code at back target (upper, lower, sum, has) = omega arith
+
+-- and so is that of a branch
+pub branch_below : (jumps reach : Reach) (code : Code) (at : ℕ) (condition : Condition) (a b : Register) (target : ℕ) → BranchesOn jumps reach code at condition a b target → target < 2 ^ 32
+branch_below jumps Near code at condition a b target (offset, sum, here) = omega arith
+branch_below jumps Far code at condition a b target (over, over_is, here, jump) = jump_below jumps code (at + 4) zero_register target jump
+
+-- ---- how many instructions a jump and a branch are
+
+pub jump_some : (reach : Reach) → 1 ≤ words_of_jump reach
+jump_some Near = omega arith
+jump_some Far = omega arith
+
+pub jump_most : (reach : Reach) → words_of_jump reach ≤ 2
+jump_most Near = omega arith
+jump_most Far = omega arith
+
+pub branch_some : (jumps reach : Reach) → 1 ≤ words_of_branch jumps reach
+branch_some jumps Near = omega arith
+branch_some jumps Far = omega arith
+
+pub branch_most : (jumps reach : Reach) → words_of_branch jumps reach ≤ 3
+branch_most jumps Near = omega arith
+branch_most jumps Far = omega (arith, jump_most jumps)
 
 -- ---- functions
 
@@ -84,12 +113,13 @@ few_found (function ∷ functions) (suc g) callee is =
 
 -- a function behind its entry
 pub entered_in : {map : Map} {code : Code} {s : Processor} (most entry : ℕ) (callee : PlacedLines) → Stands code s → ((at : ℕ) (i : Instr) → code at ≡ Some i → at + 4 < 2 ^ 32)
-    → FunctionAt map code entry callee → ArePlain callee.code callee.code → length callee.code ≤ most → IsIn map code most (entry + 28) (placed_entered callee)
-entered_in most entry callee stands below function plain few =
-    let first = stands.aligned entry _ function.entry.bottom.3.0 in
-    let last = below (entry + 20 + 4) _ function.entry.takes.1.0 in
+    → FunctionAt map code entry callee → ArePlain callee.code callee.code → length callee.code ≤ most → IsIn map code most (entry + 4 * entry_words map.jumps) (placed_entered callee)
+entered_in {map} most entry callee stands below function plain few =
+    let first = stands.aligned entry _ function.entry.sets in
+    let last = below (entry + 8 + 4 * words_of_jump map.jumps + 4) _ function.entry.takes.1.0 in
     record {
-      start = entry + 28;
+      forms = forms_of map.jumps callee.code;
+      start = entry + 4 * entry_words map.jumps;
       start_word = omega arith;
       whole = function.lines;
       here = function.lines;
@@ -105,13 +135,14 @@ entered_in most entry callee stands below function plain few =
 
 module _ {map : Map} {code : Code} {most at : ℕ} {f : Frame PlacedLine} (is_in : IsIn map code most at f) where
   -- other lines of the same function
-  moves_to : (next : ℕ) (lines : List PlacedLine) (g : Frame PlacedLine) → g.whole ≡ f.whole → g.code ≡ lines → LinesAt map code is_in.start f.whole next lines → next % 4 ≡ 0 → next < 2 ^ 32 → ArePlain f.whole lines → length lines ≤ most
+  moves_to : (next : ℕ) (lines : List PlacedLine) (g : Frame PlacedLine) → g.whole ≡ f.whole → g.code ≡ lines → LinesAt map is_in.forms code is_in.start f.whole next lines → next % 4 ≡ 0 → next < 2 ^ 32 → ArePlain f.whole lines → length lines ≤ most
       → IsIn map code most next g
   moves_to next lines g whole_is code_is stand word below plain few = record {
+    forms = is_in.forms;
     start = is_in.start;
     start_word = is_in.start_word;
-    whole = subst (λ w. LinesAt map code is_in.start w is_in.start w) (sym whole_is) is_in.whole;
-    here = subst (λ c. LinesAt map code is_in.start g.whole next c) (sym code_is) (subst (λ w. LinesAt map code is_in.start w next lines) (sym whole_is) stand);
+    whole = subst (λ w. LinesAt map is_in.forms code is_in.start w is_in.start w) (sym whole_is) is_in.whole;
+    here = subst (λ c. LinesAt map is_in.forms code is_in.start g.whole next c) (sym code_is) (subst (λ w. LinesAt map is_in.forms code is_in.start w next lines) (sym whole_is) stand);
     at_word = word;
     below = below;
     whole_plain = subst (λ w. ArePlain w w) (sym whole_is) is_in.whole_plain;
@@ -122,17 +153,17 @@ module _ {map : Map} {code : Code} {most at : ℕ} {f : Frame PlacedLine} (is_in
 
   -- the lines from a label on
   pub goes_to_label : (l : ℕ) (lines : List PlacedLine) (g : Frame PlacedLine) → g.whole ≡ f.whole → g.code ≡ lines
-      → (labelled : Labelled map code is_in.start f.whole most (label_address l is_in.start f.whole) lines) → labelled.target < 2 ^ 32 → IsIn map code most labelled.target g
+      → (labelled : Labelled map is_in.forms code is_in.start f.whole most (label_address is_in.forms l is_in.start f.whole) lines) → labelled.target < 2 ^ 32 → IsIn map code most labelled.target g
   goes_to_label l lines g whole_is code_is labelled below = moves_to labelled.target lines g whole_is code_is labelled.stand labelled.word below labelled.plain labelled.few
 
   module _ (line : PlacedLine) (rest : List PlacedLine) (code_is : f.code ≡ line ∷ rest) where
-    lines_at : LinesAt map code is_in.start f.whole at (line ∷ rest)
-    lines_at = subst (λ c. LinesAt map code is_in.start f.whole at c) code_is is_in.here
+    lines_at : LinesAt map is_in.forms code is_in.start f.whole at (line ∷ rest)
+    lines_at = subst (λ c. LinesAt map is_in.forms code is_in.start f.whole at c) code_is is_in.here
 
     lines_plain : ArePlain f.whole (line ∷ rest)
     lines_plain = subst (ArePlain f.whole) code_is is_in.plain
 
-    pub line_at : LineAt map code is_in.start f.whole at line
+    pub line_at : LineAt map is_in.forms code is_in.start f.whole at line
     line_at = lines_at.0
 
     pub line_plain : IsPlain f.whole line
@@ -142,7 +173,7 @@ module _ {map : Map} {code : Code} {most at : ℕ} {f : Frame PlacedLine} (is_in
     rest_few = let all = is_in.few in let size : length f.code ≡ suc (length rest) = ap length code_is in omega arith
 
     -- the next line
-    pub goes_behind : (next : ℕ) (g : Frame PlacedLine) → g.whole ≡ f.whole → g.code ≡ rest → at + 4 * words_of_line line ≡ next → next < 2 ^ 32 → IsIn map code most next g
+    pub goes_behind : (next : ℕ) (g : Frame PlacedLine) → g.whole ≡ f.whole → g.code ≡ rest → at + 4 * words_of_line is_in.forms line ≡ next → next < 2 ^ 32 → IsIn map code most next g
     goes_behind next g whole_is rest_is next_is below =
         let word = is_in.at_word in
-        moves_to next rest g whole_is rest_is (subst (λ a. LinesAt map code is_in.start f.whole a rest) next_is lines_at.1) (omega arith) below lines_plain.1 rest_few
+        moves_to next rest g whole_is rest_is (subst (λ a. LinesAt map is_in.forms code is_in.start f.whole a rest) next_is lines_at.1) (omega arith) below lines_plain.1 rest_few

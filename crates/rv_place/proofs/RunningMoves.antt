@@ -28,6 +28,7 @@ use Rattle.rv_place.specs.Registers.{zero_register, sp}
 use Rattle.rv_place.specs.Addresses.{slot_offset}
 use Rattle.rv_place.specs.Instructions.{words_of_operation}
 use Rattle.rv_place.specs.Lines.{Map, register_into, MovesBy, ActsAt}
+use Rattle.rv_place.specs.declared.reach.Forms.{Forms}
 use Rattle.rv_place.specs.Grounds.{Ground, stack_end}
 use Rattle.rv_place.specs.Running.{IsHandedOut, GivesHandedOut, most_lines, IsIn, Running}
 use Rattle.rv_place.proofs.RunningExecuting.{Gets, addi_row, plain_gets, load_gets, store_goes}
@@ -170,11 +171,11 @@ module _ {map_of : Map} {functions : List PlacedLines} {depth buffer stop : ℕ}
             (is_in (s.pc + 4 * words_of_operation operation) refl result.next_fits)
             (agrees_got s known (Some word) result.gets some (λ v same. let e : word ≡ v = cc in (e, subst (λ w. w < 2 ^ 32) e result.fits)) running.registers) size.0 size.1)
 
-    pub follow_compute : (start : ℕ) (args : List Operand) (into : Option Operand) (words : List ℕ) (turn : PlacedTurn World Ending) → ActsAt map_of code start f.whole s.pc (Compute operation) args into
+    pub follow_compute : (forms : Forms) (start : ℕ) (args : List Operand) (into : Option Operand) (words : List ℕ) (turn : PlacedTurn World Ending) → ActsAt map_of forms code start f.whole s.pc (Compute operation) args into
         → conforms (Compute operation) args into ≡ true → GivesHandedOut into → all_of (map (λ (arg : Operand). read_at known f.cells arg.place) args) ≡ Some words
         → placed_acts (primitives map_of.constants) depth functions behind fs known world (Compute operation) args into words ≡ turn → turn ≢ stuck
         → Comes map_of functions depth stop code parts (operation_instructions operation) old turn s
-    follow_compute start args into words turn here conform handed words_are is good =
+    follow_compute forms start args into words turn here conform handed words_are is good =
         let fit = and_parts (take_from (Compute operation) 0 args) (gives_into (Compute operation) into) conform in
         let values = in_registers known f.cells s.registers running.registers (Compute operation) 0 args words (λ k place is_one. is_one) fit.0 words_are in
         let result = or_stuck_some (option_map (λ (word : ℕ). (word, world)) (computed map_of.constants operation words)) (λ r. placed_gives into r.0 behind fs known r.1) turn is good in

@@ -1,5 +1,5 @@
 -- Calls of the runtime's routines by the machine of the placed form, followed by the processor.
-use Rattle.std.proofs.Common.{◌≡◌, ◌≢◌, ◌==◌, ◌≤◌, ◌<◌, ◌&&◌, ◌⊎◌, inl, inr, ℕ, zero, suc, ◌+◌, ◌-◌, ◌%◌, ◌^◌, List, [], ◌∷◌, ◌++◌, length, take, drop, Option, Some, None, Bool, true, false, All, cond, map, nat_lt, nat_le, slice_get, if◌then◌else◌, refl, sym, ap, ◌∙◌, subst, arith, lit<}
+use Rattle.std.proofs.Common.{◌≡◌, ◌≢◌, ◌==◌, ◌≤◌, ◌<◌, ◌&&◌, ◌⊎◌, inl, inr, ℕ, zero, suc, ◌+◌, ◌-◌, ◌%◌, ◌^◌, List, [], ◌∷◌, ◌++◌, length, take, drop, Option, Some, None, Bool, true, false, All, cond, map, nat_lt, nat_le, slice_get, if◌then◌else◌, refl, sym, ap, ◌∙◌, subst, arith, lit<, ◌*◌}
 use Rattle.std.specs.List.{list_any}
 use Rattle.std.proofs.Math.Seq.{drop-append_seam, take-append_seam}
 use Rattle.std.proofs.lemmas.Bool.{and_parts, or_parts, eqb-true, eqb-false}
@@ -38,12 +38,14 @@ use Rattle.rv_world.specs.Operations.{Constants, all_bytes}
 use Rattle.rv_world.specs.Operations as OfConstants
 use Rattle.rv_world.specs.World.{World, primitives, told_more, print_bytes, read_next, served, lasts}
 use Rattle.rv_place.specs.Registers.{ra}
-use Rattle.rv_place.specs.Instructions.{CallsTo}
+use Rattle.rv_place.specs.Instructions.{words_of_jump, CallsTo}
+use Rattle.rv_place.specs.declared.reach.Forms.{Forms}
 use Rattle.rv_place.specs.Lines.{Map, IsSymbolAt, ActsAt}
 use Rattle.rv_place.specs.Grounds.{Ground, stack_end, constant_bytes}
 use Rattle.rv_place.specs.Running.{most_lines, IsIn, FramesAt, Agrees, Running}
 use Rattle.rv_place.proofs.RunningExecuting.{Gets}
-use Rattle.rv_place.proofs.RunningRows.{jump_to}
+use Rattle.rv_place.proofs.RunningLines.{jump_some, jump_most}
+use Rattle.rv_place.proofs.RunningRows.{jump_to, jump_last}
 use Rattle.rv_place.proofs.RunningFrames.{handed_apart, agrees_put, frames_kept}
 use Rattle.rv_place.proofs.RunningWords.{passed_known}
 use Rattle.rv_place.proofs.RunningComes.{Comes, comes_go, sp_low}
@@ -99,31 +101,31 @@ slice_there constants at count bytes is = slice_by constants at count bytes (nat
 
 module _ {map_of : Map} {functions : List PlacedLines} {depth buffer stop : ℕ} {code : Code} {parts : List Part} (ground : Ground map_of functions depth buffer stop code parts)
     (f : Frame PlacedLine) (fs : List (Frame PlacedLine)) (known : ℕ → Option ℕ) (world : World) (s : Processor)
-    (running : Running map_of functions depth stop code parts (record { frames = f ∷ fs; registers = known; shared = world }) s) (rest : List PlacedLine) (old : ℕ) where
+    (running : Running map_of functions depth stop code parts (record { frames = f ∷ fs; registers = known; shared = world }) s) (rest : List PlacedLine) (old : ℕ) (forms : Forms) where
   abbrev behind : Frame PlacedLine
   behind = record f { code = rest }
 
   symbol_word : (name : Symbol) (target : ℕ) → IsSymbolAt map_of name target → target % 4 ≡ 0
   symbol_word name target (before, place, is) = let word = ground.runtime_word in omega arith
 
-  way_below : (target : ℕ) → CallsTo code s.pc target → s.pc + 8 < 2 ^ 32
-  way_below target calls = let last = ground.below (s.pc + 4) _ calls.3.1.0 in omega arith
+  way_below : (target : ℕ) → CallsTo forms.jumps code s.pc target → s.pc + 4 * words_of_jump forms.jumps < 2 ^ 32
+  way_below target calls = jump_last ground.below forms.jumps s.pc ra target calls
 
   -- the state in which a routine begins
   pub record Begins (target : ℕ) : Type 0 where
-    pub called : Gets code 2 (1 ∷ 1 ∷ []) 1 (s.pc + 8) target s
+    pub called : Gets code (words_of_jump forms.jumps) (1 ∷ 1 ∷ []) 1 (s.pc + 4 * words_of_jump forms.jumps) target s
     pub is_at : IsAt code target called.after
     pub way_back : HasWayBack called.after
-    pub way_fits : s.pc + 8 < 2 ^ 32
+    pub way_fits : s.pc + 4 * words_of_jump forms.jumps < 2 ^ 32
     pub same : (x : ℕ) → x ≢ 1 → value called.after.registers x ≡ value s.registers x
 
-  begins : (name : Symbol) (target : ℕ) → IsSymbolAt map_of name target → CallsTo code s.pc target → Begins target
+  begins : (name : Symbol) (target : ℕ) → IsSymbolAt map_of name target → CallsTo forms.jumps code s.pc target → Begins target
   begins name target there calls =
-      let called = jump_to ground.below running.rests.stands s.pc refl ra ra target calls (λ e. cc) (symbol_word name target there) in
+      let called = jump_to ground.below running.rests.stands forms.jumps s.pc refl ra target calls (symbol_word name target there) in
       let way = called.value_is (λ e. cc) in
       let fits = way_below target calls in
       let word = running.frames.0.at_word in
-      let behind_word : (s.pc + 8) % 4 ≡ 0 = omega arith in
+      let behind_word : (s.pc + 4 * words_of_jump forms.jumps) % 4 ≡ 0 = omega arith in
       record {
         called = called;
         is_at = record { stands = called.done.stands; pc_is = called.done.pc_is };
@@ -134,8 +136,8 @@ module _ {map_of : Map} {functions : List PlacedLines} {depth buffer stop : ℕ}
 
   -- the state in which a routine is back
   pub record Back (routine : Called) (count : ℕ) (t : Processor) : Type 0 where
-    pub leads : Leads (2 + count) s t
-    pub pc_is : t.pc ≡ s.pc + 8
+    pub leads : Leads (words_of_jump forms.jumps + count) s t
+    pub pc_is : t.pc ≡ s.pc + 4 * words_of_jump forms.jumps
     pub parts_are : t.parts ≡ s.parts
     pub kept : (x : ℕ) → x ≢ 1 → is_spoilt_by routine x ≡ false → value t.registers x ≡ value s.registers x
 
@@ -159,7 +161,7 @@ module _ {map_of : Map} {functions : List PlacedLines} {depth buffer stop : ℕ}
   -- ---- the run goes on behind the call
 
   comes_back : (most : ℕ) {routine : Called} {count : ℕ} (world' : World) (t : Processor) (known' : ℕ → Option ℕ) → Back routine count t → is_spoilt_by routine 2 ≡ false → 2 + count ≤ most
-      → IsIn map_of code (most_lines functions) (s.pc + 8) behind → KeepsOutside buffer buffer_bytes s t → t.trace ≡ world'.trace → t.left ≡ world'.left → All (λ byte. byte < 256) t.left → Agrees known' t.registers
+      → IsIn map_of code (most_lines functions) (s.pc + 4 * words_of_jump forms.jumps) behind → KeepsOutside buffer buffer_bytes s t → t.trace ≡ world'.trace → t.left ≡ world'.left → All (λ byte. byte < 256) t.left → Agrees known' t.registers
       → Comes map_of functions depth stop code parts most old (placed_goes behind fs known' world') s
   comes_back most {routine} {count} world' t known' back keeps within is_behind memory trace left bytes agrees =
       let stand = running.frames in
@@ -167,12 +169,12 @@ module _ {map_of : Map} {functions : List PlacedLines} {depth buffer stop : ℕ}
       let low = sp_low ground f fs known world s running in
       let under = ground.buffer_below in
       let base_is : value t.registers 2 ≡ sp = back.kept 2 (λ e. cc) keeps in
-      let waiting : FramesAt map_of code (most_lines functions) stop (stack_end map_of depth) s.memory (s.pc + 8) sp (behind ∷ fs) = (is_behind, stand.1, stand.2, stand.3, stand.4) in
-      let frames : FramesAt map_of code (most_lines functions) stop (stack_end map_of depth) t.memory (s.pc + 8) sp (behind ∷ fs) =
-      frames_kept map_of code (most_lines functions) stop (stack_end map_of depth) ground.some_frame s.memory t.memory (s.pc + 8) sp (behind ∷ fs)
+      let waiting : FramesAt map_of code (most_lines functions) stop (stack_end map_of depth) s.memory (s.pc + 4 * words_of_jump forms.jumps) sp (behind ∷ fs) = (is_behind, stand.1, stand.2, stand.3, stand.4) in
+      let frames : FramesAt map_of code (most_lines functions) stop (stack_end map_of depth) t.memory (s.pc + 4 * words_of_jump forms.jumps) sp (behind ∷ fs) =
+      frames_kept map_of code (most_lines functions) stop (stack_end map_of depth) ground.some_frame s.memory t.memory (s.pc + 4 * words_of_jump forms.jumps) sp (behind ∷ fs)
       (λ x above high. number_at-same t.memory s.memory x 4 (λ y from below. memory y (inr (omega arith)))) waiting in
       let at_pc = subst (λ a. FramesAt map_of code (most_lines functions) stop (stack_end map_of depth) t.memory a sp (behind ∷ fs)) (sym back.pc_is) frames in
-      comes_go map_of functions depth stop code parts most old (record { frames = behind ∷ fs; registers = known'; shared = world' }) s t (2 + count) back.leads (record {
+      comes_go map_of functions depth stop code parts most old (record { frames = behind ∷ fs; registers = known'; shared = world' }) s t (words_of_jump forms.jumps + count) back.leads (record {
         rests = record {
           stands = Stands-leads back.leads running.rests.stands;
           parts_are = back.parts_are ∙ running.rests.parts_are;
@@ -184,7 +186,7 @@ module _ {map_of : Map} {functions : List PlacedLines} {depth buffer stop : ℕ}
         room = running.room;
         frames = subst (λ b. FramesAt map_of code (most_lines functions) stop (stack_end map_of depth) t.memory t.pc b (behind ∷ fs)) (sym base_is) at_pc;
         registers = agrees;
-      }) (omega arith) within
+      }) (omega (arith, jump_some forms.jumps)) (omega (arith, jump_most forms.jumps, within))
     where
       constants_same : (map_of.constants.first + constant_bytes map_of ≤ buffer) ⊎ (buffer + buffer_bytes ≤ map_of.constants.first)
           → bytes_at t.memory map_of.constants.first (constant_bytes map_of) ≡ bytes_at s.memory map_of.constants.first (constant_bytes map_of)
@@ -221,10 +223,10 @@ module _ {map_of : Map} {functions : List PlacedLines} {depth buffer stop : ℕ}
   keeps_from count c t few same keeps x (inl before) = keeps x (inl before) ∙ ap (λ (m : ℕ → ℕ). m x) same
   keeps_from count c t few same keeps x (inr after) = keeps x (inr (omega arith)) ∙ ap (λ (m : ℕ → ℕ). m x) same
 
-  module _ (is_behind : (next : ℕ) → s.pc + 8 ≡ next → next < 2 ^ 32 → IsIn map_of code (most_lines functions) next behind) (into : Option Operand) (turn : PlacedTurn World Ending) (good : turn ≢ stuck) where
+  module _ (is_behind : (next : ℕ) → s.pc + 4 * words_of_jump forms.jumps ≡ next → next < 2 ^ 32 → IsIn map_of code (most_lines functions) next behind) (into : Option Operand) (turn : PlacedTurn World Ending) (good : turn ≢ stuck) where
     -- ---- print-int
 
-    print_int_comes : (word choice : ℕ) → value s.registers 10 ≡ word → word < 2 ^ 32 → value s.registers 11 ≡ choice → choice ≤ 1 → CallsTo code s.pc ground.print_int.0
+    print_int_comes : (word choice : ℕ) → value s.registers 10 ≡ word → word < 2 ^ 32 → value s.registers 11 ≡ choice → choice ≤ 1 → CallsTo forms.jumps code s.pc ground.print_int.0
         → Comes map_of functions depth stop code parts (2 + int_count (signed word)) old (placed_goes behind fs (kept_by (Routine PrintInt) known) (told_more (output (int_piece word choice) ∷ []) world)) s
     print_int_comes word choice word_is fits choice_is few calls =
         let start = begins (symbol.Routine PrintInt) ground.print_int.0 ground.print_int.1 calls in
@@ -246,12 +248,12 @@ module _ {map_of : Map} {functions : List PlacedLines} {depth buffer stop : ℕ}
         let done = printed.1 in
         let count_is : int_count (signed (value c.registers 10)) ≡ int_count (signed word) = ap (λ w. int_count (signed w)) first in
         let back_at = back PrintInt refl start (int_count (signed (value c.registers 10))) t done.returns in
-        comes_back (2 + int_count (signed word)) (told_more (output (int_piece word choice) ∷ []) world) t (kept_by (Routine PrintInt) known) back_at refl (omega arith) (is_behind (s.pc + 8) refl start.way_fits)
+        comes_back (2 + int_count (signed word)) (told_more (output (int_piece word choice) ∷ []) world) t (kept_by (Routine PrintInt) known) back_at refl (omega arith) (is_behind (s.pc + 4 * words_of_jump forms.jumps) refl start.way_fits)
         (keeps_from buffer_bytes c t (omega arith) start.called.done.memory_is done.memory)
         (done.trace ∙ (rw (first, second) (ap (λ l. l ++ output (int_piece word choice) ∷ []) (start.called.done.trace_is ∙ running.trace))))
         (done.left ∙ (start.called.done.left_is ∙ running.left)) (subst (λ bytes. All (λ byte. byte < 256) bytes) (sym (done.left ∙ start.called.done.left_is)) running.bytes) (kept_agree PrintInt t back_at)
 
-    print_int_by : (word choice : ℕ) (small : Bool) → nat_le choice 1 ≡ small → (fitting : Bool) → nat_lt word (2 ^ 32) ≡ fitting → value s.registers 10 ≡ word → value s.registers 11 ≡ choice → CallsTo code s.pc ground.print_int.0 → gives_into (Routine PrintInt) into ≡ true
+    print_int_by : (word choice : ℕ) (small : Bool) → nat_le choice 1 ≡ small → (fitting : Bool) → nat_lt word (2 ^ 32) ≡ fitting → value s.registers 10 ≡ word → value s.registers 11 ≡ choice → CallsTo forms.jumps code s.pc ground.print_int.0 → gives_into (Routine PrintInt) into ≡ true
         → placed_served into (behind ∷ fs) (kept_by (Routine PrintInt) known) (if fitting && small then answers 0 (told_more (output (int_piece word choice) ∷ []) world) false else fails) ≡ turn
         → Comes map_of functions depth stop code parts (2 + int_count (signed word)) old turn s
     print_int_by word choice true small true fitting word_is choice_is calls gives is =
@@ -263,7 +265,7 @@ module _ {map_of : Map} {functions : List PlacedLines} {depth buffer stop : ℕ}
     print_int_by word choice false small true fitting word_is choice_is calls gives is = absurd (good (sym is))
     print_int_by word choice small small_is false fitting word_is choice_is calls gives is = absurd (good (sym is))
 
-    print_int_words : (words : List ℕ) (held : Option ℕ) → PassesHeld words → CallsTo code s.pc ground.print_int.0 → gives_into (Routine PrintInt) into ≡ true
+    print_int_words : (words : List ℕ) (held : Option ℕ) → PassesHeld words → CallsTo forms.jumps code s.pc ground.print_int.0 → gives_into (Routine PrintInt) into ≡ true
         → placed_served into (behind ∷ fs) (kept_by (Routine PrintInt) known) (served map_of.constants PrintInt words held world) ≡ turn
         → Comes map_of functions depth stop code parts (2 + lasts PrintInt words held world) old turn s
     print_int_words [] held passes calls gives is = absurd (good (sym is))
@@ -274,7 +276,7 @@ module _ {map_of : Map} {functions : List PlacedLines} {depth buffer stop : ℕ}
 
     -- ---- print-text
 
-    print_text_comes : (at count : ℕ) (bytes : List ℕ) → value s.registers 10 ≡ at → value s.registers 11 ≡ count → at < 2 ^ 32 → count < 2 ^ 32 → OfConstants.bytes_at map_of.constants at count ≡ Some bytes → CallsTo code s.pc ground.print_text.0
+    print_text_comes : (at count : ℕ) (bytes : List ℕ) → value s.registers 10 ≡ at → value s.registers 11 ≡ count → at < 2 ^ 32 → count < 2 ^ 32 → OfConstants.bytes_at map_of.constants at count ≡ Some bytes → CallsTo forms.jumps code s.pc ground.print_text.0
         → Comes map_of functions depth stop code parts 8 old (placed_goes behind fs (kept_by (Routine PrintText) known) (told_more (put_of bytes) world)) s
     print_text_comes at count bytes at_is count_is at_fits count_fits bytes_are calls =
         let start = begins (symbol.Routine PrintText) ground.print_text.0 ground.print_text.1 calls in
@@ -295,12 +297,12 @@ module _ {map_of : Map} {functions : List PlacedLines} {depth buffer stop : ℕ}
         let put_is : bytes_at c.memory (value c.registers 10) (value c.registers 11) ≡ bytes =
         rw (first, second, start.called.done.memory_is) (sym (slice_is map_of.constants.first at count (constant_bytes map_of) s.memory (all_bytes map_of.constants.texts) running.rests.constants slice.low slice.high) ∙ slice.bytes_are) in
         let back_at = back PrintText refl start 6 t done.returns in
-        comes_back 8 (told_more (put_of bytes) world) t (kept_by (Routine PrintText) known) back_at refl (omega arith) (is_behind (s.pc + 8) refl start.way_fits)
+        comes_back 8 (told_more (put_of bytes) world) t (kept_by (Routine PrintText) known) back_at refl (omega arith) (is_behind (s.pc + 4 * words_of_jump forms.jumps) refl start.way_fits)
         (λ x out. ap (λ (m : ℕ → ℕ). m x) memory_is)
         (done.trace ∙ (rw put_is (ap (λ l. l ++ put_of bytes) (start.called.done.trace_is ∙ running.trace))))
         (done.left ∙ (start.called.done.left_is ∙ running.left)) (subst (λ left. All (λ byte. byte < 256) left) (sym (done.left ∙ start.called.done.left_is)) running.bytes) (kept_agree PrintText t back_at)
 
-    print_text_by : (at count : ℕ) (bytes : Option (List ℕ)) → OfConstants.bytes_at map_of.constants at count ≡ bytes → value s.registers 10 ≡ at → value s.registers 11 ≡ count → at < 2 ^ 32 → count < 2 ^ 32 → CallsTo code s.pc ground.print_text.0
+    print_text_by : (at count : ℕ) (bytes : Option (List ℕ)) → OfConstants.bytes_at map_of.constants at count ≡ bytes → value s.registers 10 ≡ at → value s.registers 11 ≡ count → at < 2 ^ 32 → count < 2 ^ 32 → CallsTo forms.jumps code s.pc ground.print_text.0
         → gives_into (Routine PrintText) into ≡ true → placed_served into (behind ∷ fs) (kept_by (Routine PrintText) known) (print_bytes bytes world) ≡ turn → Comes map_of functions depth stop code parts 8 old turn s
     print_text_by at count None bytes_are at_is count_is at_fits count_fits calls gives is = absurd (good (sym is))
     print_text_by at count (Some bytes) bytes_are at_is count_is at_fits count_fits calls gives is =
@@ -308,7 +310,7 @@ module _ {map_of : Map} {functions : List PlacedLines} {depth buffer stop : ℕ}
         (gives_none PrintText refl into gives 0 (kept_by (Routine PrintText) known) (told_more (put_of bytes) world) turn is)
         (print_text_comes at count bytes at_is count_is at_fits count_fits bytes_are calls)
 
-    print_text_words : (words : List ℕ) (held : Option ℕ) → PassesHeld words → CallsTo code s.pc ground.print_text.0 → gives_into (Routine PrintText) into ≡ true
+    print_text_words : (words : List ℕ) (held : Option ℕ) → PassesHeld words → CallsTo forms.jumps code s.pc ground.print_text.0 → gives_into (Routine PrintText) into ≡ true
         → placed_served into (behind ∷ fs) (kept_by (Routine PrintText) known) (served map_of.constants PrintText words held world) ≡ turn → Comes map_of functions depth stop code parts 8 old turn s
     print_text_words [] held passes calls gives is = absurd (good (sym is))
     print_text_words (at ∷ []) held passes calls gives is = absurd (good (sym is))
@@ -321,7 +323,7 @@ module _ {map_of : Map} {functions : List PlacedLines} {depth buffer stop : ℕ}
     -- ---- read-byte
 
     -- its word goes to the first register of arguments, or is lost
-    read_gives : {count : ℕ} (word : ℕ) (world' : World) (t : Processor) → Back ReadByte count t → count ≤ 10 → s.pc + 8 < 2 ^ 32 → KeepsOutside buffer buffer_bytes s t → value t.registers 10 ≡ word → word < 2 ^ 32
+    read_gives : {count : ℕ} (word : ℕ) (world' : World) (t : Processor) → Back ReadByte count t → count ≤ 10 → s.pc + 4 * words_of_jump forms.jumps < 2 ^ 32 → KeepsOutside buffer buffer_bytes s t → value t.registers 10 ≡ word → word < 2 ^ 32
         → t.trace ≡ world'.trace → t.left ≡ world'.left → All (λ byte. byte < 256) t.left → gives_into (Routine ReadByte) into ≡ true
         → placed_gives into word behind fs (kept_by (Routine ReadByte) known) world' ≡ turn → Comes map_of functions depth stop code parts 12 old turn s
     read_gives {count} word world' t back_at few way memory word_is fits trace left bytes gives is = by into gives is
@@ -330,7 +332,7 @@ module _ {map_of : Map} {functions : List PlacedLines} {depth buffer stop : ℕ}
         kept = kept_agree ReadByte t back_at
 
         comes : (known' : ℕ → Option ℕ) → Agrees known' t.registers → Comes map_of functions depth stop code parts 12 old (placed_goes behind fs known' world') s
-        comes known' agrees = comes_back 12 world' t known' back_at refl (omega arith) (is_behind (s.pc + 8) refl way) memory trace left bytes agrees
+        comes known' agrees = comes_back 12 world' t known' back_at refl (omega arith) (is_behind (s.pc + 4 * words_of_jump forms.jumps) refl way) memory trace left bytes agrees
 
         at_place : (place : Place) → is_in 10 place ≡ true → placed_writes place (Some word) behind fs (kept_by (Routine ReadByte) known) world' ≡ turn → Comes map_of functions depth stop code parts 12 old turn s
         at_place (slot k) gives is = cc
@@ -359,7 +361,7 @@ module _ {map_of : Map} {functions : List PlacedLines} {depth buffer stop : ℕ}
         read_gives byte (record (told_more (input byte ∷ []) world) { left = later }) t back_at (omega arith) start.way_fits memory takes.1 (omega arith)
         (takes.2 ∙ ap (λ l. l ++ input byte ∷ []) (start.called.done.trace_is ∙ running.trace)) takes.3 (subst (λ bytes. All (λ byte. byte < 256) bytes) (sym takes.3) (All-tail (λ byte. byte < 256) byte later bytes)) gives is
 
-    read_byte_comes : CallsTo code s.pc ground.read_byte.0 → gives_into (Routine ReadByte) into ≡ true
+    read_byte_comes : CallsTo forms.jumps code s.pc ground.read_byte.0 → gives_into (Routine ReadByte) into ≡ true
         → placed_served into (behind ∷ fs) (kept_by (Routine ReadByte) known) (read_next world.left world) ≡ turn → Comes map_of functions depth stop code parts 12 old turn s
     read_byte_comes calls gives is =
         let start = begins (symbol.Routine ReadByte) ground.read_byte.0 ground.read_byte.1 calls in
@@ -376,14 +378,14 @@ module _ {map_of : Map} {functions : List PlacedLines} {depth buffer stop : ℕ}
         let left_is : c.left ≡ world.left = start.called.done.left_is ∙ running.left in
         read_by world.left start taken.0 (subst (λ left. TakesNext left c taken.0) left_is taken.1.takes) running.left (keeps_from 1 c taken.0 (omega arith) start.called.done.memory_is taken.1.memory) gives is
 
-    read_byte_words : (words : List ℕ) (held : Option ℕ) → CallsTo code s.pc ground.read_byte.0 → gives_into (Routine ReadByte) into ≡ true
+    read_byte_words : (words : List ℕ) (held : Option ℕ) → CallsTo forms.jumps code s.pc ground.read_byte.0 → gives_into (Routine ReadByte) into ≡ true
         → placed_served into (behind ∷ fs) (kept_by (Routine ReadByte) known) (served map_of.constants ReadByte words held world) ≡ turn → Comes map_of functions depth stop code parts 12 old turn s
     read_byte_words [] held calls gives is = read_byte_comes calls gives is
     read_byte_words (word ∷ words) held calls gives is = absurd (good (sym is))
 
     -- ---- all routines
 
-    pub follow_routine : (routine : Called) (start : ℕ) (args : List Operand) (words : List ℕ) → ActsAt map_of code start f.whole s.pc (Routine routine) args into → conforms (Routine routine) args into ≡ true
+    pub follow_routine : (routine : Called) (start : ℕ) (args : List Operand) (words : List ℕ) → ActsAt map_of forms code start f.whole s.pc (Routine routine) args into → conforms (Routine routine) args into ≡ true
         → all_of (map (λ (arg : Operand). read_at known f.cells arg.place) args) ≡ Some words
         → placed_acts (primitives map_of.constants) depth functions behind fs known world (Routine routine) args into words ≡ turn
         → Comes map_of functions depth stop code parts (2 + lasts routine words (top (f ∷ fs)) world) old turn s

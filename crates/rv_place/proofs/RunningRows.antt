@@ -1,24 +1,28 @@
 -- The rows of instructions that placed code is made of, executed: constants, jumps, branches, entries of functions and returns.
-use Rattle.std.proofs.Common.{◌≡◌, ◌≢◌, ◌≤◌, ◌<◌, ℕ, ◌+◌, ◌-◌, ◌%◌, ◌^◌, List, [], ◌∷◌, Some, Bool, true, false, not, nat_eq, refl, sym, ap, ◌∙◌, subst, arith}
+use Rattle.std.proofs.Common.{◌≡◌, ◌≢◌, ◌≤◌, ◌<◌, ℕ, ◌+◌, ◌-◌, ◌%◌, ◌^◌, List, [], ◌∷◌, Some, Bool, true, false, not, nat_eq, refl, sym, ap, ◌∙◌, arith, ◌*◌}
 use Rattle.std.proofs.lemmas.Bool.Decides.{nat_tests}
 use Rattle.rv_isa.specs.declared.register.Register.{Register}
 use Rattle.rv_isa.specs.declared.immediate.BranchOffset.{BranchOffset}
 use Rattle.rv_isa.specs.declared.instr.Instr.{Instr}
-use Rattle.rv_isa.specs.declared.instr.Instr.TheVariants.{Lw, Addi}
+use Rattle.rv_isa.specs.declared.instr.Instr.TheVariants.{Lw, Addi, Jalr}
 use Rattle.rv_isa.specs.declared.immediate.Immediate.{Immediate}
 use Rattle.rv_isa.specs.declared.asm.Condition.{Condition}
 use Rattle.rv_isa.specs.declared.asm.Condition.TheVariants.{Equal}
 use Rattle.rv_isa.specs.declared.placed.Symbol.TheVariants as symbol
 use Rattle.rv_isa.specs.Arithmetic.{sum_word}
 use Rattle.rv_isa.specs.Meaning.{branches}
+use Rattle.rv_isa.specs.Execution.{effect_at}
 use Rattle.rv_isa.specs.Bytes.{number_at, with_number}
 use Rattle.rv_isa.specs.Processor.{Processor, value, can_load, can_store}
 use Rattle.rv_isa.specs.Standing.{Code, Stands}
 use Rattle.rv_world.specs.Operations.{compares}
 use Rattle.rv_place.specs.Registers.{zero_register, ra, sp, t0}
-use Rattle.rv_place.specs.Instructions.{opposite_branch, Zero, LoadsWord, JumpsBy, JumpsTo}
+use Rattle.rv_place.specs.Addresses.{entry_words}
+use Rattle.rv_place.specs.Instructions.{branch_instruction, opposite, Zero, LoadsWord, words_of_jump, JumpsBy, words_of_branch, BranchesOn}
+use Rattle.rv_place.specs.declared.reach.Reach.{Reach}
+use Rattle.rv_place.specs.declared.reach.Reach.TheVariants.{Near, Far}
 use Rattle.rv_place.specs.Lines.{Map, IsSymbolAt, ReturnsFrom, EntersAt}
-use Rattle.rv_place.proofs.RunningExecuting.{addi_row, lui_row, branch_effect, Done, Gets, Goes, done_then, done_as, done_on, target_of, next_is, plain_gets, load_gets, store_goes, jump_gets, branch_goes}
+use Rattle.rv_place.proofs.RunningExecuting.{addi_row, lui_row, branch_effect, Done, Gets, Goes, done_then, done_as, done_on, target_of, next_is, plain_gets, load_gets, store_goes, jump_gets, branch_goes, opposite_compares, near_gets}
 
 -- instructions that leave a word in the stack pointer
 pub record Shifts (code : Code) (steps : ℕ) (changed : List ℕ) (memory : ℕ → ℕ) (base next : ℕ) (s : Processor) : Type 0 where
@@ -43,42 +47,68 @@ module _ {code : Code} (below : (at : ℕ) (i : Instr) → code at ≡ Some i �
         value_is = λ some. second.value_is some ∙ (ap (λ v. sum_word v lower.word) (first.value_is some) ∙ sum);
       }
 
-  pub jump_to : {s : Processor} → Stands code s → (at : ℕ) → s.pc ≡ at → (by back : Register) (target : ℕ) → JumpsBy code at by back target → by.number ≢ 0 → target % 4 ≡ 0
-      → Gets code 2 (by.number ∷ back.number ∷ []) back.number (at + 8) target s
-  jump_to stands at pc_is by back target (upper, lower, sum, has) some aligned =
-      let first = plain_gets below stands pc_is (lui_row by upper) has.0 in
-      let target_is : sum_word (value first.after.registers by.number) lower.word ≡ target = ap (λ v. sum_word v lower.word) (first.value_is some) ∙ sum in
-      let second = jump_gets below first.done.stands first.done.pc_is has.1.0 target_is aligned in
+  pub jump_to : {s : Processor} → Stands code s → (reach : Reach) (at : ℕ) → s.pc ≡ at → (back : Register) (target : ℕ) → JumpsBy reach code at back target → target % 4 ≡ 0
+      → Gets code (words_of_jump reach) (1 ∷ back.number ∷ []) back.number (at + 4 * words_of_jump reach) target s
+  jump_to stands Near at pc_is back target (offset, sum, here) aligned =
+      let jump = near_gets below stands pc_is {back = back} {offset = offset} here sum aligned in
+      record { after = jump.after; done = done_as {changed' = 1 ∷ back.number ∷ []} jump.done refl refl (λ x out. out.1); value_is = jump.value_is }
+  jump_to stands Far at pc_is back target (upper, lower, sum, has) aligned =
+      let first = plain_gets below stands pc_is (lui_row ra upper) has.0 in
+      let target_is : sum_word (value first.after.registers 1) lower.word ≡ target = ap (λ v. sum_word v lower.word) (first.value_is (λ e. cc)) ∙ sum in
+      let second = jump_gets below first.done.stands first.done.pc_is {back = back} {by = ra} {offset = lower} has.1.0 target_is aligned in
       let behind : at + 4 + 4 ≡ at + 8 = omega arith in
       record { after = second.after; done = done_on first.done second.done; value_is = λ kept. second.value_is kept ∙ behind }
 
-  -- a condition that holds leads to the target, and another over the jump
-  module _ {s : Processor} (stands : Stands code s) (at : ℕ) (pc_is : s.pc ≡ at) (condition : Condition) (a b : Register) (target : ℕ) (over : BranchOffset) (over_is : over.word ≡ 12)
-      (here : code at ≡ Some (opposite_branch condition a b over)) (jump : JumpsTo code (at + 4) target) where
-    pub branch_taken : target % 4 ≡ 0 → compares condition (value s.registers a.number) (value s.registers b.number) ≡ true → Goes code 3 (1 ∷ 0 ∷ []) s.memory target s
-    branch_taken aligned holds =
-        let effect = branch_effect condition a b over s ∙ ap (λ t. branches s.pc (not t) over) holds in
-        let word = stands.aligned at (opposite_branch condition a b over) here in
-        let first = branch_goes below stands pc_is (opposite_branch condition a b over) (sum_word s.pc 4) {next = at + 4} here effect (next_is below stands pc_is here) (omega arith) in
-        let second = jump_to first.done.stands (at + 4) first.done.pc_is ra zero_register target jump (λ e. cc) aligned in
+  -- the address behind a jump, or a branch, is a word
+  pub jump_last : (reach : Reach) (at : ℕ) (back : Register) (target : ℕ) → JumpsBy reach code at back target → at + 4 * words_of_jump reach < 2 ^ 32
+  jump_last Near at back target (offset, sum, here) = below at (Instr.Jal back offset) here
+  jump_last Far at back target (upper, lower, sum, has) = let last = below (at + 4) (Jalr back ra lower) has.1.0 in omega arith
+
+  pub branch_last : (jumps reach : Reach) (at : ℕ) (condition : Condition) (a b : Register) (target : ℕ) → BranchesOn jumps reach code at condition a b target → at + 4 * words_of_branch jumps reach < 2 ^ 32
+  branch_last jumps Near at condition a b target (offset, sum, here) = below at (branch_instruction condition a b offset) here
+  branch_last jumps Far at condition a b target (over, over_is, here, jump) = let last = jump_last jumps (at + 4) zero_register target jump in omega arith
+
+  -- a branch whose condition holds leads to the target, and another behind it
+  module _ {s : Processor} (stands : Stands code s) (at : ℕ) (pc_is : s.pc ≡ at) (condition : Condition) (a b : Register) (target : ℕ) (jumps : Reach) where
+    goes_by : (of : Condition) (offset : BranchOffset) (test : Bool) → compares of (value s.registers a.number) (value s.registers b.number) ≡ test
+        → effect_at s (branch_instruction of a b offset) ≡ branches s.pc test offset
+    goes_by of offset test is = branch_effect of a b offset s ∙ ap (λ t. branches s.pc t offset) is
+
+    opposed : (test : Bool) → compares condition (value s.registers a.number) (value s.registers b.number) ≡ test → compares (opposite condition) (value s.registers a.number) (value s.registers b.number) ≡ not test
+    opposed test is = opposite_compares condition (value s.registers a.number) (value s.registers b.number) ∙ ap not is
+
+    pub branch_taken : (reach : Reach) → BranchesOn jumps reach code at condition a b target → target % 4 ≡ 0 → compares condition (value s.registers a.number) (value s.registers b.number) ≡ true
+        → Goes code (words_of_branch jumps reach) (1 ∷ 0 ∷ []) s.memory target s
+    branch_taken Near (offset, sum, here) aligned holds =
+        let target_is : sum_word s.pc offset.word ≡ target = ap (λ pc. sum_word pc offset.word) pc_is ∙ sum in
+        let goes = branch_goes below stands pc_is (branch_instruction condition a b offset) (sum_word s.pc offset.word) {next = target} here (goes_by condition offset true holds) target_is aligned in
+        record { after = goes.after; done = done_as {changed' = 1 ∷ 0 ∷ []} goes.done refl refl (λ x out. tt) }
+    branch_taken Far (over, over_is, here, jump) aligned holds =
+        let word = stands.aligned at (branch_instruction (opposite condition) a b over) here in
+        let first = branch_goes below stands pc_is (branch_instruction (opposite condition) a b over) (sum_word s.pc 4) {next = at + 4} here (goes_by (opposite condition) over false (opposed true holds)) (next_is below stands pc_is here) (omega arith) in
+        let second = jump_to first.done.stands jumps (at + 4) first.done.pc_is zero_register target jump aligned in
         record { after = second.after; done = done_on first.done second.done }
 
-    pub branch_passed : compares condition (value s.registers a.number) (value s.registers b.number) ≡ false → Goes code 1 [] s.memory (at + 12) s
-    branch_passed fails =
-        let effect = branch_effect condition a b over s ∙ ap (λ t. branches s.pc (not t) over) fails in
-        let word = stands.aligned at (opposite_branch condition a b over) here in
-        let last = below (at + 4 + 4) _ jump.3.1.0 in
-        let target_is : sum_word s.pc over.word ≡ at + 12 = rw (pc_is, over_is) (target_of at (omega arith)) in
-        branch_goes below stands pc_is (opposite_branch condition a b over) (sum_word s.pc over.word) {next = at + 12} here effect target_is (omega arith)
+    pub branch_passed : (reach : Reach) → BranchesOn jumps reach code at condition a b target → compares condition (value s.registers a.number) (value s.registers b.number) ≡ false
+        → Goes code 1 [] s.memory (at + 4 * words_of_branch jumps reach) s
+    branch_passed Near (offset, sum, here) fails =
+        let word = stands.aligned at (branch_instruction condition a b offset) here in
+        branch_goes below stands pc_is (branch_instruction condition a b offset) (sum_word s.pc 4) {next = at + 4} here (goes_by condition offset false fails) (next_is below stands pc_is here) (omega arith)
+    branch_passed Far (over, over_is, here, jump) fails =
+        let word = stands.aligned at (branch_instruction (opposite condition) a b over) here in
+        let last = jump_last jumps (at + 4) zero_register target jump in
+        let next : ℕ = at + 4 * (1 + words_of_jump jumps) in
+        let behind : at + (4 + 4 * words_of_jump jumps) ≡ next = omega arith in
+        let over_at : sum_word s.pc over.word ≡ next = rw (pc_is, over_is) (target_of at (4 + 4 * words_of_jump jumps) (omega arith) ∙ behind) in
+        branch_goes below stands pc_is (branch_instruction (opposite condition) a b over) (sum_word s.pc over.word) {next = next} here (goes_by (opposite condition) over true (opposed false fails)) over_at (omega arith)
 
   -- ---- entries
 
   module _ {s : Processor} (stands : Stands code s) (map : Map) (at : ℕ) (pc_is : s.pc ≡ at) (entry : EntersAt map code at) (full : ℕ) (full_at : IsSymbolAt map symbol.StackFull full) where
-    jump_full : JumpsTo code (at + 8 + 4) full
-    jump_full = let e : at + 12 ≡ at + 8 + 4 = omega arith in subst (λ a. JumpsTo code a full) e (entry.full full full_at)
-
-    bottom_gets : Gets code 2 (5 ∷ []) 5 map.bottom (at + 8) s
-    bottom_gets = word_gets stands at pc_is t0 map.bottom entry.bottom
+    bottom_gets : Gets code 1 (5 ∷ []) 5 map.bottom (at + 4) s
+    bottom_gets =
+        let first = plain_gets below stands pc_is (lui_row t0 entry.bottom) entry.sets in
+        record { after = first.after; done = first.done; value_is = λ some. first.value_is some ∙ entry.bottom_is }
 
     same_sp : value bottom_gets.after.registers 2 ≡ value s.registers 2
     same_sp = bottom_gets.done.kept 2 ((λ e. cc), tt)
@@ -87,26 +117,26 @@ module _ {code : Code} (below : (at : ℕ) (i : Instr) → code at ≡ Some i �
     test_is test is = rw (same_sp, bottom_gets.value_is (λ e. cc)) is
 
     -- at the lowest frame the stack is full
-    pub entry_full : full % 4 ≡ 0 → value s.registers 2 ≡ map.bottom → Goes code 5 (5 ∷ 1 ∷ 0 ∷ []) s.memory full s
+    pub entry_full : full % 4 ≡ 0 → value s.registers 2 ≡ map.bottom → Goes code (1 + words_of_branch map.jumps Far) (5 ∷ 1 ∷ 0 ∷ []) s.memory full s
     entry_full aligned last =
         let test : nat_eq (value s.registers 2) map.bottom ≡ true = grind (arith, nat_tests) in
-        let second = branch_taken bottom_gets.done.stands (at + 8) bottom_gets.done.pc_is Equal sp t0 full entry.over entry.over_is entry.test jump_full aligned (test_is true test) in
+        let second = branch_taken bottom_gets.done.stands (at + 4) bottom_gets.done.pc_is Equal sp t0 full map.jumps Far (entry.full full full_at) aligned (test_is true test) in
         record { after = second.after; done = done_on bottom_gets.done second.done }
 
     -- else the test leads over the jump
-    entry_passes : value s.registers 2 ≢ map.bottom → Goes code 3 (5 ∷ []) s.memory (at + 20) s
+    entry_passes : value s.registers 2 ≢ map.bottom → Goes code 2 (5 ∷ []) s.memory (at + 8 + 4 * words_of_jump map.jumps) s
     entry_passes more =
         let test : nat_eq (value s.registers 2) map.bottom ≡ false = grind (arith, nat_tests) in
-        let second = branch_passed bottom_gets.done.stands (at + 8) bottom_gets.done.pc_is Equal sp t0 full entry.over entry.over_is entry.test jump_full (test_is false test) in
+        let second = branch_passed bottom_gets.done.stands (at + 4) bottom_gets.done.pc_is Equal sp t0 full map.jumps Far (entry.full full full_at) (test_is false test) in
         record { after = second.after; done = done_as {changed' = 5 ∷ []} (done_on bottom_gets.done second.done) refl (omega arith) (λ x out. out) }
 
     -- and a frame is taken
     entry_shifts : (base : ℕ) → value s.registers 2 ≡ base + map.frame → base + map.frame ≢ map.bottom → map.frame ≤ 2044 → base + map.frame < 2 ^ 32
-        → Shifts code 4 (5 ∷ 2 ∷ []) s.memory base (at + 20 + 4) s
+        → Shifts code 3 (5 ∷ 2 ∷ []) s.memory base (at + 8 + 4 * words_of_jump map.jumps + 4) s
     entry_shifts base base_is more small fits =
-        let tested : Goes code 3 (5 ∷ []) s.memory (at + 20) s = entry_passes (λ e. more (sym base_is ∙ e)) in
+        let tested : Goes code 2 (5 ∷ []) s.memory (at + 8 + 4 * words_of_jump map.jumps) s = entry_passes (λ e. more (sym base_is ∙ e)) in
         let old_base : value tested.after.registers 2 ≡ base + map.frame = tested.done.kept 2 ((λ e. cc), tt) ∙ base_is in
-        let third = plain_gets below tested.done.stands {at = at + 20} tested.done.pc_is (addi_row sp sp entry.frame) entry.takes.0 in
+        let third = plain_gets below tested.done.stands {at = at + 8 + 4 * words_of_jump map.jumps} tested.done.pc_is (addi_row sp sp entry.frame) entry.takes.0 in
         record {
           after = third.after;
           done = done_on tested.done third.done;
@@ -114,12 +144,12 @@ module _ {code : Code} (below : (at : ℕ) (i : Instr) → code at ≡ Some i �
         }
 
     pub entry_takes : (base way : ℕ) → value s.registers 2 ≡ base + map.frame → value s.registers 1 ≡ way → base + map.frame ≢ map.bottom → map.frame ≤ 2044 → base + map.frame < 2 ^ 32
-        → base % 4 ≡ 0 → can_store s.parts base 4 ≡ true → Shifts code 5 (5 ∷ 2 ∷ []) (with_number base 4 way s.memory) base (at + 28) s
+        → base % 4 ≡ 0 → can_store s.parts base 4 ≡ true → Shifts code 4 (5 ∷ 2 ∷ []) (with_number base 4 way s.memory) base (at + 4 * entry_words map.jumps) s
     entry_takes base way base_is way_is more small fits aligned allowed =
-        let moved : Shifts code 4 (5 ∷ 2 ∷ []) s.memory base (at + 20 + 4) s = entry_shifts base base_is more small fits in
+        let moved : Shifts code 3 (5 ∷ 2 ∷ []) s.memory base (at + 8 + 4 * words_of_jump map.jumps + 4) s = entry_shifts base base_is more small fits in
         let address : sum_word (value moved.after.registers 2) entry.zero.word ≡ base = rw (moved.base_is, entry.zero_is) (same_address base (omega arith)) in
         let saved : value moved.after.registers 1 ≡ way = moved.done.kept 1 ((λ e. cc), ((λ e. cc), tt)) ∙ way_is in
-        let fourth = store_goes below moved.done.stands {at = at + 20 + 4} moved.done.pc_is {base = sp} {from = ra} {offset = entry.zero} {address = base} {word = way} entry.takes.1.0 address saved aligned (rw moved.done.parts_are allowed) in
+        let fourth = store_goes below moved.done.stands {at = at + 8 + 4 * words_of_jump map.jumps + 4} moved.done.pc_is {base = sp} {from = ra} {offset = entry.zero} {address = base} {word = way} entry.takes.1.0 address saved aligned (rw moved.done.parts_are allowed) in
         record {
           after = fourth.after;
           done = done_as {changed' = 5 ∷ 2 ∷ []} (done_then moved.done fourth.done) (ap (λ m. with_number base 4 way m) moved.done.memory_is) (omega arith) (λ x out. out);

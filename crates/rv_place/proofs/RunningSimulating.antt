@@ -1,5 +1,5 @@
 -- The processor simulates the machine of the placed form: line by line, and so step by step.
-use Rattle.std.proofs.Common.{◌≡◌, ◌≢◌, ◌≤◌, ℕ, suc, ◌+◌, ◌*◌, List, [], ◌∷◌, length, drop, Option, Some, Bool, true, false, cond, map, refl, sym, ap, ◌∙◌, subst, arith, append-nil}
+use Rattle.std.proofs.Common.{◌≡◌, ◌≢◌, ◌≤◌, ℕ, suc, ◌+◌, ◌*◌, List, [], ◌∷◌, length, drop, Option, Some, Bool, true, false, cond, map, refl, sym, ap, subst, arith}
 use Rattle.kk_base.specs.Memory.{Part}
 use Rattle.kk_base.specs.Simulations.{Reaches, Simulates}
 use Rattle.kk_base.proofs.Simulations.{ended_reaches}
@@ -59,10 +59,10 @@ module _ {map_of : Map} {functions : List PlacedLines} {depth buffer stop : ℕ}
           let writes = line_plain running.frames.0 line rest code_is in
           comes_within (operation_instructions operation + 0) (omega arith)
           (follow_compute ground f fs known world s running rest (suc (length rest)) operation (λ next next_is below. goes_behind running.frames.0 line rest code_is next (record f { code = rest }) refl refl next_is below)
-          running.frames.0.start args into words turn (line_at running.frames.0 line rest code_is) conform writes.1 words_are is good)
+          running.frames.0.forms running.frames.0.start args into words turn (line_at running.frames.0 line rest code_is) conform writes.1 words_are is good)
       follow_action (Label l) code_is conform is =
           let line = does alive (Label l) args into in
-          let here : s.pc + 4 * words_of_line line ≡ s.pc = omega arith in
+          let here : s.pc + 4 * words_of_line running.frames.0.forms line ≡ s.pc = omega arith in
           subst (λ t. Comes map_of functions depth stop code parts 0 (suc (length rest)) t s) is
           (follow_label ground f fs known world s running rest (suc (length rest)) (goes_behind running.frames.0 line rest code_is s.pc (record f { code = rest }) refl refl here running.frames.0.below) (omega arith))
       follow_action (Jump l) code_is conform is =
@@ -74,15 +74,15 @@ module _ {map_of : Map} {functions : List PlacedLines} {depth buffer stop : ℕ}
           args into words turn (line_at running.frames.0 line rest code_is) writes.2 conform words_are is good
       follow_action (Call g) code_is conform is =
           let line = does alive (Call g) args into in
-          follow_call ground plain f fs known world s running rest (suc (length rest)) g args into words running.frames.0.start turn
+          follow_call ground plain f fs known world s running rest (suc (length rest)) running.frames.0.forms g args into words running.frames.0.start turn
           (λ next next_is below. goes_behind running.frames.0 line rest code_is next (record f { code = rest; into = awaited into }) refl refl next_is below) (line_at running.frames.0 line rest code_is) conform words_are is good
       follow_action (TailCall g) code_is conform is =
-          follow_tail_call ground plain f fs known world s running rest (suc (length rest)) g args into words running.frames.0.start turn (line_at running.frames.0 (does alive (TailCall g) args into) rest code_is) conform words_are is good
+          follow_tail_call ground plain f fs known world s running rest (suc (length rest)) running.frames.0.forms g args into words running.frames.0.start turn (line_at running.frames.0 (does alive (TailCall g) args into) rest code_is) conform words_are is good
       follow_action Return code_is conform is =
           follow_return ground f known world s (suc (length rest)) (line_at running.frames.0 (does alive Return args into) rest code_is) fs rest args into words turn running conform words_are is good
       follow_action (Routine routine) code_is conform is =
           let line = does alive (Routine routine) args into in
-          follow_routine ground f fs known world s running rest (suc (length rest)) (λ next next_is below. goes_behind running.frames.0 line rest code_is next (record f { code = rest }) refl refl next_is below) into turn good
+          follow_routine ground f fs known world s running rest (suc (length rest)) running.frames.0.forms (λ next next_is below. goes_behind running.frames.0 line rest code_is next (record f { code = rest }) refl refl next_is below) into turn good
           routine running.frames.0.start args words (line_at running.frames.0 line rest code_is) conform words_are is
       follow_action Hold code_is conform is = absurd (line_plain running.frames.0 (does alive Hold args into) rest code_is).0
       follow_action Unhold code_is conform is = absurd (line_plain running.frames.0 (does alive Unhold args into) rest code_is).0

@@ -18,7 +18,8 @@ use Rattle.rv_isa.specs.Processor.{Processor, value}
 use Rattle.rv_isa.specs.Standing.{Code, Stands}
 use Rattle.rv_world.specs.Operations.{Constants, register_word, immediate_word, shift_word, holds, computed}
 use Rattle.rv_place.specs.Registers.{zero_register}
-use Rattle.rv_place.specs.Instructions.{words_of_operation, LoadsWord, Computes}
+use Rattle.rv_place.specs.Instructions.{words_of_operation, LoadsWord, words_of_branch, Computes}
+use Rattle.rv_place.specs.declared.reach.Forms.{Forms}
 use Rattle.rv_place.specs.Lines.{registers_of, BranchesTo}
 use Rattle.rv_place.specs.Running.{Agrees}
 use Rattle.rv_place.proofs.RunningExecuting.{Gets, Goes, addi_row, register_row, immediate_row, shift_row, plain_fits, plain_gets}
@@ -165,19 +166,17 @@ module _ {code : Code} (below : (at : ℕ) (i : Instr) → code at ≡ Some i �
 
 -- ---- conditions
 
-module _ {code : Code} (below : (at : ℕ) (i : Instr) → code at ≡ Some i → at + 4 < 2 ^ 32) {s : Processor} (stands : Stands code s) (at : ℕ) (pc_is : s.pc ≡ at) (condition : Condition) (target : ℕ) where
-  pub branches_taken : (rs : List Register) → target % 4 ≡ 0 → holds condition (words_in s.registers rs) ≡ Some true → BranchesTo code at condition rs target → Goes code 3 (1 ∷ 0 ∷ []) s.memory target s
+module _ {code : Code} (below : (at : ℕ) (i : Instr) → code at ≡ Some i → at + 4 < 2 ^ 32) {s : Processor} (stands : Stands code s) (at : ℕ) (pc_is : s.pc ≡ at) (forms : Forms) (condition : Condition) (target : ℕ) where
+  pub branches_taken : (rs : List Register) → target % 4 ≡ 0 → holds condition (words_in s.registers rs) ≡ Some true → BranchesTo forms code at condition rs target
+      → Goes code (words_of_branch forms.jumps forms.branches) (1 ∷ 0 ∷ []) s.memory target s
   branches_taken [] word is here = cc
-  branches_taken (a ∷ []) word is (over, over_is, branch, jump) =
-      branch_taken below stands at pc_is condition a zero_register target over over_is branch jump word cc
-  branches_taken (a ∷ b ∷ []) word is (over, over_is, branch, jump) =
-      branch_taken below stands at pc_is condition a b target over over_is branch jump word cc
+  branches_taken (a ∷ []) word is here = branch_taken below stands at pc_is condition a zero_register target forms.jumps forms.branches here word cc
+  branches_taken (a ∷ b ∷ []) word is here = branch_taken below stands at pc_is condition a b target forms.jumps forms.branches here word cc
   branches_taken (a ∷ b ∷ c ∷ rs) word is here = cc
 
-  pub branches_passed : (rs : List Register) → holds condition (words_in s.registers rs) ≡ Some false → BranchesTo code at condition rs target → Goes code 1 [] s.memory (at + 12) s
+  pub branches_passed : (rs : List Register) → holds condition (words_in s.registers rs) ≡ Some false → BranchesTo forms code at condition rs target
+      → Goes code 1 [] s.memory (at + 4 * words_of_branch forms.jumps forms.branches) s
   branches_passed [] is here = cc
-  branches_passed (a ∷ []) is (over, over_is, branch, jump) =
-      branch_passed below stands at pc_is condition a zero_register target over over_is branch jump cc
-  branches_passed (a ∷ b ∷ []) is (over, over_is, branch, jump) =
-      branch_passed below stands at pc_is condition a b target over over_is branch jump cc
+  branches_passed (a ∷ []) is here = branch_passed below stands at pc_is condition a zero_register target forms.jumps forms.branches here cc
+  branches_passed (a ∷ b ∷ []) is here = branch_passed below stands at pc_is condition a b target forms.jumps forms.branches here cc
   branches_passed (a ∷ b ∷ c ∷ rs) is here = cc

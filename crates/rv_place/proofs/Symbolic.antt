@@ -1,9 +1,9 @@
 -- Where the labels of a runtime stand.
-use Rattle.std.proofs.Common.{◌≡◌, ◌≢◌, ℕ, ◌+◌, inl, inr, List, ◌∷◌, refl, sym, ap, subst, arith}
+use Rattle.std.proofs.Common.{◌≡◌, ◌≢◌, ◌≤◌, ℕ, ◌+◌, inl, inr, List, [], ◌∷◌, refl, sym, ap, subst, arith}
 use Rattle.rv_isa.specs.declared.placed.Native.{Native}
 use Rattle.rv_isa.specs.declared.placed.Native.TheVariants.{Instruction, Label, Jump, Branch, Call, Address}
 use Rattle.rv_isa.specs.declared.placed.Symbol.{Symbol}
-use Rattle.cell_runtime.specs.Lines.{words_of_line, labels_of}
+use Rattle.cell_runtime.specs.Lines.{words_of_line, words_of, labels_of}
 use Rattle.rv_place.specs.Addresses.{IsBehind}
 
 -- the first label of a symbol is the one that it stands for
@@ -33,3 +33,14 @@ pub passed_over : (symbol : Symbol) (count before words : ℕ) (lines rest : Lis
 passed_over symbol count before words lines rest line here is_not same behind =
     subst (λ w. IsBehind symbol count (labels_of (before + w) rest)) (sym same)
     (passed symbol count before rest line is_not (subst (λ ls. IsBehind symbol count (labels_of before ls)) here behind))
+
+-- each label stands within the lines or behind them
+pub symbols_within : (symbol : Symbol) (count before : ℕ) (lines : List Native) → IsBehind symbol count (labels_of before lines) → count ≤ before + words_of lines
+symbols_within symbol count before [] behind = absurd behind
+symbols_within symbol count before (Label other ∷ lines) (inl (same, there)) = omega (arith, there)
+symbols_within symbol count before (Label other ∷ lines) (inr (apart, there)) = let rest = symbols_within symbol count before lines there in omega (arith, rest)
+symbols_within symbol count before (Instruction i ∷ lines) behind = let rest = symbols_within symbol count (before + 1) lines behind in omega (arith, rest)
+symbols_within symbol count before (Address rd section offset ∷ lines) behind = let rest = symbols_within symbol count (before + 2) lines behind in omega (arith, rest)
+symbols_within symbol count before (Jump target ∷ lines) behind = let rest = symbols_within symbol count (before + 0) lines behind in omega (arith, rest)
+symbols_within symbol count before (Branch condition left right target ∷ lines) behind = let rest = symbols_within symbol count (before + 0) lines behind in omega (arith, rest)
+symbols_within symbol count before (Call target ∷ lines) behind = let rest = symbols_within symbol count (before + 0) lines behind in omega (arith, rest)

@@ -1,5 +1,5 @@
 -- The parts of a text.
-use Rattle.std.proofs.Common.{◌≡◌, ◌≤◌, ℕ, zero, suc, ◌+◌, ◌*◌, List, [], ◌∷◌, ◌++◌, length, Some, refl, sym, ap, ◌∙◌, subst, arith}
+use Rattle.std.proofs.Common.{◌≡◌, ◌≤◌, ◌<◌, ℕ, zero, suc, ◌+◌, ◌*◌, ◌%◌, List, [], ◌∷◌, ◌++◌, length, Some, refl, sym, ap, ◌∙◌, subst, arith}
 use Rattle.std.specs.List.{slice_get}
 use Rattle.elf_image.specs.Program.{text_start}
 use Rattle.rv_isa.specs.declared.register.Register.{Register}
@@ -12,17 +12,22 @@ use Rattle.rv_isa.specs.declared.placed.Native.TheVariants.{Instruction, Address
 use Rattle.rv_isa.specs.declared.placed.Section.{Section}
 use Rattle.rv_isa.specs.declared.placed.Section.TheVariants.{Data, Constants}
 use Rattle.rv_isa.specs.Arithmetic.{sum_word}
-use Rattle.rv_isa.specs.PlacedCode.{PlacedLines}
+use Rattle.rv_isa.specs.declared.placed.Placed.{Placed}
+use Rattle.rv_isa.specs.PlacedCode.{PlacedLines, placed_functions}
 use Rattle.rv_isa.specs.Standing.{Has, code_of}
 use Rattle.rv_isa.proofs.Standing.{Has-back, code_of-Has, code_of-get}
 use Rattle.rv_world.specs.Operations.{address_in}
 use Rattle.rv_place.specs.Instructions.{LoadsWord}
-use Rattle.rv_place.specs.Addresses.{words_of_function, words_of_functions, entries_from}
+use Rattle.rv_place.specs.Addresses.{words_of_function, words_of_functions, entry_words, jump_words, entries_from}
+use Rattle.rv_place.specs.declared.reach.Reach.{Reach}
+use Rattle.rv_place.specs.declared.reach.Reach.TheVariants.{Near}
+use Rattle.rv_place.specs.Texts.{jumps_of, text_words}
+use Rattle.rv_place.proofs.Near.{near_within}
 use Rattle.rv_place.specs.Lines.{Map, FunctionsAt}
-use Rattle.cell_runtime.specs.Lines.{AreWithin}
+use Rattle.cell_runtime.specs.Lines.{AreWithin, words_of}
 use Rattle.cell_runtime.specs.Texts.{greatest_reach}
 use Rattle.rv_place.specs.declared.chart.Chart.{Chart}
-use Rattle.rv_place.specs.Emitted.{Grew, Charts, NativeGrew, FunctionsBy, addresses_from}
+use Rattle.rv_place.specs.Emitted.{Grew, Charts, IsInText, NativeGrew, FunctionsBy, addresses_from}
 
 -- ---- what was added, instruction by instruction
 
@@ -90,11 +95,27 @@ module _ (memory : ℕ) {old new : List Instr} where
 
 -- ---- addresses
 
--- each function is at most as far as its entry before the end of all
-pub entries_low : (at : ℕ) (functions : List PlacedLines) (f entry : ℕ) → slice_get (entries_from at functions) f ≡ Some entry → entry + 28 ≤ at + 4 * words_of_functions functions
-entries_low at [] f entry there = cc
-entries_low at (function ∷ functions) zero entry there = let here : at ≡ entry = cc in omega arith
-entries_low at (function ∷ functions) (suc f) entry there = let rest = entries_low (at + 4 * words_of_function function) functions f entry there in omega arith
+-- each function stands among all, with its entry before their end
+pub record IsAmong (at end entry words : ℕ) : Type 0 where
+  pub word : entry % 4 ≡ 0
+  pub low : at ≤ entry
+  pub high : entry + 4 * words ≤ end
+
+pub entries_among : (jumps : Reach) (at : ℕ) (functions : List PlacedLines) (f entry : ℕ) → slice_get (entries_from jumps at functions) f ≡ Some entry → at % 4 ≡ 0
+    → IsAmong at (at + 4 * words_of_functions jumps functions) entry (entry_words jumps)
+entries_among jumps at [] f entry there word = cc
+entries_among jumps at (function ∷ functions) zero entry there word = let here : at ≡ entry = cc in record { word = omega arith; low = omega arith; high = omega arith }
+entries_among jumps at (function ∷ functions) (suc f) entry there word =
+    let rest = entries_among jumps (at + 4 * words_of_function jumps function) functions f entry there (omega arith) in
+    record { word = rest.word; low = omega (arith, rest.low); high = omega (arith, rest.high) }
+
+-- a text whose jumps are near is short
+pub short_text : (runtime program : Placed) → jumps_of runtime program ≡ Near → text_start + 4 * text_words runtime program < text_start + 4 * jump_words
+short_text runtime program near =
+    let words = words_of runtime.natives.items + words_of_functions Near (placed_functions program) in
+    let few : words < jump_words = near_within jump_words words near in
+    let same : words_of_functions (jumps_of runtime program) (placed_functions program) ≡ words_of_functions Near (placed_functions program) = ap (λ (j : Reach). words_of_functions j (placed_functions program)) near in
+    omega (arith, few, same)
 
 pub addresses_get : (at : ℕ) (texts : List (List ℕ)) (index address : ℕ) → address_in at texts index ≡ Some address → slice_get (addresses_from at texts) index ≡ Some address
 addresses_get at [] index address there = cc
@@ -103,8 +124,8 @@ addresses_get at (text ∷ texts) (suc index) address there = addresses_get (at 
 
 -- functions that were added behind a runtime stand in the code of the whole
 pub functions_at : {words entry : ℕ} {own new : List Instr} {chart : Chart} (functions : List PlacedLines) (map : Map) → Charts chart map → entry ≡ text_start + 4 * length own
-    → Grew words (FunctionsBy chart entry functions) own new → FunctionsAt map (code_of text_start new) (entries_from entry functions) functions
-functions_at {own = own} {new = new} functions map charts is grew =
+    → IsInText map entry (words_of_functions map.jumps functions) → Grew words (FunctionsBy chart entry functions) own new → FunctionsAt map (code_of text_start new) (entries_from map.jumps entry functions) functions
+functions_at {own = own} {new = new} functions map charts is inside grew =
     let code = code_of text_start new in
     let whole : Has code text_start (own ++ grew.added) = subst (Has code text_start) grew.whole (code_of-Has text_start new) in
-    grew.spelled.stands code (text_start + 4 * length own) (Has-back code text_start own grew.added whole) (sym is) map charts
+    grew.spelled.stands code (text_start + 4 * length own) (Has-back code text_start own grew.added whole) (sym is) map charts inside

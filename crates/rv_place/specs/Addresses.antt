@@ -1,6 +1,6 @@
 -- Where the parts of placed code stand: how many instructions each line is, and the addresses of functions, of labels and of
 -- the runtime's routines.
-use Rattle.std.specs.Prelude.{◌≡◌, ◌≢◌, ◌⊎◌, ℕ, ◌+◌, ◌*◌, max, List, [], ◌∷◌, Option, Some, None, cond}
+use Rattle.std.specs.Prelude.{◌≡◌, ◌≢◌, ◌⊎◌, ℕ, ◌+◌, ◌*◌, max, List, [], ◌∷◌, Option, Some, None, cond, nat_lt}
 use Rattle.rv_isa.specs.declared.asm.Action.{Action}
 use Rattle.rv_isa.specs.declared.asm.Action.TheVariants.{Compute, Label, Jump, Branch, Call, TailCall, Return, Routine, Hold, Unhold}
 use Rattle.rv_isa.specs.declared.placed.Place.{Place}
@@ -9,50 +9,71 @@ use Rattle.rv_isa.specs.declared.placed.Operand.{Operand}
 use Rattle.rv_isa.specs.declared.placed.Symbol.{Symbol}
 use Rattle.rv_isa.specs.PlacedCode.{PlacedLine, does, moves, PlacedLines, from_of, to_of}
 use Rattle.rv_isa.specs.PlacedMachine.{is_label_line}
-use Rattle.rv_place.specs.Instructions.{words_of_operation}
+use Rattle.rv_place.specs.Instructions.{words_of_operation, words_of_jump, words_of_branch}
+use Rattle.rv_place.specs.declared.reach.Forms.{Forms}
+use Rattle.rv_place.specs.declared.reach.Reach.{Reach}
+use Rattle.rv_place.specs.declared.reach.Reach.TheVariants.{Near, Far}
 
--- how many instructions an action is: a jump is far, and so is a branch, over which the opposite one leads; a token that is held or
--- taken back takes the address of its slot and a call
-abbrev pub words_of_action : Action → ℕ
-words_of_action (Compute operation) = words_of_operation operation
-words_of_action (Label l) = 0
-words_of_action (Jump l) = 2
-words_of_action (Branch condition l) = 3
-words_of_action (Call f) = 2
-words_of_action (TailCall f) = 2
-words_of_action Return = 3
-words_of_action (Routine routine) = 2
-words_of_action Hold = 3
-words_of_action Unhold = 3
+-- how many instructions an action is, by the forms of jumps and branches; a token that is held or taken back takes the address of its slot and a call
+abbrev pub words_of_action : Forms → Action → ℕ
+words_of_action forms (Compute operation) = words_of_operation operation
+words_of_action forms (Label l) = 0
+words_of_action forms (Jump l) = words_of_jump forms.jumps
+words_of_action forms (Branch condition l) = words_of_branch forms.jumps forms.branches
+words_of_action forms (Call f) = words_of_jump forms.jumps
+words_of_action forms (TailCall f) = words_of_jump forms.jumps
+words_of_action forms Return = 3
+words_of_action forms (Routine routine) = words_of_jump forms.jumps
+words_of_action forms Hold = 1 + words_of_jump forms.jumps
+words_of_action forms Unhold = 1 + words_of_jump forms.jumps
 
-abbrev pub words_of_line : PlacedLine → ℕ
-words_of_line (does alive action args into) = words_of_action action
-words_of_line (moves alive value way) = 1
+abbrev pub words_of_line : Forms → PlacedLine → ℕ
+words_of_line forms (does alive action args into) = words_of_action forms action
+words_of_line forms (moves alive value way) = 1
 
-abbrev pub words_of_lines : List PlacedLine → ℕ
-words_of_lines [] = 0
-words_of_lines (line ∷ lines) = words_of_line line + words_of_lines lines
+abbrev pub words_of_lines : Forms → List PlacedLine → ℕ
+words_of_lines forms [] = 0
+words_of_lines forms (line ∷ lines) = words_of_line forms line + words_of_lines forms lines
 
 -- the address of a label in lines that stand at an address, if it is there
-abbrev pub label_address : ℕ → ℕ → List PlacedLine → Option ℕ
-label_address l at [] = None
-label_address l at (line ∷ lines) = cond (is_label_line l line) (Some at) (label_address l (at + 4 * words_of_line line) lines)
+abbrev pub label_address : Forms → ℕ → ℕ → List PlacedLine → Option ℕ
+label_address forms l at [] = None
+label_address forms l at (line ∷ lines) = cond (is_label_line l line) (Some at) (label_address forms l (at + 4 * words_of_line forms line) lines)
+
+-- ---- near and far
+
+-- near where there are fewer instructions than a limit
+abbrev pub reach_of : ℕ → ℕ → Reach
+reach_of limit words = cond (nat_lt words limit) Near Far
+
+-- a near branch leads everywhere within fewer instructions than these, 4 KiB; and a near jump within fewer than those, 1 MiB
+abbrev pub branch_words : ℕ
+branch_words = 1024
+
+abbrev pub jump_words : ℕ
+jump_words = 262144
+
+-- the forms of a function in a text whose jumps lead so far: where its lines are few instructions with near branches, they are near
+abbrev pub forms_of : Reach → List PlacedLine → Forms
+forms_of jumps lines = record { jumps = jumps; branches = reach_of branch_words (words_of_lines (record { jumps = jumps; branches = Near }) lines) }
+
+-- ---- functions
 
 -- a function begins with its entry, which compares the stack with its lowest frame, takes a frame and saves the way back
-abbrev pub entry_words : ℕ
-entry_words = 7
+abbrev pub entry_words : Reach → ℕ
+entry_words jumps = 4 + words_of_jump jumps
 
-abbrev pub words_of_function : PlacedLines → ℕ
-words_of_function function = entry_words + words_of_lines function.code
+abbrev pub words_of_function : Reach → PlacedLines → ℕ
+words_of_function jumps function = entry_words jumps + words_of_lines (forms_of jumps function.code) function.code
 
 -- the addresses of functions that stand one behind the other
-abbrev pub entries_from : ℕ → List PlacedLines → List ℕ
-entries_from at [] = []
-entries_from at (function ∷ functions) = at ∷ entries_from (at + 4 * words_of_function function) functions
+abbrev pub entries_from : Reach → ℕ → List PlacedLines → List ℕ
+entries_from jumps at [] = []
+entries_from jumps at (function ∷ functions) = at ∷ entries_from jumps (at + 4 * words_of_function jumps function) functions
 
-abbrev pub words_of_functions : List PlacedLines → ℕ
-words_of_functions [] = 0
-words_of_functions (function ∷ functions) = words_of_function function + words_of_functions functions
+abbrev pub words_of_functions : Reach → List PlacedLines → ℕ
+words_of_functions jumps [] = 0
+words_of_functions jumps (function ∷ functions) = words_of_function jumps function + words_of_functions jumps functions
 
 -- ---- frames: a word for the way back, and one for each slot
 

@@ -1,13 +1,11 @@
 -- Emitted instructions: what they are wherever they stand, and what a chart says of where things stand.
-use Rattle.std.specs.Prelude.{◌≡◌, ℕ, ◌+◌, ◌-◌, ◌*◌, ◌^◌, ◌<◌, List, [], ◌∷◌, ◌++◌, length, Option, Some, None, slice_get}
+use Rattle.std.specs.Prelude.{◌≡◌, ℕ, ◌+◌, ◌-◌, ◌*◌, ◌%◌, ◌^◌, ◌<◌, ◌≤◌, List, [], ◌∷◌, ◌++◌, length, Option, Some, None, slice_get}
 use Rattle.std.specs.Ordering.{nat_cmp}
 use Rattle.std.specs.BTreeMap.{get}
 use Rattle.rv_isa.specs.declared.instr.Instr.{Instr}
 use Rattle.rv_isa.specs.declared.instr.Instr.TheVariants.{Addi, Sw}
 use Rattle.rv_isa.specs.declared.immediate.Immediate.{Immediate}
-use Rattle.rv_isa.specs.declared.immediate.BranchOffset.{BranchOffset}
 use Rattle.rv_isa.specs.declared.register.Register.{Register}
-use Rattle.rv_isa.specs.declared.asm.Condition.{Condition}
 use Rattle.rv_isa.specs.declared.asm.Operation.{Operation}
 use Rattle.rv_isa.specs.declared.asm.Action.{Action}
 use Rattle.rv_isa.specs.declared.placed.Native.{Native}
@@ -20,14 +18,18 @@ use Rattle.rv_isa.specs.declared.placed.Symbol.TheVariants as symbol
 use Rattle.rv_isa.specs.declared.routine.Routine.TheVariants.{Take, Drop, PrintInt, PrintText, ReadByte}
 use Rattle.rv_isa.specs.PlacedCode.{PlacedLine, PlacedLines}
 use Rattle.rv_isa.specs.Standing.{Code, Has}
-use Rattle.cell_runtime.specs.Lines.{Spells, words_of_line}
+use Rattle.cell_runtime.specs.Lines.{Spells}
+use Rattle.cell_runtime.specs.Lines as OfRuntime
 use Rattle.rv_world.specs.Operations.{address_in}
-use Rattle.rv_place.specs.Addresses.{entry_words, entries_from, IsBehind, label_address}
+use Rattle.rv_place.specs.Addresses.{words_of_action, words_of_line, words_of_lines, words_of_function, words_of_functions, branch_words, jump_words, entry_words, entries_from, IsBehind, label_address}
 use Rattle.rv_place.specs.Lines.{Map, ActsAt, LineAt, LinesAt, FunctionAt, FunctionsAt, EntersAt, MovesBy, ReturnsFrom, registers_of, register_into}
 use Rattle.rv_place.specs.Registers.{zero_register, ra, sp}
-use Rattle.rv_place.specs.Instructions.{Zero, JumpsTo, Computes, opposite_branch}
+use Rattle.rv_place.specs.Instructions.{Zero, Computes}
 use Rattle.rv_place.specs.declared.chart.Chart.{Chart}
 use Rattle.rv_place.specs.declared.labels.Labels.{Labels}
+use Rattle.rv_place.specs.declared.reach.Reach.{Reach}
+use Rattle.rv_place.specs.declared.reach.Reach.TheVariants.{Near, Far}
+use Rattle.rv_place.specs.declared.reach.Forms.{Forms}
 use Rattle.rv_place.specs.declared.symbols.Symbols.{Symbols}
 
 -- so many instructions, which are code of a kind wherever they stand: by the code and the address of the first one
@@ -45,8 +47,44 @@ pub record Grew (words : ℕ) (Kind : Code → ℕ → Type 0) (old new : List I
 pub record NativeGrew (memory : ℕ) (line : Native) (old new : List Instr) : Type 0 where
   pub added : List Instr
   pub whole : new ≡ old ++ added
-  pub size : length added ≡ words_of_line line
+  pub size : length added ≡ OfRuntime.words_of_line line
   pub spells : (lines : List Native) (rest : List Instr) → Spells memory lines rest → Spells memory (line ∷ lines) (added ++ rest)
+
+-- ---- near and far
+
+-- the addresses of two instructions, less than so many bytes apart
+pub record AreNear (distance at target : ℕ) : Type 0 where
+  pub at_word : at % 4 ≡ 0
+  pub target_word : target % 4 ≡ 0
+  pub forth : target < at + distance
+  pub back : at < target + distance
+  pub at_below : at < 2 ^ 32
+  pub target_below : target < 2 ^ 32
+
+-- a jump that leads so far leads from one address to another
+abbrev pub JumpReaches : Reach → ℕ → ℕ → Type 0
+JumpReaches Near at target = AreNear (4 * jump_words) at target
+JumpReaches Far at target = Unit {0}
+
+-- and so does a branch, where jumps lead so far
+abbrev pub BranchReaches : Reach → Reach → ℕ → ℕ → Type 0
+BranchReaches jumps Near at target = AreNear (4 * branch_words) at target
+BranchReaches jumps Far at target = JumpReaches jumps (at + 4) target
+
+-- so many instructions at an address are within the text
+pub record IsInText (map : Map) (at words : ℕ) : Type 0 where
+  pub word : at % 4 ≡ 0
+  pub low : map.runtime ≤ at
+  pub high : at + 4 * words ≤ map.constants.first
+
+-- so many instructions at an address are within the lines, `whole`, of a function that has these forms and stands at `start`
+pub record IsInFunction (map : Map) (forms : Forms) (start : ℕ) (whole : List PlacedLine) (at words : ℕ) : Type 0 where
+  pub jumps : forms.jumps ≡ map.jumps
+  pub text : IsInText map start (words_of_lines forms whole)
+  pub short : forms.branches ≡ Near → words_of_lines forms whole < branch_words
+  pub word : at % 4 ≡ 0
+  pub low : start ≤ at
+  pub high : at + 4 * words ≤ start + 4 * words_of_lines forms whole
 
 -- ---- charts
 
@@ -70,12 +108,18 @@ pub record AreSymbols (runtime : ℕ) (labels : List (Symbol × ℕ)) (symbols :
   pub print_text : IsAddressOf runtime labels (symbol.Routine PrintText) symbols.print_text
   pub read_byte : IsAddressOf runtime labels (symbol.Routine ReadByte) symbols.read_byte
 
--- a chart has the numbers of a map
+-- a chart has the numbers of a map, whose text is short where jumps are near
 pub record Charts (chart : Chart) (map : Map) : Type 0 where
+  pub jumps : chart.jumps ≡ map.jumps
   pub frame : chart.frame ≡ map.frame
   pub bottom : chart.bottom ≡ map.bottom
   pub entries : chart.entries.items ≡ map.entries
-  pub low : (f entry : ℕ) → slice_get map.entries f ≡ Some entry → entry + 4 * entry_words < 2 ^ 32
+  pub entries_in : (f entry : ℕ) → slice_get map.entries f ≡ Some entry → IsInText map entry (entry_words map.jumps)
+  pub symbols_in : (name : Symbol) (before : ℕ) → IsBehind name before map.labels → map.runtime + 4 * before ≤ map.constants.first
+  pub bottom_page : map.bottom % 4096 ≡ 0
+  pub first_word : map.runtime % 4 ≡ 0
+  pub short : map.jumps ≡ Near → map.constants.first < map.runtime + 4 * jump_words
+  pub below : map.constants.first < 2 ^ 32
   pub symbols : AreSymbols map.runtime map.labels chart.symbols
   pub constants : (index address : ℕ) → address_in map.constants.first map.constants.texts index ≡ Some address → slice_get chart.constants.items index ≡ Some address
 
@@ -95,23 +139,28 @@ or_next None next = next
 
 -- labels are those of lines that stand at an address
 abbrev pub HasLabels : Labels → ℕ → List PlacedLine → Type 0
-HasLabels labels start whole = (l : ℕ) → get nat_cmp labels.addresses l ≡ label_address l start whole
+HasLabels labels start whole = (l : ℕ) → get nat_cmp labels.addresses l ≡ label_address labels.forms l start whole
 
--- code of each kind, by every map that the chart is of; lines are those of a function that has these labels
-abbrev pub ActionBy : Chart → Labels → Action → List Operand → Option Operand → Code → ℕ → Type 0
-ActionBy chart labels action args into code at =
-    (map : Map) → Charts chart map → (start : ℕ) (whole : List PlacedLine) → HasLabels labels start whole → ActsAt map code start whole at action args into
+-- code of each kind that was emitted for an address, `from`, by every map that the chart is of; lines are those of a function that has these labels
+abbrev pub ActionBy : Chart → Labels → ℕ → Action → List Operand → Option Operand → Code → ℕ → Type 0
+ActionBy chart labels from action args into code at =
+    at ≡ from → (map : Map) → Charts chart map → (start : ℕ) (whole : List PlacedLine) → HasLabels labels start whole
+    → IsInFunction map labels.forms start whole at (words_of_action labels.forms action) → ActsAt map labels.forms code start whole at action args into
 
 abbrev pub OperationBy : Chart → Operation → List Operand → Option Operand → Code → ℕ → Type 0
 OperationBy chart operation args into code at =
     (map : Map) → Charts chart map → (registers : List Register) (rd : Register) → registers_of args ≡ Some registers → register_into into ≡ Some rd
     → Computes map.constants code at operation registers rd
 
-abbrev pub LineBy : Chart → Labels → PlacedLine → Code → ℕ → Type 0
-LineBy chart labels line code at = (map : Map) → Charts chart map → (start : ℕ) (whole : List PlacedLine) → HasLabels labels start whole → LineAt map code start whole at line
+abbrev pub LineBy : Chart → Labels → ℕ → PlacedLine → Code → ℕ → Type 0
+LineBy chart labels from line code at =
+    at ≡ from → (map : Map) → Charts chart map → (start : ℕ) (whole : List PlacedLine) → HasLabels labels start whole
+    → IsInFunction map labels.forms start whole at (words_of_line labels.forms line) → LineAt map labels.forms code start whole at line
 
-abbrev pub LinesBy : Chart → Labels → List PlacedLine → Code → ℕ → Type 0
-LinesBy chart labels lines code at = (map : Map) → Charts chart map → (start : ℕ) (whole : List PlacedLine) → HasLabels labels start whole → LinesAt map code start whole at lines
+abbrev pub LinesBy : Chart → Labels → ℕ → List PlacedLine → Code → ℕ → Type 0
+LinesBy chart labels from lines code at =
+    at ≡ from → (map : Map) → Charts chart map → (start : ℕ) (whole : List PlacedLine) → HasLabels labels start whole
+    → IsInFunction map labels.forms start whole at (words_of_lines labels.forms lines) → LinesAt map labels.forms code start whole at lines
 
 abbrev pub ReturnBy : Chart → Code → ℕ → Type 0
 ReturnBy chart code at = (map : Map) → Charts chart map → ReturnsFrom map code at
@@ -119,23 +168,20 @@ ReturnBy chart code at = (map : Map) → Charts chart map → ReturnsFrom map co
 abbrev pub MoveBy : Chart → Way → Code → ℕ → Type 0
 MoveBy chart way code at = (map : Map) → Charts chart map → MovesBy map code at way
 
--- a branch on two registers
-abbrev pub BranchesBy : Code → ℕ → Condition → Register → Register → ℕ → Type 0
-BranchesBy code at condition a b target =
-    (over : BranchOffset) × (over.word ≡ 12) × (code at ≡ Some (opposite_branch condition a b over)) × JumpsTo code (at + 4) target
-
 -- a frame of so many bytes is taken, and the way back saved
 abbrev pub TakesFrame : ℕ → Code → ℕ → Type 0
 TakesFrame size code at =
     (frame : Immediate) × (zero : Immediate) × (frame.word ≡ 2 ^ 32 - size) × Zero zero × Has code at (Addi sp sp frame ∷ Sw sp ra zero ∷ [])
 
-abbrev pub EntryBy : Chart → Code → ℕ → Type 0
-EntryBy chart code at = (map : Map) → Charts chart map → EntersAt map code at
+abbrev pub EntryBy : Chart → ℕ → Code → ℕ → Type 0
+EntryBy chart from code at = at ≡ from → (map : Map) → Charts chart map → IsInText map at (entry_words map.jumps) → EntersAt map code at
 
 -- a function, and functions, that were emitted for an address
 abbrev pub FunctionBy : Chart → ℕ → PlacedLines → Code → ℕ → Type 0
-FunctionBy chart entry function code at = at ≡ entry → (map : Map) → Charts chart map → FunctionAt map code entry function
+FunctionBy chart entry function code at =
+    at ≡ entry → (map : Map) → Charts chart map → IsInText map entry (words_of_function map.jumps function) → FunctionAt map code entry function
 
 abbrev pub FunctionsBy : Chart → ℕ → List PlacedLines → Code → ℕ → Type 0
 FunctionsBy chart entry functions code at =
-    at ≡ entry → (map : Map) → Charts chart map → FunctionsAt map code (entries_from entry functions) functions
+    at ≡ entry → (map : Map) → Charts chart map → IsInText map entry (words_of_functions map.jumps functions)
+    → FunctionsAt map code (entries_from map.jumps entry functions) functions

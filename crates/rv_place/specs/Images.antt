@@ -40,9 +40,9 @@ main_entry = text_start + 4 * TEXT_WORDS
 abbrev pub first_world : List ℕ → World
 first_world input = record { left = input; trace = [] }
 
--- what a run does beside the lines of the program: 9 instructions of the start, 5 of main's entry, and 3 of the exit
+-- what a run does beside the lines of the program: 9 instructions of the start, 4 of main's entry, and 3 of the exit
 abbrev pub outside_lines : ℕ
-outside_lines = 9 + 5 + 3
+outside_lines = 9 + 4 + 3
 
 -- A text whose image does what its program does: the runtime is that of these sizes and of the program's frames; the program can be placed, and
 -- holds no token; the text is the bytes of their words; and `main` is the first function.

@@ -1,9 +1,10 @@
 -- The instructions of the assembler's operations, jumps and calls, as they stand in code at an address.
-use Rattle.std.specs.Prelude.{◌≡◌, ℕ, List, [], ◌∷◌, Some}
+use Rattle.std.specs.Prelude.{◌≡◌, ℕ, ◌+◌, ◌*◌, List, [], ◌∷◌, Some}
 use Rattle.rv_isa.specs.declared.register.Register.{Register}
 use Rattle.rv_place.specs.Registers.{zero_register, ra}
 use Rattle.rv_isa.specs.declared.immediate.Immediate.{Immediate}
 use Rattle.rv_isa.specs.declared.immediate.BranchOffset.{BranchOffset}
+use Rattle.rv_isa.specs.declared.immediate.JumpOffset.{JumpOffset}
 use Rattle.rv_isa.specs.declared.immediate.UpperImmediate.{UpperImmediate}
 use Rattle.rv_isa.specs.declared.instr.Instr.{Instr}
 use Rattle.rv_isa.specs.declared.asm.Condition.{Condition}
@@ -19,6 +20,8 @@ use Rattle.rv_isa.specs.declared.immediate.ShiftAmount.{ShiftAmount}
 use Rattle.rv_isa.specs.Arithmetic.{sum_word}
 use Rattle.rv_isa.specs.Standing.{Code, Has}
 use Rattle.rv_world.specs.Operations.{Constants, address_in}
+use Rattle.rv_place.specs.declared.reach.Reach.{Reach}
+use Rattle.rv_place.specs.declared.reach.Reach.TheVariants.{Near, Far}
 
 abbrev pub register_instruction : RegisterOperation → Register → Register → Register → Instr
 register_instruction Add rd a b = Instr.Add rd a b
@@ -53,14 +56,23 @@ shift_instruction Slli rd a amount = Instr.Slli rd a amount
 shift_instruction Srli rd a amount = Instr.Srli rd a amount
 shift_instruction Srai rd a amount = Instr.Srai rd a amount
 
--- the branch that is taken exactly where the condition does not hold
-abbrev pub opposite_branch : Condition → Register → Register → BranchOffset → Instr
-opposite_branch Equal a b offset = Instr.Bne a b offset
-opposite_branch NotEqual a b offset = Instr.Beq a b offset
-opposite_branch Less a b offset = Instr.Bge a b offset
-opposite_branch GreaterEqual a b offset = Instr.Blt a b offset
-opposite_branch LessUnsigned a b offset = Instr.Bgeu a b offset
-opposite_branch GreaterEqualUnsigned a b offset = Instr.Bltu a b offset
+-- the branch that is taken exactly where the condition holds
+abbrev pub branch_instruction : Condition → Register → Register → BranchOffset → Instr
+branch_instruction Equal a b offset = Instr.Beq a b offset
+branch_instruction NotEqual a b offset = Instr.Bne a b offset
+branch_instruction Less a b offset = Instr.Blt a b offset
+branch_instruction GreaterEqual a b offset = Instr.Bge a b offset
+branch_instruction LessUnsigned a b offset = Instr.Bltu a b offset
+branch_instruction GreaterEqualUnsigned a b offset = Instr.Bgeu a b offset
+
+-- the condition that holds exactly where another does not
+abbrev pub opposite : Condition → Condition
+opposite Equal = NotEqual
+opposite NotEqual = Equal
+opposite Less = GreaterEqual
+opposite GreaterEqual = Less
+opposite LessUnsigned = GreaterEqualUnsigned
+opposite GreaterEqualUnsigned = LessUnsigned
 
 -- an offset of 0
 abbrev pub Zero : Immediate → Type 0
@@ -72,17 +84,37 @@ LoadsWord code at rd word =
     (upper : UpperImmediate) × (lower : Immediate) × (sum_word upper.word lower.word ≡ word)
     × Has code at (Instr.Lui rd upper ∷ Instr.Addi rd rd lower ∷ [])
 
--- a jump to an address, by LUI of a register and JALR; the way back goes to a register, which may be zero
-abbrev pub JumpsBy : Code → ℕ → Register → Register → ℕ → Type 0
-JumpsBy code at by back target =
+-- how many instructions a jump is, or a call
+abbrev pub words_of_jump : Reach → ℕ
+words_of_jump Near = 1
+words_of_jump Far = 2
+
+-- A jump to an address; the way back goes to a register, which may be zero. A near one is JAL, by the distance; a far one is JALR behind LUI of ra.
+abbrev pub JumpsBy : Reach → Code → ℕ → Register → ℕ → Type 0
+JumpsBy Near code at back target = (offset : JumpOffset) × (sum_word at offset.word ≡ target) × (code at ≡ Some (Instr.Jal back offset))
+JumpsBy Far code at back target =
     (upper : UpperImmediate) × (lower : Immediate) × (sum_word upper.word lower.word ≡ target)
-    × Has code at (Instr.Lui by upper ∷ Instr.Jalr back by lower ∷ [])
+    × Has code at (Instr.Lui ra upper ∷ Instr.Jalr back ra lower ∷ [])
 
-abbrev pub JumpsTo : Code → ℕ → ℕ → Type 0
-JumpsTo code at target = JumpsBy code at ra zero_register target
+abbrev pub JumpsTo : Reach → Code → ℕ → ℕ → Type 0
+JumpsTo reach code at target = JumpsBy reach code at zero_register target
 
-abbrev pub CallsTo : Code → ℕ → ℕ → Type 0
-CallsTo code at target = JumpsBy code at ra ra target
+abbrev pub CallsTo : Reach → Code → ℕ → ℕ → Type 0
+CallsTo reach code at target = JumpsBy reach code at ra target
+
+-- how many instructions a branch is, by how far jumps lead and how far branches do
+abbrev pub words_of_branch : Reach → Reach → ℕ
+words_of_branch jumps Near = 1
+words_of_branch jumps Far = 1 + words_of_jump jumps
+
+-- A branch on two registers to an address. A near one is one instruction, by the distance; for a far one the branch of the opposite condition leads
+-- over a jump.
+abbrev pub BranchesOn : Reach → Reach → Code → ℕ → Condition → Register → Register → ℕ → Type 0
+BranchesOn jumps Near code at condition a b target =
+    (offset : BranchOffset) × (sum_word at offset.word ≡ target) × (code at ≡ Some (branch_instruction condition a b offset))
+BranchesOn jumps Far code at condition a b target =
+    (over : BranchOffset) × (over.word ≡ 4 + 4 * words_of_jump jumps) × (code at ≡ Some (branch_instruction (opposite condition) a b over))
+    × JumpsTo jumps code (at + 4) target
 
 -- an operation whose arguments are in registers, and whose result goes to one. One with another number of arguments is none.
 abbrev pub Computes : Constants → Code → ℕ → Operation → List Register → Register → Type 0

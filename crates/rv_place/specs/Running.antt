@@ -21,6 +21,7 @@ use Rattle.rv_world.specs.World.{World, primitives}
 use Rattle.rv_place.specs.Addresses.{slot_offset}
 use Rattle.rv_place.specs.Lines.{Map, LinesAt}
 use Rattle.rv_place.specs.Grounds.{stack_end, Rests}
+use Rattle.rv_place.specs.declared.reach.Forms.{Forms}
 
 -- ---- what code is asked for
 
@@ -60,10 +61,11 @@ most_lines (function ∷ functions) = max (length function.code) (most_lines fun
 
 -- the code that is left of a frame stands at an address, and the whole of its function stands somewhere
 pub record IsIn (map : Map) (code : Code) (most at : ℕ) (frame : Frame PlacedLine) : Type 0 where
+  pub forms : Forms
   pub start : ℕ
   pub start_word : start % 4 ≡ 0
-  pub whole : LinesAt map code start frame.whole start frame.whole
-  pub here : LinesAt map code start frame.whole at frame.code
+  pub whole : LinesAt map forms code start frame.whole start frame.whole
+  pub here : LinesAt map forms code start frame.whole at frame.code
   pub at_word : at % 4 ≡ 0
   pub below : at < 2 ^ 32
   pub whole_plain : ArePlain frame.whole frame.whole

@@ -1,18 +1,17 @@
 -- What a text is made of: the runtime's instructions, those of the functions behind them, and the constants behind these.
-use Rattle.std.specs.Prelude.{◌≡◌, ℕ, ◌+◌, ◌*◌, ◌≤◌, List, [], ◌∷◌, ◌++◌, length}
+use Rattle.std.specs.Prelude.{◌≡◌, ℕ, ◌+◌, ◌*◌, ◌%◌, ◌≤◌, List, [], ◌∷◌, ◌++◌, length}
 use Rattle.elf_image.specs.Program.{text_start, memory_start}
 use Rattle.rv_isa.specs.declared.instr.Instr.{Instr}
-use Rattle.rv_isa.specs.declared.placed.Native.{Native}
-use Rattle.rv_isa.specs.declared.placed.Native.TheVariants.{Instruction, Address, Label}
-use Rattle.rv_isa.specs.declared.placed.Section.TheVariants.{Data}
 use Rattle.rv_isa.specs.declared.placed.Placed.{Placed}
 use Rattle.rv_isa.specs.PlacedCode.{PlacedLines, placed_functions, placed_constants}
 use Rattle.rv_isa.specs.Standing.{code_of}
 use Rattle.cell_runtime.specs.Lines.{Spells, AreWithin, words_of, labels_of}
 use Rattle.cell_runtime.specs.Texts.{greatest_reach}
 use Rattle.rv_world.specs.Operations.{Constants, all_bytes}
-use Rattle.rv_place.specs.Addresses.{words_of_functions, entries_from, frame_size}
+use Rattle.rv_place.specs.Addresses.{reach_of, jump_words, words_of_functions, entries_from, frame_size}
 use Rattle.rv_place.specs.Lines.{Map, FunctionsAt}
+use Rattle.rv_place.specs.declared.reach.Reach.{Reach}
+use Rattle.rv_place.specs.declared.reach.Reach.TheVariants.{Near}
 use Rattle.rv_place.specs.declared.words.Words.{Words}
 
 -- ---- what can be placed
@@ -22,12 +21,13 @@ abbrev pub all_items : List PlacedLines → ℕ
 all_items [] = 0
 all_items (function ∷ functions) = length function.code + all_items functions
 
--- A runtime and a program that can be placed: frames are at most 2,044 bytes, so that each slot is within reach of the stack pointer; and the text
+-- A runtime and a program that can be placed: the stack begins at a page, so that one LUI gives the address of its lowest frame; frames are at most 2,044 bytes, so that each slot is within reach of the stack pointer; and the text
 -- is small enough for a text part.
 pub record ArePlaceable (runtime program : Placed) : Type 0 where
   pub lines : AreWithin greatest_reach runtime.natives.items
   pub runtime_size : words_of runtime.natives.items ≤ 1024
   pub bottom : runtime.memory.stack_bottom ≤ 268435456
+  pub bottom_page : runtime.memory.stack_bottom % 4096 ≡ 0
   pub frames : frame_size (placed_functions program) ≤ 2044
   pub few_functions : length (placed_functions program) ≤ 1024
   pub few_items : all_items (placed_functions program) ≤ 8388608
@@ -35,9 +35,13 @@ pub record ArePlaceable (runtime program : Placed) : Type 0 where
 
 -- ---- the text
 
+-- how far jumps lead: where the text is few instructions with near jumps, they are near
+abbrev pub jumps_of : Placed → Placed → Reach
+jumps_of runtime program = reach_of jump_words (words_of runtime.natives.items + words_of_functions Near (placed_functions program))
+
 -- how many instructions a text has
 abbrev pub text_words : Placed → Placed → ℕ
-text_words runtime program = words_of runtime.natives.items + words_of_functions (placed_functions program)
+text_words runtime program = words_of runtime.natives.items + words_of_functions (jumps_of runtime program) (placed_functions program)
 
 -- how many bytes: its instructions and the constants
 abbrev pub text_bytes : Placed → Placed → ℕ
@@ -53,9 +57,10 @@ constants_of runtime program = record { first = text_start + 4 * text_words runt
 -- where what the code names stands
 abbrev pub map_of : Placed → Placed → Map
 map_of runtime program = record {
+  jumps = jumps_of runtime program;
   frame = frame_size (placed_functions program);
   bottom = memory_of runtime program + runtime.memory.stack_bottom;
-  entries = entries_from (text_start + 4 * words_of runtime.natives.items) (placed_functions program);
+  entries = entries_from (jumps_of runtime program) (text_start + 4 * words_of runtime.natives.items) (placed_functions program);
   runtime = text_start;
   labels = labels_of 0 runtime.natives.items;
   constants = constants_of runtime program;

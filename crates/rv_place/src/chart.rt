@@ -3,12 +3,14 @@
 ghost use Rattle.std.specs.Prelude.{◌≡◌, ℕ, ◌+◌, ◌*◌, ◌^◌, ◌<◌, Some, slice_get};
 ghost use Rattle.rv_place.specs.Addresses.{entry_words};
 
-use crate::sizes::ENTRY_WORDS;
+use crate::reach::Reach;
 use crate::symbols::Symbols;
 
 /// Where what the code names stands.
 #[derive(Debug, Drop)]
 pub struct Chart {
+    /// How far the jumps of the text lead.
+    pub jumps: Reach,
     /// The bytes of a frame.
     pub frame: u32,
     /// The address of the lowest frame.
@@ -33,9 +35,10 @@ impl Chart {
 
     /// The address behind a function's entry.
     pub fn body(&self, function: u32) -> u32
-        ensures { (entry : ℕ) → slice_get self.now.entries.items function ≡ Some entry → entry + 4 * entry_words < 2 ^ 32 → result ≡ entry + 4 * entry_words }
+        ensures { (entry : ℕ) → slice_get self.now.entries.items function ≡ Some entry → entry + 4 * entry_words self.now.jumps < 2 ^ 32 → result ≡ entry + 4 * entry_words self.now.jumps }
     {
-        self.entry(function).wrapping_add(4 * ENTRY_WORDS)
+        self.entry(function)
+            .wrapping_add(4 * self.jumps.entry_words())
     }
 
     /// The address of a constant. Of one that is not there, any number.

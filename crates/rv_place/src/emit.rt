@@ -1,16 +1,20 @@
 // Instructions and rows of instructions, added at the end of code.
 
-ghost use Rattle.std.specs.Prelude.{◌≡◌, ◌+◌, ◌-◌, ◌*◌, ◌^◌, ◌≤◌, Some, OnOk, max};
+ghost use Rattle.std.specs.Prelude.{◌≡◌, ◌+◌, ◌-◌, ◌*◌, ◌%◌, ◌^◌, ◌≤◌, Some, OnOk, max};
 ghost use Rattle.rv_isa.specs.Arithmetic.{sum_word};
 ghost use Rattle.rv_isa.specs.PlacedCode.{from_of, to_of};
-ghost use Rattle.rv_place.specs.Addresses.{slot_offset, slots_of_place};
+ghost use Rattle.rv_place.specs.declared.reach.Reach.TheVariants.{Near, Far};
+ghost use Rattle.rv_place.specs.Addresses.{slot_offset, slots_of_place, branch_words, jump_words, entry_words};
 ghost use Rattle.rv_place.specs.Registers.{zero_register, ra, sp, t0};
-ghost use Rattle.rv_place.specs.Instructions.{LoadsWord, JumpsBy, JumpsTo, CallsTo, opposite_branch};
-ghost use Rattle.rv_place.specs.Emitted.{Grew, BranchesBy, TakesFrame, ReturnBy, EntryBy, MoveBy};
+ghost use Rattle.rv_place.specs.Instructions.{LoadsWord, words_of_jump, words_of_branch, JumpsBy, JumpsTo, CallsTo, BranchesOn, branch_instruction, opposite};
+ghost use Rattle.rv_place.specs.Emitted.{Grew, AreNear, JumpReaches, BranchReaches, TakesFrame, ReturnBy, EntryBy, MoveBy};
 
 use crate::chart::Chart;
+use crate::reach::{Forms, Reach};
 use kk_base::NoMemory;
-use rv_isa::{BranchOffset, Condition, Immediate, Instr, Register, UpperImmediate, Way};
+use rv_isa::{
+    BranchOffset, Condition, Immediate, Instr, JumpOffset, Register, UpperImmediate, Way,
+};
 
 /// Adds an instruction.
 pub fn emit(code: &mut Vec<Instr>, instruction: Instr) -> Result<(), NoMemory>
@@ -50,9 +54,34 @@ pub fn emit_load(code: &mut Vec<Instr>, rd: Register, word: u32) -> Result<(), N
     Ok(())
 }
 
-/// Goes to an address; the way back goes to a register.
-fn emit_jump_by(code: &mut Vec<Instr>, back: Register, target: u32) -> Result<(), NoMemory>
-    ensures { OnOk result (Grew 2 (λ c at. JumpsBy c at ra back target) code.old.items code.new.items) }
+// ---- jumps
+
+/// The distance of a jump from one address to another. Where it is too far for a jump, any distance.
+fn jump_offset(at: u32, target: u32) -> JumpOffset
+    ensures { AreNear (4 * jump_words) at target → sum_word at result.word ≡ target }
+{
+    match JumpOffset::try_new(target.wrapping_sub(at)) {
+        Some(offset) => offset,
+        None => JumpOffset::new(0),
+    }
+}
+
+/// Goes to a near address, from the address `at`; the way back goes to a register.
+fn emit_near_jump(
+    code: &mut Vec<Instr>,
+    at: u32,
+    back: Register,
+    target: u32,
+) -> Result<(), NoMemory>
+    ensures { OnOk result (Grew 1 (λ c p. p ≡ at → JumpReaches Near p target → JumpsBy Near c p back target) code.old.items code.new.items) }
+{
+    let offset = jump_offset(at, target);
+    emit(code, Instr::Jal { rd: back, offset })
+}
+
+/// Goes to any address; the way back goes to a register.
+fn emit_far_jump(code: &mut Vec<Instr>, back: Register, target: u32) -> Result<(), NoMemory>
+    ensures { OnOk result (Grew 2 (λ c p. JumpsBy Far c p back target) code.old.items code.new.items) }
 {
     let (upper, lower) = split(target);
     emit(
@@ -73,60 +102,146 @@ fn emit_jump_by(code: &mut Vec<Instr>, back: Register, target: u32) -> Result<()
     Ok(())
 }
 
-/// Goes to an address.
-pub fn emit_jump(code: &mut Vec<Instr>, target: u32) -> Result<(), NoMemory>
-    ensures { OnOk result (Grew 2 (λ c at. JumpsTo c at target) code.old.items code.new.items) }
+/// Goes to an address, from the address `at`; the way back goes to a register.
+fn emit_jump_by(
+    code: &mut Vec<Instr>,
+    at: u32,
+    reach: Reach,
+    back: Register,
+    target: u32,
+) -> Result<(), NoMemory>
+    ensures { OnOk result (Grew (words_of_jump reach) (λ c p. p ≡ at → JumpReaches reach p target → JumpsBy reach c p back target) code.old.items code.new.items) }
 {
-    emit_jump_by(code, Register::ZERO, target)
+    match reach {
+        Reach::Near => emit_near_jump(code, at, back, target),
+        Reach::Far => emit_far_jump(code, back, target),
+    }
 }
 
-/// Goes to an address, with the way back in `ra`.
-pub fn emit_call(code: &mut Vec<Instr>, target: u32) -> Result<(), NoMemory>
-    ensures { OnOk result (Grew 2 (λ c at. CallsTo c at target) code.old.items code.new.items) }
+/// Goes to an address, from the address `at`.
+pub fn emit_jump(code: &mut Vec<Instr>, at: u32, reach: Reach, target: u32) -> Result<(), NoMemory>
+    ensures { OnOk result (Grew (words_of_jump reach) (λ c p. p ≡ at → JumpReaches reach p target → JumpsTo reach c p target) code.old.items code.new.items) }
 {
-    emit_jump_by(code, Register::RA, target)
+    emit_jump_by(code, at, reach, Register::ZERO, target)
 }
 
-/// The branch that is taken exactly where the condition does not hold.
-fn opposite_branch(
+/// Goes to an address, from the address `at`, with the way back in `ra`.
+pub fn emit_call(code: &mut Vec<Instr>, at: u32, reach: Reach, target: u32) -> Result<(), NoMemory>
+    ensures { OnOk result (Grew (words_of_jump reach) (λ c p. p ≡ at → JumpReaches reach p target → CallsTo reach c p target) code.old.items code.new.items) }
+{
+    emit_jump_by(code, at, reach, Register::RA, target)
+}
+
+// ---- branches
+
+/// The distance of a branch from one address to another. Where it is too far for a branch, any distance.
+fn branch_offset(at: u32, target: u32) -> BranchOffset
+    ensures { AreNear (4 * branch_words) at target → sum_word at result.word ≡ target }
+{
+    match BranchOffset::try_new(target.wrapping_sub(at)) {
+        Some(offset) => offset,
+        None => BranchOffset::new(0),
+    }
+}
+
+/// The branch that is taken exactly where the condition holds.
+fn branch_instruction(
     condition: Condition,
     rs1: Register,
     rs2: Register,
     offset: BranchOffset,
 ) -> Instr
-    ensures { result ≡ opposite_branch condition rs1 rs2 offset }
+    ensures { result ≡ branch_instruction condition rs1 rs2 offset }
 {
     match condition {
-        Condition::Equal => Instr::Bne { rs1, rs2, offset },
-        Condition::NotEqual => Instr::Beq { rs1, rs2, offset },
-        Condition::Less => Instr::Bge { rs1, rs2, offset },
-        Condition::GreaterEqual => Instr::Blt { rs1, rs2, offset },
-        Condition::LessUnsigned => Instr::Bgeu { rs1, rs2, offset },
-        Condition::GreaterEqualUnsigned => Instr::Bltu { rs1, rs2, offset },
+        Condition::Equal => Instr::Beq { rs1, rs2, offset },
+        Condition::NotEqual => Instr::Bne { rs1, rs2, offset },
+        Condition::Less => Instr::Blt { rs1, rs2, offset },
+        Condition::GreaterEqual => Instr::Bge { rs1, rs2, offset },
+        Condition::LessUnsigned => Instr::Bltu { rs1, rs2, offset },
+        Condition::GreaterEqualUnsigned => Instr::Bgeu { rs1, rs2, offset },
+    }
+}
+
+/// The condition that holds exactly where another does not.
+fn opposite(condition: Condition) -> Condition
+    ensures { result ≡ opposite condition }
+{
+    match condition {
+        Condition::Equal => Condition::NotEqual,
+        Condition::NotEqual => Condition::Equal,
+        Condition::Less => Condition::GreaterEqual,
+        Condition::GreaterEqual => Condition::Less,
+        Condition::LessUnsigned => Condition::GreaterEqualUnsigned,
+        Condition::GreaterEqualUnsigned => Condition::LessUnsigned,
     }
 }
 
 /// Over a jump: the distance of a branch that stands right before one.
-fn over_jump() -> BranchOffset
-    ensures { result.word ≡ 12 }
+fn over_jump(jumps: Reach) -> BranchOffset
+    ensures { result.word ≡ 4 + 4 * words_of_jump jumps }
 {
-    BranchOffset::new(12)
+    BranchOffset::new(4 + 4 * jumps.words_of_jump())
 }
 
-/// Goes to an address where the condition holds: the opposite branch leads over a jump, since a branch alone does not reach far.
-pub fn emit_branch(
+/// Goes to a near address, from the address `at`, where the condition holds.
+fn emit_near_branch(
     code: &mut Vec<Instr>,
+    at: u32,
     condition: Condition,
     left: Register,
     right: Register,
     target: u32,
 ) -> Result<(), NoMemory>
-    ensures { OnOk result (Grew 3 (λ c at. BranchesBy c at condition left right target) code.old.items code.new.items) }
+    ensures { OnOk result (Grew 1 (λ c p. p ≡ at → AreNear (4 * branch_words) p target → BranchesOn Near Near c p condition left right target) code.old.items code.new.items) }
 {
-    emit(code, opposite_branch(condition, left, right, over_jump()))?;
-    emit_jump(code, target)?;
+    let offset = branch_offset(at, target);
+    emit(code, branch_instruction(condition, left, right, offset))
+}
+
+/// Goes to an address, from the address `at`, where the condition holds: the branch of the opposite condition leads over a
+/// jump, since a branch alone does not reach far.
+fn emit_far_branch(
+    code: &mut Vec<Instr>,
+    at: u32,
+    jumps: Reach,
+    condition: Condition,
+    left: Register,
+    right: Register,
+    target: u32,
+) -> Result<(), NoMemory>
+    requires at { at ≤ 536870912 }
+    ensures { OnOk result (Grew (1 + words_of_jump jumps) (λ c p. p ≡ at → JumpReaches jumps (p + 4) target → BranchesOn jumps Far c p condition left right target) code.old.items code.new.items) }
+{
+    let over = over_jump(jumps);
+    emit(
+        code,
+        branch_instruction(opposite(condition), left, right, over),
+    )?;
+    emit_jump(code, at + 4, jumps, target)?;
     Ok(())
 }
+
+/// Goes to an address, from the address `at`, where the condition holds.
+pub fn emit_branch(
+    code: &mut Vec<Instr>,
+    at: u32,
+    forms: Forms,
+    condition: Condition,
+    left: Register,
+    right: Register,
+    target: u32,
+) -> Result<(), NoMemory>
+    requires at { at ≤ 536870912 }
+    ensures { OnOk result (Grew (words_of_branch forms.jumps forms.branches) (λ c p. p ≡ at → BranchReaches forms.jumps forms.branches p target → BranchesOn forms.jumps forms.branches c p condition left right target) code.old.items code.new.items) }
+{
+    match forms.branches {
+        Reach::Near => emit_near_branch(code, at, condition, left, right, target),
+        Reach::Far => emit_far_branch(code, at, forms.jumps, condition, left, right, target),
+    }
+}
+
+// ---- frames
 
 /// An immediate that is a number of bytes within a frame.
 fn small(number: u32) -> Immediate
@@ -201,22 +316,36 @@ fn emit_taking(code: &mut Vec<Instr>, frame: u32) -> Result<(), NoMemory>
     Ok(())
 }
 
-/// The entry of a function: where no frame is left, the stop for a full stack; else a frame is taken.
-pub fn emit_entry(code: &mut Vec<Instr>, chart: &Chart) -> Result<(), NoMemory>
+/// The upper bits of the address of a page.
+fn page(address: u32) -> UpperImmediate
+    ensures { address % 4096 ≡ 0 → result.word ≡ address }
+{
+    UpperImmediate::new(address - address % 0x1000)
+}
+
+/// The entry of a function, at the address `at`: where no frame is left, the stop for a full stack; else a frame is taken.
+pub fn emit_entry(code: &mut Vec<Instr>, at: u32, chart: &Chart) -> Result<(), NoMemory>
+    requires at { at ≤ 268435456 }
     requires some { 1 ≤ chart.now.frame }
     requires few { chart.now.frame ≤ 2044 }
-    ensures { OnOk result (Grew 7 (EntryBy chart.now) code.old.items code.new.items) }
+    ensures { OnOk result (Grew (entry_words chart.now.jumps) (EntryBy chart.now at) code.old.items code.new.items) }
 {
-    emit_load(code, Register::T0, chart.bottom)?;
     emit(
         code,
-        Instr::Bne {
-            rs1: Register::SP,
-            rs2: Register::T0,
-            offset: over_jump(),
+        Instr::Lui {
+            rd: Register::T0,
+            imm: page(chart.bottom),
         },
     )?;
-    emit_jump(code, chart.symbols.stack_full)?;
+    emit_far_branch(
+        code,
+        at + 4,
+        chart.jumps,
+        Condition::Equal,
+        Register::SP,
+        Register::T0,
+        chart.symbols.stack_full,
+    )?;
     emit_taking(code, chart.frame)?;
     Ok(())
 }

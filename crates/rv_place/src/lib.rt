@@ -9,6 +9,7 @@ mod labels;
 mod law;
 mod lines;
 mod operations;
+mod reach;
 mod sizes;
 mod symbols;
 mod text;

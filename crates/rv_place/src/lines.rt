@@ -3,6 +3,7 @@
 ghost use Rattle.std.specs.Prelude.{◌≡◌, ⊤, ℕ, ◌+◌, ◌*◌, ◌^◌, ◌<◌, ◌≤◌, Some, OnOk, length, map, slice_get};
 ghost use Rattle.rv_isa.specs.PlacedCode.{placed_line_of, placed_lines_of};
 ghost use Rattle.rv_isa.specs.PlacedMachine.{is_label_line};
+ghost use Rattle.rv_place.specs.Instructions.{words_of_jump};
 ghost use Rattle.rv_place.specs.Addresses.{words_of_action, words_of_line, words_of_lines, words_of_function, words_of_functions, label_address, slots_of_operands, slots_of_line, slots_of_lines, slots_of_functions};
 ghost use Rattle.rv_place.specs.Texts.{all_items};
 ghost use Rattle.rv_place.specs.Emitted.{Grew, ActionBy, LineBy, LinesBy, FunctionBy, FunctionsBy};
@@ -13,7 +14,8 @@ use crate::emit::{
 };
 use crate::labels::Labels;
 use crate::operations::{argument, emit_operation};
-use crate::sizes::{ENTRY_WORDS, words_of_function};
+use crate::reach::Reach;
+use crate::sizes::{forms_of, words_of_function, words_of_item};
 use kk_base::NoMemory;
 use rv_isa::{Action, Immediate, Instr, Item, Operand, Place, PlacedFunction, Register};
 use std::alloc::Global;
@@ -33,10 +35,17 @@ fn token_offset(args: &[Operand]) -> Immediate
     }
 }
 
-/// A token that is held or taken back: a call with the address of its slot in `a0`.
-fn emit_token(code: &mut Vec<Instr>, args: &[Operand], target: u32) -> Result<(), NoMemory>
-    requires { 4 * slots_of_operands args.now + 4 ≤ 2044 }
-    ensures { OnOk result (Grew 3 (λ c at. ⊤) code.old.items code.new.items) }
+/// A token that is held or taken back, at the address `at`: a call with the address of its slot in `a0`.
+fn emit_token(
+    code: &mut Vec<Instr>,
+    at: u32,
+    jumps: Reach,
+    args: &[Operand],
+    target: u32,
+) -> Result<(), NoMemory>
+    requires at { at ≤ 536870912 }
+    requires slots { 4 * slots_of_operands args.now + 4 ≤ 2044 }
+    ensures { OnOk result (Grew (1 + words_of_jump jumps) (λ c p. ⊤) code.old.items code.new.items) }
 {
     emit(
         code,
@@ -46,56 +55,63 @@ fn emit_token(code: &mut Vec<Instr>, args: &[Operand], target: u32) -> Result<()
             imm: token_offset(args),
         },
     )?;
-    emit_call(code, target)?;
+    emit_call(code, at + 4, jumps, target)?;
     Ok(())
 }
 
-/// An action of a function that has these labels.
+/// An action of a function that has these labels, at the address `at`.
 fn emit_action(
     code: &mut Vec<Instr>,
+    at: u32,
     chart: &Chart,
     labels: &Labels,
     action: Action,
     args: &[Operand],
     into: Option<Operand>,
 ) -> Result<(), NoMemory>
+    requires at { at ≤ 536870912 }
     requires frame { chart.now.frame ≤ 2044 }
     requires slots { 4 * slots_of_operands args.now + 4 ≤ chart.now.frame }
-    ensures { OnOk result (Grew (words_of_action action) (ActionBy chart.now labels.now action args.now into) code.old.items code.new.items) }
+    ensures { OnOk result (Grew (words_of_action labels.now.forms action) (ActionBy chart.now labels.now at action args.now into) code.old.items code.new.items) }
 {
+    let jumps = labels.forms.jumps;
     match action {
         Action::Compute(operation) => emit_operation(code, chart, operation, args, into),
         Action::Label(_) => Ok(()),
-        Action::Jump(label) => emit_jump(code, labels.address(label)),
+        Action::Jump(label) => emit_jump(code, at, jumps, labels.address(label)),
         Action::Branch(condition, label) => {
             let target = labels.address(label);
             emit_branch(
                 code,
+                at,
+                labels.forms,
                 condition,
                 argument(args, 0),
                 argument(args, 1),
                 target,
             )
         }
-        Action::Call(function) => emit_call(code, chart.entry(function)),
-        Action::TailCall(function) => emit_jump(code, chart.body(function)),
+        Action::Call(function) => emit_call(code, at, jumps, chart.entry(function)),
+        Action::TailCall(function) => emit_jump(code, at, jumps, chart.body(function)),
         Action::Return => emit_return(code, chart),
-        Action::Routine(routine) => emit_call(code, chart.symbols.routine(routine)),
-        Action::Hold => emit_token(code, args, chart.symbols.hold),
-        Action::Unhold => emit_token(code, args, chart.symbols.unhold),
+        Action::Routine(routine) => { emit_call(code, at, jumps, chart.symbols.routine(routine)) }
+        Action::Hold => emit_token(code, at, jumps, args, chart.symbols.hold),
+        Action::Unhold => emit_token(code, at, jumps, args, chart.symbols.unhold),
     }
 }
 
-/// An item of a function that has these labels.
+/// An item of a function that has these labels, at the address `at`.
 fn emit_item(
     code: &mut Vec<Instr>,
+    at: u32,
     chart: &Chart,
     labels: &Labels,
     item: &Item,
 ) -> Result<(), NoMemory>
+    requires at { at ≤ 536870912 }
     requires frame { chart.now.frame ≤ 2044 }
     requires slots { 4 * slots_of_line (placed_line_of item.now) + 4 ≤ chart.now.frame }
-    ensures { OnOk result (Grew (words_of_line (placed_line_of item.now)) (LineBy chart.now labels.now (placed_line_of item.now)) code.old.items code.new.items) }
+    ensures { OnOk result (Grew (words_of_line labels.now.forms (placed_line_of item.now)) (LineBy chart.now labels.now at (placed_line_of item.now)) code.old.items code.new.items) }
 {
     match item {
         Item::Does {
@@ -103,24 +119,29 @@ fn emit_item(
             args,
             into,
             ..
-        } => emit_action(code, chart, labels, *action, args, *into),
+        } => emit_action(code, at, chart, labels, *action, args, *into),
         Item::Moves { way, .. } => emit_move(code, chart, *way),
     }
 }
 
-/// Items of a function that has these labels.
+/// Items of a function that has these labels, from the address `start` on.
 fn emit_items(
     code: &mut Vec<Instr>,
+    start: u32,
     chart: &Chart,
     labels: &Labels,
     items: &[Item],
 ) -> Result<(), NoMemory>
+    requires start { start ≤ 268435456 }
+    requires items { length items.now ≤ 8388608 }
     requires frame { chart.now.frame ≤ 2044 }
     requires slots { 4 * slots_of_lines (map placed_line_of items.now) + 4 ≤ chart.now.frame }
-    ensures { OnOk result (Grew (words_of_lines (map placed_line_of items.now)) (LinesBy chart.now labels.now (map placed_line_of items.now)) code.old.items code.new.items) }
+    ensures { OnOk result (Grew (words_of_lines labels.now.forms (map placed_line_of items.now)) (LinesBy chart.now labels.now start (map placed_line_of items.now)) code.old.items code.new.items) }
 {
+    let mut at = start;
     for item in items {
-        emit_item(code, chart, labels, item)?;
+        emit_item(code, at, chart, labels, item)?;
+        at += 4 * words_of_item(labels.forms, item);
     }
     Ok(())
 }
@@ -138,11 +159,13 @@ fn emit_function(
     requires some_frame { 1 ≤ chart.now.frame }
     requires frame { chart.now.frame ≤ 2044 }
     requires slots { 4 * slots_of_lines (map placed_line_of function.now.code.items) + 4 ≤ chart.now.frame }
-    ensures { OnOk result (Grew (words_of_function (placed_lines_of function.now)) (FunctionBy chart.now entry (placed_lines_of function.now)) code.old.items code.new.items) }
+    ensures { OnOk result (Grew (words_of_function chart.now.jumps (placed_lines_of function.now)) (FunctionBy chart.now entry (placed_lines_of function.now)) code.old.items code.new.items) }
 {
-    emit_entry(code, chart)?;
-    let labels = Labels::of(alloc, entry + 4 * ENTRY_WORDS, &function.code)?;
-    emit_items(code, chart, &labels, &function.code)?;
+    emit_entry(code, entry, chart)?;
+    let start = entry + 4 * chart.jumps.entry_words();
+    let forms = forms_of(chart.jumps, &function.code);
+    let labels = Labels::of(alloc, forms, start, &function.code)?;
+    emit_items(code, start, chart, &labels, &function.code)?;
     Ok(())
 }
 
@@ -160,12 +183,12 @@ pub fn emit_functions(
     requires some_frame { 1 ≤ chart.now.frame }
     requires frame { chart.now.frame ≤ 2044 }
     requires slots { 4 * slots_of_functions (map placed_lines_of functions.now) + 4 ≤ chart.now.frame }
-    ensures { OnOk result (Grew (words_of_functions (map placed_lines_of functions.now)) (FunctionsBy chart.now entry (map placed_lines_of functions.now)) code.old.items code.new.items) }
+    ensures { OnOk result (Grew (words_of_functions chart.now.jumps (map placed_lines_of functions.now)) (FunctionsBy chart.now entry (map placed_lines_of functions.now)) code.old.items code.new.items) }
 {
     let mut at = entry;
     for function in functions {
         emit_function(alloc, code, chart, at, function)?;
-        at += 4 * words_of_function(function);
+        at += 4 * words_of_function(chart.jumps, function);
     }
     Ok(())
 }

@@ -5,9 +5,10 @@ ghost use Rattle.rv_isa.specs.PlacedCode.{placed_line_of, placed_lines_of, place
 ghost use Rattle.rv_world.specs.Operations.{all_bytes};
 ghost use Rattle.cell_runtime.specs.Lines.{words_of};
 ghost use Rattle.rv_place.specs.Instructions.{words_of_operation};
-ghost use Rattle.rv_place.specs.Addresses.{words_of_action, words_of_line, words_of_lines, words_of_function, words_of_functions, slots_of_place, slots_of_operands, slots_of_line, slots_of_lines, slots_of_functions, frame_size};
+ghost use Rattle.rv_place.specs.Addresses.{words_of_action, words_of_line, words_of_lines, words_of_function, words_of_functions, forms_of, slots_of_place, slots_of_operands, slots_of_line, slots_of_lines, slots_of_functions, frame_size};
 ghost use Rattle.rv_place.specs.Texts.{all_items};
 
+use crate::reach::{Forms, Reach};
 use crate::symbols::words_of_native;
 use kk_base::Text;
 use rv_isa::{Action, Item, Native, Operand, Operation, Place, Placed, PlacedFunction, Way};
@@ -23,63 +24,83 @@ fn words_of_operation(operation: Operation) -> u32
 }
 
 /// How many instructions an action is.
-fn words_of_action(action: Action) -> u32
-    ensures words { result ≡ words_of_action action }
+fn words_of_action(forms: Forms, action: Action) -> u32
+    ensures words { result ≡ words_of_action forms action }
     ensures few { result ≤ 3 }
 {
+    let jump = forms.jumps.words_of_jump();
     match action {
         Action::Compute(operation) => words_of_operation(operation),
         Action::Label(_) => 0,
-        Action::Jump(_) | Action::Call(_) | Action::TailCall(_) | Action::Routine(_) => 2,
-        Action::Branch(_, _) | Action::Return | Action::Hold | Action::Unhold => 3,
+        Action::Jump(_) | Action::Call(_) | Action::TailCall(_) | Action::Routine(_) => jump,
+        Action::Branch(_, _) => forms.words_of_branch(),
+        Action::Return => 3,
+        Action::Hold | Action::Unhold => 1 + jump,
     }
 }
 
 /// How many instructions an item is.
-pub fn words_of_item(item: &Item) -> u32
-    ensures words { result ≡ words_of_line (placed_line_of item.now) }
+pub fn words_of_item(forms: Forms, item: &Item) -> u32
+    ensures words { result ≡ words_of_line forms (placed_line_of item.now) }
     ensures few { result ≤ 3 }
 {
     match item {
-        Item::Does { action, .. } => words_of_action(*action),
+        Item::Does { action, .. } => words_of_action(forms, *action),
         Item::Moves { .. } => 1,
     }
 }
 
-fn words_of_items(items: &[Item]) -> u32
+fn words_of_items(forms: Forms, items: &[Item]) -> u32
     requires { length items.now ≤ 8388608 }
-    ensures words { result ≡ words_of_lines (map placed_line_of items.now) }
+    ensures words { result ≡ words_of_lines forms (map placed_line_of items.now) }
     ensures few { result ≤ 3 * length items.now }
 {
     let mut words = 0;
     for item in items {
-        words += words_of_item(item);
+        words += words_of_item(forms, item);
     }
     words
 }
 
-/// How many instructions a function is, its entry included.
-pub fn words_of_function(function: &PlacedFunction) -> u32
-    requires { length function.now.code.items ≤ 8388608 }
-    ensures words { result ≡ words_of_function (placed_lines_of function.now) }
-    ensures few { result ≤ 7 + 3 * length function.now.code.items }
+/// The forms of a function in a text whose jumps lead so far: where its code is short with near branches, they are near.
+pub fn forms_of(jumps: Reach, items: &[Item]) -> Forms
+    requires { length items.now ≤ 8388608 }
+    ensures { result ≡ forms_of jumps (map placed_line_of items.now) }
 {
-    ENTRY_WORDS + words_of_items(&function.code)
+    let branches = Reach::Near;
+    let words = words_of_items(Forms { jumps, branches }, items);
+    Forms {
+        jumps,
+        branches: Reach::within(words, BRANCH_WORDS),
+    }
 }
 
-/// How many instructions the entry of a function is.
-pub const ENTRY_WORDS: u32 = 7;
+/// A near branch leads everywhere within fewer instructions than these: a branch reaches 4 KiB.
+const BRANCH_WORDS: u32 = 1024;
+
+/// A near jump leads everywhere within fewer instructions than these: a jump reaches 1 MiB.
+pub const JUMP_WORDS: u32 = 262_144;
+
+/// How many instructions a function is, its entry included.
+pub fn words_of_function(jumps: Reach, function: &PlacedFunction) -> u32
+    requires { length function.now.code.items ≤ 8388608 }
+    ensures words { result ≡ words_of_function jumps (placed_lines_of function.now) }
+    ensures few { result ≤ 6 + 3 * length function.now.code.items }
+{
+    let forms = forms_of(jumps, &function.code);
+    jumps.entry_words() + words_of_items(forms, &function.code)
+}
 
 /// How many instructions functions are.
-pub fn words_of_functions(functions: &[PlacedFunction]) -> u32
+pub fn words_of_functions(jumps: Reach, functions: &[PlacedFunction]) -> u32
     requires functions { length functions.now ≤ 1024 }
     requires items { all_items (map placed_lines_of functions.now) ≤ 8388608 }
-    ensures words { result ≡ words_of_functions (map placed_lines_of functions.now) }
-    ensures few { result ≤ 7 * length functions.now + 3 * all_items (map placed_lines_of functions.now) }
+    ensures words { result ≡ words_of_functions jumps (map placed_lines_of functions.now) }
+    ensures few { result ≤ 6 * length functions.now + 3 * all_items (map placed_lines_of functions.now) }
 {
     let mut words = 0;
     for function in functions {
-        words += words_of_function(function);
+        words += words_of_function(jumps, function);
     }
     words
 }

@@ -8,14 +8,16 @@ ghost use Rattle.cell_runtime.specs.Lines.{Spells, words_of};
 ghost use Rattle.rv_place.specs.Addresses.{entries_from};
 ghost use Rattle.cell_runtime.specs.Lines.{AreWithin};
 ghost use Rattle.cell_runtime.specs.Texts.{greatest_reach};
-ghost use Rattle.rv_place.specs.Texts.{ArePlaceable, ArePlacedWords, all_items, text_words, memory_of, map_of};
+ghost use Rattle.rv_place.specs.Texts.{ArePlaceable, ArePlacedWords, all_items, jumps_of, text_words, memory_of, map_of};
 ghost use Rattle.rv_place.specs.Emitted.{Charts, NativeGrew, addresses_from};
 
 use crate::chart::Chart;
 use crate::emit::{emit, emit_load};
 use crate::lines::emit_functions;
+use crate::reach::Reach;
 use crate::sizes::{
-    bytes_of_constants, frame_bytes, words_of_function, words_of_functions, words_of_natives,
+    JUMP_WORDS, bytes_of_constants, frame_bytes, words_of_function, words_of_functions,
+    words_of_natives,
 };
 use crate::symbols::Symbols;
 use crate::words::Words;
@@ -24,13 +26,24 @@ use kk_base::{NoMemory, Text};
 use rv_isa::{Instr, Native, Placed, PlacedFunction};
 use std::alloc::Global;
 
+/// How far the jumps of the text lead: where it is short with near jumps, they are near.
+fn jumps_of(runtime: &Placed, program: &Placed) -> Reach
+    requires { ArePlaceable runtime.now program.now }
+    ensures { result ≡ jumps_of runtime.now program.now }
+{
+    let own = words_of_natives(&runtime.natives);
+    let words = own + words_of_functions(Reach::Near, &program.functions);
+    Reach::within(words, JUMP_WORDS)
+}
+
 /// How many instructions the text has.
 fn text_words(runtime: &Placed, program: &Placed) -> u32
     requires { ArePlaceable runtime.now program.now }
     ensures words { result ≡ text_words runtime.now program.now }
     ensures few { result ≤ 25174016 }
 {
-    words_of_natives(&runtime.natives) + words_of_functions(&program.functions)
+    let jumps = jumps_of(runtime, program);
+    words_of_natives(&runtime.natives) + words_of_functions(jumps, &program.functions)
 }
 
 /// The address of the memory behind the text.
@@ -52,17 +65,22 @@ fn first_entry(runtime: &Placed) -> u32
 }
 
 /// The addresses of functions that stand one behind the other.
-fn entries(alloc: Global, first: u32, functions: &[PlacedFunction]) -> Result<Vec<u32>, NoMemory>
+fn entries(
+    alloc: Global,
+    jumps: Reach,
+    first: u32,
+    functions: &[PlacedFunction],
+) -> Result<Vec<u32>, NoMemory>
     requires first { first ≤ 134217728 }
     requires few { length functions.now ≤ 1024 }
     requires items { all_items (map placed_lines_of functions.now) ≤ 8388608 }
-    ensures { IfOk result (λ entries. entries.items ≡ entries_from first (map placed_lines_of functions.now)) }
+    ensures { IfOk result (λ entries. entries.items ≡ entries_from jumps first (map placed_lines_of functions.now)) }
 {
     let mut entries = Vec::new(alloc);
     let mut at = first;
     for function in functions {
         entries.push(at)?;
-        at += 4 * words_of_function(function);
+        at += 4 * words_of_function(jumps, function);
     }
     Ok(entries)
 }
@@ -98,10 +116,12 @@ fn chart_of(alloc: Global, runtime: &Placed, program: &Placed) -> Result<Chart, 
     requires { ArePlaceable runtime.now program.now }
     ensures { IfOk result (λ chart. Charts chart (map_of runtime.now program.now)) }
 {
-    let entries = entries(alloc, first_entry(runtime), &program.functions)?;
+    let jumps = jumps_of(runtime, program);
+    let entries = entries(alloc, jumps, first_entry(runtime), &program.functions)?;
     let first = TEXT_START + 4 * text_words(runtime, program);
     let constants = constant_addresses(alloc, first, &program.constants)?;
     Ok(Chart {
+        jumps,
         frame: frame_bytes(program),
         bottom: memory_of(runtime, program) + runtime.memory.stack_bottom,
         entries,

@@ -24,6 +24,7 @@ pub fn program(alloc: Global, body: &str) -> Result<Program, Fail> {
         types: Vec::new(alloc),
         constructors: Vec::new(alloc),
         functions,
+        texts: Vec::new(alloc),
         main: u32::try_from(main).unwrap_or(0),
     })
 }
@@ -64,7 +65,7 @@ fn expression(alloc: Global, words: &str) -> Result<Expr, Fail> {
     Ok(builder.pop())
 }
 
-/// The operator, print, construction or call of a word, and the number of its arguments.
+/// The form of a word that is no number, and the number of its arguments.
 fn form(word: &str) -> Option<(Form, usize)> {
     let (form, count) = match word {
         "+" => (Form::Binary(BinaryOperator::Add), 2),
@@ -72,6 +73,8 @@ fn form(word: &str) -> Option<(Form, usize)> {
         "*" => (Form::Binary(BinaryOperator::Multiply), 2),
         "==" => (Form::Binary(BinaryOperator::Equal), 2),
         ">=" => (Form::Binary(BinaryOperator::GreaterEqual), 2),
+        "()" => (Form::Unit, 0),
+        "read-byte" => (Form::ReadByte, 0),
         "println" => (Form::Print(PrintForm::PrintLine), 1),
         "Nil" => (Form::Construct(2), 0),
         "Cons" => (Form::Construct(3), 2),
@@ -105,8 +108,6 @@ struct Builder {
 impl Builder {
     fn add(&mut self, word: &str) -> Result<(), Fail> {
         match word {
-            "()" => self.exprs.push(Expr::Unit)?,
-            "read-byte" => self.exprs.push(Expr::ReadByte)?,
             "if" => self.branch()?,
             "_" => self.patterns.push(Pat::Wildcard)?,
             "->" => self.row()?,
@@ -132,7 +133,8 @@ impl Builder {
         } else if let Some(variable) = word.strip_prefix("val") {
             self.statement(Binder::Variable(variable.parse()?))?;
         } else {
-            self.exprs.push(Expr::Number(word.parse()?))?;
+            let number = Form::Number(word.parse()?);
+            self.exprs.push(Expr::Apply(number, Vec::new(self.alloc)))?;
         }
         Ok(())
     }
@@ -151,7 +153,10 @@ impl Builder {
 
     /// The newest expression; `()` where there is none.
     fn pop(&mut self) -> Expr {
-        self.exprs.pop().unwrap_or(Expr::Unit)
+        match self.exprs.pop() {
+            Some(expr) => expr,
+            None => Expr::Apply(Form::Unit, Vec::new(self.alloc)),
+        }
     }
 
     fn pop_boxed(&mut self) -> Result<Box<Expr>, Fail> {

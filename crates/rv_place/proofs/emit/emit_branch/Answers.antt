@@ -1,8 +1,15 @@
-use Rattle.std.proofs.Common.{Some, refl, ap, ◌∙◌}
-use Rattle.rv_place.proofs.Emitting.{grew_so, grew_then}
+use Rattle.rv_place.proofs.Emitting.{on_so}
+use Rattle.rv_place.proofs.Jumping.{branch_near, branch_far}
 use Rattle.rv_place.proofs.emit.emit_branch.Goals as goal
 
-pub returns : goal.returns
-returns c =
-    grew_so refl (λ code at row. (c.over_jump.result, c.over_jump.ensures, row.0 ∙ ap Some c.opposite_branch.ensures, row.1))
-    (grew_then c.in_ok-emit.ensures c.in_ok-emit_jump.ensures)
+pub returns-in-Near : goal.returns-in-Near
+returns-in-Near c =
+    on_so c.emit_near_branch.result
+    (branch_near c.args.at c.args.forms.jumps c.args.condition c.args.left c.args.right c.args.target c.in-Near.is)
+    c.emit_near_branch.ensures
+
+pub returns-in-Far : goal.returns-in-Far
+returns-in-Far c =
+    on_so c.emit_far_branch.result
+    (branch_far c.args.at c.args.forms.jumps c.args.condition c.args.left c.args.right c.args.target c.in-Far.is)
+    c.emit_far_branch.ensures

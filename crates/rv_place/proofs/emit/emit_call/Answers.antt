@@ -8,5 +8,5 @@ use Rattle.rv_place.proofs.emit.emit_call.Goals as goal
 pub returns : goal.returns
 returns c =
     on_so c.emit_jump_by.result
-    (grew_so refl (λ code at jumps. subst (λ back. JumpsBy code at ra back c.args.target) (same_register _ ra refl) jumps))
+    (grew_so refl (λ code at jumps is reaches. subst (λ back. JumpsBy c.args.reach code at back c.args.target) (same_register _ ra refl) (jumps is reaches)))
     c.emit_jump_by.ensures

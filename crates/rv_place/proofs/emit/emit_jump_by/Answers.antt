@@ -1,10 +1,9 @@
-use Rattle.std.proofs.Common.{Some, refl, ap, ◌∙◌}
-use Rattle.cell_runtime.proofs.SameLines.{same_jalr}
-use Rattle.rv_place.proofs.Emitting.{grew_so, grew_then, same_lui}
+use Rattle.rv_place.proofs.Emitting.{on_so}
+use Rattle.rv_place.proofs.Jumping.{jump_near, jump_far}
 use Rattle.rv_place.proofs.emit.emit_jump_by.Goals as goal
 
-pub returns : goal.returns
-returns c =
-    grew_so refl
-    (λ code at row. (c.split.result.0, c.split.result.1, c.split.ensures, (row.0 ∙ ap Some (same_lui refl), (row.1 ∙ ap Some (same_jalr refl refl refl), tt))))
-    (grew_then c.in_ok-emit.ensures c.in_ok-emit-2.ensures)
+pub returns-in-Near : goal.returns-in-Near
+returns-in-Near c = on_so c.emit_near_jump.result (jump_near c.args.at c.args.back c.args.target c.in-Near.is) c.emit_near_jump.ensures
+
+pub returns-in-Far : goal.returns-in-Far
+returns-in-Far c = on_so c.emit_far_jump.result (jump_far c.args.at c.args.back c.args.target c.in-Far.is) c.emit_far_jump.ensures

@@ -5,41 +5,41 @@ use Rattle.rv_place.proofs.lines.emit_action.Goals as goal
 pub returns-in-Compute : goal.returns-in-Compute
 returns-in-Compute c =
     on_so c.emit_operation.result
-    (on_operation c.args.chart.now c.args.labels.now c.args.args.now c.args.into c.in-Compute.is)
+    (on_operation c.args.chart.now c.args.labels.now c.args.at c.args.args.now c.args.into c.in-Compute.is)
     c.emit_operation.ensures
 
 pub returns-in-Jump : goal.returns-in-Jump
 returns-in-Jump c =
     on_so c.emit_jump.result
-    (on_jump c.args.chart.now c.args.labels.now c.args.args.now c.args.into c.in-Jump.is c.address.ensures)
+    (on_jump c.args.chart.now c.args.labels.now c.args.at c.args.args.now c.args.into c.in-Jump.is c.address.ensures)
     c.emit_jump.ensures
 
 pub returns-in-Branch : goal.returns-in-Branch
 returns-in-Branch c =
     on_so c.emit_branch.result
-    (on_branch c.args.chart.now c.args.labels.now c.args.args.now c.args.into c.in-Branch.is c.address-target.ensures c.argument.ensures c.argument-in-Branch.ensures)
+    (on_branch c.args.chart.now c.args.labels.now c.args.at c.args.args.now c.args.into c.in-Branch.is c.address-target.ensures c.argument.ensures c.argument-in-Branch.ensures)
     c.emit_branch.ensures
 
 pub returns-in-Call : goal.returns-in-Call
 returns-in-Call c =
     on_so c.emit_call.result
-    (on_call c.args.chart.now c.args.labels.now c.args.args.now c.args.into c.in-Call.is c.entry.ensures)
+    (on_call c.args.chart.now c.args.labels.now c.args.at c.args.args.now c.args.into c.in-Call.is c.entry.ensures)
     c.emit_call.ensures
 
 pub returns-in-TailCall : goal.returns-in-TailCall
 returns-in-TailCall c =
     on_so c.emit_jump-in-TailCall.result
-    (on_tail_call c.args.chart.now c.args.labels.now c.args.args.now c.args.into c.in-TailCall.is c.body.ensures)
+    (on_tail_call c.args.chart.now c.args.labels.now c.args.at c.args.args.now c.args.into c.in-TailCall.is c.body.ensures)
     c.emit_jump-in-TailCall.ensures
 
 pub returns-in-Return : goal.returns-in-Return
 returns-in-Return c =
     on_so c.emit_return.result
-    (on_return c.args.chart.now c.args.labels.now c.args.args.now c.args.into c.in-Return.is)
+    (on_return c.args.chart.now c.args.labels.now c.args.at c.args.args.now c.args.into c.in-Return.is)
     c.emit_return.ensures
 
 pub returns-in-Routine : goal.returns-in-Routine
 returns-in-Routine c =
     on_so c.emit_call-in-Routine.result
-    (on_routine c.args.chart.now c.args.labels.now c.args.args.now c.args.into c.in-Routine.is c.routine.ensures)
+    (on_routine c.args.chart.now c.args.labels.now c.args.at c.args.args.now c.args.into c.in-Routine.is c.routine.ensures)
     c.emit_call-in-Routine.ensures

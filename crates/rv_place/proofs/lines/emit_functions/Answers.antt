@@ -16,7 +16,7 @@ loop-function-preserved c =
     let items = ap all_items here in
     record {
       grows = λ new more. c.loop-function.invariant.grows new
-          (subst (λ (functions : List PlacedLines). Grew (words_of_functions functions) (FunctionsBy c.args.chart.now c.loop-function.at functions) c.loop-function.code.items new) (sym here)
+          (subst (λ (functions : List PlacedLines). Grew (words_of_functions c.args.chart.now.jumps functions) (FunctionsBy c.args.chart.now c.loop-function.at functions) c.loop-function.code.items new) (sym here)
           (function_then c.args.chart.now c.loop-function.at c.words_of_function.result _ _ c.words_of_function.ensures.words c.in_ok-emit_function.ensures more));
       slots = omega (arith, slots, c.loop-function.invariant.slots);
       items = omega (arith, items, c.loop-function.invariant.items);
@@ -27,5 +27,5 @@ pub returns : goal.returns
 returns c =
     let none = ap (map placed_lines_of) (nothing_left c.args.functions.now c.loop-function.function-index c.loop-function-test.false) in
     c.loop-function.invariant.grows _
-    (subst (λ (functions : List PlacedLines). Grew (words_of_functions functions) (FunctionsBy c.args.chart.now c.loop-function.at functions) c.loop-function.code.items c.loop-function.code.items) (sym none)
-    (grew_nothing _ _ (λ code at is map charts. tt)))
+    (subst (λ (functions : List PlacedLines). Grew (words_of_functions c.args.chart.now.jumps functions) (FunctionsBy c.args.chart.now c.loop-function.at functions) c.loop-function.code.items c.loop-function.code.items) (sym none)
+    (grew_nothing _ _ (λ code at is map charts inside. tt)))

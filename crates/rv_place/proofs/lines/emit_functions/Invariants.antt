@@ -12,8 +12,8 @@ invariant-loop-function l =
     let rest = map placed_lines_of (drop l.function-index l.functions) in
     let whole = map placed_lines_of l.functions in
     record {
-      grows : (new : List Instr) → Grew (words_of_functions rest) (FunctionsBy l.chart l.at rest) l.code.items new
-          → Grew (words_of_functions whole) (FunctionsBy l.chart l.entry whole) l.fn.code.items new;
+      grows : (new : List Instr) → Grew (words_of_functions l.chart.jumps rest) (FunctionsBy l.chart l.at rest) l.code.items new
+          → Grew (words_of_functions l.chart.jumps whole) (FunctionsBy l.chart l.entry whole) l.fn.code.items new;
       slots : slots_of_functions rest ≤ slots_of_functions whole;
       items : all_items rest ≤ all_items whole;
       low : l.at + 12 * all_items rest ≤ l.entry + 28 * l.function-index + 12 * all_items whole;

@@ -7,5 +7,5 @@ use Rattle.rv_place.proofs.lines.emit_item.Goals as goal
 pub returns-in-Moves : goal.returns-in-Moves
 returns-in-Moves c =
     on_so c.emit_move.result
-    (on_move c.args.chart.now c.args.labels.now (ap placed_line_of c.in-Moves.is))
+    (on_move c.args.chart.now c.args.labels.now c.args.at (ap placed_line_of c.in-Moves.is))
     c.emit_move.ensures

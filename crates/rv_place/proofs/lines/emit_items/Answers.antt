@@ -14,9 +14,10 @@ loop-item-preserved c =
     let slots = ap slots_of_lines here in
     record {
       grows = λ new more. c.loop-item.invariant.grows new
-          (subst (λ (lines : List PlacedLine). Grew (words_of_lines lines) (LinesBy c.args.chart.now c.args.labels.now lines) c.loop-item.code.items new) (sym here)
-          (line_then c.args.chart.now c.args.labels.now _ _ c.in_ok-emit_item.ensures more));
+          (subst (λ (lines : List PlacedLine). Grew (words_of_lines c.args.labels.now.forms lines) (LinesBy c.args.chart.now c.args.labels.now c.loop-item.at lines) c.loop-item.code.items new) (sym here)
+          (line_then c.args.chart.now c.args.labels.now c.loop-item.at c.words_of_item.result _ _ c.words_of_item.ensures.words c.in_ok-emit_item.ensures more));
       slots = omega (arith, slots, c.loop-item.invariant.slots);
+      low = omega (arith, c.words_of_item.ensures.few, c.loop-item.invariant.low);
     }
 
 pub returns : goal.returns
@@ -24,5 +25,5 @@ returns c =
     let items = c.args.items.now in
     let none = ap (map placed_line_of) (nothing_left items c.loop-item.item-index c.loop-item-test.false) in
     c.loop-item.invariant.grows _
-    (subst (λ (lines : List PlacedLine). Grew (words_of_lines lines) (LinesBy c.args.chart.now c.args.labels.now lines) c.loop-item.code.items c.loop-item.code.items) (sym none)
-    (grew_nothing _ _ (λ code at map charts start whole has. tt)))
+    (subst (λ (lines : List PlacedLine). Grew (words_of_lines c.args.labels.now.forms lines) (LinesBy c.args.chart.now c.args.labels.now c.loop-item.at lines) c.loop-item.code.items c.loop-item.code.items) (sym none)
+    (grew_nothing _ _ (λ code at is map charts start whole has inside. tt)))

@@ -1,4 +1,4 @@
-use Rattle.std.proofs.Common.{◌≤◌, List, map, drop}
+use Rattle.std.proofs.Common.{◌≤◌, List, map, drop, ◌+◌, ◌*◌}
 use Rattle.rv_isa.specs.declared.instr.Instr.{Instr}
 use Rattle.rv_isa.specs.PlacedCode.{placed_line_of}
 use Rattle.rv_place.specs.Addresses.{words_of_lines, slots_of_lines}
@@ -11,7 +11,8 @@ invariant-loop-item l =
     let rest = map placed_line_of (drop l.item-index l.items) in
     let whole = map placed_line_of l.items in
     record {
-      grows : (new : List Instr) → Grew (words_of_lines rest) (LinesBy l.chart l.labels rest) l.code.items new
-          → Grew (words_of_lines whole) (LinesBy l.chart l.labels whole) l.fn.code.items new;
+      grows : (new : List Instr) → Grew (words_of_lines l.labels.forms rest) (LinesBy l.chart l.labels l.at rest) l.code.items new
+          → Grew (words_of_lines l.labels.forms whole) (LinesBy l.chart l.labels l.start whole) l.fn.code.items new;
       slots : slots_of_lines rest ≤ slots_of_lines whole;
+      low : l.at ≤ l.start + 12 * l.item-index;
     }

@@ -9,7 +9,7 @@ invariant-loop-function l =
     let rest = map placed_lines_of (drop l.function-index l.functions) in
     let whole = map placed_lines_of l.functions in
     record {
-      words : l.words + words_of_functions rest ≡ words_of_functions whole;
-      few : l.words + 3 * all_items rest ≤ 7 * l.function-index + 3 * all_items whole;
+      words : l.words + words_of_functions l.jumps rest ≡ words_of_functions l.jumps whole;
+      few : l.words + 3 * all_items rest ≤ 6 * l.function-index + 3 * all_items whole;
       items : all_items rest ≤ all_items whole;
     }

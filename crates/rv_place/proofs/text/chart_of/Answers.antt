@@ -1,13 +1,16 @@
-use Rattle.std.proofs.Common.{◌≡◌, ℕ, ◌+◌, ◌*◌, List, Some, map, slice_get, sym, ap, ◌∙◌, subst, arith}
+use Rattle.std.proofs.Common.{◌≡◌, ℕ, ◌+◌, ◌*◌, List, Some, map, slice_get, sym, ap, ◌∙◌, subst, arith, refl}
 use Rattle.elf_image.specs.Program.{text_start}
 use Rattle.rv_isa.specs.declared.placed.Native.{Native}
 use Rattle.rv_isa.specs.declared.placed.PlacedFunction.{PlacedFunction}
 use Rattle.rv_isa.specs.PlacedCode.{placed_lines_of, placed_functions, placed_constants}
 use Rattle.cell_runtime.specs.Lines.{words_of, labels_of}
 use Rattle.rv_place.specs.Addresses.{entries_from}
-use Rattle.rv_place.specs.Texts.{text_words}
+use Rattle.rv_place.specs.Texts.{jumps_of, text_words, text_bytes}
 use Rattle.rv_place.specs.Emitted.{AreSymbols, addresses_from}
-use Rattle.rv_place.proofs.Texting.{entries_low, addresses_get}
+use Rattle.rv_place.proofs.Texting.{entries_among, short_text, addresses_get}
+use Rattle.rv_place.proofs.Symbolic.{symbols_within}
+use Rattle.rv_place.proofs.BootSizes.{memory_page}
+use Rattle.rv_place.specs.declared.reach.Reach.{Reach}
 use Rattle.rv_place.proofs.text.chart_of.Goals as goal
 
 pub returns : goal.returns
@@ -20,17 +23,22 @@ returns c =
     ∙ ap (λ (words : ℕ). addresses_from (text_start + 4 * words) c.deref-2.result.now) c.text_words.ensures.words
     ∙ ap (addresses_from (text_start + 4 * text_words runtime program)) c.deref-2.ensures.value in
     record {
+      jumps = c.jumps_of-jumps.ensures;
       frame = c.frame_bytes.ensures;
       bottom = ap (λ (memory : ℕ). memory + runtime.memory.stack_bottom) c.memory_of.ensures.address;
       entries =
           c.in_ok-entries.ensures
-          ∙ ap (λ (at : ℕ). entries_from at (map placed_lines_of c.deref.result.now)) c.first_entry.ensures
-          ∙ ap (λ (functions : List PlacedFunction). entries_from first (map placed_lines_of functions)) c.deref.ensures.value;
-      low = λ f entry there.
-          let low = entries_low first (placed_functions program) f entry there in
-          let words = c.text_words.ensures.words in
-          let few = c.text_words.ensures.few in
-          omega arith;
+          ∙ ap (λ (jumps : Reach). entries_from jumps c.first_entry.result (map placed_lines_of c.deref.result.now)) c.jumps_of-jumps.ensures
+          ∙ ap (λ (at : ℕ). entries_from (jumps_of runtime program) at (map placed_lines_of c.deref.result.now)) c.first_entry.ensures
+          ∙ ap (λ (functions : List PlacedFunction). entries_from (jumps_of runtime program) first (map placed_lines_of functions)) c.deref.ensures.value;
+      entries_in = λ f entry there.
+          let among = entries_among (jumps_of runtime program) first (placed_functions program) f entry there (omega arith) in
+          record { word = among.word; low = omega (arith, among.low); high = omega (arith, among.high) };
+      symbols_in = λ name before behind. let within = symbols_within name before 0 runtime.natives.items behind in omega (arith, within);
+      bottom_page = omega (arith, memory_page (text_bytes runtime program), c.requires.bottom_page);
+      first_word = refl;
+      short = λ near. short_text runtime program near;
+      below = let words = c.text_words.ensures.words in let few = c.text_words.ensures.few in omega arith;
       symbols = subst (λ (natives : List Native). AreSymbols text_start (labels_of 0 natives) c.of.result) c.deref-3.ensures.value c.of.ensures;
       constants = λ index address there.
           subst (λ (addresses : List ℕ). slice_get addresses index ≡ Some address) (sym constants)

@@ -9,7 +9,7 @@ invariant-loop-function l =
     let rest = map placed_lines_of (drop l.function-index l.functions) in
     let whole = map placed_lines_of l.functions in
     record {
-      same : l.entries.items ++ entries_from l.at rest ≡ entries_from l.first whole;
+      same : l.entries.items ++ entries_from l.jumps l.at rest ≡ entries_from l.jumps l.first whole;
       items : all_items rest ≤ all_items whole;
       low : l.at + 12 * all_items rest ≤ l.first + 28 * l.function-index + 12 * all_items whole;
     }

@@ -9,7 +9,7 @@ use Rattle.rv_place.proofs.labels.Labels.of.Given as goal
 -- what is found already, or else in the rest, is what is found in all
 abbrev pub invariant-loop-item : goal.invariant-loop-item
 invariant-loop-item l = record {
-  same : (label : ℕ) → or_next (get nat_cmp l.labels.addresses label) (label_address label l.at (map placed_line_of (drop l.item-index l.items)))
-      ≡ label_address label l.start (map placed_line_of l.items);
+  same : (label : ℕ) → or_next (get nat_cmp l.addresses label) (label_address l.forms label l.at (map placed_line_of (drop l.item-index l.items)))
+      ≡ label_address l.forms label l.start (map placed_line_of l.items);
   low : l.at ≤ l.start + 12 * l.item-index;
 }

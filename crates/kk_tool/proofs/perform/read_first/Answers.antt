@@ -1,11 +1,5 @@
-use Rattle.std.proofs.Common.{◌∙◌, ap, take, ℕ}
 use Rattle.kk_tool.proofs.Rows.{read_failed, no_room}
-use Rattle.kk_tool.proofs.perform.read_text.Goals as goal
-
-pub returns-in-Bytes-clause-text : goal.returns-in-Bytes-clause-text
-returns-in-Bytes-clause-text g c = λ files told.
-    let read = c.in-Bytes.ensures.content files told in
-    (read.0, read.1, read.2 ∙ ap (λ (n : ℕ). take n read.0) c.most_read-at_most.ensures)
+use Rattle.kk_tool.proofs.perform.read_first.Goals as goal
 
 pub returns-in-Failed-clause-err : goal.returns-in-Failed-clause-err
 returns-in-Failed-clause-err g c = λ input out image request is. read_failed _ _ input out image c.args.file request is c.in-Failed.ensures.kept c.in-Failed.ensures.faults c.in-Failed.ensures.named

@@ -1,0 +1,101 @@
+ghost use Rattle.std.specs.Prelude.{◌≡◌, ◌↔◌, ◌+◌, ◌*◌, ◌≤◌, ℕ, true, List, [], ◌∷◌, length, Some, slice_get};
+ghost use Rattle.kk_syntax.specs.Shapes.{is_among};
+ghost use Rattle.kk_syntax.specs.PositionsOf.{PositionTable};
+ghost use Rattle.kk_source.specs.State.{Value, place, Cell, Environment};
+ghost use Rattle.kk_source.specs.Live.{value_of, Reached, live};
+ghost use Rattle.kk_source.specs.Sound.{AllWithin};
+ghost use Rattle.kk_core.specs.Decisions.{NodeTree, chosen};
+ghost use Rattle.kk_counted.specs.CountedCodes.{Counted, CountedArms, give, case};
+ghost use Rattle.kk_counted.specs.CountedMachine.{opened_heap, unique_heap, NotStuck};
+ghost use Rattle.kk_counted.specs.CountedStates.{CountedSetting, CountedJoin, CountedState, running};
+ghost use Rattle.kk_counted.specs.Heaps.{Heap, forwards, count_at, cell_at, fields_held, busy, weight, dup_value, drop_value};
+ghost use Rattle.kk_counted.specs.Keeping.{HasNoCell, uses, IsKept, counted_after, FitsAlways, HasShapeAlways};
+ghost use Rattle.kk_counted.specs.References.{refs, IsSound, IsCounted, cells_of, AreOlder, counted};
+ghost use Rattle.kk_counted.specs.Spending.{AreEven, IsSpent};
+ghost use Rattle.kk_counted.specs.Cost.{drop_turns, saved, opening_turns};
+
+/// Code that spends each reference that it owns keeps its heap sound: in each state of a run the count of each cell is the
+/// number of the references that own it, fields name older cells, and the cell of each lent variable is reached from what an
+/// older function owns. Operators and prints must take values without cells, as in a typed program. It is a law, and does
+/// nothing.
+pub fn judged_code_keeps_its_heap_sound()
+    ensures { (positions : PositionTable) (setting : CountedSetting) (weight : CountedState → ℕ) (input : List ℕ)
+        → IsSpent positions setting.program
+        → FitsAlways weight setting input
+        → (n : ℕ) → IsKept positions setting.program.functions (counted_after weight setting input n) }
+{}
+
+/// The cell that such code is about to test, to read, to open, to duplicate or to drop is counted: so it is not stuck for
+/// want of a count. A case chooses the row that the store of all cells shows. It is a law, and does nothing.
+pub fn judged_code_uses_counted_cells()
+    ensures used { (positions : PositionTable) (setting : CountedSetting) (weight : CountedState → ℕ) (input : List ℕ)
+        → IsSpent positions setting.program
+        → FitsAlways weight setting input
+        → (n : ℕ) (code : Counted) (environment : Environment) (joins : List CountedJoin) (x : ℕ)
+        → (counted_after weight setting input n).control ≡ running code environment joins
+        → is_among (uses code) x ≡ true
+        → IsCounted (counted_after weight setting input n).heap (value_of environment x) }
+    ensures chosen { (positions : PositionTable) (setting : CountedSetting) (weight : CountedState → ℕ) (input : List ℕ)
+        → IsSpent positions setting.program
+        → FitsAlways weight setting input
+        → (n x : ℕ) (decisions : List NodeTree) (arms : CountedArms) (environment : Environment) (joins : List CountedJoin)
+        → (counted_after weight setting input n).control ≡ running (case x decisions arms) environment joins
+        → chosen (cell_at (counted_after weight setting input n).heap) (value_of environment x) decisions
+        ≡ chosen (slice_get (forwards (counted_after weight setting input n).heap)) (value_of environment x) decisions }
+{}
+
+/// Such code is never stuck, where it has the shape that a typed program has: calls are of functions that are there, a case
+/// has an arm for its value, and readings and openings are of cells of their constructor. It is a law, and does nothing.
+pub fn judged_code_is_never_stuck()
+    ensures { (positions : PositionTable) (setting : CountedSetting) (weight : CountedState → ℕ) (input : List ℕ)
+        → IsSpent positions setting.program
+        → FitsAlways weight setting input
+        → HasShapeAlways weight setting input
+        → (n : ℕ) → NotStuck (counted_after weight setting input n).control }
+{}
+
+/// Where the first function, with no other waiting, gives a value without cells, no cell is counted any more. It is a law,
+/// and does nothing.
+pub fn judged_code_leaves_no_cell()
+    ensures { (positions : PositionTable) (setting : CountedSetting) (weight : CountedState → ℕ) (input : List ℕ)
+        → IsSpent positions setting.program
+        → FitsAlways weight setting input
+        → (n x : ℕ) (environment : Environment)
+        → (counted_after weight setting input n).control ≡ running (give x) environment []
+        → (counted_after weight setting input n).frames ≡ []
+        → HasNoCell (value_of environment x)
+        → busy (counted_after weight setting input n).heap ≡ 0 }
+{}
+
+/// A sound heap is a function of its cells and of the references that own it from outside, and where cells name older ones
+/// that function gives a sound heap. So both ways to open a cell lead to the same heap. It is a law, and does nothing.
+pub fn sound_heaps_are_functions()
+    ensures function { (owned : List Value) (heap : Heap) → IsSound owned heap → heap ≡ counted (refs owned) (cells_of heap) }
+    ensures sound { (owned : List Value) (cells : List Cell) → AreOlder cells → AllWithin (length cells) owned
+        → IsSound owned (counted (refs owned) cells) }
+    ensures openings { (at : ℕ) (used others kept : List Value) (heap : Heap) → IsSound (place at ∷ kept) heap
+        → ((q : ℕ) → refs (fields_held heap at) q ≡ refs used q + refs others q)
+        → unique_heap (count_at heap at) at used others heap ≡ opened_heap at used heap }
+{}
+
+/// In a sound heap the counted cells are those that can be reached from what is owned: so they are as many as the live places
+/// of its store. It is a law, and does nothing.
+pub fn counted_cells_are_live()
+    ensures reached { (owned : List Value) (heap : Heap) → IsSound owned heap
+        → (at : ℕ) → (1 ≤ count_at heap at) ↔ Reached (forwards heap) owned at }
+    ensures number { (owned : List Value) (heap : Heap) → IsSound owned heap → busy heap ≡ live (forwards heap) owned }
+{}
+
+/// What a drop costs: one turn for its reference, and one for each field of a cell that it frees. So with 32 saved for each
+/// owned variable and 16 for each field of a counted cell, a drop pays for itself exactly. A dup leaves what is saved for
+/// fields, and an opening's drop costs no more than any. It is a law, and does nothing.
+pub fn drops_pay_for_themselves()
+    ensures turns { (v : Value) (heap after : Heap) → drop_value v heap ≡ Some after
+        → drop_turns v heap + weight after ≡ 1 + weight heap }
+    ensures pays { (v : Value) (heap after : Heap) (x : ℕ) (owned kept : List ℕ) → AreEven owned (x ∷ kept)
+        → drop_value v heap ≡ Some after
+        → (16 + 16 * drop_turns v heap) + saved kept after ≡ saved owned heap }
+    ensures dups { (v : Value) (heap after : Heap) → dup_value v heap ≡ Some after → weight after ≡ weight heap }
+    ensures openings { (at : ℕ) (used : List Value) (heap after : Heap) → opened_heap at used heap ≡ Some after
+        → opening_turns at used heap + weight after ≡ 1 + weight heap }
+{}

@@ -1,0 +1,16 @@
+use Rattle.std.proofs.Common.{◌≡◌, ◌*◌, sym, subst, refl}
+use Rattle.rv_isa.specs.Arithmetic.{sum_word}
+use Rattle.rv_place.specs.Addresses.{jump_words}
+use Rattle.rv_place.specs.Emitted.{AreNear}
+use Rattle.rv_place.proofs.Emitting.{grew_so, on_so}
+use Rattle.rv_place.proofs.emit.emit_near_jump.Goals as goal
+
+pub returns : goal.returns
+returns c =
+    let offset = c.jump_offset-offset.result in
+    on_so c.emit.result
+    (grew_so refl
+    (λ code at here is reaches.
+    let near = subst (λ p. AreNear (4 * jump_words) p c.args.target) is reaches in
+    (offset, subst (λ p. sum_word p offset.word ≡ c.args.target) (sym is) (c.jump_offset-offset.ensures near), here)))
+    c.emit.ensures

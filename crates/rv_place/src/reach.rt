@@ -1,0 +1,67 @@
+// How far jumps and branches lead.
+
+ghost use Rattle.std.specs.Prelude.{◌≡◌, ◌≤◌};
+ghost use Rattle.rv_place.specs.Instructions.{words_of_jump, words_of_branch};
+ghost use Rattle.rv_place.specs.Addresses.{entry_words, reach_of};
+
+/// How far a jump or a branch leads.
+#[derive(Clone, Copy, PartialEq, Eq, Debug)]
+pub enum Reach {
+    /// As far as its own instruction can name.
+    Near,
+    /// Anywhere.
+    Far,
+}
+
+/// How far the jumps of a function and its branches lead.
+#[derive(Clone, Copy, PartialEq, Eq, Debug)]
+pub struct Forms {
+    pub jumps: Reach,
+    pub branches: Reach,
+}
+
+impl Reach {
+    /// The reach that leads everywhere within so many instructions: near where they are fewer than `limit`.
+    pub fn within(words: u32, limit: u32) -> Reach
+        ensures { result ≡ reach_of limit words }
+    {
+        if words < limit {
+            Reach::Near
+        } else {
+            Reach::Far
+        }
+    }
+
+    /// How many instructions a jump is, or a call.
+    pub fn words_of_jump(self) -> u32
+        ensures words { result ≡ words_of_jump self }
+        ensures some { 1 ≤ result }
+        ensures few { result ≤ 2 }
+    {
+        match self {
+            Reach::Near => 1,
+            Reach::Far => 2,
+        }
+    }
+
+    /// How many instructions the entry of a function is.
+    pub fn entry_words(self) -> u32
+        ensures words { result ≡ entry_words self }
+        ensures few { result ≤ 6 }
+    {
+        4 + self.words_of_jump()
+    }
+}
+
+impl Forms {
+    /// How many instructions a branch is: a far one leads over a jump.
+    pub fn words_of_branch(self) -> u32
+        ensures words { result ≡ words_of_branch self.jumps self.branches }
+        ensures few { result ≤ 3 }
+    {
+        match self.branches {
+            Reach::Near => 1,
+            Reach::Far => 1 + self.jumps.words_of_jump(),
+        }
+    }
+}
