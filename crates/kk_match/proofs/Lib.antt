@@ -1,0 +1,5 @@
+pub mod After
+pub mod Branching
+pub mod Counted
+mod Examples
+pub mod Keyed
