@@ -6,7 +6,7 @@ use Rattle.std.proofs.lemmas.Option.{slice_get_within, slice_get-get_or, get_or_
 use Rattle.std.specs.List.{slice_get}
 use Rattle.kk_syntax.specs.Types.{TypeTree, int32, unit_type, type_variable, named, TypeTrees}
 use Rattle.kk_syntax.specs.Programs.{ConstructorTree, ProgramTree}
-use Rattle.kk_syntax.specs.OfType.{values_of, fields_of, fields_at, with_arguments, is_int32}
+use Rattle.kk_syntax.specs.OfType.{values_of, fields_of, field_types, with_arguments, is_int32}
 use Rattle.kk_cover.specs.Problems.{no_constructor, owner, arity}
 use Rattle.kk_cover.proofs.Deciding.{Knows}
 
@@ -32,7 +32,7 @@ fields_made o constructor by arguments there owned =
     ap (λ x. fields_of x by arguments) there
     ∙ ap (λ b. cond b (Some (map (with_arguments arguments) constructor.fields)) None) (eq-eqb constructor.of_type by owned)
 
-within : (program : ProgramTree) (t : TypeTree) (c d : ℕ) (us vs : List TypeTree) → fields_at program t c ≡ Some us → fields_at program t d ≡ Some vs → (d < length program.constructors) × (owner program d ≡ owner program c)
+within : (program : ProgramTree) (t : TypeTree) (c d : ℕ) (us vs : List TypeTree) → field_types program.constructors t c ≡ Some us → field_types program.constructors t d ≡ Some vs → (d < length program.constructors) × (owner program d ≡ owner program c)
 within program int32 c d us vs at_c at_d = absurd (cc)
 within program unit_type c d us vs at_c at_d = absurd (cc)
 within program (type_variable of) c d us vs at_c at_d = absurd (cc)
@@ -43,7 +43,7 @@ within program (named by arguments) c d us vs at_c at_d =
       owner_is program d second.constructor second.there ∙ (second.owned ∙ (sym first.owned ∙ sym (owner_is program c first.constructor first.there))),
     )
 
-members : (program : ProgramTree) (t : TypeTree) (c d : ℕ) (us : List TypeTree) → fields_at program t c ≡ Some us → d < length program.constructors → owner program d ≡ owner program c → (vs : List TypeTree) × (fields_at program t d ≡ Some vs) × (length vs ≡ arity program d)
+members : (program : ProgramTree) (t : TypeTree) (c d : ℕ) (us : List TypeTree) → field_types program.constructors t c ≡ Some us → d < length program.constructors → owner program d ≡ owner program c → (vs : List TypeTree) × (field_types program.constructors t d ≡ Some vs) × (length vs ≡ arity program d)
 members program int32 c d us at_c lt own = absurd (cc)
 members program unit_type c d us at_c lt own = absurd (cc)
 members program (type_variable of) c d us at_c lt own = absurd (cc)
@@ -56,11 +56,11 @@ members program (named by arguments) c d us at_c lt own =
       length-map constructor.fields (with_arguments arguments),
     )
 
-apart : (program : ProgramTree) (t : TypeTree) (c : ℕ) (us : List TypeTree) → fields_at program t c ≡ Some us → is_int32 t ≡ false
+apart : (program : ProgramTree) (t : TypeTree) (c : ℕ) (us : List TypeTree) → field_types program.constructors t c ≡ Some us → is_int32 t ≡ false
 apart program int32 c us at_c = absurd (cc)
 apart program unit_type c us at_c = refl
 apart program (type_variable of) c us at_c = refl
 apart program (named by arguments) c us at_c = refl
 
-pub knows : (program : ProgramTree) → Knows (values_of program) program
+pub knows : (program : ProgramTree) → Knows (values_of program.constructors) program
 knows program = record { within = within program; members = members program; apart = apart program }

@@ -17,18 +17,18 @@ use Rattle.kk_cover.proofs.Answering.{ones, one_typed, one_example, one_examples
 
 -- an example for a problem, at some types
 abbrev pub Exists : ProgramTree → OpenProblem → List TypeTree → Type 0
-Exists program p ts = (es : Outlines) × IsExampleIn (values_of program) ts p.rows es
+Exists program p ts = (es : Outlines) × IsExampleIn (values_of program.constructors) ts p.rows es
 
 -- what the open problems say of a problem
 abbrev pub Decided : ProgramTree → OpenProblem → List OpenProblem → Type 0
 Decided program p ps =
-    (ts : List TypeTree) → length ts ≡ p.width → Each (ArePatternsOf (values_of program) ts) p.rows
-    → Decides (values_of program) (λ es. Exists program p ts) (IsCoveredIn (values_of program) ts p.rows) ps
+    (ts : List TypeTree) → length ts ≡ p.width → Each (ArePatternsOf (values_of program.constructors) ts) p.rows
+    → Decides (values_of program.constructors) (λ es. Exists program p ts) (IsCoveredIn (values_of program.constructors) ts p.rows) ps
 
 -- a problem may be turned
 pub turns : (program : ProgramTree) (p q : OpenProblem) (before : List OpenProblem) → Decided program p (before ++ (q ∷ [])) → Decided program p (before ++ (turned q ∷ []))
 turns program p q before decided ts wide typed =
-    let values = values_of program in
+    let values = values_of program.constructors in
     let here = decided ts wide typed in
     let Sought : Outlines → Type 0 = λ es. Exists program p ts in
     record {
@@ -44,7 +44,7 @@ begins program p ts wide typed = record {
 
 pub goes_on : (program : ProgramTree) (p q : OpenProblem) (before after : List OpenProblem) → Settled program q before after → Decided program p (before ++ (q ∷ [])) → Decided program p after
 goes_on program p q before after settled decided ts wide typed =
-    decides_next (values_of program) program (knows program) q settled.more (λ es. Exists program p ts) (IsCoveredIn (values_of program) ts p.rows) before after settled.settles settled.grown (decided ts wide typed)
+    decides_next (values_of program.constructors) program (knows program) q settled.more (λ es. Exists program p ts) (IsCoveredIn (values_of program.constructors) ts p.rows) before after settled.settles settled.grown (decided ts wide typed)
 
 -- an open problem without rows has an example, wildcards
 wildcards : {T : Type 0} (values : Values T) (Sought : Outlines → Type 0) (p : OpenProblem) → p.rows ≡ [] → Leads values Sought p → Sought (built p.path (anys p.width))
@@ -57,18 +57,18 @@ wildcards {T} values Sought p none leads =
 
 pub tells_open : (program : ProgramTree) (p q : OpenProblem) (before : List OpenProblem) → q.rows ≡ [] → Decided program p (before ++ (q ∷ [])) → Tells program p false
 tells_open program p q before none decided ts wide typed =
-    wildcards (values_of program) (λ es. Exists program p ts) q none (each_back (Leads (values_of program) (λ es. Exists program p ts)) before (q ∷ []) (decided ts wide typed).leads).0
+    wildcards (values_of program.constructors) (λ es. Exists program p ts) q none (each_back (Leads (values_of program.constructors) (λ es. Exists program p ts)) before (q ∷ []) (decided ts wide typed).leads).0
 
 pub tells_covered : (program : ProgramTree) (p : OpenProblem) → Decided program p [] → Tells program p true
 tells_covered program p decided ts wide typed = (decided ts wide typed).covers tt
 
 -- a problem on the way to an example: it leads there, and has an example itself
 pub record OnTheWay (program : ProgramTree) (rows : List Outline) (t : TypeTree) (p : OpenProblem) : Type 0 where
-  pub leads : Leads (values_of program) (λ es. IsExample (values_of program) t rows (top es)) p
+  pub leads : Leads (values_of program.constructors) (λ es. IsExample (values_of program.constructors) t rows (top es)) p
   pub exists : Exists program p leads.types
 
 abbrev pub Going : ProgramTree → List Outline → OpenProblem → Type 0
-Going program rows p = (t : TypeTree) → Each (IsPatternOf (values_of program) t) rows → OnTheWay program rows t p
+Going program rows p = (t : TypeTree) → Each (IsPatternOf (values_of program.constructors) t) rows → OnTheWay program rows t p
 
 abbrev pub first_problem : List Outline → OpenProblem
 first_problem rows = record { path = []; rows = ones rows; width = 1 }
@@ -78,36 +78,36 @@ sets_out program rows tells t typed = record {
   leads = record {
     types = t ∷ [];
     wide = refl;
-    typed = one_typed (values_of program) t rows typed;
-    lifts = λ es example. one_example (values_of program) t rows es example;
+    typed = one_typed (values_of program.constructors) t rows typed;
+    lifts = λ es example. one_example (values_of program.constructors) t rows es example;
   };
-  exists = tells (t ∷ []) refl (one_typed (values_of program) t rows typed);
+  exists = tells (t ∷ []) refl (one_typed (values_of program.constructors) t rows typed);
 }
 
-pub nothing_left : (program : ProgramTree) (rows : List Outline) → Tells program (first_problem rows) true → (t : TypeTree) → Each (IsPatternOf (values_of program) t) rows → IsCovered (values_of program) t rows
+pub nothing_left : (program : ProgramTree) (rows : List Outline) → Tells program (first_problem rows) true → (t : TypeTree) → Each (IsPatternOf (values_of program.constructors) t) rows → IsCovered (values_of program.constructors) t rows
 nothing_left program rows tells t typed e example =
-    tells (t ∷ []) refl (one_typed (values_of program) t rows typed) _ (one_examples (values_of program) t rows e example)
+    tells (t ∷ []) refl (one_typed (values_of program.constructors) t rows typed) _ (one_examples (values_of program.constructors) t rows e example)
 
 pub picks_next : (program : ProgramTree) (rows : List Outline) (p q : OpenProblem) (children : List OpenProblem) → Settled program p [] children → Picked program children q → Going program rows p → Going program rows q
 picks_next program rows p q children settled picked going t typed =
-    let values = values_of program in
+    let values = values_of program.constructors in
     let Sought : Outlines → Type 0 = λ es. IsExample values t rows (top es) in
     let all : Each (Leads values Sought) children = subst (Each (Leads values Sought)) (sym settled.grown) (settles_leads values program (knows program) p settled.more Sought settled.settles (going t typed).leads) in
     let here : Leads values Sought q = (each_back (Leads values Sought) picked.before (q ∷ picked.behind) (subst (Each (Leads values Sought)) picked.place all)).0 in
     record { leads = here; exists = picked.tells here.types here.wide here.typed }
 
-all_closed : (program : ProgramTree) (ps : List OpenProblem) → Each (λ p. Tells program p true) ps → Each (Closed (values_of program)) ps
+all_closed : (program : ProgramTree) (ps : List OpenProblem) → Each (λ p. Tells program p true) ps → Each (Closed (values_of program.constructors)) ps
 all_closed program [] tells = tt
 all_closed program (p ∷ ps) tells = (record { covered = tells.0 }, all_closed program ps tells.1)
 
 -- one of what a problem on the way comes down to is not covered
-pub picks_none : (program : ProgramTree) (rows : List Outline) (p : OpenProblem) (children : List OpenProblem) → Settled program p [] children → Each (λ q. Tells program q true) children → Going program rows p → (t : TypeTree) → Each (IsPatternOf (values_of program) t) rows → ⊥
+pub picks_none : (program : ProgramTree) (rows : List Outline) (p : OpenProblem) (children : List OpenProblem) → Settled program p [] children → Each (λ q. Tells program q true) children → Going program rows p → (t : TypeTree) → Each (IsPatternOf (values_of program.constructors) t) rows → ⊥
 picks_none program rows p children settled tells going t typed =
     let way = going t typed in
-    let closed = settles_closed (values_of program) program (knows program) p settled.more settled.settles (subst (Each (Closed (values_of program))) settled.grown (all_closed program children tells)) in
+    let closed = settles_closed (values_of program.constructors) program (knows program) p settled.more settled.settles (subst (Each (Closed (values_of program.constructors))) settled.grown (all_closed program children tells)) in
     closed.covered way.leads.types way.leads.wide way.leads.typed way.exists.0 way.exists.1
 
-pub arrives : (program : ProgramTree) (rows : List Outline) (p : OpenProblem) (e : Outline) → p.rows ≡ [] → e ≡ top (built p.path (anys p.width)) → Going program rows p → (t : TypeTree) → Each (IsPatternOf (values_of program) t) rows → IsExample (values_of program) t rows e
+pub arrives : (program : ProgramTree) (rows : List Outline) (p : OpenProblem) (e : Outline) → p.rows ≡ [] → e ≡ top (built p.path (anys p.width)) → Going program rows p → (t : TypeTree) → Each (IsPatternOf (values_of program.constructors) t) rows → IsExample (values_of program.constructors) t rows e
 arrives program rows p e none is going t typed =
-    subst (IsExample (values_of program) t rows) (sym is)
-    (wildcards (values_of program) (λ es. IsExample (values_of program) t rows (top es)) p none (going t typed).leads)
+    subst (IsExample (values_of program.constructors) t rows) (sym is)
+    (wildcards (values_of program.constructors) (λ es. IsExample (values_of program.constructors) t rows (top es)) p none (going t typed).leads)

@@ -11,7 +11,7 @@ use Rattle.kk_syntax.specs.Types.{TypeTree, unit_type, type_variable, named, Typ
 use Rattle.kk_syntax.specs.Typing.{Scope, Scheme, Choice, holding, variables_of_type, scheme_in, constructor_scheme, chosen_at, IsPatternTyped, ArePatternsTyped, IsTypedBy, AreTypedBy, AreRowsTypedBy, IsTyping}
 use Rattle.kk_cover.specs.Covered.{Each}
 use Rattle.kk_syntax.specs.Outlines.{Outline, outline_of, outlines_of}
-use Rattle.kk_syntax.specs.OfType.{IsPatternOf, ArePatternsOf, fields_of, fields_at, is_int32, values_of}
+use Rattle.kk_syntax.specs.OfType.{IsPatternOf, ArePatternsOf, fields_of, field_types, is_int32, values_of}
 use Rattle.kk_cover.specs.Matches.{asked_by, of_matches, matches}
 use Rattle.kk_cover.specs.TypedRows.{AreOfChosenType}
 use Rattle.kk_cover.proofs.Keeping.{each-append}
@@ -58,13 +58,13 @@ module _ (program : ProgramTree) where
       }
 
   -- a constructor's fields have the types that its scheme gives them
-  fields_found : (c : ℕ) (of : Scheme) (at : List TypeTree) (t : TypeTree) → constructor_scheme program c ≡ Some of → length at ≡ of.variables → t ≡ put (type_at at) of.result → fields_at program t c ≡ Some (map (put (type_at at)) of.parameters)
+  fields_found : (c : ℕ) (of : Scheme) (at : List TypeTree) (t : TypeTree) → constructor_scheme program c ≡ Some of → length at ≡ of.variables → t ≡ put (type_at at) of.result → field_types program.constructors t c ≡ Some (map (put (type_at at)) of.parameters)
   fields_found c of at t is long gives =
       let found = fields_chosen (slice_get program.constructors c) of at is long in
-      ap (λ u. fields_at program u c) (gives ∙ found.is) ∙ found.fields
+      ap (λ u. field_types program.constructors u c) (gives ∙ found.is) ∙ found.fields
 
   mutual
-    pattern_of_type : (scope : Scope) (p : Pattern) (t : TypeTree) (choices : List Choice) → IsPatternTyped program scope p t choices → IsPatternOf (values_of program) t (outline_of p)
+    pattern_of_type : (scope : Scope) (p : Pattern) (t : TypeTree) (choices : List Choice) → IsPatternTyped program scope p t choices → IsPatternOf (values_of program.constructors) t (outline_of p)
     pattern_of_type scope anything t choices typed = tt
     pattern_of_type scope (pattern_variable x) t choices typed = tt
     pattern_of_type scope (exactly value) t choices typed = ap is_int32 typed.0
@@ -72,14 +72,14 @@ module _ (program : ProgramTree) where
         let fields = map (put (type_at uses.at)) uses.of.parameters in
         (fields, fields_found c uses.of uses.at t uses.is uses.each uses.gives, patterns_of_types scope parts fields uses.rest uses.arguments)
 
-    patterns_of_types : (scope : Scope) (ps : Patterns) (ts : List TypeTree) (choices : List Choice) → ArePatternsTyped program scope ps ts choices → ArePatternsOf (values_of program) ts (outlines_of ps)
+    patterns_of_types : (scope : Scope) (ps : Patterns) (ts : List TypeTree) (choices : List Choice) → ArePatternsTyped program scope ps ts choices → ArePatternsOf (values_of program.constructors) ts (outlines_of ps)
     patterns_of_types scope no_part [] choices typed = tt
     patterns_of_types scope no_part (t ∷ ts) choices typed = absurd typed
     patterns_of_types scope (part first rest) [] choices typed = absurd typed
     patterns_of_types scope (part first rest) (t ∷ ts) choices typed =
         (pattern_of_type scope first t typed.0 typed.3, patterns_of_types scope rest ts typed.1 typed.4)
 
-  pub rows_of_type : (scope : Scope) (rows : Rows) (u t : TypeTree) (choices : List Choice) → AreRowsTypedBy program scope rows u t choices → Each (IsPatternOf (values_of program) u) (asked_by rows)
+  pub rows_of_type : (scope : Scope) (rows : Rows) (u t : TypeTree) (choices : List Choice) → AreRowsTypedBy program scope rows u t choices → Each (IsPatternOf (values_of program.constructors) u) (asked_by rows)
   rows_of_type scope no_row u t choices typed = tt
   rows_of_type scope (row pattern body rest) u t choices typed =
       let parts = typed.3.inside in

@@ -30,5 +30,5 @@ row_outlines rows = map (λ row. pattern_outline row.pattern) rows
 -- an answer for a match, right at each type at which its rows are typed: it is covered, or this is an example
 abbrev pub Answers : Program → List Row → Option Pat → Type 0
 Answers program rows found =
-    let values = values_of (program_tree program) in
+    let values = values_of (program_tree program).constructors in
     (t : TypeTree) → Each (IsPatternOf values t) (row_outlines rows) → MatchOption found (IsCovered values t (row_outlines rows)) (λ example. IsExample values t (row_outlines rows) (pattern_outline example))

@@ -33,11 +33,11 @@ match_rows all = map (λ rows. row_outlines rows.now) all
 
 -- a match is covered, at each type at which its rows are typed
 abbrev pub IsMatchCovered : ProgramTree → List Outline → Type 0
-IsMatchCovered program rows = (t : TypeTree) → Each (IsPatternOf (values_of program) t) rows → IsCovered (values_of program) t rows
+IsMatchCovered program rows = (t : TypeTree) → Each (IsPatternOf (values_of program.constructors) t) rows → IsCovered (values_of program.constructors) t rows
 
 -- an example for a match, at each type at which its rows are typed
 abbrev pub IsMatchExample : ProgramTree → List Outline → Outline → Type 0
-IsMatchExample program rows e = (t : TypeTree) → Each (IsPatternOf (values_of program) t) rows → IsExample (values_of program) t rows e
+IsMatchExample program rows e = (t : TypeTree) → Each (IsPatternOf (values_of program.constructors) t) rows → IsExample (values_of program.constructors) t rows e
 
 -- an example for the first of some matches that is not covered
 pub record IsFirstExample (program : ProgramTree) (all : List (List Outline)) (e : Outline) : Type 0 where

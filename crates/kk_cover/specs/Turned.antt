@@ -29,8 +29,8 @@ turned p = record { path = p.path; rows = map (rotated (first_leading p.rows)) p
 -- whether the rows of a problem are covered, at all types at which they are typed; else there is an example
 abbrev pub Tells : ProgramTree → OpenProblem → Bool → Type 0
 Tells program p covered =
-    (ts : List TypeTree) → length ts ≡ p.width → Each (ArePatternsOf (values_of program) ts) p.rows
-    → MatchBool covered (IsCoveredIn (values_of program) ts p.rows) ((es : Outlines) × IsExampleIn (values_of program) ts p.rows es)
+    (ts : List TypeTree) → length ts ≡ p.width → Each (ArePatternsOf (values_of program.constructors) ts) p.rows
+    → MatchBool covered (IsCoveredIn (values_of program.constructors) ts p.rows) ((es : Outlines) × IsExampleIn (values_of program.constructors) ts p.rows es)
 
 -- a problem of some that is not covered, where those behind it are
 pub record Picked (program : ProgramTree) (ps : List OpenProblem) (q : OpenProblem) : Type 0 where

@@ -12,4 +12,4 @@ use Rattle.kk_syntax.specs.OfType.{IsPatternOf, values_of}
 pub record AreOfChosenType (program : ProgramTree) (choices : List Choice) (rows : List Outline) : Type 0 where
   pub at : TypeTree
   pub chosen : Contains choices (holding at)
-  pub typed : Each (IsPatternOf (values_of program) at) rows
+  pub typed : Each (IsPatternOf (values_of program.constructors) at) rows

@@ -13,7 +13,7 @@ ghost use Rattle.kk_cover.specs.TypedRows.{AreOfChosenType};
 pub fn typed_matches_have_typed_rows()
     ensures here { (program : ProgramTree) (scope : Scope) (rows : Rows) (of result : TypeTree) (choices : List Choice)
         → AreRowsTypedBy program scope rows of result choices
-        → Each (IsPatternOf (values_of program) of) (asked_by rows) }
+        → Each (IsPatternOf (values_of program.constructors) of) (asked_by rows) }
     ensures everywhere { (program : ProgramTree) (function : FunctionTree) (choices : List Choice)
         → IsTyping program function choices
         → Each (AreOfChosenType program choices) (matches function.body) }

@@ -9,3 +9,4 @@ pub mod Sound
 pub mod SourceAfter
 pub mod State
 pub mod Step
+pub mod ValueTypes

@@ -1,4 +1,6 @@
+pub mod Covered
 pub mod GroundPrograms
+pub mod GroundTyping
 pub mod OfType
 pub mod Outlines
 pub mod Patterns

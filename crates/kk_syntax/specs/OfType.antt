@@ -1,7 +1,7 @@
 -- When a pattern is of a type.
 use Rattle.std.specs.Prelude.{◌≡◌, ℕ, Bool, true, false, if◌then◌else◌, ◌==◌, List, [], ◌∷◌, map, Option, Some, None, slice_get, IsTrue}
 use Rattle.kk_syntax.specs.Types.{TypeTree, int32, unit_type, type_variable, named, TypeTrees, type_list, put, type_at}
-use Rattle.kk_syntax.specs.Programs.{ConstructorTree, ProgramTree}
+use Rattle.kk_syntax.specs.Programs.{ConstructorTree}
 use Rattle.kk_syntax.specs.Outlines.{Outline, any, exactly, made, Outlines, no_outline, outline}
 
 -- What the values of types are: whether numbers are of a type, and the types of a constructor's fields at a type, if it
@@ -33,11 +33,12 @@ abbrev pub fields_of : Option ConstructorTree → ℕ → TypeTrees → Option (
 fields_of None by arguments = None
 fields_of (Some constructor) by arguments = if constructor.of_type == by then Some (map (with_arguments arguments) constructor.fields) else None
 
-abbrev pub fields_at : ProgramTree → TypeTree → ℕ → Option (List TypeTree)
-fields_at program int32 c = None
-fields_at program unit_type c = None
-fields_at program (type_variable of) c = None
-fields_at program (named by arguments) c = fields_of (slice_get program.constructors c) by arguments
+-- the types of the fields of a constructor by its number, if it makes values of the type
+abbrev pub field_types : List ConstructorTree → TypeTree → ℕ → Option (List TypeTree)
+field_types constructors int32 c = None
+field_types constructors unit_type c = None
+field_types constructors (type_variable of) c = None
+field_types constructors (named by arguments) c = fields_of (slice_get constructors c) by arguments
 
 abbrev pub is_int32 : TypeTree → Bool
 is_int32 int32 = true
@@ -45,6 +46,6 @@ is_int32 unit_type = false
 is_int32 (type_variable of) = false
 is_int32 (named by arguments) = false
 
--- the values of a program's types, by its declarations
-abbrev pub values_of : ProgramTree → Values TypeTree
-values_of program = record { has_numbers = is_int32; fields = fields_at program }
+-- the values of types, by the constructors that a program declares
+abbrev pub values_of : List ConstructorTree → Values TypeTree
+values_of constructors = record { has_numbers = is_int32; fields = field_types constructors }
