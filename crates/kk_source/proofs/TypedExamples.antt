@@ -72,7 +72,8 @@ clash_none : (ps : Outlines) → ClashIn ps no_outline → ⊥
 clash_none no_outline h = h
 clash_none (outline p ps) h = h
 
-makers : (c : ℕ) (us : List TypeTree) → field_types constructors list c ≡ Some us → ((c ≡ 2) × (us ≡ [])) ⊎ ((c ≡ 3) × (us ≡ int32 ∷ list ∷ []))
+makers : (c : ℕ) (us : List TypeTree) → field_types constructors list c ≡ Some us
+    → ((c ≡ 2) × (us ≡ [])) ⊎ ((c ≡ 3) × (us ≡ int32 ∷ list ∷ []))
 makers zero us is = absurd (cc)
 makers (suc zero) us is = absurd (cc)
 makers (suc (suc zero)) us is = let same : [] ≡ us = cc in inl (refl, sym same)
@@ -101,7 +102,9 @@ no_nil (exactly n) typed clash = absurd (both_ways false refl typed)
 no_nil (made_by c ps) typed clash =
     elim (makers c typed.0 typed.1) [
       | inl nil ↦ absurd (elim clash [ inl other ↦ other nil.0 | inr inside ↦ clash_none ps inside ])
-      | inr cons ↦ subst (λ d. IsCons (made_by d ps)) (sym cons.0) (two_parts ps (subst (λ us. ArePatternsOf (values_of constructors) us ps) cons.1 typed.2))
+      | inr cons ↦
+          subst (λ d. IsCons (made_by d ps)) (sym cons.0)
+          (two_parts ps (subst (λ us. ArePatternsOf (values_of constructors) us ps) cons.1 typed.2))
     ]
 
 -- a `Cons` that clashes with another one clashes in its head or in its tail
@@ -122,7 +125,8 @@ second_covered e missed =
     let one = no_nil e missed.typed missed.clashes.0 in
     let first = in_tail one.head one.tail nil_outline (subst (λ x. Clash x (cons_of any nil_outline)) one.is missed.clashes.1.0) in
     let two = no_nil one.tail one.typed first in
-    let other = in_tail one.head one.tail (cons_of any any) (subst (λ x. Clash x (cons_of any (cons_of any any))) one.is missed.clashes.1.1.0) in
+    let whole = subst (λ x. Clash x (cons_of any (cons_of any any))) one.is missed.clashes.1.1.0 in
+    let other = in_tail one.head one.tail (cons_of any any) whole in
     clash_any two.tail (in_tail two.head two.tail any (subst (λ x. Clash x (cons_of any any)) two.is other))
 
 -- ---- the program is typed
@@ -134,7 +138,10 @@ second_rows_typed : AreRowsTyped table (with_parameters 0 (list ∷ []) []) seco
 second_rows_typed =
     let nil : IsPatternOf (values_of constructors) list nil_outline = ([], refl, tt) in
     let cons : IsPatternOf (values_of constructors) list (cons_of any any) = (int32 ∷ list ∷ [], refl, (tt, (tt, tt))) in
-    (nil, ([], tt, (refl, refl)), ((int32 ∷ list ∷ [], refl, (tt, (nil, tt))), refl, ((int32 ∷ list ∷ [], refl, (tt, (cons, tt))), refl, tt)))
+    let second : IsPatternOf (values_of constructors) list (cons_of any nil_outline) = (int32 ∷ list ∷ [], refl, (tt, (nil, tt))) in
+    let third : IsPatternOf (values_of constructors) list (cons_of any (cons_of any any)) =
+    (int32 ∷ list ∷ [], refl, (tt, (cons, tt))) in
+    (nil, ([], tt, (refl, refl)), (second, refl, (third, refl, tt)))
 
 second_typed : IsFunctionTyped table second
 second_typed = (list, refl, second_rows_typed, second_covered)
@@ -142,7 +149,8 @@ second_typed = (list, refl, second_rows_typed, second_covered)
 main_typed : IsFunctionTyped table main
 main_typed =
     let nil : HasType table [] (made 2 []) list = ([], tt, refl) in
-    let two : HasType table [] (made 3 (number (pos 2) ∷ made 2 [] ∷ [])) list = (int32 ∷ list ∷ [], (([], tt, (refl, refl)), (nil, tt)), refl) in
+    let two : HasType table [] (made 3 (number (pos 2) ∷ made 2 [] ∷ [])) list =
+    (int32 ∷ list ∷ [], (([], tt, (refl, refl)), (nil, tt)), refl) in
     let one : HasType table [] (made 3 (number (pos 1) ∷ made 3 (number (pos 2) ∷ made 2 [] ∷ []) ∷ [])) list =
     (int32 ∷ list ∷ [], (([], tt, (refl, refl)), (two, tt)), refl) in
     (int32 ∷ [], ((list ∷ [], (one, tt), refl), tt), (refl, refl))
@@ -165,7 +173,8 @@ truths_alone (suc (suc (suc zero))) us is = absurd (cc)
 truths_alone (suc (suc (suc (suc c)))) us is = absurd (cc)
 
 program_typed : IsGroundTyped program
-program_typed = record { functions = functions_typed; main = refl; truths = record { truths = truths_are; no_others = truths_alone } }
+program_typed =
+    record { functions = functions_typed; main = refl; truths = record { truths = truths_are; no_others = truths_alone } }
 
 -- ---- a machine that is stuck: no row is there for the value
 

@@ -44,7 +44,8 @@ module _ (store more : Store) where
     pub of_longer : (t : TypeTree) (v : Value) → IsOf constructors store t v → IsOf constructors (store ++ more) t v
     of_longer t v of = record { what = of.what; has = content_longer v of.what of.has; typed = of.typed }
 
-    pub all_longer : (ts : List TypeTree) (vs : List Value) → AreOf constructors store ts vs → AreOf constructors (store ++ more) ts vs
+    pub all_longer : (ts : List TypeTree) (vs : List Value) → AreOf constructors store ts vs
+        → AreOf constructors (store ++ more) ts vs
     all_longer [] [] of = tt
     all_longer [] (v ∷ vs) of = absurd of
     all_longer (t ∷ ts) [] of = absurd of
@@ -53,7 +54,8 @@ module _ (store more : Store) where
 -- ---- what made a value
 
 -- a value that a constructor made has its fields under that constructor, and under no other
-pub fields_of_made : (store : Store) (v : Value) (d : ℕ) (vs : List Value) (c : ℕ) → IsMadeBy store v d vs → fields_under store c v ≡ (if d == c then Some vs else None)
+pub fields_of_made : (store : Store) (v : Value) (d : ℕ) (vs : List Value) (c : ℕ) → IsMadeBy store v d vs
+    → fields_under store c v ≡ (if d == c then Some vs else None)
 fields_of_made store v d [] c made = ap (fields_under store c) made
 fields_of_made store v d (w ∷ ws) c made = ap (fields_under store c) made.1 ∙ ap (fields_made_by c) made.2
 
@@ -61,7 +63,8 @@ abbrev cell_of : ℕ → List Value → Cell
 cell_of c vs = record { made_by = c; fields = vs }
 
 -- one constructor alone makes a value, and from one list of fields
-pub made_once : (store : Store) (v : Value) (c d : ℕ) (vs ws : List Value) → IsMadeBy store v c vs → IsMadeBy store v d ws → (c ≡ d) × (vs ≡ ws)
+pub made_once : (store : Store) (v : Value) (c d : ℕ) (vs ws : List Value) → IsMadeBy store v c vs → IsMadeBy store v d ws
+    → (c ≡ d) × (vs ≡ ws)
 made_once store v c d [] [] one two = let same : constant c ≡ constant d = sym one ∙ two in (cc, refl)
 made_once store v c d [] (w ∷ ws) one two = let same : constant c ≡ place two.0 = sym one ∙ two.1 in absurd (cc)
 made_once store v c d (u ∷ vs) [] one two = let same : place one.0 ≡ constant d = sym one.1 ∙ two in absurd (cc)
@@ -84,7 +87,15 @@ pub record IsBuilt (constructors : List ConstructorTree) (store : Store) (t : Ty
   pub each : AreOf constructors store types fields
 
 module _ (constructors : List ConstructorTree) (store : Store) where
-  pub contents_are : (ts : List TypeTree) (vs : List Value) (parts : Contents) → HaveContents store vs parts → AreContentsOf constructors ts parts → AreOf constructors store ts vs
+  pub at_type : (t u : TypeTree) (v : Value) → t ≡ u → IsOf constructors store t v → IsOf constructors store u v
+  at_type t u v same of = subst (λ s. IsOf constructors store s v) same of
+
+  pub at_types : (ts us : List TypeTree) (vs : List Value) → ts ≡ us → AreOf constructors store ts vs
+      → AreOf constructors store us vs
+  at_types ts us vs same of = subst (λ ss. AreOf constructors store ss vs) same of
+
+  pub contents_are : (ts : List TypeTree) (vs : List Value) (parts : Contents) → HaveContents store vs parts
+      → AreContentsOf constructors ts parts → AreOf constructors store ts vs
   contents_are [] [] no_content has typed = tt
   contents_are [] [] (content first rest) has typed = absurd has
   contents_are [] (v ∷ vs) no_content has typed = absurd has
@@ -94,7 +105,8 @@ module _ (constructors : List ConstructorTree) (store : Store) where
   contents_are (t ∷ ts) (v ∷ vs) (content first rest) has typed =
       (record { what = first; has = has.0; typed = typed.0 }, contents_are ts vs rest has.1 typed.1)
 
-  pub contents_of : (ts : List TypeTree) (vs : List Value) → AreOf constructors store ts vs → (parts : Contents) × HaveContents store vs parts × AreContentsOf constructors ts parts
+  pub contents_of : (ts : List TypeTree) (vs : List Value) → AreOf constructors store ts vs
+      → (parts : Contents) × HaveContents store vs parts × AreContentsOf constructors ts parts
   contents_of [] [] of = (no_content, tt, tt)
   contents_of [] (v ∷ vs) of = absurd of
   contents_of (t ∷ ts) [] of = absurd of
@@ -103,12 +115,15 @@ module _ (constructors : List ConstructorTree) (store : Store) where
       (content of.0.what rest.0, (of.0.has, rest.1), (of.0.typed, rest.2))
 
   -- a constructor and fields of its types make a value of the type
-  pub construct_of : (t : TypeTree) (c : ℕ) (ts : List TypeTree) (v : Value) (vs : List Value) → field_types constructors t c ≡ Some ts → IsMadeBy store v c vs → AreOf constructors store ts vs → IsOf constructors store t v
+  pub construct_of : (t : TypeTree) (c : ℕ) (ts : List TypeTree) (v : Value) (vs : List Value)
+      → field_types constructors t c ≡ Some ts → IsMadeBy store v c vs → AreOf constructors store ts vs
+      → IsOf constructors store t v
   construct_of t c ts v vs fields made of =
       let parts = contents_of ts vs of in
       record { what = built c parts.0; has = (vs, made, parts.1); typed = (ts, fields, parts.2) }
 
-  pub built_of : (t : TypeTree) (c : ℕ) (ts : List TypeTree) (v : Value) → field_types constructors t c ≡ Some ts → IsOf constructors store t v → IsBuilt constructors store t v
+  pub built_of : (t : TypeTree) (c : ℕ) (ts : List TypeTree) (v : Value) → field_types constructors t c ≡ Some ts
+      → IsOf constructors store t v → IsBuilt constructors store t v
   built_of t c ts v fields of = by_content of.what of.has of.typed
     where
       by_content : (what : Content) → HasContent store v what → IsContentOf constructors t what → IsBuilt constructors store t v
@@ -126,19 +141,24 @@ module _ (constructors : List ConstructorTree) (store : Store) where
       }
 
   -- the fields of a value under a constructor of its type are of the types of that constructor's fields
-  pub fields_are : (t : TypeTree) (c : ℕ) (ts : List TypeTree) (v : Value) (vs : List Value) → field_types constructors t c ≡ Some ts → fields_under store c v ≡ Some vs → IsOf constructors store t v → AreOf constructors store ts vs
-  fields_are t c ts v vs fields under of = by_test (one.by == c) refl (sym (fields_of_made store v one.by one.fields c one.made) ∙ under)
+  pub fields_are : (t : TypeTree) (c : ℕ) (ts : List TypeTree) (v : Value) (vs : List Value)
+      → field_types constructors t c ≡ Some ts → fields_under store c v ≡ Some vs → IsOf constructors store t v
+      → AreOf constructors store ts vs
+  fields_are t c ts v vs fields under of =
+      by_test (one.by == c) refl (sym (fields_of_made store v one.by one.fields c one.made) ∙ under)
     where
       one : IsBuilt constructors store t v
       one = built_of t c ts v fields of
 
-      by_test : (same : Bool) → (one.by == c) ≡ same → (if same then Some one.fields else None) ≡ Some vs → AreOf constructors store ts vs
+      by_test : (same : Bool) → (one.by == c) ≡ same → (if same then Some one.fields else None) ≡ Some vs
+          → AreOf constructors store ts vs
       by_test false other is = absurd (cc)
       by_test true same is =
-          let types : Some one.types ≡ Some ts = sym one.of_type ∙ (ap (field_types constructors t) (eqb-true one.by c same) ∙ fields) in
+          let types : Some one.types ≡ Some ts =
+          sym one.of_type ∙ (ap (field_types constructors t) (eqb-true one.by c same) ∙ fields) in
           let types_are : one.types ≡ ts = cc in
           let values_are : one.fields ≡ vs = cc in
-          subst (λ us. AreOf constructors store us vs) types_are (subst (λ ws. AreOf constructors store one.types ws) values_are one.each)
+          at_types one.types ts vs types_are (subst (λ ws. AreOf constructors store one.types ws) values_are one.each)
 
   -- ---- the types that operators ask for
 
@@ -183,7 +203,8 @@ module _ (constructors : List ConstructorTree) (store : Store) where
         low : one.by ≤ 1
         low = truths.no_others one.by one.types one.of_type
 
-        by_fields : (ts : List TypeTree) (vs : List Value) → field_types constructors bool one.by ≡ Some ts → IsMadeBy store v one.by vs → AreOf constructors store ts vs → (t : Bool) × (v ≡ truth t)
+        by_fields : (ts : List TypeTree) (vs : List Value) → field_types constructors bool one.by ≡ Some ts
+            → IsMadeBy store v one.by vs → AreOf constructors store ts vs → (t : Bool) × (v ≡ truth t)
         by_fields [] [] fields made each = constant_is one.by v low made
         by_fields [] (w ∷ ws) fields made each = absurd each
         by_fields (t ∷ ts) vs fields made each =

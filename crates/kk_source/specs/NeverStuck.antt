@@ -30,7 +30,7 @@ ArgumentsFit program (Unary Not) vs = (t : Bool) × (vs ≡ truth t ∷ [])
 ArgumentsFit program (Binary operator) vs = (n m : ℤ) × (vs ≡ integer n ∷ integer m ∷ [])
 ArgumentsFit program (Print form) vs = (n : ℤ) × (vs ≡ integer n ∷ [])
 ArgumentsFit program (Construct c) vs =
-    (constructor : ConstructorTree) × (slice_get program.constructors c ≡ Some constructor) × (length vs ≡ length constructor.fields)
+    (made_by : ConstructorTree) × (slice_get program.constructors c ≡ Some made_by) × (length vs ≡ length made_by.fields)
 ArgumentsFit program (Call f) vs =
     (function : FunctionTree) × (slice_get program.functions f ≡ Some function) × (length vs ≡ length function.parameters)
 
