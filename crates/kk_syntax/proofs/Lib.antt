@@ -1,6 +1,13 @@
 pub mod Blocks
 pub mod Closed
 pub mod Gathered
+pub mod LeastTables
+pub mod Lists
+pub mod MoreOwned
+pub mod OwnedPlaces
+pub mod OwnedSearch
 pub mod PatternViews
+pub mod PositionTables
+pub mod TailCalls
 pub mod TypeViews
 pub mod Views
