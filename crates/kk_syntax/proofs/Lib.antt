@@ -6,6 +6,7 @@ pub mod Lists
 pub mod MoreOwned
 pub mod OwnedPlaces
 pub mod OwnedSearch
+pub mod PatternTypes
 pub mod PatternViews
 pub mod PositionTables
 pub mod TailCalls

@@ -2,6 +2,7 @@ pub mod Covered
 pub mod GroundPrograms
 pub mod GroundTyping
 pub mod OfType
+pub mod Matches
 pub mod Outlines
 pub mod OwnedPositions
 pub mod OwnedSearch
