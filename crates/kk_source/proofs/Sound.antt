@@ -191,9 +191,10 @@ at_value_sound c v o w f = record { older = o; control = w; frames = f }
 at_expression_sound : (c : Configuration) (e : Tree) (env : Environment) → IsOlder c.store → BoundWithin (length c.store) env → FramesWithin (length c.store) c.frames → Sound (at_expression e env c)
 at_expression_sound c e env o w f = record { older = o; control = w; frames = f }
 
-print_sound : (piece : List ℕ) (to : Configuration) → Sound to → LeadsTo Sound (print_step piece to)
-print_sound [] to s = s
-print_sound (b ∷ bs) to s = s
+-- a print leads to where it would without a piece
+pub print_leads : (P : Configuration → Type 0) (piece : List ℕ) (to : Configuration) → P to → LeadsTo P (print_step piece to)
+print_leads P [] to holds = holds
+print_leads P (b ∷ bs) to holds = holds
 
 byte_within : (n : ℕ) (byte : Option ℕ) → Within n (byte_value byte)
 byte_within n None = tt
@@ -264,7 +265,7 @@ module _ (setting : Setting) where
     where
       by_effect : (effect : FormEffect) → EffectWithin (length from.store) effect → LeadsTo Sound (effect_step (λ v. at_value v (record from { frames = older })) (λ c fields. construct_step setting c fields older from) (λ f arguments. call_step setting f (slice_get setting.program.functions f) arguments older from) effect)
       by_effect (gives v) e = record { older = s.older; control = e; frames = g }
-      by_effect (prints piece) e = print_sound piece _ (record { older = s.older; control = tt; frames = g })
+      by_effect (prints piece) e = print_leads Sound piece _ (record { older = s.older; control = tt; frames = g })
       by_effect reads e = λ byte. record { older = s.older; control = byte_within _ byte; frames = g }
       by_effect (makes c fields) e = construct_sound c fields older from s.older e g s.frames
       by_effect (enters f values) e = call_sound f _ values older from s e g
