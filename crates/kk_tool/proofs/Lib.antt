@@ -1,4 +1,6 @@
 mod Complete
+mod Evaluating
+mod Evaluations
 mod Examples
 mod ImageRuns
 mod Lines

@@ -1,5 +1,7 @@
 pub mod Answer
 pub mod Answers
+pub mod Evaluating
+pub mod Evaluations
 pub mod ImageRuns
 pub mod Internal
 pub mod Line

@@ -9,12 +9,13 @@ use Rattle.clap.specs.declared.builder.action.ArgAction.TheVariants.{SetTrue}
 use Rattle.kk_base.specs.Sizes.{greatest_cells, greatest_depth}
 
 -- what the program is asked for: to judge the text in a file; to build its image into another; to build its image and run it, and
--- perhaps to tell what the run took; to run the image in a file
+-- perhaps to tell what the run took; to run the image in a file; to run the text in a file by its definition
 pub data Request : Type 0 where
   check : (file : List ℕ) → Request
   build : (file out : List ℕ) (cells depth : ℕ) → Request
   run : (file : List ℕ) (cells depth steps : ℕ) (stats : Bool) → Request
   sim : (image : List ℕ) (steps : ℕ) → Request
+  eval : (file : List ℕ) (cells depth steps : ℕ) → Request
 
 -- the file that it reads
 abbrev pub file_of : Request → Text
@@ -22,6 +23,7 @@ file_of (check file) = file
 file_of (build file out cells depth) = file
 file_of (run file cells depth steps stats) = file
 file_of (sim image steps) = image
+file_of (eval file cells depth steps) = file
 
 -- ---- the line, for clap
 
@@ -63,6 +65,9 @@ run_app = with_rule (with_rule (with_sizes (with_rule (new_app (codes "run")) fi
 abbrev pub sim_app : App
 sim_app = with_rule (with_rule (new_app (codes "sim")) image_rule) steps_rule
 
+abbrev pub eval_app : App
+eval_app = with_rule (with_sizes (with_rule (new_app (codes "eval")) file_rule)) steps_rule
+
 -- the program, without help or version; one of its commands has to be there
 abbrev pub bare_app : App
 bare_app =
@@ -70,7 +75,8 @@ bare_app =
     record app { top = record app.top { disable_help_flag = true; disable_help_subcommand = true; subcommand_required = true } }
 
 abbrev pub line_app : App
-line_app = with_subcommand (with_subcommand (with_subcommand (with_subcommand bare_app check_app.top) build_app.top) run_app.top) sim_app.top
+line_app =
+    with_subcommand (with_subcommand (with_subcommand (with_subcommand (with_subcommand bare_app check_app.top) build_app.top) run_app.top) sim_app.top) eval_app.top
 
 -- ---- the numbers
 
@@ -142,6 +148,14 @@ sim_in rows = do
   steps ← steps_in rows
   Some (sim image steps)
 
+abbrev pub eval_in : List Row → Option Request
+eval_in rows = do
+  file ← first_of (codes "file") rows
+  cells ← cells_in rows
+  depth ← depth_in rows
+  steps ← steps_in rows
+  Some (eval file cells depth steps)
+
 -- what a command of this name asks for, by the matches of its arguments
 abbrev pub request_named : Text → List Row → Option Request
 request_named name rows =
@@ -149,6 +163,7 @@ request_named name rows =
     else if bytes_eq name (codes "build") then build_in rows
     else if bytes_eq name (codes "run") then run_in rows
     else if bytes_eq name (codes "sim") then sim_in rows
+    else if bytes_eq name (codes "eval") then eval_in rows
     else None
 
 abbrev pub entered_request : Option (Text × List Row) → Option Request

@@ -2,7 +2,7 @@
 ghost use Rattle.std.specs.Prelude.{◌≡◌, false, codes, IfOk};
 ghost use Rattle.clap.specs.Words.{app_of, rule_of, with_subcommand};
 ghost use Rattle.clap.specs.declared.builder.command.Command.TheViews.{out-Command as fields_of};
-ghost use Rattle.kk_tool.specs.Requests.{required, optional, flag, file_rule, image_rule, steps_rule, out_rule, check_app, with_sizes, build_app, run_app, sim_app, bare_app, line_app};
+ghost use Rattle.kk_tool.specs.Requests.{required, optional, flag, file_rule, image_rule, steps_rule, out_rule, check_app, with_sizes, build_app, run_app, sim_app, eval_app, bare_app, line_app};
 
 use clap::{Arg, ArgAction, Command as App};
 use std::alloc::{AllocError, Global};
@@ -100,6 +100,14 @@ fn sim_command<'a>(alloc: Global) -> Result<App<'a>, AllocError>
     App::new(alloc, "sim").arg(image(alloc))?.arg(steps(alloc))
 }
 
+fn eval_command<'a>(alloc: Global) -> Result<App<'a>, AllocError>
+    ensures app { IfOk result (λ c. app_of c ≡ eval_app) }
+    ensures local { IfOk result (λ c. (fields_of c).has_globals ≡ false) }
+{
+    let command = App::new(alloc, "eval").arg(file(alloc))?;
+    with_size_options(alloc, command)?.arg(steps(alloc))
+}
+
 /// The program before its commands: no help and no version, and one of its commands has to be there.
 fn bare_application<'a>(alloc: Global) -> App<'a>
     ensures app { app_of result ≡ bare_app }
@@ -110,13 +118,14 @@ fn bare_application<'a>(alloc: Global) -> App<'a>
         .subcommand_required(true)
 }
 
-/// Adds the commands that run images.
+/// Adds the commands that run something.
 fn with_run_commands<'a>(alloc: Global, command: App<'a>) -> Result<App<'a>, AllocError>
-    ensures { IfOk result (λ c. app_of c ≡ with_subcommand (with_subcommand (app_of command.entry) run_app.top) sim_app.top) }
+    ensures { IfOk result (λ c. app_of c ≡ with_subcommand (with_subcommand (with_subcommand (app_of command.entry) run_app.top) sim_app.top) eval_app.top) }
 {
     command
         .subcommand(run_command(alloc)?)?
-        .subcommand(sim_command(alloc)?)
+        .subcommand(sim_command(alloc)?)?
+        .subcommand(eval_command(alloc)?)
 }
 
 /// The program with its commands, as clap reads its line.

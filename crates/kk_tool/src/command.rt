@@ -1,6 +1,6 @@
 ghost use Rattle.kk_base.specs.Sizes.{AreSizes};
 
-/// The sizes that an image is built with.
+/// The sizes that a program is run with.
 #[derive(Clone, Copy, Debug, PartialEq, Eq)]
 pub struct Sizes {
     /// The cells of its heap.
@@ -42,6 +42,12 @@ pub enum Command<'a> {
     /// `sim IMAGE`: run the image in the file, for at most so many instructions.
     Sim {
         image: &'a str,
+        steps: u64,
+    },
+    /// `eval FILE`: run the text in the file by its definition, for at most so many steps.
+    Eval {
+        file: &'a str,
+        sizes: Sizes,
         steps: u64,
     },
 }

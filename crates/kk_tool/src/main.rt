@@ -5,6 +5,7 @@ mod adapter;
 mod answer;
 mod application;
 mod command;
+mod evaluation;
 mod kokarv;
 mod line;
 mod number;

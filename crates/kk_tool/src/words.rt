@@ -1,7 +1,7 @@
 ghost use Rattle.std.specs.Prelude.{◌≡◌, ◌≤◌, map, string_bytes, IfOk, IfSome, option_map};
 ghost use Rattle.clap.specs.Words.{found_of, rows_of, first_of, subcommand_rows_of};
 ghost use Rattle.kk_base.specs.Sizes.{greatest_cells, greatest_depth};
-ghost use Rattle.kk_tool.specs.Requests.{request_of, request_named, entered_request, check_in, build_in, run_in, sim_in, cells_in, depth_in, steps_in, stats_in};
+ghost use Rattle.kk_tool.specs.Requests.{request_of, request_named, entered_request, check_in, build_in, run_in, sim_in, eval_in, cells_in, depth_in, steps_in, stats_in};
 ghost use Rattle.kk_tool.specs.Internal.{request_read};
 
 use crate::application::application;
@@ -48,6 +48,7 @@ fn command_named<'a>(name: &str, matches: &ArgMatches<'a>) -> Option<Command<'a>
         "build" => build_in(matches),
         "run" => run_in(matches),
         "sim" => sim_in(matches),
+        "eval" => eval_in(matches),
         _ => None,
     }
 }
@@ -96,6 +97,20 @@ fn sim_in<'a>(matches: &ArgMatches<'a>) -> Option<Command<'a>>
     let image = value_of(matches, "image")?;
     let steps = steps_in(matches)?;
     Some(Command::Sim { image, steps })
+}
+
+fn eval_in<'a>(matches: &ArgMatches<'a>) -> Option<Command<'a>>
+    ensures { option_map request_read result ≡ eval_in (rows_of (found_of matches.now)) }
+{
+    let file = value_of(matches, "file")?;
+    let cells = cells_in(matches)?;
+    let depth = depth_in(matches)?;
+    let steps = steps_in(matches)?;
+    Some(Command::Eval {
+        file,
+        sizes: Sizes { cells, depth },
+        steps,
+    })
 }
 
 fn cells_in(matches: &ArgMatches<'_>) -> Option<u32>
