@@ -8,8 +8,7 @@ use Rattle.kk_syntax.specs.Programs.{ProgramTree}
 use Rattle.kk_syntax.specs.Trees.{Tree, variable, apply, branch, match, sequence, Trees, no_tree, tree, Rows, no_row, row}
 use Rattle.kk_borrow.specs.declared.owned_place.Place.{Place}
 use Rattle.kk_borrow.specs.declared.owned_place.Place.TheVariants.{Never, Always, With}
-use Rattle.kk_borrow.specs.Sets.{PositionSet, arity_of}
-use Rattle.kk_borrow.specs.OwnedPlaces.{takes, is_val, reuses, uses, uses_any, uses_rows}
+use Rattle.kk_syntax.specs.OwnedPositions.{PositionSet, arity_of, takes, is_val, reuses, uses, uses_any, uses_rows}
 use Rattle.kk_borrow.specs.Rules.{RuleTree, Has, Keeps}
 use Rattle.kk_borrow.specs.Demands.{place_in, place_if, at_place, placed, placed_all, placed_rows}
 

@@ -5,6 +5,7 @@ pub mod FormEffects
 pub mod Live
 pub mod Matching
 pub mod Notes
+pub mod Settings
 pub mod Sound
 pub mod SourceAfter
 pub mod State

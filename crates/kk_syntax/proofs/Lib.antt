@@ -1,6 +1,9 @@
 pub mod Blocks
 pub mod Closed
 pub mod Gathered
+pub mod OwnedPlaces
 pub mod PatternViews
+pub mod PositionTables
+pub mod TailCalls
 pub mod TypeViews
 pub mod Views

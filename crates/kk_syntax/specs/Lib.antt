@@ -3,6 +3,8 @@ pub mod GroundPrograms
 pub mod GroundTyping
 pub mod OfType
 pub mod Outlines
+pub mod OwnedPositions
+pub mod OwnedSearch
 pub mod Patterns
 pub mod Places
 pub mod PlainTyping
