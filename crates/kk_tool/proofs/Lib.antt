@@ -1,11 +1,8 @@
 mod Complete
 mod Evaluating
 mod Evaluations
-mod Examples
 mod ImageRuns
 mod Lines
-mod Numbers
 mod Rows
 mod SourceRuns
 mod Stores
-mod TakenLines

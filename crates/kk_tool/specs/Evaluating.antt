@@ -1,5 +1,5 @@
 -- What the private functions of a run by the store machine speak of: the machine between two of its steps.
-use Rattle.std.specs.Prelude.{◌≡◌, ◌≤◌, ◌<◌, ℕ, List, [], ◌∷◌, ◌++◌, take, length, Bool, false, Option, None, Some, option_map, Result, Ok, Err}
+use Rattle.std.specs.Prelude.{◌≡◌, ◌⊎◌, ◌≤◌, ◌<◌, ℕ, List, [], ◌∷◌, ◌++◌, take, length, Bool, false, Option, None, Some, option_map, Result, Ok, Err}
 use Rattle.kk_base.specs.declared.error.NoMemory.{NoMemory}
 use Rattle.kk_base.specs.Faults.{Rose}
 use Rattle.kk_base.specs.Machines.{trace, state}
@@ -8,11 +8,13 @@ use Rattle.kk_base.specs.Source.{SourceState}
 use Rattle.kk_base.specs.Trace.{Event, output, output_of, TakesFrom}
 use Rattle.kk_source.specs.Actions.{WithInput}
 use Rattle.kk_source.specs.SourceAfter.{State, source_machine}
+use Rattle.kk_source.specs.Settings.{IsRun}
 use Rattle.kk_source.specs.State.{Setting, End, end_at, Configuration}
+use Rattle.kk_syntax.specs.Programs.{ProgramTree}
 use Rattle.rv_sim.specs.Devices.{GivesEvents, asked}
 use Rattle.kk_tool.specs.declared.answer.RunEnd.{RunEnd}
 use Rattle.kk_tool.specs.declared.answer.RunEnd.TheVariants as OfRun
-use Rattle.kk_tool.specs.Evaluations.{end_for, is_input_end, is_output_end}
+use Rattle.kk_tool.specs.Evaluations.{end_for, is_input_end, is_output_end, RunsSource, RunsOutOfMemory}
 
 abbrev pub with_input : Configuration → List ℕ → State
 with_input machine input = record { machine = machine; input = input }
@@ -99,3 +101,10 @@ HasRead setting None old now input input' =
     × (end_at now.control ≡ None) × (input'.faults ≡ input.faults)
 HasRead setting (Some OfRun.InputFault) old now input input' = GivesEvents [] input input' × Rose input.faults input'.faults
 HasRead setting (Some _) old now input input' = ⊥
+
+-- A program was run by its definition, for at most so many steps, and the run has come to this. Where memory was refused it may have been
+-- refused before the first step.
+abbrev pub HasRun : ProgramTree → ℕ → ℕ → ℕ → Outcome → SourceState → SourceState → SinkState → SinkState → Type 0
+HasRun program cells depth steps (Ok end) input input' out out' = (setting : Setting) × IsRun program cells depth setting × RunsSource setting steps end input input' out out'
+HasRun program cells depth steps (Err refused) input input' out out' =
+    ((input' ≡ input) × (out' ≡ out)) ⊎ ((setting : Setting) × IsRun program cells depth setting × RunsOutOfMemory setting steps input input' out out')

@@ -6,5 +6,4 @@ pub mod ImageRuns
 pub mod Internal
 pub mod Line
 pub mod Outside
-pub mod Requests
 pub mod SourceRuns

@@ -1,6 +1,6 @@
 use Rattle.std.proofs.Common.{map, string_bytes, ◌∙◌}
-use Rattle.kk_tool.proofs.TakenLines.{line_told}
-use Rattle.kk_tool.proofs.words.command_in.Goals as goal
+use Rattle.kk_command.proofs.TakenLines.{line_told}
+use Rattle.kk_command.proofs.words.command_in.Goals as goal
 
 pub returns : goal.returns
 returns c =

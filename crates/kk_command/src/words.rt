@@ -1,8 +1,8 @@
 ghost use Rattle.std.specs.Prelude.{◌≡◌, ◌≤◌, map, string_bytes, IfOk, IfSome, option_map};
 ghost use Rattle.clap.specs.Words.{found_of, rows_of, first_of, subcommand_rows_of};
 ghost use Rattle.kk_base.specs.Sizes.{greatest_cells, greatest_depth};
-ghost use Rattle.kk_tool.specs.Requests.{request_of, request_named, entered_request, check_in, build_in, run_in, sim_in, eval_in, cells_in, depth_in, steps_in, stats_in};
-ghost use Rattle.kk_tool.specs.Internal.{request_read};
+ghost use Rattle.kk_command.specs.Requests.{request_of, request_named, entered_request, check_in, build_in, run_in, sim_in, eval_in, cells_in, depth_in, steps_in, stats_in};
+ghost use Rattle.kk_command.specs.Commands.{request_read};
 
 use crate::application::application;
 use crate::command::{Command, RunOptions, Sizes};

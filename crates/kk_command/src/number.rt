@@ -2,7 +2,7 @@ ghost use Rattle.std.specs.Prelude.{◌≡◌, ◌≤◌, ◌^◌, true, IfSome,
 ghost use Rattle.std.specs.List.{list_all};
 ghost use Rattle.std.specs.Char.{is_ascii_digit};
 ghost use Rattle.std.specs.Str.Parse.{digits_value};
-ghost use Rattle.kk_tool.specs.Requests.{has_leading_zero, is_number, number_in};
+ghost use Rattle.kk_command.specs.Requests.{has_leading_zero, is_number, number_in};
 
 /// The number that a text writes in decimal digits, without a sign or a leading zero, where it is in a range.
 pub fn number_in(least: u64, greatest: u64, text: &str) -> Option<u64>

@@ -4,7 +4,7 @@ use Rattle.clap.specs.declared.parser.matches.ArgMatches.{ArgMatches}
 use Rattle.clap.specs.Words.{App, Text, HasMatchesOf, fault_of, is_simple, is_simple_and_free, subcommand_of, subcommand_rows_of}
 use Rattle.clap.specs.Kinds.{Kinds}
 use Rattle.clap.specs.Walk.{is_empty}
-use Rattle.kk_tool.specs.Requests.{line_app, request_of, entered_request}
+use Rattle.kk_command.specs.Requests.{line_app, request_of, entered_request}
 
 free : is_simple_and_free line_app ≡ true
 free = refl

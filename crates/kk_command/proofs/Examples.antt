@@ -1,7 +1,7 @@
 -- Lines of words, and what they ask for.
 use Rattle.std.proofs.Common.{◌≡◌, [], ◌∷◌, codes, Some, None, true, false, refl}
 use Rattle.clap.proofs.OnLiterals.{clap_on_literals}
-use Rattle.kk_tool.specs.Requests.{request_of, check, build, run, sim}
+use Rattle.kk_command.specs.Requests.{request_of, check, build, run, sim, eval}
 
 runs : request_of (codes "kokarv" ∷ codes "run" ∷ codes "a.kk" ∷ []) ≡ Some (run (codes "a.kk") 65536 4096 1000000000 false)
 unfolding clap_on_literals
@@ -14,6 +14,10 @@ runs_with_stats = refl
 simulates : request_of (codes "kokarv" ∷ codes "sim" ∷ codes "a.elf" ∷ codes "--steps" ∷ codes "7" ∷ []) ≡ Some (sim (codes "a.elf") 7)
 unfolding clap_on_literals
 simulates = refl
+
+evaluates : request_of (codes "kokarv" ∷ codes "eval" ∷ codes "a.kk" ∷ codes "--steps" ∷ codes "7" ∷ []) ≡ Some (eval (codes "a.kk") 65536 4096 7)
+unfolding clap_on_literals
+evaluates = refl
 
 builds : request_of (codes "kokarv" ∷ codes "build" ∷ codes "-o" ∷ codes "b" ∷ codes "a.kk" ∷ codes "--cells=3" ∷ codes "--depth" ∷ codes "1" ∷ []) ≡ Some (build (codes "a.kk") (codes "b") 3 1)
 unfolding clap_on_literals

@@ -2,7 +2,7 @@
 ghost use Rattle.std.specs.Prelude.{◌≡◌, false, codes, IfOk};
 ghost use Rattle.clap.specs.Words.{app_of, rule_of, with_subcommand};
 ghost use Rattle.clap.specs.declared.builder.command.Command.TheViews.{out-Command as fields_of};
-ghost use Rattle.kk_tool.specs.Requests.{required, optional, flag, file_rule, image_rule, steps_rule, out_rule, check_app, with_sizes, build_app, run_app, sim_app, eval_app, bare_app, line_app};
+ghost use Rattle.kk_command.specs.Requests.{required, optional, flag, file_rule, image_rule, steps_rule, out_rule, check_app, with_sizes, build_app, run_app, sim_app, eval_app, bare_app, line_app};
 
 use clap::{Arg, ArgAction, Command as App};
 use std::alloc::{AllocError, Global};
