@@ -126,6 +126,6 @@ second_functions names (type_declaration name parameters cases ∷ more) = secon
 second_functions names (function_declaration name parameters effects result body ∷ more) =
     twice_faults names name ++ second_functions (names ++ name.name ∷ []) more
 
--- the faults of a text; `print` and `println` are there before its functions
+-- the faults of a text; the functions that are built in are there before its own
 abbrev pub faults_of : List WrittenDeclaration → List Fault
-faults_of declarations = second_functions (codes "print" ∷ codes "println" ∷ []) declarations ++ inside_all (functions_in declarations) declarations
+faults_of declarations = second_functions (codes "print" ∷ codes "println" ∷ codes "read-byte" ∷ []) declarations ++ inside_all (functions_in declarations) declarations

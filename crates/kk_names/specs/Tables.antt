@@ -2,7 +2,7 @@
 use Rattle.std.specs.Prelude.{ℕ, ◌+◌, List, [], ◌∷◌, ◌++◌, length, bytes_eq, codes, Option, Some, None, if◌then◌else◌}
 use Rattle.kk_syntax.specs.declared.operator.PrintForm.TheVariants as OfPrint
 use Rattle.kk_syntax.specs.declared.program.Form.{Form}
-use Rattle.kk_syntax.specs.declared.program.Form.TheVariants.{Print, Construct, Call}
+use Rattle.kk_syntax.specs.declared.program.Form.TheVariants.{ReadByte, Print, Construct, Call}
 use Rattle.kk_syntax.specs.Surface.{WrittenDeclaration, type_declaration, function_declaration}
 use Rattle.kk_names.specs.declared.table.Callee.{Callee}
 use Rattle.kk_names.specs.declared.table.Declared.{Declared}
@@ -11,9 +11,10 @@ use Rattle.kk_names.specs.declared.table.Declared.{Declared}
 abbrev pub means : List ℕ → Form → ℕ → Declared
 means name form parameters = record { name = name; callee = record { form = form; parameters = parameters } }
 
--- `print` and `println` have one argument each
+-- `print` and `println` have one argument each, and `read-byte` has none
 abbrev pub built_in_functions : List Declared
-built_in_functions = means (codes "print") (Print OfPrint.Print) 1 ∷ means (codes "println") (Print OfPrint.PrintLine) 1 ∷ []
+built_in_functions =
+    means (codes "print") (Print OfPrint.Print) 1 ∷ means (codes "println") (Print OfPrint.PrintLine) 1 ∷ means (codes "read-byte") ReadByte 0 ∷ []
 
 -- `False` and `True` have none
 abbrev pub constructors : List Declared

@@ -32,15 +32,17 @@ pub fn meaning_in(table: &[Declared], name: &Name) -> Option<Callee>
     None
 }
 
-/// The functions that are built in: `print` and `println`.
+/// The functions that are built in: `print`, `println` and `read-byte`.
 pub fn built_in_functions(alloc: Global) -> Result<Vec<Declared>, NoMemory>
     ensures { IfOk result (λ table. table.items ≡ built_in_functions) }
 {
     let print = built_in(alloc, "print", Form::Print(PrintForm::Print), 1)?;
     let line = built_in(alloc, "println", Form::Print(PrintForm::PrintLine), 1)?;
+    let read = built_in(alloc, "read-byte", Form::ReadByte, 0)?;
     let mut table = Vec::new(alloc);
     table.push(print)?;
     table.push(line)?;
+    table.push(read)?;
     Ok(table)
 }
 

@@ -13,10 +13,12 @@ use Rattle.kk_tool.specs.declared.answer.RunEnd.TheVariants as OfRun
 use Rattle.rv_sim.specs.declared.halt.Halt.{Halt}
 use Rattle.rv_sim.specs.declared.halt.Halt.TheVariants as OfHalt
 use Rattle.kk_tool.specs.Answer.{fault_status, run_status, halt_status, status_of}
-use Rattle.kk_tool.specs.Answers.{Answers, usage, no_memory, unread, refused, checked, built, unwritten, ran, measured, bad_image, simulated, EndsWith, Faultless, is_fault_status}
+use Rattle.kk_tool.specs.Answers.{Answers, usage, no_memory, unread, refused, checked, built, unwritten, ran, measured, bad_image, simulated, evaluated, cut_short, EndsWith, Faultless, is_fault_status}
+use Rattle.kk_source.specs.State.{Setting}
+use Rattle.kk_tool.specs.Evaluations.{RunsSource}
 use Rattle.kk_tool.specs.ImageRuns.{RunsImage}
 use Rattle.kk_tool.specs.Outside.{Outside}
-use Rattle.kk_tool.specs.Requests.{Request}
+use Rattle.kk_command.specs.Requests.{Request}
 use Rattle.kk_tool.specs.SourceRuns.{halt_for}
 
 fault_no_fault : (refusal : Refusal) → is_fault_status (fault_status refusal) ≡ false
@@ -58,6 +60,14 @@ module _ (before after : Outside) (err err' : SinkState) (faultless : Faultless 
   no_halt_fault image steps OfHalt.InputFault runs = absurd (faultless.input runs.input_faults)
   no_halt_fault image steps OfHalt.OutputFault runs = absurd (faultless.out runs.output_faults)
 
+  no_source_fault : (setting : Setting) (steps : ℕ) (end : RunEnd) → RunsSource setting steps end before.input after.input before.out after.out → is_fault_status (run_status end) ≡ false
+  no_source_fault setting steps OfRun.Ended runs = refl
+  no_source_fault setting steps OfRun.HeapFull runs = refl
+  no_source_fault setting steps OfRun.StackFull runs = refl
+  no_source_fault setting steps OfRun.StepsSpent runs = refl
+  no_source_fault setting steps OfRun.InputFault runs = absurd (faultless.input runs.input_faults)
+  no_source_fault setting steps OfRun.OutputFault runs = absurd (faultless.out runs.output_faults)
+
   no_answer_fault : (request : Option Request) (answer : Answer) → Answers before after request answer → is_fault_status (status_of answer) ≡ false
   no_answer_fault _ _ (usage kept) = refl
   no_answer_fault _ _ (no_memory request files streams image) = refl
@@ -70,6 +80,8 @@ module _ (before after : Outside) (err err' : SinkState) (faultless : Faultless 
   no_answer_fault _ _ (measured file cells depth steps stats instructions free asked made runs means is kept) = refl
   no_answer_fault _ _ (bad_image file steps reason condition has is number kept streams) = refl
   no_answer_fault _ _ (simulated file steps halt has loads runs kept) = no_halt_fault after.image steps halt runs
+  no_answer_fault _ _ (evaluated file text cells depth steps end program setting has is run runs kept image) = no_source_fault setting steps end runs
+  no_answer_fault _ _ (cut_short file text cells depth steps program setting has is run runs kept image) = refl
 
   by_line : (answer : Answer) (status : Status) → is_fault_status (status_of answer) ≡ false → EndsWith answer status err err' → is_fault_status status ≡ false
   by_line answer status none ends =

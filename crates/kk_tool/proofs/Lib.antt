@@ -1,9 +1,8 @@
 mod Complete
-mod Examples
+mod Evaluating
+mod Evaluations
 mod ImageRuns
 mod Lines
-mod Numbers
 mod Rows
 mod SourceRuns
 mod Stores
-mod TakenLines

@@ -1,5 +1,5 @@
 -- How each command comes to its answers.
-use Rattle.std.proofs.Common.{◌≡◌, ℕ, List, [], Bool, true, false, cond, Option, Some, None, refl, sym, ap, subst, ◌∙◌, inl, inr}
+use Rattle.std.proofs.Common.{◌≡◌, ℕ, List, [], Bool, true, false, cond, Option, Some, None, Ok, Err, refl, sym, ap, subst, ◌∙◌, inl, inr}
 use Rattle.std.specs.Borrow.{Bor}
 use Rattle.elf_image.specs.declared.bad_image.BadImage.{BadImage as Reason}
 use Rattle.elf_image.specs.declared.bad_image.BadImage.TheVariants as OfReason
@@ -21,10 +21,12 @@ use Rattle.kk_tool.specs.declared.answer.Answer.{Answer}
 use Rattle.kk_tool.specs.declared.answer.Answer.TheVariants.{Done, Usage, Refused, NoMemory, FileFault, Ran, Measured, Simulated}
 use Rattle.kk_tool.specs.declared.answer.RunEnd.{RunEnd}
 use Rattle.kk_tool.specs.declared.answer.RunEnd.TheVariants as OfRun
-use Rattle.kk_tool.specs.Answers.{HasText, HasImage, IsImageOfFile, Answers, usage, no_memory, unread, refused, checked, built, unwritten, ran, measured, bad_image, simulated, tells_statistics}
+use Rattle.kk_tool.specs.Answers.{HasText, HasImage, IsImageOfFile, Answers, usage, no_memory, unread, refused, checked, built, unwritten, ran, measured, bad_image, simulated, evaluated, cut_short, tells_statistics}
+use Rattle.kk_base.specs.declared.error.NoMemory.{NoMemory as OutOfMemory}
+use Rattle.kk_tool.specs.Evaluating.{HasRun}
 use Rattle.kk_tool.specs.Internal.{answer_of_refusal, answer_of_condition, HasStopped, AnswersRun, without_statistics, with_statistics}
 use Rattle.kk_tool.specs.ImageRuns.{IsMeasured}
-use Rattle.kk_tool.specs.Requests.{Request, check, build, run, sim, file_of}
+use Rattle.kk_command.specs.Requests.{Request, check, build, run, sim, eval, file_of}
 use Rattle.kk_tool.specs.Outside.{Outside, KeepsFiles, KeepsStreams, KeepsAll}
 use Rattle.kk_tool.specs.SourceRuns.{halt_for}
 use Rattle.kk_tool.proofs.ImageRuns.{stops_alike}
@@ -189,3 +191,18 @@ module _ (first second : StoreState) (kept : KeepsFiles first second) (image ima
 
     pub image_not_simulated : input' ≡ input → output' ≡ output → Answers (outside first input output image) (outside second input' output' image') (Some (sim file steps)) NoMemory
     image_not_simulated same_input same_out = no_memory (Some (sim file steps)) kept (record { input = same_input; out = same_out }) (inr has)
+
+-- what becomes of a text that is accepted and run by its definition
+module _ (first second : StoreState) (kept : KeepsFiles first second) (file text slice image : List ℕ) (cells depth steps : ℕ) (program : ProgramTree)
+    (same : slice ≡ text) (has : HasText file text first) (accepted : IsProgramOf slice program) (input input' : SourceState) (output output' : SinkState) where
+  is_program : IsProgramOf text program
+  is_program = subst (λ (t : List ℕ). IsProgramOf t program) same accepted
+
+  pub program_evaluated : (end : RunEnd) → HasRun program cells depth steps (Ok end) input input' output output'
+      → Answers (outside first input output image) (outside second input' output' image) (Some (eval file cells depth steps)) (Ran end cells depth steps)
+  program_evaluated end ran = evaluated file text cells depth steps end program ran.0 has is_program ran.1.0 ran.1.1 kept refl
+
+  pub program_cut_short : (refused : OutOfMemory) → HasRun program cells depth steps (Err refused) input input' output output'
+      → Answers (outside first input output image) (outside second input' output' image) (Some (eval file cells depth steps)) NoMemory
+  program_cut_short refused (inl unchanged) = no_memory (Some (eval file cells depth steps)) kept (record { input = unchanged.0; out = unchanged.1 }) (inl refl)
+  program_cut_short refused (inr ran) = cut_short file text cells depth steps program ran.0 has is_program ran.1.0 ran.1.1 kept refl

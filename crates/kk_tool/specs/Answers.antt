@@ -20,7 +20,10 @@ use Rattle.kk_tool.specs.declared.answer.Answer.TheVariants.{Done, Usage, Refuse
 use Rattle.kk_tool.specs.declared.answer.RunEnd.{RunEnd}
 use Rattle.kk_tool.specs.declared.answer.RunEnd.TheVariants as OfRun
 use Rattle.kk_tool.specs.Answer.{status_of}
-use Rattle.kk_tool.specs.Requests.{Request, check, build, run, sim, file_of}
+use Rattle.kk_source.specs.Settings.{IsRun}
+use Rattle.kk_source.specs.State.{Setting}
+use Rattle.kk_tool.specs.Evaluations.{RunsSource, RunsOutOfMemory}
+use Rattle.kk_command.specs.Requests.{Request, check, build, run, sim, eval, file_of}
 use Rattle.kk_tool.specs.ImageRuns.{RunsImage, IsMeasured}
 use Rattle.kk_tool.specs.SourceRuns.{halt_for, MeansRun}
 use Rattle.kk_tool.specs.Line.{line_of}
@@ -61,7 +64,7 @@ tells_statistics stats _ = false
 pub data Answers (before after : Outside) : Option Request → Answer → Type 0 where
   -- the words are no command
   usage : KeepsAll before after → Answers before after None Usage
-  -- memory was refused, before anything was written or run
+  -- memory was refused, before anything was written or run, or took a step
   no_memory : (request : Option Request) → KeepsFiles before.files after.files → KeepsStreams before after
       → (after.image ≡ before.image) ⊎ IsRequestedImage request before.files after.image → Answers before after request NoMemory
   -- FILE or IMAGE could not be read
@@ -98,6 +101,15 @@ pub data Answers (before after : Outside) : Option Request → Answer → Type 0
   simulated : (file : List ℕ) (steps : ℕ) (halt : Halt) → HasImage file after.image before.files → reason_of after.image ≡ None
       → RunsImage after.image steps halt before.input after.input before.out after.out → KeepsFiles before.files after.files
       → Answers before after (Some (sim file steps)) (Simulated halt steps)
+
+  -- eval: the program of the text was run by its definition, for at most `steps` steps, and the run ended so
+  evaluated : (file text : List ℕ) (cells depth steps : ℕ) (end : RunEnd) (program : ProgramTree) (setting : Setting) → HasText file text before.files → IsProgramOf text program
+      → IsRun program cells depth setting → RunsSource setting steps end before.input after.input before.out after.out → KeepsFiles before.files after.files
+      → after.image ≡ before.image → Answers before after (Some (eval file cells depth steps)) (Ran end cells depth steps)
+  -- eval: memory was refused before the end; what was printed and read until then is the first that the program prints and reads
+  cut_short : (file text : List ℕ) (cells depth steps : ℕ) (program : ProgramTree) (setting : Setting) → HasText file text before.files → IsProgramOf text program
+      → IsRun program cells depth setting → RunsOutOfMemory setting steps before.input after.input before.out after.out → KeepsFiles before.files after.files
+      → after.image ≡ before.image → Answers before after (Some (eval file cells depth steps)) NoMemory
 
 -- an answer ends a command with its status, where its line was put; or where putting the line failed, with an output fault. Where an answer
 -- has no line, nothing is put

@@ -14,18 +14,8 @@ use Rattle.kk_tool.specs.declared.answer.RunEnd.{RunEnd}
 use Rattle.kk_tool.specs.Answers.{tells_statistics}
 use Rattle.kk_tool.specs.ImageRuns.{RunsImage, IsMeasured}
 use Rattle.kk_tool.specs.SourceRuns.{halt_for}
-use Rattle.kk_tool.specs.declared.command.Command.{Command}
-use Rattle.kk_tool.specs.declared.command.Command.TheVariants as OfCommand
 use Rattle.kk_tool.specs.declared.line.Piece.{Piece}
 use Rattle.kk_tool.specs.declared.line.Piece.TheVariants.{Text, Bytes, Number}
-use Rattle.kk_tool.specs.Requests.{Request, check, build, run, sim}
-
--- what a command that was read asks for
-abbrev pub request_read : Command → Request
-request_read (OfCommand.Check file) = check file.now
-request_read (OfCommand.Build file out sizes) = build file.now out.now sizes.cells sizes.depth
-request_read (OfCommand.Run file options) = run file.now options.sizes.cells options.sizes.depth options.steps options.stats
-request_read (OfCommand.Sim image steps) = sim image.now steps
 
 -- the answer to a text that is refused, or that was not judged for want of memory
 abbrev pub answer_of_refusal : Refusal → Answer

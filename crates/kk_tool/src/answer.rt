@@ -20,7 +20,8 @@ pub enum Answer<'a> {
     FileFault {
         name: &'a str,
     },
-    /// The image, with so many cells and such a depth, was run for at most so many instructions, and the run ended so.
+    /// The image, with so many cells and such a depth, was run for at most so many instructions, or the program by its
+    /// definition for at most so many steps, and the run ended so.
     Ran {
         end: RunEnd,
         cells: u32,
@@ -44,7 +45,7 @@ pub enum Answer<'a> {
     },
 }
 
-/// How the run of an image ended.
+/// How the run of a program ended.
 #[derive(Clone, Copy, Debug, PartialEq, Eq)]
 pub enum RunEnd {
     /// The program ended by itself.
@@ -53,7 +54,7 @@ pub enum RunEnd {
     HeapFull,
     /// The program ended at a call that found the stack full.
     StackFull,
-    /// All instructions of the budget were executed, and the image has not exited.
+    /// All instructions or steps of the budget were made, and the program has not ended.
     StepsSpent,
     /// Reading the input failed.
     InputFault,

@@ -1,12 +1,12 @@
 ghost use Rattle.std.specs.Prelude.{◌≡◌, false, map, string_bytes};
 ghost use Rattle.kk_tool.specs.Answers.{Answers, Ends, EndsWith, Faultless, is_fault_status};
 ghost use Rattle.kk_tool.specs.Outside.{outside};
-ghost use Rattle.kk_tool.specs.Requests.{request_of};
+ghost use Rattle.kk_command.specs.Requests.{request_of};
 
 use crate::answer::Answer;
 use crate::perform::perform;
-use crate::words::command_in;
 use kk_base::{Bytes, NoMemory, Sink, Source, Status, Store};
+use kk_command::command_in;
 use std::alloc::Global;
 
 /// Does the command that `words` are, over the devices of the outside, and tells how it ended: by its status, and by a

@@ -3,15 +3,12 @@
 
 mod adapter;
 mod answer;
-mod application;
-mod command;
+mod evaluation;
 mod kokarv;
 mod line;
-mod number;
 mod perform;
 #[cfg(test)]
 mod tests;
-mod words;
 
 use adapter::{FileStore, StreamSink, StreamSource};
 use kk_base::{Bytes, Status};

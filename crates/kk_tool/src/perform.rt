@@ -6,21 +6,26 @@ ghost use Rattle.kk_base.specs.Sink.{SinkState};
 ghost use Rattle.kk_base.specs.Source.{SourceState};
 ghost use Rattle.kk_build.specs.SourceMeaning.{exit_of};
 ghost use Rattle.kk_build.specs.ImageAfter.{exited, ExitsWell};
+ghost use Rattle.kk_syntax.specs.Programs.{program_tree};
 ghost use Rattle.rv_sim.specs.Devices.{ending_at};
 ghost use Rattle.rv_sim.specs.declared.halt.Halt.TheVariants.{Exit};
 ghost use Rattle.kk_tool.specs.Answers.{Answers, BeginsFile, HasText, HasImage, IsImageOfFile, tells_statistics};
+ghost use Rattle.kk_tool.specs.Evaluating.{HasRun};
 ghost use Rattle.kk_tool.specs.Internal.{answer_of_refusal, answer_of_condition, AnswersRun, EndsWell, HasStopped};
-ghost use Rattle.kk_tool.specs.Requests.{Request, check, build, run, sim, file_of};
-ghost use Rattle.kk_tool.specs.Internal.{request_read};
+ghost use Rattle.kk_command.specs.Requests.{Request, check, build, run, sim, eval, file_of};
+ghost use Rattle.kk_command.specs.Commands.{request_read};
 ghost use Rattle.kk_tool.specs.SourceRuns.{halt_for};
 ghost use Rattle.kk_tool.specs.Outside.{KeepsFiles, outside};
 
 use crate::answer::{Answer, RunEnd, wants_memory};
-use crate::command::{Command, RunOptions, Sizes};
+use crate::evaluation::evaluate;
 use elf_image::{BadImage, Image};
 use kk_base::{Bytes, NoMemory, Read, Refusal, Sink, Source, Store, Wrote};
 use kk_build::{Ending, build};
+use kk_command::{Command, RunOptions, Sizes};
 use kk_front::read;
+use kk_meaning::Meaning;
+use kk_syntax::Accepted;
 use rv_sim::{Halt, Machine};
 use std::alloc::Global;
 
@@ -56,6 +61,9 @@ pub fn perform<'a, F: Store, I: Source, O: Sink>(
         Command::Run { file, options } => run_file(alloc, file, options, files, input, out, image),
         Command::Sim { image: file, steps } => {
             simulate_file(alloc, file, steps, files, input, out, image)
+        }
+        Command::Eval { file, sizes, steps } => {
+            evaluate_file(alloc, file, sizes, steps, files, input, out)
         }
     }
 }
@@ -144,6 +152,52 @@ fn simulate_file<'a, F: Store, I: Source, O: Sink>(
         },
         Err(NoMemory) => Answer::NoMemory,
     }
+}
+
+/// Runs the text in a file by its definition.
+fn evaluate_file<'a, F: Store, I: Source, O: Sink>(
+    alloc: Global,
+    file: &'a str,
+    sizes: Sizes,
+    steps: u64,
+    files: &mut F,
+    input: &mut I,
+    out: &mut O,
+) -> Answer<'a>
+    ensures { (image : List ℕ) → Answers (outside (F.state files.old) (I.state input.old) (O.state out.old) image) (outside (F.state files.new) (I.state input.new) (O.state out.new) image) (Some (eval file.now sizes.cells sizes.depth steps)) result }
+{
+    let text = match read_text(alloc, file, files) {
+        Ok(text) => text,
+        Err(answer) => return answer,
+    };
+    let accepted = match read(alloc, text.as_slice()) {
+        Ok(accepted) => accepted,
+        Err(refusal) => return refusal_answer(refusal),
+    };
+    match run_accepted(alloc, &accepted, sizes, steps, input, out) {
+        Ok(end) => Answer::Ran {
+            end,
+            cells: sizes.cells,
+            depth: sizes.depth,
+            steps,
+        },
+        Err(NoMemory) => Answer::NoMemory,
+    }
+}
+
+/// Runs an accepted program by its definition, for at most so many steps.
+fn run_accepted<I: Source, O: Sink>(
+    alloc: Global,
+    accepted: &Accepted,
+    sizes: Sizes,
+    steps: u64,
+    input: &mut I,
+    out: &mut O,
+) -> Result<RunEnd, NoMemory>
+    ensures { HasRun (program_tree accepted.now.typed.program) sizes.cells sizes.depth steps result (I.state input.old) (I.state input.new) (O.state out.old) (O.state out.new) }
+{
+    let mut meaning = Meaning::start(alloc, accepted, sizes.cells, sizes.depth)?;
+    evaluate(&mut meaning, steps, input, out)
 }
 
 /// The text in a file, of which no more is read than tells whether it is too long; or the answer where it cannot be had.

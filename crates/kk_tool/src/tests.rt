@@ -10,6 +10,7 @@ use std::process::Abort;
 #[derive(Clone, Copy)]
 struct Refused {
     files: u64,
+    input: u64,
     out: u64,
     err: u64,
 }
@@ -29,11 +30,16 @@ struct Row<'a> {
 
 const NONE: Refused = Refused {
     files: 0,
+    input: 0,
     out: 0,
     err: 0,
 };
 
-static ROWS: [Row; 18] = [
+/// Prints each byte of the input as a number, and -1 at its end.
+const ECHO: &str =
+    "fun echo(): console () { val b = read-byte(); println(b); if b >= 0 then echo() }; fun main() { echo() }";
+
+static ROWS: [Row; 22] = [
     Row {
         line: "kokarv run a.kk",
         text: "fun main() { println(1 + 2 * 3) }",
@@ -103,6 +109,7 @@ static ROWS: [Row; 18] = [
         text: "fun main() { println(1) }",
         refused: Refused {
             files: 1,
+            input: 0,
             out: 0,
             err: 0,
         },
@@ -116,6 +123,7 @@ static ROWS: [Row; 18] = [
         text: "fun main() { println(1) }",
         refused: Refused {
             files: 2,
+            input: 0,
             out: 0,
             err: 0,
         },
@@ -129,6 +137,7 @@ static ROWS: [Row; 18] = [
         text: "fun main() { println(1); println(2) }",
         refused: Refused {
             files: 0,
+            input: 0,
             out: 2,
             err: 0,
         },
@@ -142,6 +151,7 @@ static ROWS: [Row; 18] = [
         text: "fun main() { println(1); println(\"a\") }",
         refused: Refused {
             files: 0,
+            input: 0,
             out: 3,
             err: 1,
         },
@@ -156,6 +166,7 @@ static ROWS: [Row; 18] = [
         text: "fun main() { print(\"\"); print(\"x\") }",
         refused: Refused {
             files: 0,
+            input: 0,
             out: 1,
             err: 0,
         },
@@ -169,6 +180,7 @@ static ROWS: [Row; 18] = [
         text: "fun main() { print(1) }",
         refused: Refused {
             files: 0,
+            input: 0,
             out: 1,
             err: 1,
         },
@@ -182,6 +194,7 @@ static ROWS: [Row; 18] = [
         text: "",
         refused: Refused {
             files: 0,
+            input: 0,
             out: 0,
             err: 2,
         },
@@ -195,6 +208,7 @@ static ROWS: [Row; 18] = [
         text: "",
         refused: Refused {
             files: 0,
+            input: 0,
             out: 0,
             err: 1,
         },
@@ -217,12 +231,65 @@ static ROWS: [Row; 18] = [
         text: "fun main() { print(1) }",
         refused: Refused {
             files: 0,
+            input: 0,
             out: 0,
             err: 1,
         },
         status: Status::OutputFault,
         out: "1",
         err: "",
+        writes: false,
+    },
+    // The input is the bytes 10 and 255.
+    Row {
+        line: "kokarv run a.kk",
+        text: ECHO,
+        refused: NONE,
+        status: Status::Done,
+        out: "10\n255\n-1\n",
+        err: "",
+        writes: false,
+    },
+    Row {
+        line: "kokarv run a.kk",
+        text: ECHO,
+        refused: Refused {
+            files: 0,
+            input: 1,
+            out: 0,
+            err: 0,
+        },
+        status: Status::InputFault,
+        out: "",
+        err: "input fault\n",
+        writes: false,
+    },
+    Row {
+        line: "kokarv run a.kk",
+        text: ECHO,
+        refused: Refused {
+            files: 0,
+            input: 2,
+            out: 0,
+            err: 0,
+        },
+        status: Status::InputFault,
+        out: "10\n",
+        err: "input fault\n",
+        writes: false,
+    },
+    Row {
+        line: "kokarv run a.kk",
+        text: ECHO,
+        refused: Refused {
+            files: 0,
+            input: 0,
+            out: 1,
+            err: 0,
+        },
+        status: Status::OutputFault,
+        out: "",
+        err: "output fault\n",
         writes: false,
     },
     Row {
@@ -298,13 +365,13 @@ struct Devices {
 }
 
 impl Devices {
-    /// Devices where `a.kk` is the only file.
+    /// Devices where `a.kk` is the only file, and the input is the bytes 10 and 255.
     fn new(alloc: Global, text: &str, refused: Refused) -> Result<Self, NoMemory> {
         let mut files = MemStore::new(alloc, &[refused.files])?;
         files.add_file("a.kk", text.as_bytes())?;
         Ok(Devices {
             files,
-            input: MemSource::new(alloc, b"", &[])?,
+            input: MemSource::new(alloc, b"\n\xff", &[refused.input])?,
             out: MemSink::new(alloc, 4096, &[refused.out])?,
             err: MemSink::new(alloc, 4096, &[refused.err])?,
             image: Bytes::new(alloc),

@@ -1,6 +1,6 @@
 use Rattle.std.proofs.Common.{map, string_bytes, option_map, ap, sym, ◌∙◌}
-use Rattle.kk_tool.specs.Requests.{request_of}
-use Rattle.kk_tool.specs.Internal.{request_read}
+use Rattle.kk_command.specs.Requests.{request_of}
+use Rattle.kk_command.specs.Commands.{request_read}
 use Rattle.kk_tool.proofs.Rows.{no_command, no_words}
 use Rattle.kk_tool.proofs.kokarv.answer_words.Goals as goal
 

@@ -1,0 +1,10 @@
+//! The commands of the program: what the words of its line ask for.
+#![tactic(auto)]
+
+mod application;
+mod command;
+mod number;
+mod words;
+
+pub use command::{Command, RunOptions, Sizes};
+pub use words::command_in;

@@ -1,0 +1,326 @@
+-- A run by the store machine, step by step.
+use Rattle.std.proofs.Common.{◌≡◌, ◌≢◌, ◌≤◌, ◌<◌, ℕ, suc, ◌+◌, List, [], ◌∷◌, ◌++◌, length, take, Bool, true, false, Option, Some, None, option_map, Result, Ok, Err, refl, sym, ap, subst, ◌∙◌, arith, rules, append-nil}
+use Rattle.std.specs.List.{flat_map}
+use Rattle.kk_base.specs.declared.error.NoMemory.{NoMemory}
+use Rattle.kk_base.specs.Machines.{trace, state, step_unless}
+use Rattle.kk_base.specs.Sink.{SinkState}
+use Rattle.kk_base.specs.Source.{SourceState}
+use Rattle.kk_base.specs.Trace.{Event, output, input as taken, input_end, output_of, TakesFrom}
+use Rattle.kk_base.proofs.Machines.{state-add, trace-add}
+use Rattle.kk_base.proofs.Traces.{TakesFrom-split}
+use Rattle.kk_syntax.specs.declared.program.Form.{Form}
+use Rattle.kk_syntax.specs.declared.program.Form.TheVariants.{Number, Unit as Nothing, ReadByte, PrintText, Unary, Binary, Print, Construct, Call}
+use Rattle.kk_syntax.specs.Programs.{FunctionTree}
+use Rattle.kk_syntax.specs.Trees.{Tree, variable, apply, branch, match, sequence, no_tree, tree}
+use Rattle.kk_source.specs.Actions.{Action, goes, puts, takes, builds, calls, performed, print_step}
+use Rattle.kk_source.specs.FormEffects.{effect_step, form_effect}
+use Rattle.kk_source.specs.Matching.{Chosen, first_match}
+use Rattle.kk_source.specs.Notes.{Note, seen, events_of}
+use Rattle.kk_source.specs.SourceAfter.{State, source_machine, store_machine, step}
+use Rattle.kk_source.specs.State.{Setting, Value, Environment, Frame, arguments, branches, rows, statement, call, End, ended, heap_full, stack_full, end_at, Control, expression, value, stopped, Configuration}
+use Rattle.kk_source.specs.Step.{step_at, step_of, form_step, call_step, choice_step, expression_step, value_step}
+use Rattle.kk_meaning.specs.declared.turn.Turn.{Turn}
+use Rattle.kk_meaning.specs.declared.turn.Turn.TheVariants.{Went, Printed, WantsInput, Ended, HeapFull, StackFull}
+use Rattle.kk_meaning.specs.Turns.{turn_of, quiet_turn, TakesByte, Reads, end_of}
+use Rattle.rv_sim.specs.Devices.{GivesEvents, asked}
+use Rattle.rv_sim.proofs.Events.{GivesEvents-none, GivesEvents-join, held-none, held-join}
+use Rattle.kk_tool.specs.declared.answer.RunEnd.{RunEnd}
+use Rattle.kk_tool.specs.declared.answer.RunEnd.TheVariants as OfRun
+use Rattle.kk_tool.specs.Evaluations.{end_for}
+use Rattle.kk_tool.specs.Evaluating.{with_input, StepsTo, AsksAt, PutsAt, Outcome, ending_for, Stands, HasEvaluated, HasTurned, outcome_of}
+
+-- ---- a step that prints or takes a byte does not end the run
+
+-- a print is of some bytes, and neither it nor a read leads to an end
+abbrev GoesOn : Action Configuration → Type 0
+GoesOn (goes to) = Unit {0}
+GoesOn (puts piece to) = (0 < length piece) × (end_at to.control ≡ None)
+GoesOn (takes to) = (byte : Option ℕ) → end_at (to byte).control ≡ None
+GoesOn (builds found to) = Unit {0}
+GoesOn (calls found to) = Unit {0}
+
+print_goes_on : (piece : List ℕ) (to : Configuration) → end_at to.control ≡ None → GoesOn (print_step piece to)
+print_goes_on [] to going = tt
+print_goes_on (byte ∷ bytes) to going = (omega arith, going)
+
+call_goes_on : (setting : Setting) (f : ℕ) (function : Option FunctionTree) (values : List Value) (older : List Frame) (from : Configuration) → GoesOn (call_step setting f function values older from)
+call_goes_on setting f None values older from = tt
+call_goes_on setting f (Some function) values [] from = tt
+call_goes_on setting f (Some function) values (arguments form vs left environment ∷ older) from = tt
+call_goes_on setting f (Some function) values (branches positive negative environment ∷ older) from = tt
+call_goes_on setting f (Some function) values (rows of environment ∷ older) from = tt
+call_goes_on setting f (Some function) values (statement variable rest environment ∷ older) from = tt
+call_goes_on setting f (Some function) values (call lent ∷ older) from = tt
+
+form_goes_on : (setting : Setting) (form : Form) (values : List Value) (older : List Frame) (from : Configuration) → GoesOn (form_step setting form values older from)
+form_goes_on setting (Number n) values older from = tt
+form_goes_on setting Nothing values older from = tt
+form_goes_on setting ReadByte values older from = λ byte. refl
+form_goes_on setting (PrintText form text) values older from = print_goes_on _ _ refl
+form_goes_on setting (Unary operator) values older from = tt
+form_goes_on setting (Binary operator) values older from = tt
+form_goes_on setting (Print form) values older from = print_goes_on _ _ refl
+form_goes_on setting (Construct c) [] older from = tt
+form_goes_on setting (Construct c) (v ∷ vs) older from = tt
+form_goes_on setting (Call f) values older from = call_goes_on setting f _ values older from
+
+choice_goes_on : (chosen : Option Chosen) (older : List Frame) (from : Configuration) → GoesOn (choice_step chosen older from)
+choice_goes_on None older from = tt
+choice_goes_on (Some chosen) older from = tt
+
+expression_goes_on : (setting : Setting) (e : Tree) (environment : Environment) (c : Configuration) → GoesOn (expression_step setting e environment c)
+expression_goes_on setting (variable x) environment c = tt
+expression_goes_on setting (apply form no_tree) environment c = form_goes_on setting form [] c.frames c
+expression_goes_on setting (apply form (tree first rest)) environment c = tt
+expression_goes_on setting (branch condition positive negative) environment c = tt
+expression_goes_on setting (match scrutinee of) environment c = tt
+expression_goes_on setting (sequence binder first rest) environment c = tt
+
+value_goes_on : (setting : Setting) (v : Value) (frames : List Frame) (c : Configuration) → GoesOn (value_step setting v frames c)
+value_goes_on setting v [] c = tt
+value_goes_on setting v (arguments form values no_tree environment ∷ older) c = form_goes_on setting form (values ++ v ∷ []) older c
+value_goes_on setting v (arguments form values (tree next left) environment ∷ older) c = tt
+value_goes_on setting v (branches positive negative environment ∷ older) c = tt
+value_goes_on setting v (rows of environment ∷ older) c = choice_goes_on (first_match c.store of v environment) older c
+value_goes_on setting v (statement awaited rest environment ∷ older) c = tt
+value_goes_on setting v (call lent ∷ []) c = tt
+value_goes_on setting v (call lent ∷ next ∷ older) c = tt
+
+control_goes_on : (setting : Setting) (control : Control) (c : Configuration) → c.control ≡ control → GoesOn (step_of setting c)
+control_goes_on setting (expression e environment) c is = subst (λ (k : Control). GoesOn (step_at setting k c)) (sym is) (expression_goes_on setting e environment c)
+control_goes_on setting (value v) c is = subst (λ (k : Control). GoesOn (step_at setting k c)) (sym is) (value_goes_on setting v c.frames c)
+control_goes_on setting (stopped by) c is = subst (λ (k : Control). GoesOn (step_at setting k c)) (sym is) tt
+
+steps_go_on : (setting : Setting) (c : Configuration) → GoesOn (step_of setting c)
+steps_go_on setting c = control_goes_on setting c.control c refl
+
+-- ---- one step
+
+one_step : (setting : Setting) (c : Configuration) (input : List ℕ) (next : List Note × State) → step setting (with_input c input) ≡ next → end_at c.control ≡ None
+    → (trace (source_machine setting) 1 (with_input c input) ≡ flat_map events_of next.0 ++ []) × (state (source_machine setting) 1 (with_input c input) ≡ next.1)
+one_step setting c input next is going =
+    let stepped : step_unless (end_at c.control) (with_input c input) (step setting (with_input c input)) ≡ next = ap (λ how. step_unless how (with_input c input) (step setting (with_input c input))) going ∙ is in
+    (ap (λ (n : List Note × State). flat_map events_of n.0 ++ []) stepped, ap (λ (n : List Note × State). n.1) stepped)
+
+leads_by : (setting : Setting) (c to : Configuration) (events : List Event) (a : Action Configuration) → step_of setting c ≡ a → end_at c.control ≡ None
+    → ((input rest : List ℕ) → TakesFrom events input rest → (flat_map events_of (performed a input).0 ++ [] ≡ events) × ((performed a input).1 ≡ with_input to rest))
+    → StepsTo setting 1 events c to
+leads_by setting c to events a is going does input rest takes =
+    let one = one_step setting c input (performed a input) (ap (λ (b : Action Configuration). performed b input) is) going in
+    (one.0 ∙ (does input rest takes).0, one.1 ∙ (does input rest takes).1)
+
+-- a turn of which the world sees nothing but an end
+abbrev IsQuiet : Turn → Type 0
+IsQuiet (Printed piece) = ⊥
+IsQuiet WantsInput = ⊥
+IsQuiet _ = Unit {0}
+
+quiet_is_quiet : (control : Control) → IsQuiet (quiet_turn control)
+quiet_is_quiet (expression e environment) = tt
+quiet_is_quiet (value v) = tt
+quiet_is_quiet (stopped ended) = tt
+quiet_is_quiet (stopped heap_full) = tt
+quiet_is_quiet (stopped stack_full) = tt
+
+quiet_end : (control : Control) → end_at control ≡ end_of (quiet_turn control)
+quiet_end (expression e environment) = refl
+quiet_end (value v) = refl
+quiet_end (stopped ended) = refl
+quiet_end (stopped heap_full) = refl
+quiet_end (stopped stack_full) = refl
+
+abbrev Pair : Type 0
+Pair = Turn × Configuration
+
+quiet_to : (setting : Setting) (c to t : Configuration) (turn : Turn) (a : Action Configuration) → step_of setting c ≡ a → (turn, to) ≡ (quiet_turn t.control, t)
+    → ((input : List ℕ) → (flat_map events_of (performed a input).0 ≡ []) × ((performed a input).1 ≡ with_input t input)) → end_at c.control ≡ None
+    → StepsTo setting 1 [] c to × (end_at to.control ≡ end_of turn)
+quiet_to setting c to t turn a is same does going =
+    let at : to ≡ t = ap (λ (p : Pair). p.1) same in
+    let told : turn ≡ quiet_turn t.control = ap (λ (p : Pair). p.0) same in
+    (leads_by setting c to [] a is going (λ input rest takes. (ap (λ (es : List Event). es ++ []) (does input).0, (does input).1 ∙ ap (λ (d : Configuration). with_input d input) (sym at) ∙ ap (λ (xs : List ℕ). with_input to xs) takes)),
+    ap (λ (d : Configuration). end_at d.control) at ∙ quiet_end t.control ∙ ap end_of (sym told))
+
+pub quiet_leads : (setting : Setting) (c to : Configuration) (turn : Turn) (a : Action Configuration) → step_of setting c ≡ a → (turn, to) ≡ turn_of c a → IsQuiet turn → end_at c.control ≡ None
+    → StepsTo setting 1 [] c to × (end_at to.control ≡ end_of turn)
+quiet_leads setting c to turn (goes t) is same quiet going = quiet_to setting c to t turn (goes t) is same (λ input. (refl, refl)) going
+quiet_leads setting c to turn (puts piece t) is same quiet going = absurd (subst IsQuiet (ap (λ (p : Pair). p.0) same) quiet)
+quiet_leads setting c to turn (takes t) is same quiet going = absurd (subst IsQuiet (ap (λ (p : Pair). p.0) same) quiet)
+quiet_leads setting c to turn (builds found t) is same quiet going = quiet_to setting c to t turn (builds found t) is same (λ input. (refl, refl)) going
+quiet_leads setting c to turn (calls found t) is same quiet going = quiet_to setting c to t turn (calls found t) is same (λ input. (refl, refl)) going
+
+abbrev piece_told : Turn → List ℕ
+piece_told (Printed piece) = piece
+piece_told _ = []
+
+-- a step that prints
+pub record Prints (setting : Setting) (c to : Configuration) (piece : List ℕ) : Type 0 where
+  pub some : 0 < length piece
+  pub leads : StepsTo setting 1 (output piece ∷ []) c to
+  pub going : end_at to.control ≡ None
+  pub next : (input : List ℕ) → trace (source_machine setting) 1 (with_input c input) ≡ output piece ∷ []
+
+prints_to : (setting : Setting) (c to : Configuration) (piece : List ℕ) → step_of setting c ≡ puts piece to → GoesOn (puts piece to) → end_at c.control ≡ None → Prints setting c to piece
+prints_to setting c to piece is goes_on going = record {
+  some = goes_on.0;
+  leads = leads_by setting c to (output piece ∷ []) (puts piece to) is going (λ input rest takes. (refl, ap (λ (xs : List ℕ). with_input to xs) takes));
+  going = goes_on.1;
+  next = λ input. (one_step setting c input (performed (puts piece to) input) (ap (λ (b : Action Configuration). performed b input) is) going).0;
+}
+
+not_printed : {T : Type 0} (control : Control) (piece : List ℕ) → Printed piece ≡ quiet_turn control → T
+not_printed control piece same = absurd (subst IsQuiet (sym same) (quiet_is_quiet control))
+
+pub print_leads : (setting : Setting) (c to : Configuration) (piece : List ℕ) (a : Action Configuration) → step_of setting c ≡ a → (Printed piece, to) ≡ turn_of c a → end_at c.control ≡ None → Prints setting c to piece
+print_leads setting c to piece (goes t) is same going = not_printed t.control piece (ap (λ (p : Pair). p.0) same)
+print_leads setting c to piece (puts other t) is same going =
+    let at : to ≡ t = ap (λ (p : Pair). p.1) same in
+    let told : piece ≡ other = ap (λ (p : Pair). piece_told p.0) same in
+    let moved : step_of setting c ≡ puts piece to = is ∙ ap (λ (p : List ℕ). puts p t) (sym told) ∙ ap (puts piece) (sym at) in
+    prints_to setting c to piece moved (subst GoesOn moved (steps_go_on setting c)) going
+print_leads setting c to piece (takes t) is same going = absurd (subst IsNoRead (sym (ap (λ (p : Pair). p.0) same)) tt)
+  where
+    abbrev IsNoRead : Turn → Type 0
+    IsNoRead (Printed p) = ⊥
+    IsNoRead _ = Unit {0}
+print_leads setting c to piece (builds found t) is same going = not_printed t.control piece (ap (λ (p : Pair). p.0) same)
+print_leads setting c to piece (calls found t) is same going = not_printed t.control piece (ap (λ (p : Pair). p.0) same)
+
+-- a step that takes a byte
+asks_of : (setting : Setting) (c : Configuration) (t : Option ℕ → Configuration) → step_of setting c ≡ takes t → end_at c.control ≡ None
+    → (input : List ℕ) → trace (source_machine setting) 1 (with_input c input) ≡ asked input ∷ []
+asks_of setting c t is going [] = (one_step setting c [] (performed (takes t) []) (ap (λ (b : Action Configuration). performed b []) is) going).0
+asks_of setting c t is going (byte ∷ rest) = (one_step setting c (byte ∷ rest) (performed (takes t) (byte ∷ rest)) (ap (λ (b : Action Configuration). performed b (byte ∷ rest)) is) going).0
+
+pub read_asks : (setting : Setting) (c : Configuration) (a : Action Configuration) → step_of setting c ≡ a → TakesByte a → end_at c.control ≡ None → AsksAt setting c
+read_asks setting c (goes t) is wants going = absurd wants
+read_asks setting c (puts piece t) is wants going = absurd wants
+read_asks setting c (takes t) is wants going = asks_of setting c t is going
+read_asks setting c (builds found t) is wants going = absurd wants
+read_asks setting c (calls found t) is wants going = absurd wants
+
+read_goes_on : (setting : Setting) (c to : Configuration) (input left : List ℕ) (notes : List Note) (a : Action Configuration) → step_of setting c ≡ a → GoesOn a → TakesByte a
+    → performed (step_of setting c) input ≡ (notes, with_input to left) → end_at to.control ≡ None
+read_goes_on setting c to input left notes (goes t) is on wants does = absurd wants
+read_goes_on setting c to input left notes (puts piece t) is on wants does = absurd wants
+read_goes_on setting c to [] left notes (takes t) is on wants does =
+    let same : (performed (takes t) []).1 ≡ with_input to left = ap (λ (n : List Note × State). n.1) (ap (λ (b : Action Configuration). performed b []) (sym is) ∙ does) in
+    ap (λ (s : State). end_at s.machine.control) (sym same) ∙ on None
+read_goes_on setting c to (byte ∷ rest) left notes (takes t) is on wants does =
+    let same : (performed (takes t) (byte ∷ rest)).1 ≡ with_input to left = ap (λ (n : List Note × State). n.1) (ap (λ (b : Action Configuration). performed b (byte ∷ rest)) (sym is) ∙ does) in
+    ap (λ (s : State). end_at s.machine.control) (sym same) ∙ on (Some byte)
+read_goes_on setting c to input left notes (builds found t) is on wants does = absurd wants
+read_goes_on setting c to input left notes (calls found t) is on wants does = absurd wants
+
+pub byte_leads : (setting : Setting) (c to : Configuration) (byte : ℕ) → Reads setting (Some byte) c to → TakesByte (step_of setting c) → end_at c.control ≡ None
+    → StepsTo setting 1 (taken byte ∷ []) c to × (end_at to.control ≡ None)
+byte_leads setting c to byte reads wants going = (leads, read_goes_on setting c to (byte ∷ []) [] _ (step_of setting c) refl (steps_go_on setting c) wants (reads []))
+  where
+    leads : StepsTo setting 1 (taken byte ∷ []) c to
+    leads [] rest takes = absurd takes
+    leads (x ∷ xs) rest takes =
+        let one = one_step setting c (x ∷ xs) (seen (taken x) ∷ [], with_input to xs) (subst (λ (b : ℕ). step setting (with_input c (b ∷ xs)) ≡ (seen (taken b) ∷ [], with_input to xs)) takes.0 (reads xs)) going in
+        (one.0 ∙ ap (λ (b : ℕ). taken b ∷ []) (sym takes.0), one.1 ∙ ap (λ (ys : List ℕ). with_input to ys) takes.1)
+
+pub end_leads : (setting : Setting) (c to : Configuration) → Reads setting None c to → TakesByte (step_of setting c) → end_at c.control ≡ None
+    → StepsTo setting 1 (input_end ∷ []) c to × (end_at to.control ≡ None)
+end_leads setting c to reads wants going = (leads, read_goes_on setting c to [] [] _ (step_of setting c) refl (steps_go_on setting c) wants reads)
+  where
+    leads : StepsTo setting 1 (input_end ∷ []) c to
+    leads [] rest takes =
+        let one = one_step setting c [] (seen input_end ∷ [], with_input to []) reads going in
+        (one.0, one.1 ∙ ap (λ (ys : List ℕ). with_input to ys) takes)
+    leads (x ∷ xs) rest takes = absurd takes
+
+-- ---- runs
+
+-- a run of one step
+pub evaluated_one : (setting : Setting) (outcome : Outcome) (old new : Configuration) (events : List Event) (l l' : SourceState) (h h' : SinkState)
+    → GivesEvents events l l' → h'.held ≡ option_map (λ before. before ++ output_of events) h.held → StepsTo setting 1 events old new
+    → end_at new.control ≡ ending_for outcome → Stands outcome setting 1 1 [] new → HasEvaluated setting 1 outcome old l l' h h'
+evaluated_one setting outcome old new events l l' h h' given held leads ending stands = record {
+  new = new;
+  events = events;
+  cut = [];
+  count = 1;
+  given = given;
+  held = subst (λ (bytes : List ℕ). h'.held ≡ option_map (λ before. before ++ bytes) h.held) (sym (append-nil (output_of events))) held;
+  leads = leads;
+  ending = ending;
+  stands = stands;
+}
+
+-- a run of no step
+pub evaluated_none : (setting : Setting) (steps : ℕ) (outcome : Outcome) (old : Configuration) (cut : List ℕ) (l l' : SourceState) (h h' : SinkState)
+    → GivesEvents [] l l' → h'.held ≡ option_map (λ before. before ++ cut) h.held → end_at old.control ≡ ending_for outcome
+    → Stands outcome setting steps 0 cut old → HasEvaluated setting steps outcome old l l' h h'
+evaluated_none setting steps outcome old cut l l' h h' given held ending stands = record {
+  new = old;
+  events = [];
+  cut = cut;
+  count = 0;
+  given = given;
+  held = held;
+  leads = λ input rest takes. (refl, ap (λ (xs : List ℕ). with_input old xs) takes);
+  ending = ending;
+  stands = stands;
+}
+
+-- one run after the other
+leads_then : (setting : Setting) (n k : ℕ) (es fs : List Event) (a b c : Configuration) → StepsTo setting n es a b → StepsTo setting k fs b c → StepsTo setting (n + k) (es ++ fs) a c
+leads_then setting n k es fs a b c first second input rest takes =
+    let split = TakesFrom-split es fs input rest takes in
+    let one = first input split.0 split.1.0 in
+    let two = second split.0 rest split.1.1 in
+    (trace-add (source_machine setting) n k (with_input a input) ∙ ap (λ (ts : List Event). ts ++ trace (source_machine setting) k (state (source_machine setting) n (with_input a input))) one.0
+    ∙ ap (λ (s : State). es ++ trace (source_machine setting) k s) one.1 ∙ ap (λ (ts : List Event). es ++ ts) two.0,
+    state-add (source_machine setting) n k (with_input a input) ∙ ap (λ (s : State). state (source_machine setting) k s) one.1 ∙ two.1)
+
+stands_then : (outcome : Outcome) (setting : Setting) (n k m count : ℕ) (cut : List ℕ) (c : Configuration) → m ≡ n → Stands outcome setting k count cut c → Stands outcome setting (n + k) (m + count) cut c
+stands_then (Ok OfRun.Ended) setting n k m count cut c is stands = (omega (arith, stands.0), stands.1)
+stands_then (Ok OfRun.HeapFull) setting n k m count cut c is stands = (omega (arith, stands.0), stands.1)
+stands_then (Ok OfRun.StackFull) setting n k m count cut c is stands = (omega (arith, stands.0), stands.1)
+stands_then (Ok OfRun.StepsSpent) setting n k m count cut c is stands = (omega (arith, stands.0), stands.1)
+stands_then (Ok OfRun.InputFault) setting n k m count cut c is stands = (omega (arith, stands.0), stands.1.0, stands.1.1)
+stands_then (Ok OfRun.OutputFault) setting n k m count cut c is stands = (omega (arith, stands.0), stands.1)
+stands_then (Err refused) setting n k m count cut c is stands = (omega (arith, stands.0), stands.1)
+
+pub evaluated_then : (setting : Setting) (outcome : Outcome) (n k : ℕ) (a : Configuration) (l l' l'' : SourceState) (h h' h'' : SinkState)
+    → (first : HasEvaluated setting n (Ok OfRun.StepsSpent) a l l' h h') → HasEvaluated setting k outcome first.new l' l'' h' h'' → HasEvaluated setting (n + k) outcome a l l'' h h''
+evaluated_then setting outcome n k a l l' l'' h h' h'' first second =
+    let whole_held = subst (λ (cut : List ℕ). h'.held ≡ option_map (λ before. before ++ (output_of first.events ++ cut)) h.held) first.stands.1 first.held in
+    record {
+      new = second.new;
+      events = first.events ++ second.events;
+      cut = second.cut;
+      count = first.count + second.count;
+      given = GivesEvents-join first.events second.events l l' l'' first.given second.given;
+      held = held-join first.events second.events second.cut h.held h'.held h''.held whole_held second.held;
+      leads = leads_then setting first.count second.count first.events second.events a first.new second.new first.leads second.leads;
+      ending = second.ending;
+      stands = stands_then outcome setting n k first.count second.count second.cut second.new first.stands.0 second.stands;
+    }
+
+-- a run that was not stopped by the number of its steps is one of more steps
+stands_more : (outcome : Outcome) (setting : Setting) (n m count : ℕ) (cut : List ℕ) (c : Configuration) → outcome ≢ Ok OfRun.StepsSpent → n ≤ m → Stands outcome setting n count cut c → Stands outcome setting m count cut c
+stands_more (Ok OfRun.Ended) setting n m count cut c early less stands = (omega (arith, stands.0), stands.1)
+stands_more (Ok OfRun.HeapFull) setting n m count cut c early less stands = (omega (arith, stands.0), stands.1)
+stands_more (Ok OfRun.StackFull) setting n m count cut c early less stands = (omega (arith, stands.0), stands.1)
+stands_more (Ok OfRun.StepsSpent) setting n m count cut c early less stands = absurd (early refl)
+stands_more (Ok OfRun.InputFault) setting n m count cut c early less stands = (omega (arith, stands.0), stands.1.0, stands.1.1)
+stands_more (Ok OfRun.OutputFault) setting n m count cut c early less stands = (omega (arith, stands.0), stands.1)
+stands_more (Err refused) setting n m count cut c early less stands = (omega (arith, stands.0), stands.1)
+
+pub evaluated_more : (setting : Setting) (outcome : Outcome) (n m : ℕ) (a : Configuration) (l l' : SourceState) (h h' : SinkState)
+    → outcome ≢ Ok OfRun.StepsSpent → n ≤ m → HasEvaluated setting n outcome a l l' h h' → HasEvaluated setting m outcome a l l' h h'
+evaluated_more setting outcome n m a l l' h h' early less ran = record {
+  new = ran.new;
+  events = ran.events;
+  cut = ran.cut;
+  count = ran.count;
+  given = ran.given;
+  held = ran.held;
+  leads = ran.leads;
+  ending = ran.ending;
+  stands = stands_more outcome setting n m ran.count ran.cut ran.new early less ran.stands;
+}
