@@ -1,7 +1,9 @@
 pub mod Blocks
 pub mod Closed
+pub mod Elements
 pub mod Gathered
 pub mod PatternTypes
 pub mod PatternViews
+pub mod Putting
 pub mod TypeViews
 pub mod Views
