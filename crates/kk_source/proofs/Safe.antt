@@ -20,7 +20,7 @@ use Rattle.kk_source.specs.ValueTypes.{IsOf, AreOf}
 use Rattle.kk_source.proofs.Bindings.{IsTypedIn, with_awaited, awaited_is, known_none, known_bind, known_parameters, inside_longer, rows_of_type, chosen_typed}
 use Rattle.kk_source.proofs.Matching.{takes_one}
 use Rattle.kk_source.proofs.Operators.{function_there, byte_typed, arguments_fit, EffectTyped, effect_typed}
-use Rattle.kk_source.proofs.Sound.{LeadsTo, print_leads}
+use Rattle.kk_source.proofs.Kept.{LeadsTo, print_leads}
 use Rattle.kk_source.proofs.Values.{get_behind, all_longer, at_type, at_types, construct_of, bool_is, unit_is, of_unit}
 
 -- ---- typed states

@@ -1,5 +1,6 @@
 pub mod Blocks
 pub mod Closed
+pub mod Elements
 pub mod Gathered
 pub mod LeastTables
 pub mod Lists
@@ -9,6 +10,7 @@ pub mod OwnedSearch
 pub mod PatternTypes
 pub mod PatternViews
 pub mod PositionTables
+pub mod Putting
 pub mod TailCalls
 pub mod TypeViews
 pub mod Views

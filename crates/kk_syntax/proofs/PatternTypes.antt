@@ -1,5 +1,5 @@
 -- What a typing of a pattern says: the pattern is of its type, and the rows of a match are of their scrutinee's.
-use Rattle.std.proofs.Common.{◌≡◌, ◌≤◌, ℕ, zero, suc, ◌==◌, cond, List, [], ◌∷◌, ◌++◌, length, map, take, Option, Some, None, option_map, refl, sym, ap, ◌∙◌, arith, add-one}
+use Rattle.std.proofs.Common.{◌≡◌, ◌≤◌, ℕ, zero, suc, cond, List, [], ◌∷◌, ◌++◌, length, map, take, Option, Some, None, option_map, refl, sym, ap, ◌∙◌, arith, add-one}
 use Rattle.std.proofs.lemmas.Bool.{eq-eqb}
 use Rattle.std.proofs.lemmas.List.{map-append, take_more, take_all}
 use Rattle.std.specs.List.{slice_get}
@@ -12,13 +12,14 @@ use Rattle.kk_syntax.specs.Trees.{Rows, no_row, row}
 use Rattle.kk_syntax.specs.Types.{TypeTree, unit_type, type_variable, named, TypeTrees, types_of, type_list, put, put_each, type_at, variables_below}
 use Rattle.kk_syntax.specs.Typing.{Scope, Scheme, Choice, variables_of_type, scheme_in, constructor_scheme, IsPatternTyped, ArePatternsTyped, AreRowsTypedBy}
 
-pub fields_made : (o : Option ConstructorTree) (constructor : ConstructorTree) (by : ℕ) (arguments : TypeTrees) → o ≡ Some constructor → constructor.of_type ≡ by → fields_of o by arguments ≡ Some (map (with_arguments arguments) constructor.fields)
-fields_made o constructor by arguments there owned =
+-- the fields of a constructor, where it is one of the type
+pub fields_made : (o : Option ConstructorTree) (declared : ConstructorTree) (by : ℕ) (arguments : TypeTrees) → o ≡ Some declared → declared.of_type ≡ by → fields_of o by arguments ≡ Some (map (with_arguments arguments) declared.fields)
+fields_made o declared by arguments there owned =
     ap (λ x. fields_of x by arguments) there
-    ∙ ap (λ b. cond b (Some (map (with_arguments arguments) constructor.fields)) None) (eq-eqb constructor.of_type by owned)
+    ∙ ap (λ b. cond b (Some (map (with_arguments arguments) declared.fields)) None) (eq-eqb declared.of_type by owned)
 
 -- the first type variables are the first of the types that are put in their place
-variables_put : (ts : List TypeTree) (n : ℕ) → n ≤ length ts → map (put (type_at ts)) (variables_below n) ≡ take n ts
+pub variables_put : (ts : List TypeTree) (n : ℕ) → n ≤ length ts → map (put (type_at ts)) (variables_below n) ≡ take n ts
 variables_put ts zero le = refl
 variables_put ts (suc n) le =
     map-append (put (type_at ts)) (variables_below n) (type_variable n ∷ [])
