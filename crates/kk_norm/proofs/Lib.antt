@@ -1,8 +1,17 @@
+pub mod Bounds
+pub mod Closed
 pub mod Delivery
 pub mod Forms
+pub mod Functions
 pub mod HeldValues
 pub mod Keeping
+pub mod KeepingPlain
+pub mod KeepingTyped
+pub mod Matches
 pub mod NeededVariables
+pub mod Openings
+pub mod PatternNames
+pub mod Picking
 pub mod Plain
 pub mod ProgramTrees
 pub mod Programs

@@ -11,7 +11,7 @@ use Rattle.kk_norm.proofs.Scopes.{parameters_are, parameters_named}
 use Rattle.kk_norm.proofs.TypedCodes.{Fits, code_fits}
 use Rattle.kk_norm.proofs.Plain.{are_plain}
 use Rattle.kk_norm.proofs.Forms.{is_small}
-use Rattle.kk_norm.proofs.Keeping.{keeps_meaning}
+use Rattle.kk_norm.proofs.KeepingPlain.{keeps_meaning}
 
 function_typed : (signatures : List Signature) (function : FunctionTree) → IsFunctionTyped signatures function → IsCodeTyped signatures (normal_function function) (signature_of function)
 function_typed signatures function typed =

@@ -8,7 +8,7 @@ use Rattle.kk_source.specs.Step.{step_of}
 use Rattle.kk_source.proofs.Sound.{LeadsTo}
 
 module _ (P : Configuration → Type 0) where
-  performed_keeps : (action : Action Configuration) (input : List ℕ) → LeadsTo P action → P (performed action input).1.machine
+  pub performed_keeps : (action : Action Configuration) (input : List ℕ) → LeadsTo P action → P (performed action input).1.machine
   performed_keeps (goes to) input s = s
   performed_keeps (puts piece to) input s = s
   performed_keeps (takes to) [] s = s None
