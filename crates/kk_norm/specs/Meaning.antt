@@ -9,6 +9,7 @@ use Rattle.kk_syntax.specs.Trees.{Rows, no_row, row}
 use Rattle.kk_source.specs.Matching.{matched}
 use Rattle.kk_source.specs.Notes.{Note}
 use Rattle.kk_source.specs.State.{Setting, End, Value, Store, Environment, Frame, rows, Control, value}
+pub use Rattle.kk_source.specs.Settings.{setting_of}
 use Rattle.kk_source.specs.SourceAfter.{step, ending_of, first_state, State}
 use Rattle.kk_core.specs.Codes.{ProgramCode}
 use Rattle.kk_core.specs.CoreStates.{CoreSetting, CoreState, core_first_state}
@@ -48,10 +49,7 @@ openings_at _ frames store = 0
 abbrev pub core_steps : State → ℕ
 core_steps s = 2 + openings_at s.machine.control s.machine.frames s.machine.store
 
--- a program, with these positions lent, on so many cells and with such a depth
-abbrev pub setting_of : ProgramTree → PositionTable → ℕ → ℕ → Setting
-setting_of program positions cells depth = record { program = program; positions = positions; cells = cells; depth = depth }
-
+-- a core form, with these positions lent, on so many cells and with such a depth
 abbrev pub core_setting_of : ProgramCode → PositionTable → ℕ → ℕ → CoreSetting
 core_setting_of code positions cells depth = record { code = code; positions = positions; cells = cells; depth = depth }
 

@@ -9,6 +9,7 @@ use Rattle.kk_base.proofs.Machines.{trace-mapped}
 use Rattle.kk_source.specs.State.{Setting, End, Value}
 use Rattle.kk_source.specs.Notes.{events_of}
 use Rattle.kk_source.specs.Live.{is_live, Reached}
+use Rattle.kk_source.specs.Step.{step_of}
 use Rattle.kk_source.specs.SourceAfter.{ending_of, store_machine, source_machine, first_state, After, source_after, HasRoom}
 use Rattle.kk_source.specs.Sound.{Sound}
 use Rattle.kk_source.proofs.Live.{live_reached, reached_live}
@@ -24,7 +25,7 @@ state-mapped events seen machine (suc n) s = state-mapped events seen machine n 
 
 module _ (setting : Setting) where
   pub runs_are_sound : (input : List ℕ) (n : ℕ) → Sound (state (store_machine setting) n (first_state setting input)).machine
-  runs_are_sound input n = run_keeps Sound setting (step_sound setting) n (first_state setting input) (start_sound setting)
+  runs_are_sound input n = run_keeps Sound (λ s. 1) ending_of (step_of setting) (step_sound setting) n (first_state setting input) (start_sound setting)
 
   pub live_is_reached : (input : List ℕ) (n : ℕ) (values : List Value) (at : ℕ) → (is_live (state (store_machine setting) n (first_state setting input)).machine.store values at ≡ true) ↔ Reached (state (store_machine setting) n (first_state setting input)).machine.store values at
   live_is_reached input n values at =

@@ -1,5 +1,5 @@
 -- Forms on values: typed arguments are those that a form asks for, and what it does on them is of its type.
-use Rattle.std.proofs.Common.{◌≡◌, ℕ, zero, suc, ℤ, Bool, true, false, List, [], ◌∷◌, length, map, Option, Some, None, refl, sym, ap, ◌∙◌}
+use Rattle.std.proofs.Common.{◌≡◌, ◌<◌, ℕ, zero, suc, ℤ, Bool, true, false, List, [], ◌∷◌, length, map, Option, Some, None, refl, sym, subst, ap, ◌∙◌}
 use Rattle.std.specs.Prelude.{slice_get, if◌then◌else◌, ◌==◌}
 use Rattle.std.proofs.lemmas.List.{length-map}
 use Rattle.kk_syntax.specs.declared.operator.UnaryOperator.{UnaryOperator}
@@ -8,10 +8,10 @@ use Rattle.kk_syntax.specs.declared.operator.BinaryOperator.{BinaryOperator}
 use Rattle.kk_syntax.specs.declared.operator.BinaryOperator.TheVariants.{Add, Subtract, Multiply, Divide, Remainder, Equal, NotEqual, Less, LessEqual, Greater, GreaterEqual}
 use Rattle.kk_syntax.specs.declared.program.Form.{Form}
 use Rattle.kk_syntax.specs.declared.program.Form.TheVariants.{Number, Unit as Nothing, ReadByte, PrintText, Unary, Binary, Print, Construct, Call}
-use Rattle.kk_syntax.specs.GroundTyping.{HasTruths, Table, table_of, IsFormTyped}
+use Rattle.kk_syntax.specs.GroundTyping.{HasTruths, Table, IsFormTyped}
 use Rattle.kk_syntax.specs.OfType.{field_types, fields_of, with_arguments}
 use Rattle.kk_syntax.specs.PlainTyping.{Signature, signature_of}
-use Rattle.kk_syntax.specs.Programs.{ConstructorTree, FunctionTree, ProgramTree}
+use Rattle.kk_syntax.specs.Programs.{ConstructorTree, FunctionTree}
 use Rattle.kk_syntax.specs.Types.{TypeTree, int32, unit_type, type_variable, named}
 use Rattle.kk_syntax.specs.Typing.{bool, unary_type, binary_type}
 use Rattle.kk_source.specs.State.{Value, integer, unit, constant, Store}
@@ -63,16 +63,16 @@ module _ (constructors : List ConstructorTree) (store : Store) where
   as_many (t ∷ ts) [] of = absurd of
   as_many (t ∷ ts) (v ∷ vs) of = ap suc (as_many ts vs of.1)
 
-  no_argument : (vs : List Value) → AreOf constructors store [] vs → vs ≡ []
+  pub no_argument : (vs : List Value) → AreOf constructors store [] vs → vs ≡ []
   no_argument [] of = refl
   no_argument (v ∷ vs) of = absurd of
 
-  one_integer : (vs : List Value) → AreOf constructors store (int32 ∷ []) vs → (n : ℤ) × (vs ≡ integer n ∷ [])
+  pub one_integer : (vs : List Value) → AreOf constructors store (int32 ∷ []) vs → (n : ℤ) × (vs ≡ integer n ∷ [])
   one_integer [] of = absurd of
   one_integer (v ∷ []) of = let n = int32_is constructors store v of.0 in (n.0, ap (λ w. w ∷ []) n.1)
   one_integer (v ∷ w ∷ vs) of = absurd of.1
 
-  two_integers : (vs : List Value) → AreOf constructors store (int32 ∷ int32 ∷ []) vs
+  pub two_integers : (vs : List Value) → AreOf constructors store (int32 ∷ int32 ∷ []) vs
       → (n m : ℤ) × (vs ≡ integer n ∷ integer m ∷ [])
   two_integers [] of = absurd of
   two_integers (v ∷ vs) of =
@@ -81,7 +81,7 @@ module _ (constructors : List ConstructorTree) (store : Store) where
       (n.0, m.0, ap (λ w. w ∷ vs) n.1 ∙ ap (λ ws. integer n.0 ∷ ws) m.1)
 
   module _ (truths : HasTruths constructors) where
-    one_truth : (vs : List Value) → AreOf constructors store (bool ∷ []) vs → (t : Bool) × (vs ≡ truth t ∷ [])
+    pub one_truth : (vs : List Value) → AreOf constructors store (bool ∷ []) vs → (t : Bool) × (vs ≡ truth t ∷ [])
     one_truth [] of = absurd of
     one_truth (v ∷ []) of = let t = bool_is constructors store truths v of.0 in (t.0, ap (λ w. w ∷ []) t.1)
     one_truth (v ∷ w ∷ vs) of = absurd of.1
@@ -113,32 +113,36 @@ module _ (constructors : List ConstructorTree) (store : Store) where
 
 -- ---- forms
 
--- typed arguments are those that a form asks for
-module _ (program : ProgramTree) (store : Store) (truths : HasTruths program.constructors) where
+-- Typed arguments are those that a form asks for, where those of a call are those that a call asks for.
+module _ (table : Table) (store : Store) (truths : HasTruths table.constructors) (texts : List (List ℕ))
+    (CallFits : ℕ → List Value → Type 0) where
   -- arguments of other names for their types
-  of_types : (us ts : List TypeTree) (vs : List Value) → ts ≡ us → AreOf program.constructors store ts vs
-      → AreOf program.constructors store us vs
-  of_types us ts vs same of = at_types program.constructors store ts us vs same of
+  of_types : (us ts : List TypeTree) (vs : List Value) → ts ≡ us → AreOf table.constructors store ts vs
+      → AreOf table.constructors store us vs
+  of_types us ts vs same of = at_types table.constructors store ts us vs same of
 
-  pub arguments_fit : (form : Form) (ts : List TypeTree) (t : TypeTree) (vs : List Value) → IsFormTyped (table_of program) form ts t
-      → AreOf program.constructors store ts vs → ArgumentsFit program form vs
-  arguments_fit (Number z) ts t vs typed of = no_argument program.constructors store vs (of_types [] ts vs typed.0 of)
-  arguments_fit Nothing ts t vs typed of = no_argument program.constructors store vs (of_types [] ts vs typed.0 of)
-  arguments_fit ReadByte ts t vs typed of = no_argument program.constructors store vs (of_types [] ts vs typed.0 of)
-  arguments_fit (PrintText form text) ts t vs typed of =
-      (no_argument program.constructors store vs (of_types [] ts vs typed.0 of), typed.2)
-  arguments_fit (Unary Negate) ts t vs typed of = one_integer program.constructors store vs (of_types (int32 ∷ []) ts vs typed.0 of)
-  arguments_fit (Unary Not) ts t vs typed of =
-      one_truth program.constructors store truths vs (of_types (bool ∷ []) ts vs typed.0 of)
-  arguments_fit (Binary operator) ts t vs typed of =
-      two_integers program.constructors store vs (of_types (int32 ∷ int32 ∷ []) ts vs typed.0 of)
-  arguments_fit (Print form) ts t vs typed of = one_integer program.constructors store vs (of_types (int32 ∷ []) ts vs typed.0 of)
-  arguments_fit (Construct c) ts t vs typed of =
-      let there = constructor_there program.constructors t c ts typed in
-      (there.0, there.1, as_many program.constructors store ts vs of ∙ there.2)
-  arguments_fit (Call f) ts t vs typed of =
-      let there = function_there program.functions f ts t typed in
-      (there.0, there.1, as_many program.constructors store ts vs of ∙ ap (λ (us : List TypeTree). length us) (sym there.2))
+  pub arguments_fit : table.texts ≡ length texts
+      → ((f : ℕ) (ts : List TypeTree) (t : TypeTree) (vs : List Value)
+      → slice_get table.functions f ≡ Some (record { parameters = ts; result = t }) → length vs ≡ length ts → CallFits f vs)
+      → (form : Form) (ts : List TypeTree) (t : TypeTree) (vs : List Value) → IsFormTyped table form ts t
+      → AreOf table.constructors store ts vs → ArgumentsFit table.constructors texts CallFits form vs
+  arguments_fit count calls (Number z) ts t vs typed of = no_argument table.constructors store vs (of_types [] ts vs typed.0 of)
+  arguments_fit count calls Nothing ts t vs typed of = no_argument table.constructors store vs (of_types [] ts vs typed.0 of)
+  arguments_fit count calls ReadByte ts t vs typed of = no_argument table.constructors store vs (of_types [] ts vs typed.0 of)
+  arguments_fit count calls (PrintText form text) ts t vs typed of =
+      (no_argument table.constructors store vs (of_types [] ts vs typed.0 of), subst (λ n. text < n) count typed.2)
+  arguments_fit count calls (Unary Negate) ts t vs typed of =
+      one_integer table.constructors store vs (of_types (int32 ∷ []) ts vs typed.0 of)
+  arguments_fit count calls (Unary Not) ts t vs typed of =
+      one_truth table.constructors store truths vs (of_types (bool ∷ []) ts vs typed.0 of)
+  arguments_fit count calls (Binary operator) ts t vs typed of =
+      two_integers table.constructors store vs (of_types (int32 ∷ int32 ∷ []) ts vs typed.0 of)
+  arguments_fit count calls (Print form) ts t vs typed of =
+      one_integer table.constructors store vs (of_types (int32 ∷ []) ts vs typed.0 of)
+  arguments_fit count calls (Construct c) ts t vs typed of =
+      let there = constructor_there table.constructors t c ts typed in
+      (there.0, there.1, as_many table.constructors store ts vs of ∙ there.2)
+  arguments_fit count calls (Call f) ts t vs typed of = calls f ts t vs typed (as_many table.constructors store ts vs of)
 
 -- what a form does is of a type
 abbrev pub EffectTyped : Table → Store → TypeTree → FormEffect → Type 0

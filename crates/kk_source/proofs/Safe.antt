@@ -1,5 +1,5 @@
 -- Each step keeps states typed, and finds what it asks for.
-use Rattle.std.proofs.Common.{◌≡◌, ℕ, Bool, true, false, List, [], ◌∷◌, ◌++◌, length, Some, refl, sym, ◌∙◌, subst, append_assoc}
+use Rattle.std.proofs.Common.{◌≡◌, ℕ, Bool, true, false, List, [], ◌∷◌, ◌++◌, length, Some, refl, sym, ap, ◌∙◌, subst, append_assoc}
 use Rattle.std.specs.Prelude.{slice_get, if◌then◌else◌}
 use Rattle.kk_syntax.specs.declared.program.Form.{Form}
 use Rattle.kk_syntax.specs.Covered.{IsCovered, asked_by}
@@ -13,14 +13,14 @@ use Rattle.kk_syntax.specs.Typing.{bool, Scope, with_parameters}
 use Rattle.kk_source.specs.Actions.{Action}
 use Rattle.kk_source.specs.FormEffects.{FormEffect, gives, prints, reads, makes, enters, is_true, byte_value, form_effect, effect_step}
 use Rattle.kk_source.specs.Matching.{first_match}
-use Rattle.kk_source.specs.NeverStuck.{ExpressionFits, ValueFits, ControlFits, StateFits}
+use Rattle.kk_source.specs.NeverStuck.{CallFits, FormFits, ExpressionFits, ValueFits, ControlFits, StateFits}
 use Rattle.kk_source.specs.State.{Setting, Value, unit, place, Store, Environment, Frame, arguments, branches, rows, statement, call, heap_full, stack_full, Control, expression, value, stopped, Configuration}
 use Rattle.kk_source.specs.Step.{at_expression, at_value, at_end, bind_parameters, lent_places, at_new_place, in_body, construct_step, push_step, call_step, form_step, expression_step, choice_step, value_step, step_at, step_of}
 use Rattle.kk_source.specs.ValueTypes.{IsOf, AreOf}
 use Rattle.kk_source.proofs.Bindings.{IsTypedIn, with_awaited, awaited_is, known_none, known_bind, known_parameters, inside_longer, rows_of_type, chosen_typed}
 use Rattle.kk_source.proofs.Matching.{takes_one}
 use Rattle.kk_source.proofs.Operators.{function_there, byte_typed, arguments_fit, EffectTyped, effect_typed}
-use Rattle.kk_source.proofs.Sound.{LeadsTo, print_leads}
+use Rattle.kk_source.proofs.Kept.{LeadsTo, print_leads}
 use Rattle.kk_source.proofs.Values.{get_behind, all_longer, at_type, at_types, construct_of, bool_is, unit_is, of_unit}
 
 -- ---- typed states
@@ -96,12 +96,24 @@ last_of table store form values env t r v of w =
 -- ---- typed states find what they ask for
 
 module _ (program : ProgramTree) (truths : HasTruths program.constructors) where
+  call_fits : (f : ℕ) (ts : List TypeTree) (t : TypeTree) (vs : List Value)
+      → slice_get (table_of program).functions f ≡ Some (record { parameters = ts; result = t }) → length vs ≡ length ts
+      → CallFits program f vs
+  call_fits f ts t vs signature long =
+      let there = function_there program.functions f ts t signature in
+      (there.0, there.1, long ∙ ap (λ (us : List TypeTree). length us) (sym there.2))
+
+  form_fits : (store : Store) (form : Form) (ts : List TypeTree) (t : TypeTree) (vs : List Value)
+      → IsFormTyped (table_of program) form ts t → AreOf program.constructors store ts vs → FormFits program form vs
+  form_fits store form ts t vs typed of =
+      arguments_fit (table_of program) store truths program.texts (CallFits program) refl call_fits form ts t vs typed of
+
   expression_fits : (e : Tree) (env : Environment) (store : Store) (t : TypeTree)
       → IsTypedIn program.constructors store env (λ scope. HasType (table_of program) scope e t) → ExpressionFits program e env
   expression_fits (variable x) env store t typed = (typed.known x t typed.inside).0
   expression_fits (apply form no_tree) env store t typed =
       let none = none_of (table_of program) store typed.scope typed.inside.0 typed.inside.1 in
-      arguments_fit program store truths form typed.inside.0 t [] typed.inside.2 none
+      form_fits store form typed.inside.0 t [] typed.inside.2 none
   expression_fits (apply form (tree first rest)) env store t typed = tt
   expression_fits (branch condition positive negative) env store t typed = tt
   expression_fits (match scrutinee of) env store t typed = tt
@@ -112,7 +124,7 @@ module _ (program : ProgramTree) (truths : HasTruths program.constructors) where
   value_fits store v [] t of w = tt
   value_fits store v (arguments form values (tree next left) env ∷ older) t of w = tt
   value_fits store v (arguments form values no_tree env ∷ older) t of w =
-      arguments_fit program store truths form _ w.0 _ w.1.2 (last_of (table_of program) store form values env t w.0 v of w.1)
+      form_fits store form _ w.0 _ w.1.2 (last_of (table_of program) store form values env t w.0 v of w.1)
   value_fits store v (branches positive negative env ∷ older) t of w =
       bool_is program.constructors store truths v (at_type program.constructors store t bool v w.1.0 of)
   value_fits store v (rows rs env ∷ older) t of w =

@@ -7,8 +7,9 @@ use Rattle.kk_syntax.specs.Programs.{FunctionTree, no_function, body_of}
 use Rattle.kk_syntax.specs.Types.{unit_type}
 use Rattle.kk_syntax.specs.Typing.{with_parameters}
 use Rattle.kk_source.specs.NeverStuck.{NeverStuck}
-use Rattle.kk_source.specs.SourceAfter.{store_machine, first_state}
+use Rattle.kk_source.specs.SourceAfter.{ending_of, store_machine, first_state}
 use Rattle.kk_source.specs.State.{Setting, start}
+use Rattle.kk_source.specs.Step.{step_of}
 use Rattle.kk_source.proofs.Bindings.{known_none}
 use Rattle.kk_source.proofs.Kept.{run_keeps}
 use Rattle.kk_source.proofs.Operators.{function_there}
@@ -36,8 +37,8 @@ module _ (setting : Setting) (typed : IsGroundTyped setting.program) where
   pub run_typed : (input : List ℕ) (n : ℕ)
       → IsStateTyped (table_of setting.program) (state (store_machine setting) n (first_state setting input)).machine
   run_typed input n =
-      run_keeps (IsStateTyped (table_of setting.program)) setting (step_safe setting typed) n (first_state setting input)
-      start_typed
+      run_keeps (IsStateTyped (table_of setting.program)) (λ s. 1) ending_of (step_of setting) (step_safe setting typed) n
+      (first_state setting input) start_typed
 
   pub never_stuck : (input : List ℕ) → NeverStuck setting input
   never_stuck input = λ n. state_fits setting.program typed.truths _ (run_typed input n)

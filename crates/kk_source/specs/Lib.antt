@@ -6,6 +6,7 @@ pub mod Live
 pub mod Matching
 pub mod NeverStuck
 pub mod Notes
+pub mod Settings
 pub mod Sound
 pub mod SourceAfter
 pub mod State

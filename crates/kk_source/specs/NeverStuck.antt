@@ -17,46 +17,57 @@ abbrev pub IsBound : Environment → ℕ → Type 0
 IsBound [] x = ⊥
 IsBound (binding ∷ environment) x = (binding.variable ≡ x) ⊎ IsBound environment x
 
--- What a form asks of the values of its arguments. `!` takes `False` or `True`; the other operators, and a print, take
--- integers. A construction takes as many values as its constructor has fields, and a call as many as its function has
--- parameters; and the constructor and the function are there. So is the string literal that is printed.
-abbrev pub ArgumentsFit : ProgramTree → Form → List Value → Type 0
-ArgumentsFit program (Number number) vs = vs ≡ []
-ArgumentsFit program Nothing vs = vs ≡ []
-ArgumentsFit program ReadByte vs = vs ≡ []
-ArgumentsFit program (PrintText form text) vs = (vs ≡ []) × (text < length program.texts)
-ArgumentsFit program (Unary Negate) vs = (n : ℤ) × (vs ≡ integer n ∷ [])
-ArgumentsFit program (Unary Not) vs = (t : Bool) × (vs ≡ truth t ∷ [])
-ArgumentsFit program (Binary operator) vs = (n m : ℤ) × (vs ≡ integer n ∷ integer m ∷ [])
-ArgumentsFit program (Print form) vs = (n : ℤ) × (vs ≡ integer n ∷ [])
-ArgumentsFit program (Construct c) vs =
-    (made_by : ConstructorTree) × (slice_get program.constructors c ≡ Some made_by) × (length vs ≡ length made_by.fields)
-ArgumentsFit program (Call f) vs =
-    (function : FunctionTree) × (slice_get program.functions f ≡ Some function) × (length vs ≡ length function.parameters)
+-- What a form asks of the values of its arguments, by the constructors and the string literals that are there, and by what
+-- a call asks. A number, `()`, a read and a print of a literal take none; `!` takes `False` or `True`; the other operators,
+-- and a print of a value, take integers; a construction takes as many values as its constructor has fields. What is named is
+-- there.
+abbrev pub ArgumentsFit : List ConstructorTree → List (List ℕ) → (ℕ → List Value → Type 0) → Form → List Value → Type 0
+ArgumentsFit constructors texts CallFits (Number number) vs = vs ≡ []
+ArgumentsFit constructors texts CallFits Nothing vs = vs ≡ []
+ArgumentsFit constructors texts CallFits ReadByte vs = vs ≡ []
+ArgumentsFit constructors texts CallFits (PrintText form text) vs = (vs ≡ []) × (text < length texts)
+ArgumentsFit constructors texts CallFits (Unary Negate) vs = (n : ℤ) × (vs ≡ integer n ∷ [])
+ArgumentsFit constructors texts CallFits (Unary Not) vs = (t : Bool) × (vs ≡ truth t ∷ [])
+ArgumentsFit constructors texts CallFits (Binary operator) vs = (n m : ℤ) × (vs ≡ integer n ∷ integer m ∷ [])
+ArgumentsFit constructors texts CallFits (Print form) vs = (n : ℤ) × (vs ≡ integer n ∷ [])
+ArgumentsFit constructors texts CallFits (Construct c) vs =
+    (made_by : ConstructorTree) × (slice_get constructors c ≡ Some made_by) × (length vs ≡ length made_by.fields)
+ArgumentsFit constructors texts CallFits (Call f) vs = CallFits f vs
 
--- What the frames ask of a value. The last argument completes those of its form; an `if` tests `False` or `True`; a row of
--- a match is chosen; and the call of `main` gives `()`.
-abbrev pub ValueFits : ProgramTree → Store → Value → List Frame → Type 0
-ValueFits program store v (arguments form values no_tree environment ∷ older) = ArgumentsFit program form (values ++ v ∷ [])
-ValueFits program store v (branches positive negative environment ∷ older) = (t : Bool) × (v ≡ truth t)
-ValueFits program store v (rows of environment ∷ older) = (chosen : Chosen) × (first_match store of v environment ≡ Some chosen)
-ValueFits program store v (call lent ∷ []) = v ≡ unit
-ValueFits program store v _ = Unit {0}
+module _ (program : ProgramTree) where
+  -- a call is of a function that is there, and has as many arguments as that has parameters
+  abbrev pub CallFits : ℕ → List Value → Type 0
+  CallFits f vs =
+      (function : FunctionTree) × (slice_get program.functions f ≡ Some function) × (length vs ≡ length function.parameters)
 
--- what an expression asks: a variable is bound, and a form without arguments takes none
-abbrev pub ExpressionFits : ProgramTree → Tree → Environment → Type 0
-ExpressionFits program (variable x) environment = IsBound environment x
-ExpressionFits program (apply form no_tree) environment = ArgumentsFit program form []
-ExpressionFits program _ environment = Unit {0}
+  -- the values of a form's arguments are those that it asks for
+  abbrev pub FormFits : Form → List Value → Type 0
+  FormFits form vs = ArgumentsFit program.constructors program.texts CallFits form vs
 
-abbrev pub ControlFits : ProgramTree → Control → Configuration → Type 0
-ControlFits program (expression e environment) c = ExpressionFits program e environment
-ControlFits program (value v) c = ValueFits program c.store v c.frames
-ControlFits program (stopped by) c = Unit {0}
+  -- What the frames ask of a value. The last argument completes those of its form; an `if` tests `False` or `True`; a row of
+  -- a match is chosen; and the call of `main` gives `()`.
+  abbrev pub ValueFits : Store → Value → List Frame → Type 0
+  ValueFits store v (arguments form values no_tree environment ∷ older) = FormFits form (values ++ v ∷ [])
+  ValueFits store v (branches positive negative environment ∷ older) = (t : Bool) × (v ≡ truth t)
+  ValueFits store v (rows of environment ∷ older) = (chosen : Chosen) × (first_match store of v environment ≡ Some chosen)
+  ValueFits store v (call lent ∷ []) = v ≡ unit
+  ValueFits store v _ = Unit {0}
 
--- the step from a state finds what it asks for
-abbrev pub StateFits : ProgramTree → Configuration → Type 0
-StateFits program c = ControlFits program c.control c
+  -- what an expression asks: a variable is bound, and a form without arguments takes none
+  abbrev pub ExpressionFits : Tree → Environment → Type 0
+  ExpressionFits (variable x) environment = IsBound environment x
+  ExpressionFits (apply form no_tree) environment = FormFits form []
+  ExpressionFits _ environment = Unit {0}
+
+  -- what the machine asks, by what it is at; at its end it asks nothing
+  abbrev pub ControlFits : Control → Configuration → Type 0
+  ControlFits (expression e environment) c = ExpressionFits e environment
+  ControlFits (value v) c = ValueFits c.store v c.frames
+  ControlFits (stopped by) c = Unit {0}
+
+  -- the step from a state finds what it asks for
+  abbrev pub StateFits : Configuration → Type 0
+  StateFits c = ControlFits c.control c
 
 -- a run of a program on an input is never stuck
 abbrev pub NeverStuck : Setting → List ℕ → Type 0
