@@ -13,6 +13,7 @@ pub mod Openings
 pub mod PatternNames
 pub mod Picking
 pub mod Plain
+pub mod PlainForms
 pub mod ProgramTrees
 pub mod Programs
 pub mod Scopes

@@ -3,6 +3,8 @@ ghost use Rattle.kk_syntax.specs.GroundTyping.{IsGroundTyped};
 ghost use Rattle.kk_syntax.specs.Programs.{ProgramTree};
 ghost use Rattle.kk_core.specs.Codes.{ProgramCode};
 ghost use Rattle.kk_norm.specs.NoMatches.{ArePlain};
+ghost use Rattle.kk_core.specs.CoreTyping.{IsSmall};
+ghost use Rattle.kk_norm.specs.Normal.{IsWithin};
 ghost use Rattle.kk_norm.specs.Normalized.{IsCoreForm, normal_program};
 ghost use Rattle.kk_norm.specs.Meaning.{KeepsMeaning, KeepsMeaningByCells};
 
@@ -20,4 +22,10 @@ pub fn core_forms_keep_meaning()
 /// decisions may be any that choose the first row that matches. It is a law, and does nothing.
 pub fn core_forms_of_typed_programs_keep_meaning()
     ensures { (program : ProgramTree) (code : ProgramCode) → IsGroundTyped program → IsCoreForm program code → KeepsMeaningByCells program code }
+{}
+
+/// A core form of a program that is within the limits is small: a node of a body binds at most one variable, and makes at most
+/// two forms. It is a law, and does nothing.
+pub fn core_forms_are_small()
+    ensures { (program : ProgramTree) (code : ProgramCode) → IsCoreForm program code → IsWithin program → IsSmall code }
 {}
