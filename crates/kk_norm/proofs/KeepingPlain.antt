@@ -1,12 +1,9 @@
 -- The core form of a program without matches does what the program does.
-use Rattle.std.proofs.Common.{◌≡◌, ℕ, ◌+◌, ◌*◌, ◌<◌, ◌≤◌, true, false, List, [], length, refl, ap, subst, ◌∙◌, arith, option_map}
-use Rattle.std.proofs.lemmas.Option.{slice_get-map}
-use Rattle.kk_syntax.specs.Shapes.{greatest_nodes, variable_of}
-use Rattle.kk_syntax.specs.Programs.{ConstructorTree, ProgramTree}
+use Rattle.std.proofs.Common.{◌≡◌, ℕ, ◌+◌, ◌*◌, ◌<◌, ◌≤◌, true, false, length, refl, subst, arith}
+use Rattle.kk_syntax.specs.Shapes.{greatest_nodes}
+use Rattle.kk_syntax.specs.Programs.{ProgramTree}
 use Rattle.kk_syntax.specs.Trees.{Tree, variable, apply, branch, match, sequence, Trees, no_tree, tree}
-use Rattle.kk_core.specs.Codes.{Code}
 use Rattle.kk_norm.specs.Meaning.{KeepsMeaning, openings_at}
-use Rattle.kk_norm.specs.Names.{Names, named}
 use Rattle.kk_norm.specs.NoMatches.{NoMatches, NoMatchesAll, ArePlain}
 use Rattle.kk_norm.specs.Normalized.{normal_program, IsCoreForm}
 use Rattle.kk_norm.proofs.Bounds.{Bounds, OpensAtMost, AllOpenAtMost}

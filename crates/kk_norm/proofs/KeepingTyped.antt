@@ -1,11 +1,11 @@
 -- The core form of a typed program does what the program does.
-use Rattle.std.proofs.Common.{◌≡◌, ℕ, ◌+◌, ◌*◌, ◌<◌, ◌≤◌, true, List, ◌∷◌, length, map, refl, ap, subst, arith}
+use Rattle.std.proofs.Common.{◌≡◌, ℕ, ◌+◌, ◌*◌, ◌<◌, ◌≤◌, true, List, ◌∷◌, length, map, refl, subst, arith}
 use Rattle.std.proofs.lemmas.List.{length-map}
 use Rattle.std.proofs.lemmas.Option.{slice_get_within}
 use Rattle.kk_syntax.specs.Covered.{Each, asked_by}
 use Rattle.kk_syntax.specs.GroundTyping.{table_of, IsGroundTyped}
 use Rattle.kk_syntax.specs.OfType.{IsPatternOf, values_of}
-use Rattle.kk_syntax.specs.Outlines.{Outline, outline_of}
+use Rattle.kk_syntax.specs.Outlines.{Outline}
 use Rattle.kk_syntax.specs.Patterns.{Pattern, anything, variable as pattern_variable, exactly, constructor, Patterns, no_part, part}
 use Rattle.kk_syntax.specs.PlainTyping.{signature_of}
 use Rattle.kk_syntax.specs.Programs.{ProgramTree}
@@ -20,7 +20,7 @@ use Rattle.kk_source.proofs.Safe.{IsStateTyped, step_safe}
 use Rattle.kk_source.proofs.SafeRuns.{start_typed}
 use Rattle.kk_core.specs.Codes.{ProgramCode}
 use Rattle.kk_norm.specs.Meaning.{KeepsMeaningByCells, core_steps, setting_of}
-use Rattle.kk_norm.specs.Normalized.{patterns_in, IsCoreForm}
+use Rattle.kk_norm.specs.Normalized.{IsCoreForm}
 use Rattle.kk_norm.specs.OpenedCells.{openings, openings_all}
 use Rattle.kk_norm.proofs.Bounds.{Bounds, OpensAtMost, AllOpenAtMost, RowsOpenAtMost}
 use Rattle.kk_norm.proofs.Closed.{is_closed}
@@ -28,6 +28,7 @@ use Rattle.kk_norm.proofs.Delivery.{source_at}
 use Rattle.kk_norm.proofs.Functions.{AreGood, core_at_number, no_core_at_number}
 use Rattle.kk_norm.proofs.Keeping.{at_most_greatest, agrees}
 use Rattle.kk_norm.proofs.Matches.{RowFound}
+use Rattle.kk_norm.proofs.PatternNames.{asked_are}
 use Rattle.kk_norm.proofs.Picking.{row_found}
 
 -- ---- a pattern opens no more cells than it has nodes
@@ -86,10 +87,6 @@ are_good program code typed form =
           };
       none = λ f is. no_core_at_number program.constructors program.functions code.functions form.functions f is;
     }
-
-asked_are : (of : Rows) → asked_by of ≡ map outline_of (patterns_in of)
-asked_are no_row = refl
-asked_are (row pattern body rest) = ap (λ (more : List Outline). outline_of pattern ∷ more) (asked_are rest)
 
 -- where a match has its scrutinee, a row matches
 typed_row : (program : ProgramTree) (of : Rows) (environment : Environment) (fs : List Frame) (v : Value) (store : Store) (input : List ℕ)

@@ -1,6 +1,9 @@
 pub mod Bounds
 pub mod Closed
+pub mod CoreTyped
+pub mod CoreTypedPrograms
 pub mod Delivery
+pub mod Facts
 pub mod Forms
 pub mod Functions
 pub mod HeldValues

@@ -1,14 +1,22 @@
 -- The names that a pattern gives its variables, and which variables its openings need.
-use Rattle.std.proofs.Common.{◌≡◌, ◌⊎◌, inl, inr, ℕ, ◌+◌, ◌<◌, ◌≤◌, ◌==◌, Bool, true, false, List, ◌++◌, refl, sym, ap, ◌∙◌, arith}
+use Rattle.std.proofs.Common.{◌≡◌, ◌⊎◌, inl, inr, ℕ, ◌+◌, ◌<◌, ◌≤◌, ◌==◌, Bool, true, false, List, ◌∷◌, ◌++◌, map, refl, sym, ap, ◌∙◌, arith}
 use Rattle.std.specs.Prelude.{if◌then◌else◌}
 use Rattle.std.proofs.lemmas.Bool.{cases_lt}
+use Rattle.kk_syntax.specs.Covered.{asked_by}
+use Rattle.kk_syntax.specs.Outlines.{Outline, outline_of}
 use Rattle.kk_syntax.specs.Patterns.{Pattern, anything, variable, exactly, constructor, Patterns, no_part, part}
 use Rattle.kk_syntax.specs.Shapes.{is_among, without, bound, bound_all}
+use Rattle.kk_syntax.specs.Trees.{Rows, no_row, row}
 use Rattle.kk_core.specs.Codes.{Code}
 use Rattle.kk_core.specs.Needed.{needed}
 use Rattle.kk_norm.specs.Names.{Names, name_of}
-use Rattle.kk_norm.specs.Normalized.{part_count, pattern_size, parts_size, numbers, opened, opened_all, pattern_names, parts_names}
+use Rattle.kk_norm.specs.Normalized.{part_count, pattern_size, parts_size, numbers, opened, opened_all, pattern_names, parts_names, patterns_in}
 use Rattle.kk_norm.proofs.Variables.{same_number, or_else, among_split, among_head, among_left, among_right, among_without, left_over, later_among}
+
+-- what the rows of a match ask is what their patterns ask
+pub asked_are : (of : Rows) → asked_by of ≡ map outline_of (patterns_in of)
+asked_are no_row = refl
+asked_are (row pattern body rest) = ap (λ (more : List Outline). outline_of pattern ∷ more) (asked_are rest)
 
 -- ---- numbers that follow one another
 

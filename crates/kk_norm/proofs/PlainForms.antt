@@ -1,5 +1,5 @@
 -- What is written for a program without matches is a core form of it.
-use Rattle.std.proofs.Common.{◌≡◌, ℕ, ◌+◌, zero, suc, true, List, [], ◌∷◌, length, map, refl}
+use Rattle.std.proofs.Common.{ℕ, ◌+◌, zero, suc, true, List, [], ◌∷◌, length, map, refl}
 use Rattle.kk_syntax.specs.Shapes.{variable_of}
 use Rattle.kk_syntax.specs.Programs.{ConstructorTree, FunctionTree, ProgramTree}
 use Rattle.kk_syntax.specs.Trees.{Tree, variable, apply, branch, match, sequence, Trees, no_tree, tree}

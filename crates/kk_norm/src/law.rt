@@ -1,9 +1,9 @@
 ghost use Rattle.std.specs.Prelude.{◌<◌, length};
-ghost use Rattle.kk_syntax.specs.GroundTyping.{IsGroundTyped};
+ghost use Rattle.kk_syntax.specs.GroundTyping.{table_of, IsGroundTyped};
 ghost use Rattle.kk_syntax.specs.Programs.{ProgramTree};
 ghost use Rattle.kk_core.specs.Codes.{ProgramCode};
 ghost use Rattle.kk_norm.specs.NoMatches.{ArePlain};
-ghost use Rattle.kk_core.specs.CoreTyping.{IsSmall};
+ghost use Rattle.kk_core.specs.CoreTyping.{IsCoreTyped, IsSmall};
 ghost use Rattle.kk_norm.specs.Normal.{IsWithin};
 ghost use Rattle.kk_norm.specs.Normalized.{IsCoreForm, normal_program};
 ghost use Rattle.kk_norm.specs.Meaning.{KeepsMeaning, KeepsMeaningByCells};
@@ -28,4 +28,10 @@ pub fn core_forms_of_typed_programs_keep_meaning()
 /// two forms. It is a law, and does nothing.
 pub fn core_forms_are_small()
     ensures { (program : ProgramTree) (code : ProgramCode) → IsCoreForm program code → IsWithin program → IsSmall code }
+{}
+
+/// A core form of a program that is typed, and whose matches are covered, is typed by what is known of its variables, and its
+/// variables are in order. It is a law, and does nothing.
+pub fn core_forms_of_typed_programs_are_typed()
+    ensures { (program : ProgramTree) (code : ProgramCode) → IsGroundTyped program → IsCoreForm program code → IsCoreTyped (table_of program) code }
 {}
