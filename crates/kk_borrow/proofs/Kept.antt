@@ -7,7 +7,8 @@ use Rattle.kk_syntax.specs.OwnedPositions.{PositionSet, lent_below, OwnsUsed, Ow
 use Rattle.kk_borrow.specs.Rules.{Keeps}
 use Rattle.kk_borrow.specs.Demands.{placed, parameters, tail_rules, rules_in, rules_from}
 use Rattle.kk_borrow.specs.declared.owned_place.Place.TheVariants.{Always}
-use Rattle.kk_borrow.proofs.Placed.{all_left, all_right, placed_same}
+use Rattle.kk_syntax.proofs.Lists.{all_left, all_right}
+use Rattle.kk_borrow.proofs.Placed.{placed_same}
 use Rattle.kk_borrow.proofs.Passed.{Asks, parameters_tell, tail_same}
 
 -- a set keeps the rules of a function
@@ -50,8 +51,8 @@ pub closed_same : (program : ProgramTree) (set : PositionSet) → All (Keeps pro
 closed_same program set =
     let each : All (Keeps program set) (rules_from 0 program.functions) → (f : ℕ) → f < length program.functions → Owns program set f (get_or program.functions f no_function) =
     λ all f lt.
-        (in_same program set f).0
-        (subst (λ n. KeepsIn program set n (get_or program.functions f no_function)) (omega arith) (from_each program set 0 program.functions all f lt)) in (
+    (in_same program set f).0
+    (subst (λ n. KeepsIn program set n (get_or program.functions f no_function)) (omega arith) (from_each program set 0 program.functions all f lt)) in (
       λ all. record { places = λ f lt. (each all f lt).0; tail_calls = λ f lt. (each all f lt).1 },
       λ closed.
           to_each program set 0 program.functions

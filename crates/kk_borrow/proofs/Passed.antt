@@ -17,7 +17,7 @@ use Rattle.kk_syntax.specs.OwnedPositions.{PositionSet, arity_of, lent_below, is
 use Rattle.kk_syntax.specs.OwnedSearch.{handed_in, handed_in_rows}
 use Rattle.kk_borrow.specs.Rules.{Has, Keeps}
 use Rattle.kk_borrow.specs.Demands.{position, origins_of, origins_in, hung, all_hung, parameters, passed, passed_by, tail_rules, tail_rules_in}
-use Rattle.kk_borrow.proofs.Placed.{all_left, all_right}
+use Rattle.kk_syntax.proofs.Lists.{all_left, all_right}
 
 -- whether one of some parameters is lent
 abbrev pub some_lent : (ℕ → Bool) → List ℕ → Bool

@@ -14,7 +14,7 @@ use Rattle.kk_borrow.specs.declared.rule.Rule.{Rule}
 use Rattle.kk_borrow.specs.Rules.{RuleTree, rule_tree, rule_trees, Has, Keeps}
 use Rattle.kk_borrow.specs.declared.standing.Standings.{Standings}
 use Rattle.kk_borrow.specs.Standings.{WaitingTable, ownerships, waitings, waiting_at, told_at, with_waiting, work, InProgram, Follows}
-use Rattle.kk_borrow.proofs.Placed.{all_left, all_right}
+use Rattle.kk_syntax.proofs.Lists.{all_left, all_right}
 use Rattle.kk_borrow.proofs.Rows.{waits_in_rows, waits_in_row}
 use Rattle.kk_syntax.proofs.PositionTables.{owned_told, lent_told, told_row, grown_told, grown_within, grown_more, grown_has}
 use Rattle.kk_borrow.proofs.Waiting.{at_same, at_other, less_lent}

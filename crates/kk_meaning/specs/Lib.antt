@@ -3,6 +3,5 @@ pub mod FreeOf
 pub mod Machines
 pub mod Marks
 pub mod Performs
-pub mod Search
 pub mod Turns
 pub mod View

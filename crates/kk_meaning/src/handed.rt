@@ -1,12 +1,11 @@
 ghost use Rattle.std.specs.Prelude.{◌≡◌, ◌++◌, map, length, IfOk, OnOk};
 ghost use Rattle.kk_syntax.specs.OwnedPositions.{owned_in, lent_below, is_lent_variable, lent_in_row, handed_to, handed_by};
-ghost use Rattle.kk_syntax.specs.OwnedSearch.{handed_in, handed_in_rows};
+ghost use Rattle.kk_syntax.specs.OwnedSearch.{first_lent, handed_in, handed_in_rows};
 ghost use Rattle.kk_syntax.specs.Patterns.{pattern_tree, patterns_of};
 ghost use Rattle.kk_syntax.specs.PositionsOf.{positions_of};
 ghost use Rattle.kk_syntax.specs.Programs.{function_tree};
 ghost use Rattle.kk_syntax.specs.Shapes.{bound, bound_all};
 ghost use Rattle.kk_syntax.specs.Trees.{expr_tree, trees_of, row_tree, rows_of, apply as applied};
-ghost use Rattle.kk_meaning.specs.Search.{first_lent};
 
 use kk_base::NoMemory;
 use kk_syntax::{Expr, Form, Fun, Pat, Position, Positions, Row};

@@ -1,10 +1,9 @@
 ghost use Rattle.std.specs.Prelude.{◌≡◌, ◌<◌, true, length, slice_get, slice_index_or, IfOk, map, replicate};
 ghost use Rattle.kk_syntax.specs.OwnedPositions.{IsLeast, Told, function_at};
-ghost use Rattle.kk_syntax.specs.OwnedSearch.{each_lent, with_owned};
+ghost use Rattle.kk_syntax.specs.OwnedSearch.{each_lent, with_owned, FindsUsed, AsksIn, Asks};
 ghost use Rattle.kk_syntax.specs.PositionsOf.{positions_of, is_lent};
 ghost use Rattle.kk_syntax.specs.Programs.{function_tree, program_tree};
 ghost use Rattle.kk_syntax.specs.declared.positions.Ownership.TheVariants as OfOwnership;
-ghost use Rattle.kk_meaning.specs.Search.{FindsUsed, AsksIn, Asks};
 
 use crate::handed::handed;
 use crate::owned_place::uses;

@@ -66,14 +66,15 @@ fn uses_block(
 ) -> bool
     ensures { result ≡ uses (owned_in (positions_of positions.now)) owned variable (block_of (map statement_tree statements.now) (expr_tree value.now)) }
 {
-    let mut owned = owned;
+    let mut last = owned;
     for statement in statements {
-        if uses(positions, is_val(statement.binder), variable, &statement.value) {
+        let first = is_val(statement.binder);
+        if uses(positions, first, variable, &statement.value) {
             return true;
         }
-        owned = true;
+        last = true;
     }
-    uses(positions, owned, variable, value)
+    uses(positions, last, variable, value)
 }
 
 // Whether an argument of a form stands at an owned place.

@@ -16,7 +16,7 @@ use Rattle.kk_core.specs.CoreStates.{Join, CallFrame, running, stopped as core_s
 use Rattle.kk_core.specs.CoreMachine.{core_machine, core_ending_of}
 use Rattle.kk_norm.specs.Names.{Names}
 use Rattle.kk_norm.specs.Normalized.{Then, final, next, size, atom, after, after_use, code}
-use Rattle.kk_norm.specs.NoCells.{NoCells}
+use Rattle.kk_norm.specs.NoMatches.{NoMatches}
 use Rattle.kk_norm.specs.Meaning.{core_setting}
 use Rattle.kk_norm.proofs.Variables.{Stands, value_here, same_below_bound}
 use Rattle.kk_norm.proofs.Waits.{Goal, nowhere, returns, goes_on, goal_of, Fresh, Waits, waits_move, waits_nowhere, due, due_small, due_returns}
@@ -43,7 +43,7 @@ pub record AtTree (most idle : ℕ) (e : Tree) (environment : Environment) (fs :
   pub frames : List CallFrame
   pub is : t ≡ core_at (code k names n e) core joins frames store input
   pub stands : Stands names environment core n (free e)
-  pub plain : NoCells e
+  pub plain : NoMatches e
   pub small : nodes_of e ≤ most
   pub idles : nodes_of e ≤ idle
   pub fresh : Fresh k joins (n + size e) top
@@ -51,7 +51,7 @@ pub record AtTree (most idle : ℕ) (e : Tree) (environment : Environment) (fs :
 
 -- it is there at the code of an expression for whose value the frames wait
 pub at_code : (most idle : ℕ) (k : Then) (names : Names) (e : Tree) (environment : Environment) (n top : ℕ) (core : Environment) (joins : List Join) (frames : List CallFrame) (fs : List Frame) (store : Store) (input : List ℕ)
-    → Stands names environment core n (free e) → NoCells e → nodes_of e ≤ most → nodes_of e ≤ idle → Fresh k joins (n + size e) top → Waits most fs (goal_of k (atom names n e) joins) core n top frames
+    → Stands names environment core n (free e) → NoMatches e → nodes_of e ≤ most → nodes_of e ≤ idle → Fresh k joins (n + size e) top → Waits most fs (goal_of k (atom names n e) joins) core n top frames
     → AtTree most idle e environment fs store input (core_at (code k names n e) core joins frames store input)
 at_code most idle k names e environment n top core joins frames fs store input stands plain small idles fresh waits = record {
   k = k;

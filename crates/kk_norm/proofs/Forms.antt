@@ -11,19 +11,19 @@ use Rattle.kk_core.specs.Codes.{Code}
 use Rattle.kk_core.specs.CoreTyping.{AreSmall, all_forms, IsSmall}
 use Rattle.kk_core.specs.Sizes.{forms}
 use Rattle.kk_norm.specs.Names.{Names, name_of, named}
-use Rattle.kk_norm.specs.NoCells.{NoCells, NoCellsAll, ArePlain}
+use Rattle.kk_norm.specs.NoMatches.{NoMatches, NoMatchesAll, ArePlain}
 use Rattle.kk_norm.specs.Normal.{AreWithin, all_nodes, IsWithin}
 use Rattle.kk_norm.specs.Normalized.{Then, final, next, size, size_all, atom, atoms, after, after_use, within, joined, finish, finish_call, code, code_all, normal_function, normal_program}
 
 mutual
-  pub size_small : (e : Tree) → NoCells e → size e ≤ nodes_of e
+  pub size_small : (e : Tree) → NoMatches e → size e ≤ nodes_of e
   size_small (variable x) plain = omega arith
-  size_small (apply form es) plain = omega (arith, size_all_small es plain.1)
+  size_small (apply form es) plain = omega (arith, size_all_small es plain)
   size_small (branch e positive negative) plain = omega (arith, size_small e plain.0, size_small positive plain.1, size_small negative plain.2)
   size_small (match e rows) plain = absurd plain
   size_small (sequence binder first rest) plain = omega (arith, size_small first plain.0, size_small rest plain.1)
 
-  pub size_all_small : (es : Trees) → NoCellsAll es → size_all es ≤ nodes_of_all es
+  pub size_all_small : (es : Trees) → NoMatchesAll es → size_all es ≤ nodes_of_all es
   size_all_small no_tree plain = omega arith
   size_all_small (tree first rest) plain = omega (arith, size_small first plain.0, size_all_small rest plain.1)
 
@@ -63,10 +63,10 @@ branch_sum : (e p q first second own inner outer whole : ℕ) → whole ≤ 2 * 
 branch_sum e p q first second own inner outer whole one two three four none = omega arith
 
 mutual
-  pub forms_small : (k : Then) (names : Names) (n : ℕ) (e : Tree) → NoCells e → forms (code k names n e) ≤ 2 * nodes_of e + forms_then k
+  pub forms_small : (k : Then) (names : Names) (n : ℕ) (e : Tree) → NoMatches e → forms (code k names n e) ≤ 2 * nodes_of e + forms_then k
   forms_small k names n (variable x) plain = omega (arith, forms_after_use k (name_of names x))
   forms_small k names n (apply form es) plain =
-      omega (arith, forms_all_small names n es (finish k (n + size_all es) form (atoms names n es)) plain.1, forms_finish k (n + size_all es) form (atoms names n es))
+      omega (arith, forms_all_small names n es (finish k (n + size_all es) form (atoms names n es)) plain, forms_finish k (n + size_all es) form (atoms names n es))
   forms_small k names n (branch e positive negative) plain =
       let first : Code = code (within k) names (n + size e) positive in
       let second : Code = code (within k) names (n + size e + size positive) negative in
@@ -85,7 +85,7 @@ mutual
       let two : forms later ≤ 2 * nodes_of rest + forms_then k = forms_small k (named (variable_of binder) (atom names n first) names) (n + size first) rest plain.1 in
       omega arith
 
-  pub forms_all_small : (names : Names) (n : ℕ) (es : Trees) (last : Code) → NoCellsAll es → forms (code_all names n es last) ≤ 2 * nodes_of_all es + forms last
+  pub forms_all_small : (names : Names) (n : ℕ) (es : Trees) (last : Code) → NoMatchesAll es → forms (code_all names n es last) ≤ 2 * nodes_of_all es + forms last
   forms_all_small names n no_tree last plain = omega arith
   forms_all_small names n (tree first rest) last plain =
       let later : Code = code_all names (n + size first) rest last in
@@ -98,7 +98,7 @@ mutual
 are_small : (functions : List FunctionTree) → ArePlain functions → AreWithin functions → AreSmall (map normal_function functions)
 are_small [] plain limits = tt
 are_small (function ∷ functions) plain limits =
-    let none = (plain zero function refl).no_cells in (
+    let none = (plain zero function refl).no_matches in (
       record {
         parameters = limits.0.parameters;
         variables = omega (arith, limits.0.parameters, limits.0.nodes, size_small function.body none);
@@ -110,7 +110,7 @@ are_small (function ∷ functions) plain limits =
 all_small : (functions : List FunctionTree) → ArePlain functions → all_forms (map normal_function functions) ≤ 2 * all_nodes functions
 all_small [] plain = omega arith
 all_small (function ∷ functions) plain =
-    omega (arith, forms_small (final true) [] (length function.parameters) function.body (plain zero function refl).no_cells, all_small functions (λ f other is. plain (suc f) other is))
+    omega (arith, forms_small (final true) [] (length function.parameters) function.body (plain zero function refl).no_matches, all_small functions (λ f other is. plain (suc f) other is))
 
 pub is_small : (program : ProgramTree) → ArePlain program.functions → IsWithin program → IsSmall (normal_program program)
 is_small program plain limits =

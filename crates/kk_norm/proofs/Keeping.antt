@@ -1,4 +1,4 @@
--- The core form of a program that makes no cells does what the program does.
+-- The core form of a program without matches does what the program does.
 use Rattle.std.proofs.Common.{◌≡◌, ℕ, ◌+◌, ◌*◌, zero, suc, ◌<◌, ◌≤◌, option_map, true, List, [], ◌∷◌, length, Some, map, refl, ap, ◌∙◌, arith}
 use Rattle.std.specs.Prelude.{slice_get, slice_index_or}
 use Rattle.std.proofs.lemmas.Option.{slice_get-map, get_or_from_slice_get, slice_get-get_or}
@@ -12,7 +12,7 @@ use Rattle.kk_core.specs.Codes.{FunctionCode}
 use Rattle.kk_core.specs.CoreStates.{no_code, core_first_state}
 use Rattle.kk_core.specs.CoreMachine.{core_machine}
 use Rattle.kk_norm.specs.Normalized.{final, size, normal_function, normal_program}
-use Rattle.kk_norm.specs.NoCells.{ArePlain}
+use Rattle.kk_norm.specs.NoMatches.{ArePlain}
 use Rattle.kk_norm.specs.Meaning.{heavy_store_machine, core_setting, KeepsMeaning, setting_of}
 use Rattle.kk_norm.proofs.Delivery.{Related, Passing, core_at}
 use Rattle.kk_norm.proofs.Waits.{ArePlainWithin}
@@ -49,11 +49,11 @@ starts program positions cells depth input plain in_range =
       frames = [];
       is = ap (λ (function : FunctionCode). core_at function.body [] [] [] [] input) code_is;
       stands = λ x among. (refl, good.0.closed x among);
-      plain = good.0.no_cells;
+      plain = good.0.no_matches;
       small = good.1;
       idles = good.1;
       fresh = omega arith;
-      later = refl;
+      later = (refl, refl);
     }
 
 pub keeps_meaning : (program : ProgramTree) → ArePlain program.functions → program.main < length program.functions → KeepsMeaning program (normal_program program)

@@ -1,6 +1,8 @@
 pub mod Delivery
 pub mod Forms
+pub mod HeldValues
 pub mod Keeping
+pub mod NeededVariables
 pub mod Plain
 pub mod ProgramTrees
 pub mod Programs

@@ -5,53 +5,37 @@ use Rattle.std.proofs.lemmas.Option.{slice_get-map}
 use Rattle.kk_base.specs.Machines.{Machine}
 use Rattle.kk_syntax.specs.declared.program.Form.{Form}
 use Rattle.kk_syntax.specs.declared.program.Form.TheVariants.{Construct, Call}
-use Rattle.kk_syntax.specs.Trees.{Tree, sequence, Trees, tree}
+use Rattle.kk_syntax.specs.Trees.{Tree, sequence}
 use Rattle.kk_syntax.specs.declared.program.Binder.{Binder}
 use Rattle.kk_syntax.specs.declared.program.Binder.TheVariants as OfBinder
-use Rattle.kk_syntax.specs.Shapes.{free, nodes_of, without, is_among, bound_by, variable_of}
+use Rattle.kk_syntax.specs.Shapes.{free, nodes_of, without, bound_by, variable_of}
 use Rattle.kk_syntax.specs.Programs.{FunctionTree}
 use Rattle.kk_syntax.specs.PositionsOf.{is_lent}
 use Rattle.kk_source.specs.Notes.{Note}
-use Rattle.kk_source.specs.State.{Setting, Value, unit, Store, Environment, Frame, arguments, branches, rows, statement, call, End, stack_full, Control, expression, stopped, Configuration}
-use Rattle.kk_source.specs.Live.{value_of, awaited}
-use Rattle.kk_source.specs.Actions.{Action, goes as leads_to, calls, print_step, performed}
+use Rattle.kk_source.specs.State.{Setting, Value, unit, place, Store, Environment, Frame, arguments, branches, rows, statement, call, End, heap_full, stack_full, Control, expression, stopped, Configuration}
+use Rattle.kk_source.specs.Live.{value_of, awaited, held_by_all, live}
+use Rattle.kk_source.specs.Actions.{Action, goes as leads_to, builds, calls, print_step, performed}
 use Rattle.kk_source.specs.FormEffects.{is_true, byte_value, FormEffect, gives, prints, reads, makes, enters, form_effect, effect_step}
 use Rattle.kk_source.specs.SourceAfter.{State}
-use Rattle.kk_source.specs.Step.{bind_parameters, call_frames, lent_places, at_end, at_value, in_body, form_step, call_step, push_step}
+use Rattle.kk_source.specs.Step.{bind_parameters, call_frames, lent_places, at_end, at_value, at_new_place, in_body, construct_step, form_step, call_step, push_step}
 use Rattle.kk_core.specs.Codes.{Code, give, tail_call, FunctionCode}
 use Rattle.kk_core.specs.CoreStates.{Join, CallFrame, CoreConfiguration, CoreState}
 use Rattle.kk_core.specs.CoreMachine as Core
+use Rattle.kk_core.specs.CoreMachine.{held_for, held_by_frames}
 use Rattle.kk_norm.specs.Names.{Names}
 use Rattle.kk_norm.specs.Normalized.{Then, final, next, size, atom, after, within, joined, finish, finish_call, code, choice_code, normal_function}
-use Rattle.kk_norm.specs.NoCells.{NoCells, MakesNoCell, IsPlain}
+use Rattle.kk_norm.specs.NoMatches.{NoMatches, IsPlain}
 use Rattle.kk_norm.specs.Meaning.{core_setting}
-use Rattle.kk_norm.proofs.Variables.{same_number, Stands, stands_left, stands_right, stands_later}
-use Rattle.kk_norm.proofs.Waits.{ArePlainWithin, Goal, returns, goes_on, goal_of, Fresh, fresh_less, MakesNothing, Waits, waits_move, waits_nowhere, calls_are}
+use Rattle.kk_norm.proofs.Variables.{Stands, stands_left, stands_right, stands_later}
+use Rattle.kk_norm.proofs.Waits.{ArePlainWithin, Goal, returns, goes_on, goal_of, Fresh, fresh_less, Waits, waits_move, waits_nowhere, calls_are}
 use Rattle.kk_norm.proofs.Delivery.{source_at, core_at, AtTree, Related}
 use Rattle.kk_norm.proofs.Delivery as Delivery
+use Rattle.kk_norm.proofs.HeldValues.{live_the_same}
 
 -- each expression has a node
 pub some_nodes : (e : Tree) → 1 ≤ nodes_of e
 some_nodes (sequence binder first rest) = omega (arith, some_nodes first)
 some_nodes e = omega arith
-
--- a form with arguments that makes no cell is no construction
-pub makes_nothing_of : (form : Form) (e : Tree) (es : Trees) → MakesNoCell form (tree e es) → MakesNothing form
-makes_nothing_of (Construct c) e es plain = absurd plain
-makes_nothing_of form e es plain = tt
-
--- a form on these variables makes no cell
-abbrev pub Acts : Form → List ℕ → Type 0
-Acts (Construct c) (x ∷ xs) = ⊥
-Acts form xs = Unit {0}
-
-pub acts_nothing : (form : Form) (xs : List ℕ) → MakesNothing form → Acts form xs
-acts_nothing (Construct c) xs plain = absurd plain
-acts_nothing form xs plain = tt
-
-pub acts_alone : (form : Form) → Acts form []
-acts_alone (Construct c) = tt
-acts_alone form = tt
 
 -- a form's value is there at once: it makes no cell, and calls nothing
 abbrev pub IsAtOnce : FormEffect → Type 0
@@ -65,9 +49,6 @@ goal_final true [] x y = refl
 goal_final true (join ∷ joins) x y = refl
 goal_final false [] x y = refl
 goal_final false (join ∷ joins) x y = refl
-
-pub alone_among : (x : ℕ) → is_among (x ∷ []) x ≡ true
-alone_among x = rw (same_number x) refl
 
 -- a statement's free variables, by the variable that it binds
 pub stands_after : (binder : Binder) (names : Names) (environment core : Environment) (bound : ℕ) (xs : List ℕ)
@@ -131,7 +112,7 @@ module _ (setting : Setting) (most cost : ℕ) (weight : CoreState → ℕ) (lig
   in_function function is_plain small vs lent fs core low high frames store input waits =
       let n : ℕ = length function.parameters in
       let bound : Environment = bind_parameters 0 vs [] in
-      Delivery.at_code most most (final true) [] function.body bound n (n + size function.body) bound [] frames (call lent ∷ fs) store input (λ x among. (refl, is_plain.closed x among)) is_plain.no_cells small small (omega arith)
+      Delivery.at_code most most (final true) [] function.body bound n (n + size function.body) bound [] frames (call lent ∷ fs) store input (λ x among. (refl, is_plain.closed x among)) is_plain.no_matches small small (omega arith)
       (waits_call most lent fs core bound low high n (n + size function.body) frames waits)
 
   -- the function of the core form by the same number
@@ -235,22 +216,45 @@ module _ (setting : Setting) (most cost : ℕ) (weight : CoreState → ℕ) (lig
   calls_to f xs (final true) m low top core [] frames (rows of environment ∷ fs) store input credit idle control older le fresh waits stay = absurd waits
   calls_to f xs (final true) m low top core [] frames (statement w e environment ∷ fs) store input credit idle control older le fresh waits stay = absurd waits
 
+  -- a construction with fields: the heap is full, or there is one more cell
+  full_or_makes : (full : Bool) (found c : ℕ) (fields : List Value) (k : Then) (m low top : ℕ) (core : Environment) (joins : List Join) (frames : List CallFrame) (fs : List Frame) (store : Store) (input : List ℕ) (credit idle : ℕ) (control : Control) (older : List Frame) (t : CoreState) (from : CoreConfiguration)
+      → lower.step t ≡ performed (builds found (if full then Core.at_end heap_full from else (core_at (after k m) (record { variable = m; value = place (length store) } ∷ core) joins frames (store ++ record { made_by = c; fields = fields } ∷ []) input).machine)) input
+      → low ≤ m → Fresh k joins (m + 1) top → Waits most fs (goal_of k m joins) core low top frames
+      → Does credit idle (builds found (if full then at_end heap_full (from_at control older store) else at_new_place c fields (from_at control fs store))) input t
+  full_or_makes true found c fields k m low top core joins frames fs store input credit idle control older t from is le fresh waits =
+      Delivery.follows_step setting most cost weight light credit idle 0 0 _ (source_at (stopped heap_full) older store input) t _ is (omega arith) (omega arith) refl refl
+  full_or_makes false found c fields k m low top core joins frames fs store input credit idle control older t from is le fresh waits =
+      Delivery.computes_to setting most cost weight light k m low top core joins frames (place (length store)) fs (store ++ record { made_by = c; fields = fields } ∷ []) input credit idle _ t is le fresh waits
+
+  -- as many places are live, so both machines find the heap full, or both make a cell
+  constructs : (c : ℕ) (fields : List Value) (k : Then) (m low top : ℕ) (core : Environment) (joins : List Join) (frames : List CallFrame) (fs : List Frame) (store : Store) (input : List ℕ) (credit idle : ℕ) (control : Control) (older : List Frame) (at : Code)
+      → lower.step (core_at at core joins frames store input) ≡ performed (Core.construct_step (core_setting setting) c fields (held_for m (after k m) joins core ++ held_by_frames frames) (λ v. (core_at (after k m) (record { variable = m; value = v } ∷ core) joins frames store input).machine) (core_at at core joins frames store input).machine) input
+      → low ≤ m → Fresh k joins (m + 1) top → Waits most fs (goal_of k m joins) core low top frames
+      → Does credit idle (construct_step setting c fields fs (from_at control older store)) input (core_at at core joins frames store input)
+  constructs c fields k m low top core joins frames fs store input credit idle control older at is le fresh waits =
+      let t : CoreState = core_at at core joins frames store input in
+      let found : ℕ = live store (fields ++ (held_for m (after k m) joins core ++ held_by_frames frames)) in
+      let same : live store (fields ++ held_by_all fs) ≡ found = live_the_same most k m low top core joins frames fs store fields le fresh waits in
+      subst (λ (n : ℕ). Does credit idle (builds n (if nat_le setting.cells n then at_end heap_full (from_at control older store) else at_new_place c fields (from_at control fs store))) input t) (sym same)
+      (full_or_makes (nat_le setting.cells found) found c fields k m low top core joins frames fs store input credit idle control older t t.machine is le fresh waits)
+
   -- a form on variables
-  pub acts : (form : Form) (xs : List ℕ) → Acts form xs → (k : Then) (m low top : ℕ) (core : Environment) (joins : List Join) (frames : List CallFrame) (fs : List Frame) (store : Store) (input : List ℕ) (credit idle : ℕ) (control : Control) (older : List Frame)
+  pub acts : (form : Form) (xs : List ℕ) (k : Then) (m low top : ℕ) (core : Environment) (joins : List Join) (frames : List CallFrame) (fs : List Frame) (store : Store) (input : List ℕ) (credit idle : ℕ) (control : Control) (older : List Frame)
       → low ≤ m → Fresh k joins (m + 1) top → Waits most fs (goal_of k m joins) core low top frames
       → Related most credit idle (source_at control older store input) (core_at (finish k m form xs) core joins frames store input)
       → Does credit idle (form_step setting form (map (value_of core) xs) fs (from_at control older store)) input (core_at (finish k m form xs) core joins frames store input)
-  acts (Call f) xs once k m low top core joins frames fs store input credit idle control older le fresh waits stay =
+  acts (Call f) xs k m low top core joins frames fs store input credit idle control older le fresh waits stay =
       calls_to f xs k m low top core joins frames fs store input credit idle control older le fresh waits stay
-  acts (Construct c) (x ∷ xs) once k m low top core joins frames fs store input credit idle control older le fresh waits stay = absurd once
-  acts form xs once k m low top core joins frames fs store input credit idle control older le fresh waits stay =
+  acts (Construct c) (x ∷ xs) k m low top core joins frames fs store input credit idle control older le fresh waits stay =
+      constructs c (map (value_of core) (x ∷ xs)) k m low top core joins frames fs store input credit idle control older (finish k m (Construct c) (x ∷ xs)) refl le fresh waits
+  acts form xs k m low top core joins frames fs store input credit idle control older le fresh waits stay =
       let stays : ℕ → List Value → Action Configuration = λ of values. leads_to (from_at control older store) in
       let core_stays : ℕ → List Value → Action CoreConfiguration = λ of values. leads_to (core_at (finish k m form xs) core joins frames store input).machine in
       acts_at_once (form_effect setting.program.texts form (map (value_of core) xs)) tt k m low top core joins frames fs store input credit idle control stays stays core_stays core_stays _ refl le fresh waits
 
   -- the core machine at the branch that is taken
   in_branch : (test : Bool) (k : Then) (positive negative : Tree) (names : Names) (environment : Environment) (n low top : ℕ) (core : Environment) (joins : List Join) (frames : List CallFrame) (fs : List Frame) (store : Store) (input : List ℕ)
-      → low ≤ n → Stands names environment core low (free positive ++ free negative) → NoCells positive → NoCells negative → nodes_of positive + nodes_of negative ≤ most
+      → low ≤ n → Stands names environment core low (free positive ++ free negative) → NoMatches positive → NoMatches negative → nodes_of positive + nodes_of negative ≤ most
       → Fresh k joins (n + size positive + size negative) top → ((x : ℕ) → Waits most fs (goal_of k x joins) core low top frames)
       → AtTree most most (if test then positive else negative) environment fs store input (core_at (if test then code k names n positive else code k names (n + size positive) negative) core joins frames store input)
   in_branch true k positive negative names environment n low top core joins frames fs store input le stands plain_positive plain_negative small fresh waits =
@@ -268,7 +272,7 @@ module _ (setting : Setting) (most cost : ℕ) (weight : CoreState → ℕ) (lig
 
   -- a condition decides which branch comes
   pub branch_goes : (test : Bool) (k : Then) (positive negative : Tree) (names : Names) (environment : Environment) (n low top : ℕ) (core : Environment) (joins : List Join) (x : ℕ) (frames : List CallFrame) (fs : List Frame) (store : Store) (input : List ℕ) (credit idle : ℕ)
-      → is_true (value_of core x) ≡ test → low ≤ n → Stands names environment core low (free positive ++ free negative) → NoCells positive → NoCells negative → nodes_of positive + nodes_of negative ≤ most
+      → is_true (value_of core x) ≡ test → low ≤ n → Stands names environment core low (free positive ++ free negative) → NoMatches positive → NoMatches negative → nodes_of positive + nodes_of negative ≤ most
       → Fresh k joins (n + size positive + size negative + 1) top → Waits most fs (goal_of k (n + size positive + size negative) joins) core low top frames
       → Follows credit idle [] (source_at (expression (if test then positive else negative) environment) fs store input) (core_at (joined k (n + size positive + size negative) (choice_code (within k) names n x positive negative)) core joins frames store input)
   branch_goes test (final tail) positive negative names environment n low top core joins x frames fs store input credit idle is le stands plain_positive plain_negative small fresh waits =

@@ -16,13 +16,13 @@ use Rattle.kk_core.specs.Codes.{Code, give}
 use Rattle.kk_core.specs.CoreStates.{Join, CallFrame, CoreState, core_end_at}
 use Rattle.kk_norm.specs.Names.{Names, name_of, named}
 use Rattle.kk_norm.specs.Normalized.{Then, next, size, size_all, atom, atoms, within, joined, finish, code, code_all, choice_code}
-use Rattle.kk_norm.specs.NoCells.{NoCells}
+use Rattle.kk_norm.specs.NoMatches.{NoMatches}
 use Rattle.kk_norm.specs.Meaning.{heavy_store_machine}
-use Rattle.kk_norm.proofs.Variables.{Stands, stands_left, stands_right, stands_later, stands_bound, all_below_more, all_below_one_more, values_one_more}
+use Rattle.kk_norm.proofs.Variables.{alone_among, Stands, stands_left, stands_right, stands_later, stands_bound, all_below_more, all_below_one_more, values_one_more}
 use Rattle.kk_norm.proofs.Waits.{ArePlainWithin, Goal, nowhere, returns, goes_on, goal_of, Fresh, fresh_less, Waits, waits_move, due}
 use Rattle.kk_norm.proofs.Delivery.{source_at, core_at, AtTree, AtValue, At, Related, Passing, goal_code, goal_variable, goal_joins}
 use Rattle.kk_norm.proofs.Delivery as Delivery
-use Rattle.kk_norm.proofs.Simulation.{some_nodes, makes_nothing_of, acts_nothing, acts_alone}
+use Rattle.kk_norm.proofs.Simulation.{some_nodes}
 use Rattle.kk_norm.proofs.Simulation as Forms
 
 one_list : (held : List ℕ) (a : ℕ) (xs : List ℕ) → held ++ (a ∷ xs) ≡ (held ++ a ∷ []) ++ xs
@@ -43,10 +43,10 @@ module _ (setting : Setting) (most cost : ℕ) (weight : CoreState → ℕ) (lig
       → (a : AtTree most idle e environment fs store input t)
       → Steps credit idle (source_at (expression e environment) fs store input) (core_at (code a.k a.names a.n e) a.core a.joins a.frames store input)
   tree_step (variable x) environment fs store input credit idle t a =
-      let stands = a.stands x (Forms.alone_among x) in
+      let stands = a.stands x (alone_among x) in
       Delivery.uses setting most cost weight light a.k (name_of a.names x) a.n a.top a.core a.joins a.frames (value_of environment x) fs store input credit idle stands.0 stands.1 (omega (arith, a.idles)) (fresh_less a.k a.joins a.n (a.n + 0) a.top (omega arith) a.fresh) a.later
   tree_step (apply form no_tree) environment fs store input credit idle t a =
-      Forms.acts setting most cost weight light plain form [] (acts_alone form) a.k (a.n + 0) a.n a.top a.core a.joins a.frames fs store input credit idle (expression (apply form no_tree) environment) fs (omega arith) (fresh_less a.k a.joins (a.n + 0 + 1) (a.n + 1) a.top (omega arith) a.fresh) a.later
+      Forms.acts setting most cost weight light plain form [] a.k (a.n + 0) a.n a.top a.core a.joins a.frames fs store input credit idle (expression (apply form no_tree) environment) fs (omega arith) (fresh_less a.k a.joins (a.n + 0 + 1) (a.n + 1) a.top (omega arith) a.fresh) a.later
       (subst (λ (t : CoreState). AtTree most idle (apply form no_tree) environment fs store input t) a.is a)
   tree_step (apply form (tree e es)) environment fs store input credit idle t a =
       let m : ℕ = a.n + size_all (tree e es) in
@@ -61,8 +61,7 @@ module _ (setting : Setting) (most cost : ℕ) (weight : CoreState → ℕ) (lig
         held_low = tt;
         rest_is = refl;
         stands = stands_right a.names environment a.core a.n (free e) (free_all es) a.stands;
-        plain = a.plain.1.1;
-        makes_nothing = makes_nothing_of form e es a.plain.0;
+        plain = a.plain.1;
         small = omega (arith, a.small);
         from = omega arith;
         fresh = fresh_less a.k a.joins (m + 1) (a.n + (size e + size_all es + 1)) a.top (omega arith) a.fresh;
@@ -70,7 +69,7 @@ module _ (setting : Setting) (most cost : ℕ) (weight : CoreState → ℕ) (lig
       } in
       Delivery.follows setting most cost weight light credit idle (nodes_of e) 0 [] (source_at (expression e environment) (arguments form [] es environment ∷ fs) store input) (core_at (code a.k a.names a.n (apply form (tree e es))) a.core a.joins a.frames store input) (omega arith) (omega (arith, a.idles)) refl
       (Delivery.at_code most (nodes_of e) (next rest) a.names e environment a.n (a.n + size e) a.core a.joins a.frames (arguments form [] es environment ∷ fs) store input
-      (stands_left a.names environment a.core a.n (free e) (free_all es) a.stands) a.plain.1.0 (omega (arith, a.small)) (omega arith) (omega arith) waits)
+      (stands_left a.names environment a.core a.n (free e) (free_all es) a.stands) a.plain.0 (omega (arith, a.small)) (omega arith) (omega arith) waits)
   tree_step (if_tree e positive negative) environment fs store input credit idle t a =
       let n : ℕ = a.n + size e in
       let m : ℕ = n + size positive + size negative in
@@ -113,7 +112,7 @@ module _ (setting : Setting) (most cost : ℕ) (weight : CoreState → ℕ) (lig
 
   -- at the condition of an `if`, by what comes after it
   branch_step : (k : Then) (positive negative : Tree) (names : Names) (environment : Environment) (n low top : ℕ) (core : Environment) (joins : List Join) (x : ℕ) (v : Value) (frames : List CallFrame) (fs : List Frame) (store : Store) (input : List ℕ) (credit idle : ℕ)
-      → value_of core x ≡ v → low ≤ n → Stands names environment core low (free positive ++ free negative) → NoCells positive → NoCells negative → nodes_of positive + nodes_of negative ≤ most
+      → value_of core x ≡ v → low ≤ n → Stands names environment core low (free positive ++ free negative) → NoMatches positive → NoMatches negative → nodes_of positive + nodes_of negative ≤ most
       → Fresh k joins (n + size positive + size negative + 1) top → Waits most fs (goal_of k (n + size positive + size negative) joins) core low top frames
       → Steps credit idle (source_at (value v) (branches positive negative environment ∷ fs) store input) (core_at (joined k (n + size positive + size negative) (choice_code (within k) names n x positive negative)) core joins frames store input)
   branch_step k positive negative names environment n low top core joins x v frames fs store input credit idle has le stands plain_positive plain_negative small fresh waits =
@@ -140,7 +139,6 @@ module _ (setting : Setting) (most cost : ℕ) (weight : CoreState → ℕ) (lig
         rest_is = ap (λ xs. code_all waits.at.names (waits.at.n + size e) es (finish waits.at.k waits.m form xs)) (one_list waits.held x (y ∷ more));
         stands = stands_right waits.at.names environment core waits.at.n (free e) (free_all es) stands;
         plain = waits.plain.1;
-        makes_nothing = waits.makes_nothing;
         small = omega (arith, waits.small);
         from = omega arith;
         fresh = waits.fresh;
@@ -159,7 +157,7 @@ module _ (setting : Setting) (most cost : ℕ) (weight : CoreState → ℕ) (lig
       (Delivery.at_goal most idle (goes_on rest x joins) a low top core frames v older store input has less within_top idles waits) in
       subst (λ (at : Code). Steps credit idle (source_at (value v) older store input) (core_at at core joins frames store input)) (sym waits.rest_is)
       (subst (λ (ws : List Value). Follows credit idle (performed (form_step setting form ws fs (Forms.from_at setting most cost weight light plain (value v) older store)) input).0 (performed (form_step setting form ws fs (Forms.from_at setting most cost weight light plain (value v) older store)) input).1 (core_at at core joins frames store input)) (values_one_more core x v waits.held vs waits.values_are has)
-      (Forms.acts setting most cost weight light plain form xs (acts_nothing form xs waits.makes_nothing) waits.at.k waits.m low waits.at.top core joins frames fs store input credit idle (value v) older (omega (arith, waits.from, waits.number_is)) waits.fresh waits.later stay))
+      (Forms.acts setting most cost weight light plain form xs waits.at.k waits.m low waits.at.top core joins frames fs store input credit idle (value v) older (omega (arith, waits.from, waits.number_is)) waits.fresh waits.later stay))
   value_goes (branches positive negative environment ∷ fs) (goes_on rest x joins) a low top core frames v store input credit idle has less within_top idles waits =
       subst (λ (at : Code). Steps credit idle (source_at (value v) (branches positive negative environment ∷ fs) store input) (core_at at core joins frames store input)) (sym waits.rest_is)
       (branch_step waits.at.k positive negative waits.at.names environment waits.at.n low waits.at.top core joins x v frames fs store input credit idle has (omega (arith, waits.from)) waits.stands waits.plain_positive waits.plain_negative waits.small waits.fresh waits.later)
@@ -173,7 +171,7 @@ module _ (setting : Setting) (most cost : ℕ) (weight : CoreState → ℕ) (lig
   value_goes (call lent ∷ []) returns a low top core [] v store input credit idle has less within_top idles waits =
       Delivery.follows setting most cost weight light credit idle 0 1 [] (source_at (stopped ended) [] store input) (core_at (give a) core [] [] store input) (omega arith) (omega arith) refl refl
   value_goes (call lent ∷ []) returns a low top core (frame ∷ frames) v store input credit idle has less within_top idles waits = absurd waits.later
-  value_goes (call lent ∷ (other ∷ fs)) returns a low top core [] v store input credit idle has less within_top idles waits = absurd (let wrong : other ∷ fs ≡ [] = waits in cc)
+  value_goes (call lent ∷ (other ∷ fs)) returns a low top core [] v store input credit idle has less within_top idles waits = absurd (let wrong : other ∷ fs ≡ [] = waits.0 in cc)
   value_goes (call lent ∷ (other ∷ fs)) returns a low top core (frame ∷ frames) v store input credit idle has less within_top idles waits =
       let x : ℕ = frame.variable in
       Delivery.computes_to setting most cost weight light waits.k x waits.low waits.top frame.environment frame.joins frames v (other ∷ fs) store input credit idle [] (core_at (give a) core [] (frame ∷ frames) store input)

@@ -3,7 +3,7 @@ use Rattle.std.proofs.Common.{◌≡◌, ℕ, ◌+◌, ◌<◌, true, zero, suc,
 use Rattle.std.specs.Prelude.{slice_get}
 use Rattle.kk_syntax.specs.PlainTyping.{Signature, signature_of, Scope, with_parameters, IsFunctionTyped, IsTyped}
 use Rattle.kk_syntax.specs.Programs.{FunctionTree, ProgramTree}
-use Rattle.kk_core.specs.CoreTyping.{IsCodeTyped, AreCodesTyped, IsCoreTyped}
+use Rattle.kk_core.specs.PlainCoreTyping.{IsCodeTyped, AreCodesTyped, IsPlainCoreTyped}
 use Rattle.kk_core.specs.Sizes.{below, Ordered}
 use Rattle.kk_norm.specs.Normal.{IsWithin, IsNormalForm}
 use Rattle.kk_norm.specs.Normalized.{final, size, code, normal_function, normal_program}
@@ -30,7 +30,7 @@ functions_typed signatures [] each = refl
 functions_typed signatures (function ∷ functions) each =
     (function_typed signatures function (each zero function refl), functions_typed signatures functions (λ f other is. each (suc f) other is))
 
-pub core_typed : (program : ProgramTree) → IsTyped program → IsCoreTyped (normal_program program)
+pub core_typed : (program : ProgramTree) → IsTyped program → IsPlainCoreTyped (normal_program program)
 core_typed program typed =
     record {
       signatures = map signature_of program.functions;

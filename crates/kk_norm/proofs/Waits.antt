@@ -2,7 +2,6 @@
 -- that waits for the value.
 use Rattle.std.proofs.Common.{◌≡◌, ℕ, suc, ◌+◌, ◌<◌, ◌≤◌, true, false, List, [], ◌∷◌, ◌++◌, length, Option, Some, map, refl, ap, ◌∙◌, arith}
 use Rattle.kk_syntax.specs.declared.program.Form.{Form}
-use Rattle.kk_syntax.specs.declared.program.Form.TheVariants.{Construct}
 use Rattle.kk_syntax.specs.Trees.{Tree, Trees, no_tree, tree}
 use Rattle.kk_syntax.specs.Shapes.{free, free_all, nodes_of, nodes_of_all, without}
 use Rattle.kk_source.specs.State.{Value, Environment, Frame, arguments, branches, rows, statement, call}
@@ -14,7 +13,7 @@ use Rattle.kk_norm.specs.Names.{Names, named}
 use Rattle.kk_norm.specs.Normalized.{Then, final, next, size, size_all, atom, atoms, after, within, joined, finish, code, code_all, choice_code}
 use Rattle.std.specs.Prelude.{slice_get}
 use Rattle.kk_syntax.specs.Programs.{FunctionTree}
-use Rattle.kk_norm.specs.NoCells.{NoCells, NoCellsAll, IsPlain}
+use Rattle.kk_norm.specs.NoMatches.{NoMatches, NoMatchesAll, IsPlain}
 use Rattle.kk_norm.proofs.Variables.{SameBelow, Stands, AllBelow, stands_later, values_later, all_below_more}
 
 -- where a value goes: to the function that waits; or into a variable, and then more comes
@@ -50,11 +49,6 @@ fresh_less (final true) joins m n top le fresh = omega (arith, fresh)
 fresh_less (final false) [] m n top le fresh = omega (arith, fresh)
 fresh_less (final false) (join ∷ joins) m n top le fresh = (omega (arith, fresh.0), fresh.1)
 
--- no construction
-abbrev pub MakesNothing : Form → Type 0
-MakesNothing (Construct c) = ⊥
-MakesNothing form = Unit {0}
-
 -- Where an expression goes on behind its part: where its own value goes, the names, the number of its next variable, and
 -- that of what comes after the expression.
 pub record Place : Type 0 where
@@ -74,8 +68,7 @@ pub record ArgumentsWait (most : ℕ) (form : Form) (vs : List Value) (es : Tree
   pub held_low : AllBelow low held
   pub rest_is : rest ≡ code_all at.names at.n es (finish at.k m form (held ++ (a ∷ atoms at.names at.n es)))
   pub stands : Stands at.names environment core low (free_all es)
-  pub plain : NoCellsAll es
-  pub makes_nothing : MakesNothing form
+  pub plain : NoMatchesAll es
   pub small : nodes_of_all es + 1 ≤ most
   pub from : high ≤ at.n
   pub fresh : Fresh at.k joins (m + 1) at.top
@@ -85,8 +78,8 @@ pub record BranchesWait (most : ℕ) (positive negative : Tree) (environment : E
   pub at : Place
   pub rest_is : rest ≡ joined at.k (at.n + size positive + size negative) (choice_code (within at.k) at.names at.n a positive negative)
   pub stands : Stands at.names environment core low (free positive ++ free negative)
-  pub plain_positive : NoCells positive
-  pub plain_negative : NoCells negative
+  pub plain_positive : NoMatches positive
+  pub plain_negative : NoMatches negative
   pub small : nodes_of positive + nodes_of negative ≤ most
   pub from : high ≤ at.n
   pub fresh : Fresh at.k joins (at.n + size positive + size negative + 1) at.top
@@ -96,7 +89,7 @@ pub record StatementWait (most : ℕ) (w : Option ℕ) (e : Tree) (environment :
   pub at : Place
   pub rest_is : rest ≡ code at.k (named w a at.names) at.n e
   pub stands : Stands at.names environment core low (without (awaited w) (free e))
-  pub plain : NoCells e
+  pub plain : NoMatches e
   pub small : nodes_of e + 1 ≤ most
   pub from : high ≤ at.n
   pub fresh : Fresh at.k joins (at.n + size e) at.top
@@ -112,7 +105,8 @@ pub record CallWait (lent : List Value) (frame : CallFrame) (Later : Goal → �
   pub fresh : Fresh k frame.joins (frame.variable + 1) top
   pub later : Later (goal_of k frame.variable frame.joins) low top
 
--- frames of the source wait for a value that goes there; the last function that waits is `main`'s caller, which is none
+-- Frames of the source wait for a value that goes there. The last function that waits is `main`'s caller, which is none, and
+-- was lent nothing.
 abbrev pub Waits : ℕ → List Frame → Goal → Environment → ℕ → ℕ → List CallFrame → Type 0
 Waits most (arguments form vs es environment ∷ fs) (goes_on rest a joins) core low high frames =
     ArgumentsWait most form vs es environment rest a joins core low high (λ goal top. Waits most fs goal core low top frames)
@@ -120,7 +114,7 @@ Waits most (branches positive negative environment ∷ fs) (goes_on rest a joins
     BranchesWait most positive negative environment rest a joins core low high (λ goal top. Waits most fs goal core low top frames)
 Waits most (statement w e environment ∷ fs) (goes_on rest a joins) core low high frames =
     StatementWait most w e environment rest a joins core low high (λ goal top. Waits most fs goal core low top frames)
-Waits most (call lent ∷ fs) returns core low high [] = fs ≡ []
+Waits most (call lent ∷ fs) returns core low high [] = (fs ≡ []) × (lent ≡ [])
 Waits most (call lent ∷ fs) returns core low high (frame ∷ frames) =
     CallWait lent frame (λ goal low top. Waits most fs goal frame.environment low top frames)
 Waits most fs goal core low high frames = ⊥
@@ -140,7 +134,6 @@ waits_move most (arguments form vs es environment ∷ fs) (goes_on rest a joins)
       rest_is = waits.rest_is;
       stands = stands_later waits.at.names environment core after_it low low_after (free_all es) same le waits.stands;
       plain = waits.plain;
-      makes_nothing = waits.makes_nothing;
       small = waits.small;
       from = omega (arith, waits.from);
       fresh = waits.fresh;
@@ -197,7 +190,7 @@ calls_are most [] goal core low high frames waits = absurd waits
 calls_are most (arguments form vs es environment ∷ fs) (goes_on rest a joins) core low high frames waits = calls_are most fs (goal_of waits.at.k waits.m joins) core low waits.at.top frames waits.later
 calls_are most (branches positive negative environment ∷ fs) (goes_on rest a joins) core low high frames waits = calls_are most fs (goal_of waits.at.k (waits.at.n + size positive + size negative) joins) core low waits.at.top frames waits.later
 calls_are most (statement w e environment ∷ fs) (goes_on rest a joins) core low high frames waits = calls_are most fs (goal_of waits.at.k (atom (named w a waits.at.names) waits.at.n e) joins) core low waits.at.top frames waits.later
-calls_are most (call lent ∷ fs) returns core low high [] waits = rw waits refl
+calls_are most (call lent ∷ fs) returns core low high [] waits = rw waits.0 refl
 calls_are most (call lent ∷ fs) returns core low high (frame ∷ frames) waits = ap suc (calls_are most fs (goal_of waits.k frame.variable frame.joins) frame.environment waits.low waits.top frames waits.later)
 calls_are most (arguments form vs es environment ∷ fs) returns core low high frames waits = absurd waits
 calls_are most (arguments form vs es environment ∷ fs) nowhere core low high frames waits = absurd waits

@@ -7,6 +7,7 @@ use Rattle.kk_syntax.specs.Programs.{ProgramTree}
 use Rattle.kk_syntax.specs.PositionsOf.{PositionTable}
 use Rattle.kk_source.specs.Notes.{Note}
 use Rattle.kk_source.specs.State.{Setting, End}
+pub use Rattle.kk_source.specs.Settings.{setting_of}
 use Rattle.kk_source.specs.SourceAfter.{step, ending_of, first_state, State}
 use Rattle.kk_core.specs.Codes.{ProgramCode}
 use Rattle.kk_core.specs.CoreStates.{CoreSetting, CoreState, core_first_state}
@@ -26,10 +27,7 @@ core_setting setting = record {
   depth = setting.depth;
 }
 
--- a program, with these positions lent, on so many cells and with such a depth
-abbrev pub setting_of : ProgramTree → PositionTable → ℕ → ℕ → Setting
-setting_of program positions cells depth = record { program = program; positions = positions; cells = cells; depth = depth }
-
+-- a core form, with these positions lent, on so many cells and with such a depth
 abbrev pub core_setting_of : ProgramCode → PositionTable → ℕ → ℕ → CoreSetting
 core_setting_of code positions cells depth = record { code = code; positions = positions; cells = cells; depth = depth }
 

@@ -1,6 +1,7 @@
 -- The core form of a program. The variables of a core body are numbered from the number of its parameters on, in the
 -- order of the text, those of an expression's parts before its own: an expression takes as many numbers as its size, the
--- own one last, so what is computed later has the greater number.
+-- own one last, so what is computed later has the greater number. Which decisions a match has is left open here: `[]` stands in
+-- their place, and the promise on a core form is still made for programs without matches alone.
 use Rattle.std.specs.Prelude.{ℕ, ◌+◌, List, [], ◌∷◌, map, Bool, true, false, length}
 use Rattle.kk_syntax.specs.declared.program.Form.{Form}
 use Rattle.kk_syntax.specs.declared.program.Form.TheVariants.{Call}
@@ -138,7 +139,7 @@ abbrev mutual
   code k names n (branch e positive negative) =
       code (next (joined k (n + size e + size positive + size negative) (Core.branch (atom names n e) (code (within k) names (n + size e) positive) (code (within k) names (n + size e + size positive) negative)))) names n e
   code k names n (match e rows) =
-      code (next (joined k (n + size e + size_rows rows) (case (atom names n e) (arms (within k) names (atom names n e) (n + size e) rows)))) names n e
+      code (next (joined k (n + size e + size_rows rows) (case (atom names n e) [] (arms (within k) names (atom names n e) (n + size e) rows)))) names n e
   code k names n (sequence binder first rest) =
       code (next (code k (named (variable_of binder) (atom names n first) names) (n + size first) rest)) names n first
 

@@ -1,11 +1,11 @@
 -- A table of owned positions, and one that has one position more: it keeps its shape, and has what it had.
-use Rattle.std.proofs.Common.{◌≡◌, ◌<◌, ℕ, zero, suc, ◌⊎◌, inl, inr, true, false, not, List, [], ◌∷◌, length, map, replicate, set, get_or, refl, sym, ap, ◌∙◌, subst, arith, IsTrue, get_or-set_same, get_or-set_other}
+use Rattle.std.proofs.Common.{◌≡◌, ◌<◌, ℕ, zero, suc, ◌⊎◌, inl, inr, ◌+◌, Bool, true, false, not, List, [], ◌∷◌, length, map, drop, replicate, set, get_or, refl, sym, ap, ◌∙◌, arith, IsTrue, get_or-set_same, get_or-set_other}
 use Rattle.std.proofs.lemmas.Bool.{both_ways, not_from_false, cases_lt, cases_eq}
 use Rattle.std.proofs.lemmas.List.{get_or_past, length-set, length-replicate, set_past, map-set, set-get_or}
 use Rattle.kk_syntax.specs.declared.positions.Ownership.{Ownership}
 use Rattle.kk_syntax.specs.declared.positions.Ownership.TheVariants.{Owned, Lent}
 use Rattle.kk_syntax.specs.declared.positions.Position.{Position}
-use Rattle.kk_syntax.specs.OwnedPositions.{PositionSet, arity_of, Within, owned_in, Told}
+use Rattle.kk_syntax.specs.OwnedPositions.{PositionSet, arity_of, Within, owned_in, Told, IsLeast}
 use Rattle.kk_syntax.specs.OwnedSearch.{each_lent, with_owned}
 use Rattle.kk_syntax.specs.PositionsOf.{PositionTable, lends, is_lent}
 use Rattle.kk_syntax.specs.Programs.{FunctionTree, ProgramTree, no_function}
@@ -134,3 +134,36 @@ pub grown_has : (table : PositionTable) (p : Position) → is_lent table p.funct
 grown_has table p is =
     ap (λ (row : List Ownership). not (lends (get_or row p.parameter Lent))) (row_is table p (lent_row table p.function p.parameter is))
     ∙ ap (λ o. not (lends o)) (get_or-set_same (get_or table p.function []) p.parameter Owned Lent (lent_told table p.function p.parameter is))
+
+-- ---- a program has one table of its owned positions
+
+same_ownership : (a b : Ownership) → not (lends a) ≡ not (lends b) → a ≡ b
+same_ownership Owned Owned is = refl
+same_ownership Owned Lent is = absurd (both_ways true is refl)
+same_ownership Lent Owned is = absurd (both_ways false refl is)
+same_ownership Lent Lent is = refl
+
+same_row : (xs ys : List Ownership) → length xs ≡ length ys → ((i : ℕ) → not (lends (get_or xs i Lent)) ≡ not (lends (get_or ys i Lent))) → xs ≡ ys
+same_row [] [] len same = refl
+same_row [] (y ∷ ys) len same = absurd (omega (arith, len))
+same_row (x ∷ xs) [] len same = absurd (omega (arith, len))
+same_row (x ∷ xs) (y ∷ ys) len same =
+    ap (λ (o : Ownership). o ∷ xs) (same_ownership x y (same 0)) ∙ ap (λ (os : List Ownership). y ∷ os) (same_row xs ys (omega (arith, len)) (λ i. same (suc i)))
+
+same_rows : (xs ys : PositionTable) → map (λ (row : List Ownership). length row) xs ≡ map (λ (row : List Ownership). length row) ys → ((f i : ℕ) → owned_in xs f i ≡ owned_in ys f i) → xs ≡ ys
+same_rows [] [] len same = refl
+same_rows [] (y ∷ ys) len same = let e : 0 ≡ length (map (λ (row : List Ownership). length row) ys) + 1 = omega (arith, ap length len) in absurd (omega (arith, e))
+same_rows (x ∷ xs) [] len same = let e : length (map (λ (row : List Ownership). length row) xs) + 1 ≡ 0 = omega (arith, ap length len) in absurd (omega (arith, e))
+same_rows (x ∷ xs) (y ∷ ys) len same =
+    ap (λ (row : List Ownership). row ∷ xs) (same_row x y (ap (λ (ns : List ℕ). get_or ns 0 0) len) (same 0))
+    ∙ ap (λ (rows : PositionTable). y ∷ rows) (same_rows xs ys (ap (drop 1) len) (λ f i. same (suc f) i))
+
+both_imply : (a b : Bool) → (IsTrue a → IsTrue b) → (IsTrue b → IsTrue a) → a ≡ b
+both_imply true b forth back = sym (forth refl)
+both_imply false true forth back = back refl
+both_imply false false forth back = refl
+
+pub one_table : (program : ProgramTree) (one other : PositionTable) → IsLeast program one → IsLeast program other → one ≡ other
+one_table program one other a b =
+    same_rows one other (a.told ∙ sym b.told)
+    (λ f i. both_imply (owned_in one f i) (owned_in other f i) (a.least (owned_in other) b.closed f i) (b.least (owned_in one) a.closed f i))
