@@ -31,7 +31,7 @@ numbered_plain n (type_declaration name parameters cases ∷ more) = numbered_pl
 numbered_plain n (function_declaration name parameters effects result body ∷ more) = (tt, numbered_plain (n + 1) more)
 
 functions_plain : (ds : List WrittenDeclaration) → ArePlainNames (functions_in ds)
-functions_plain ds = (tt, (tt, numbered_plain 0 ds))
+functions_plain ds = (tt, (tt, (tt, numbered_plain 0 ds)))
 
 constructors_plain : ArePlainNames constructors
 constructors_plain = (omega arith, (omega arith, tt))

@@ -38,7 +38,7 @@ numbered_printless n (type_declaration name parameters cases ∷ more) = numbere
 numbered_printless n (function_declaration name parameters effects result body ∷ more) = (refl, numbered_printless (n + 1) more)
 
 functions_printless : (ds : List WrittenDeclaration) → ArePrintless (functions_in ds)
-functions_printless ds = (refl, (refl, numbered_printless 0 ds))
+functions_printless ds = (refl, (refl, (refl, numbered_printless 0 ds)))
 
 constructors_printless : ArePrintless constructors
 constructors_printless = (refl, (refl, tt))

@@ -49,7 +49,7 @@ call_goes_on setting f (Some function) values [] from = tt
 call_goes_on setting f (Some function) values (arguments form vs left environment ∷ older) from = tt
 call_goes_on setting f (Some function) values (branches positive negative environment ∷ older) from = tt
 call_goes_on setting f (Some function) values (rows of environment ∷ older) from = tt
-call_goes_on setting f (Some function) values (statement variable rest environment ∷ older) from = tt
+call_goes_on setting f (Some function) values (statement awaited rest environment ∷ older) from = tt
 call_goes_on setting f (Some function) values (call lent ∷ older) from = tt
 
 form_goes_on : (setting : Setting) (form : Form) (values : List Value) (older : List Frame) (from : Configuration) → GoesOn (form_step setting form values older from)
@@ -64,9 +64,9 @@ form_goes_on setting (Construct c) [] older from = tt
 form_goes_on setting (Construct c) (v ∷ vs) older from = tt
 form_goes_on setting (Call f) values older from = call_goes_on setting f _ values older from
 
-choice_goes_on : (chosen : Option Chosen) (older : List Frame) (from : Configuration) → GoesOn (choice_step chosen older from)
-choice_goes_on None older from = tt
-choice_goes_on (Some chosen) older from = tt
+choice_goes_on : (setting : Setting) (chosen : Option Chosen) (older : List Frame) (from : Configuration) → GoesOn (choice_step setting chosen older from)
+choice_goes_on setting None older from = tt
+choice_goes_on setting (Some chosen) older from = tt
 
 expression_goes_on : (setting : Setting) (e : Tree) (environment : Environment) (c : Configuration) → GoesOn (expression_step setting e environment c)
 expression_goes_on setting (variable x) environment c = tt
@@ -81,7 +81,7 @@ value_goes_on setting v [] c = tt
 value_goes_on setting v (arguments form values no_tree environment ∷ older) c = form_goes_on setting form (values ++ v ∷ []) older c
 value_goes_on setting v (arguments form values (tree next left) environment ∷ older) c = tt
 value_goes_on setting v (branches positive negative environment ∷ older) c = tt
-value_goes_on setting v (rows of environment ∷ older) c = choice_goes_on (first_match c.store of v environment) older c
+value_goes_on setting v (rows of environment ∷ older) c = choice_goes_on setting (first_match c.store of v environment) older c
 value_goes_on setting v (statement awaited rest environment ∷ older) c = tt
 value_goes_on setting v (call lent ∷ []) c = tt
 value_goes_on setting v (call lent ∷ next ∷ older) c = tt
@@ -105,9 +105,9 @@ one_step setting c input next is going =
 leads_by : (setting : Setting) (c to : Configuration) (events : List Event) (a : Action Configuration) → step_of setting c ≡ a → end_at c.control ≡ None
     → ((input rest : List ℕ) → TakesFrom events input rest → (flat_map events_of (performed a input).0 ++ [] ≡ events) × ((performed a input).1 ≡ with_input to rest))
     → StepsTo setting 1 events c to
-leads_by setting c to events a is going does input rest takes =
+leads_by setting c to events a is going does input rest given =
     let one = one_step setting c input (performed a input) (ap (λ (b : Action Configuration). performed b input) is) going in
-    (one.0 ∙ (does input rest takes).0, one.1 ∙ (does input rest takes).1)
+    (one.0 ∙ (does input rest given).0, one.1 ∙ (does input rest given).1)
 
 -- a turn of which the world sees nothing but an end
 abbrev IsQuiet : Turn → Type 0
@@ -132,13 +132,13 @@ quiet_end (stopped stack_full) = refl
 abbrev Pair : Type 0
 Pair = Turn × Configuration
 
-quiet_to : (setting : Setting) (c to t : Configuration) (turn : Turn) (a : Action Configuration) → step_of setting c ≡ a → (turn, to) ≡ (quiet_turn t.control, t)
+quiet_to : (setting : Setting) (c to t : Configuration) (turn : Turn) (a : Action Configuration) → step_of setting c ≡ a → ◌≡◌ {A = Pair} (turn, to) (quiet_turn t.control, t)
     → ((input : List ℕ) → (flat_map events_of (performed a input).0 ≡ []) × ((performed a input).1 ≡ with_input t input)) → end_at c.control ≡ None
     → StepsTo setting 1 [] c to × (end_at to.control ≡ end_of turn)
 quiet_to setting c to t turn a is same does going =
     let at : to ≡ t = ap (λ (p : Pair). p.1) same in
     let told : turn ≡ quiet_turn t.control = ap (λ (p : Pair). p.0) same in
-    (leads_by setting c to [] a is going (λ input rest takes. (ap (λ (es : List Event). es ++ []) (does input).0, (does input).1 ∙ ap (λ (d : Configuration). with_input d input) (sym at) ∙ ap (λ (xs : List ℕ). with_input to xs) takes)),
+    (leads_by setting c to [] a is going (λ input rest given. (ap (λ (es : List Event). es ++ []) (does input).0, (does input).1 ∙ ap (λ (d : Configuration). with_input d input) (sym at) ∙ ap (λ (xs : List ℕ). with_input to xs) given)),
     ap (λ (d : Configuration). end_at d.control) at ∙ quiet_end t.control ∙ ap end_of (sym told))
 
 pub quiet_leads : (setting : Setting) (c to : Configuration) (turn : Turn) (a : Action Configuration) → step_of setting c ≡ a → (turn, to) ≡ turn_of c a → IsQuiet turn → end_at c.control ≡ None
@@ -163,13 +163,18 @@ pub record Prints (setting : Setting) (c to : Configuration) (piece : List ℕ) 
 prints_to : (setting : Setting) (c to : Configuration) (piece : List ℕ) → step_of setting c ≡ puts piece to → GoesOn (puts piece to) → end_at c.control ≡ None → Prints setting c to piece
 prints_to setting c to piece is goes_on going = record {
   some = goes_on.0;
-  leads = leads_by setting c to (output piece ∷ []) (puts piece to) is going (λ input rest takes. (refl, ap (λ (xs : List ℕ). with_input to xs) takes));
+  leads = leads_by setting c to (output piece ∷ []) (puts piece to) is going (λ input rest given. (refl, ap (λ (xs : List ℕ). with_input to xs) given));
   going = goes_on.1;
   next = λ input. (one_step setting c input (performed (puts piece to) input) (ap (λ (b : Action Configuration). performed b input) is) going).0;
 }
 
 not_printed : {T : Type 0} (control : Control) (piece : List ℕ) → Printed piece ≡ quiet_turn control → T
 not_printed control piece same = absurd (subst IsQuiet (sym same) (quiet_is_quiet control))
+
+-- a turn that prints nothing
+abbrev IsNoPrint : Turn → Type 0
+IsNoPrint (Printed piece) = ⊥
+IsNoPrint _ = Unit {0}
 
 pub print_leads : (setting : Setting) (c to : Configuration) (piece : List ℕ) (a : Action Configuration) → step_of setting c ≡ a → (Printed piece, to) ≡ turn_of c a → end_at c.control ≡ None → Prints setting c to piece
 print_leads setting c to piece (goes t) is same going = not_printed t.control piece (ap (λ (p : Pair). p.0) same)
@@ -178,11 +183,7 @@ print_leads setting c to piece (puts other t) is same going =
     let told : piece ≡ other = ap (λ (p : Pair). piece_told p.0) same in
     let moved : step_of setting c ≡ puts piece to = is ∙ ap (λ (p : List ℕ). puts p t) (sym told) ∙ ap (puts piece) (sym at) in
     prints_to setting c to piece moved (subst GoesOn moved (steps_go_on setting c)) going
-print_leads setting c to piece (takes t) is same going = absurd (subst IsNoRead (sym (ap (λ (p : Pair). p.0) same)) tt)
-  where
-    abbrev IsNoRead : Turn → Type 0
-    IsNoRead (Printed p) = ⊥
-    IsNoRead _ = Unit {0}
+print_leads setting c to piece (takes t) is same going = absurd (subst IsNoPrint (sym (ap (λ (p : Pair). p.0) same)) tt)
 print_leads setting c to piece (builds found t) is same going = not_printed t.control piece (ap (λ (p : Pair). p.0) same)
 print_leads setting c to piece (calls found t) is same going = not_printed t.control piece (ap (λ (p : Pair). p.0) same)
 
@@ -217,20 +218,20 @@ pub byte_leads : (setting : Setting) (c to : Configuration) (byte : ℕ) → Rea
 byte_leads setting c to byte reads wants going = (leads, read_goes_on setting c to (byte ∷ []) [] _ (step_of setting c) refl (steps_go_on setting c) wants (reads []))
   where
     leads : StepsTo setting 1 (taken byte ∷ []) c to
-    leads [] rest takes = absurd takes
-    leads (x ∷ xs) rest takes =
-        let one = one_step setting c (x ∷ xs) (seen (taken x) ∷ [], with_input to xs) (subst (λ (b : ℕ). step setting (with_input c (b ∷ xs)) ≡ (seen (taken b) ∷ [], with_input to xs)) takes.0 (reads xs)) going in
-        (one.0 ∙ ap (λ (b : ℕ). taken b ∷ []) (sym takes.0), one.1 ∙ ap (λ (ys : List ℕ). with_input to ys) takes.1)
+    leads [] rest given = absurd given
+    leads (x ∷ xs) rest given =
+        let one = one_step setting c (x ∷ xs) (seen (taken x) ∷ [], with_input to xs) (subst (λ (b : ℕ). step setting (with_input c (b ∷ xs)) ≡ (seen (taken b) ∷ [], with_input to xs)) given.0 (reads xs)) going in
+        (one.0 ∙ ap (λ (b : ℕ). taken b ∷ []) (sym given.0), one.1 ∙ ap (λ (ys : List ℕ). with_input to ys) given.1)
 
 pub end_leads : (setting : Setting) (c to : Configuration) → Reads setting None c to → TakesByte (step_of setting c) → end_at c.control ≡ None
     → StepsTo setting 1 (input_end ∷ []) c to × (end_at to.control ≡ None)
 end_leads setting c to reads wants going = (leads, read_goes_on setting c to [] [] _ (step_of setting c) refl (steps_go_on setting c) wants reads)
   where
     leads : StepsTo setting 1 (input_end ∷ []) c to
-    leads [] rest takes =
+    leads [] rest given =
         let one = one_step setting c [] (seen input_end ∷ [], with_input to []) reads going in
-        (one.0, one.1 ∙ ap (λ (ys : List ℕ). with_input to ys) takes)
-    leads (x ∷ xs) rest takes = absurd takes
+        (one.0, one.1 ∙ ap (λ (ys : List ℕ). with_input to ys) given)
+    leads (x ∷ xs) rest given = absurd given
 
 -- ---- runs
 
@@ -261,17 +262,17 @@ evaluated_none setting steps outcome old cut l l' h h' given held ending stands 
   count = 0;
   given = given;
   held = held;
-  leads = λ input rest takes. (refl, ap (λ (xs : List ℕ). with_input old xs) takes);
+  leads = λ input rest given. (refl, ap (λ (xs : List ℕ). with_input old xs) given);
   ending = ending;
   stands = stands;
 }
 
 -- one run after the other
 leads_then : (setting : Setting) (n k : ℕ) (es fs : List Event) (a b c : Configuration) → StepsTo setting n es a b → StepsTo setting k fs b c → StepsTo setting (n + k) (es ++ fs) a c
-leads_then setting n k es fs a b c first second input rest takes =
-    let split = TakesFrom-split es fs input rest takes in
-    let one = first input split.0 split.1.0 in
-    let two = second split.0 rest split.1.1 in
+leads_then setting n k es fs a b c first second input rest given =
+    let split = TakesFrom-split es fs input rest given in
+    let one = first input split.0 split.1 in
+    let two = second split.0 rest split.2 in
     (trace-add (source_machine setting) n k (with_input a input) ∙ ap (λ (ts : List Event). ts ++ trace (source_machine setting) k (state (source_machine setting) n (with_input a input))) one.0
     ∙ ap (λ (s : State). es ++ trace (source_machine setting) k s) one.1 ∙ ap (λ (ts : List Event). es ++ ts) two.0,
     state-add (source_machine setting) n k (with_input a input) ∙ ap (λ (s : State). state (source_machine setting) k s) one.1 ∙ two.1)
@@ -281,7 +282,7 @@ stands_then (Ok OfRun.Ended) setting n k m count cut c is stands = (omega (arith
 stands_then (Ok OfRun.HeapFull) setting n k m count cut c is stands = (omega (arith, stands.0), stands.1)
 stands_then (Ok OfRun.StackFull) setting n k m count cut c is stands = (omega (arith, stands.0), stands.1)
 stands_then (Ok OfRun.StepsSpent) setting n k m count cut c is stands = (omega (arith, stands.0), stands.1)
-stands_then (Ok OfRun.InputFault) setting n k m count cut c is stands = (omega (arith, stands.0), stands.1.0, stands.1.1)
+stands_then (Ok OfRun.InputFault) setting n k m count cut c is stands = (omega (arith, stands.0), stands.1, stands.2)
 stands_then (Ok OfRun.OutputFault) setting n k m count cut c is stands = (omega (arith, stands.0), stands.1)
 stands_then (Err refused) setting n k m count cut c is stands = (omega (arith, stands.0), stands.1)
 
@@ -307,7 +308,7 @@ stands_more (Ok OfRun.Ended) setting n m count cut c early less stands = (omega 
 stands_more (Ok OfRun.HeapFull) setting n m count cut c early less stands = (omega (arith, stands.0), stands.1)
 stands_more (Ok OfRun.StackFull) setting n m count cut c early less stands = (omega (arith, stands.0), stands.1)
 stands_more (Ok OfRun.StepsSpent) setting n m count cut c early less stands = absurd (early refl)
-stands_more (Ok OfRun.InputFault) setting n m count cut c early less stands = (omega (arith, stands.0), stands.1.0, stands.1.1)
+stands_more (Ok OfRun.InputFault) setting n m count cut c early less stands = (omega (arith, stands.0), stands.1, stands.2)
 stands_more (Ok OfRun.OutputFault) setting n m count cut c early less stands = (omega (arith, stands.0), stands.1)
 stands_more (Err refused) setting n m count cut c early less stands = (omega (arith, stands.0), stands.1)
 

@@ -70,7 +70,7 @@ looked setting steps OfRun.Ended l l' h h' ran = record { count = steps; done = 
 looked setting steps OfRun.HeapFull l l' h h' ran = record { count = steps; done = comes_later setting ran.count steps ran.events heap_full ran.stands.0 (has_come setting ran.count ran.events ran.new (Some heap_full) ran.leads ran.ending); stops = (refl, ran.stands.1) }
 looked setting steps OfRun.StackFull l l' h h' ran = record { count = steps; done = comes_later setting ran.count steps ran.events stack_full ran.stands.0 (has_come setting ran.count ran.events ran.new (Some stack_full) ran.leads ran.ending); stops = (refl, ran.stands.1) }
 looked setting steps OfRun.StepsSpent l l' h h' ran = record { count = ran.count; done = has_come setting ran.count ran.events ran.new None ran.leads ran.ending; stops = ran.stands }
-looked setting steps OfRun.InputFault l l' h h' ran = record { count = ran.count; done = has_come setting ran.count ran.events ran.new None ran.leads ran.ending; stops = (ran.stands.0, ran.stands.1.0, takes_next setting ran.count ran.events ran.new ran.leads ran.stands.1.1) }
+looked setting steps OfRun.InputFault l l' h h' ran = record { count = ran.count; done = has_come setting ran.count ran.events ran.new None ran.leads ran.ending; stops = (ran.stands.0, ran.stands.1, takes_next setting ran.count ran.events ran.new ran.leads ran.stands.2) }
 looked setting steps OfRun.OutputFault l l' h h' ran = record { count = ran.count; done = has_come setting ran.count ran.events ran.new None ran.leads ran.ending; stops = (ran.stands.0, prints_next setting ran.count ran.events ran.cut ran.new ran.leads ran.stands.1) }
 
 pub runs_source : (setting : Setting) (steps : ℕ) (end : RunEnd) (l l' : SourceState) (h h' : SinkState) → HasEvaluated setting steps (Ok end) (start setting) l l' h h'
