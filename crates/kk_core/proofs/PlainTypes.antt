@@ -71,8 +71,8 @@ no_more : (ts : List TypeTree) → length ts ≡ 0 → ts ≡ []
 no_more [] is = refl
 no_more (t ∷ ts) is = absurd (omega (arith, is))
 
-named_is : (constructors : List ConstructorTree) (t : TypeTree) (c : ℕ) (ts : List TypeTree) → field_types constructors t c ≡ Some ts
-    → plain_type t ≡ bool
+named_is : (constructors : List ConstructorTree) (t : TypeTree) (c : ℕ) (ts : List TypeTree)
+    → field_types constructors t c ≡ Some ts → plain_type t ≡ bool
 named_is constructors int32 c ts is = absurd (cc)
 named_is constructors unit_type c ts is = absurd (cc)
 named_is constructors (type_variable of) c ts is = absurd (cc)

@@ -17,7 +17,8 @@ HaveTypes scope (x ∷ xs) (t ∷ ts) = (type_in scope x ≡ Some t) × HaveType
 abbrev pub HasCodeType : List Signature → Bool → Scope → Code → TypeTree → Type 0
 HasCodeType signatures tail scope (give x) t = type_in scope x ≡ Some t
 HasCodeType signatures tail scope (tail_call f arguments) t =
-    (tail ≡ true) × (ts : List TypeTree) × HaveTypes scope arguments ts × (slice_get signatures f ≡ Some (record { parameters = ts; result = t }))
+    (tail ≡ true) × (ts : List TypeTree) × HaveTypes scope arguments ts
+    × (slice_get signatures f ≡ Some (record { parameters = ts; result = t }))
 HasCodeType signatures tail scope (branch x positive negative) t =
     (type_in scope x ≡ Some bool) × HasCodeType signatures tail scope positive t × HasCodeType signatures tail scope negative t
 HasCodeType signatures tail scope (case x decisions arms) t = ⊥
@@ -28,7 +29,8 @@ HasCodeType signatures tail scope (use_of x rest) t =
     (s : TypeTree) × (type_in scope x ≡ Some s) × HasCodeType signatures tail scope rest t
 HasCodeType signatures tail scope (unpack x c fields rest) t = ⊥
 HasCodeType signatures tail scope (inside x block rest) t =
-    (s : TypeTree) × HasCodeType signatures false scope block s × HasCodeType signatures tail (record { variable = x; type = s } ∷ scope) rest t
+    (s : TypeTree) × HasCodeType signatures false scope block s
+    × HasCodeType signatures tail (record { variable = x; type = s } ∷ scope) rest t
 
 -- a function has a signature: as many parameters, and a body of the type of its result; and its variables are in order
 pub record IsCodeTyped (signatures : List Signature) (function : FunctionCode) (signature : Signature) : Type 0 where
