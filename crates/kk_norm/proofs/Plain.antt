@@ -32,7 +32,7 @@ mutual
 abbrev pub HasSome : Scope → ℕ → Type 0
 HasSome scope x = (t : TypeTree) × (type_in scope x ≡ Some t)
 
-typed_before : (binder : Binder) (s : TypeTree) (scope : Scope) (x : ℕ) → is_among (bound_by binder) x ≡ false → HasSome (with_binder binder s scope) x → HasSome scope x
+pub typed_before : (binder : Binder) (s : TypeTree) (scope : Scope) (x : ℕ) → is_among (bound_by binder) x ≡ false → HasSome (with_binder binder s scope) x → HasSome scope x
 typed_before OfBinder.Nothing s scope x out some = some
 typed_before OfBinder.Wildcard s scope x out some = some
 typed_before (OfBinder.Variable y) s scope x out some = by_test (y == x) refl

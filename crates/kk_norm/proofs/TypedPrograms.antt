@@ -11,7 +11,8 @@ use Rattle.kk_norm.proofs.Scopes.{parameters_are, parameters_named}
 use Rattle.kk_norm.proofs.TypedCodes.{Fits, code_fits}
 use Rattle.kk_norm.proofs.Plain.{are_plain}
 use Rattle.kk_norm.proofs.Forms.{is_small}
-use Rattle.kk_norm.proofs.Keeping.{keeps_meaning}
+use Rattle.kk_norm.proofs.PlainForms.{plain_form}
+use Rattle.kk_norm.proofs.KeepingPlain.{keeps_meaning}
 
 function_typed : (signatures : List Signature) (function : FunctionTree) → IsFunctionTyped signatures function → IsCodeTyped signatures (normal_function function) (signature_of function)
 function_typed signatures function typed =
@@ -45,5 +46,5 @@ is_normal_form program typed within in_range =
     record {
       keeps_meaning = keeps_meaning program (are_plain program typed) in_range;
       typed = core_typed program typed;
-      small = is_small program (are_plain program typed) within;
+      small = is_small program (normal_program program) (plain_form program (are_plain program typed)) within;
     }

@@ -3,4 +3,5 @@ pub mod Names
 pub mod NoMatches
 pub mod Normal
 pub mod Normalized
+pub mod OpenedCells
 pub mod Written
