@@ -137,9 +137,10 @@ quiet_to : (setting : Setting) (c to t : Configuration) (turn : Turn) (a : Actio
     → StepsTo setting 1 [] c to × (end_at to.control ≡ end_of turn)
 quiet_to setting c to t turn a is same does going =
     let at : to ≡ t = ap (λ (p : Pair). p.1) same in
-    let told : turn ≡ quiet_turn t.control = ap (λ (p : Pair). p.0) same in
-    (leads_by setting c to [] a is going (λ input rest given. (ap (λ (es : List Event). es ++ []) (does input).0, (does input).1 ∙ ap (λ (d : Configuration). with_input d input) (sym at) ∙ ap (λ (xs : List ℕ). with_input to xs) given)),
-    ap (λ (d : Configuration). end_at d.control) at ∙ quiet_end t.control ∙ ap end_of (sym told))
+    let told : turn ≡ quiet_turn t.control = ap (λ (p : Pair). p.0) same in (
+      leads_by setting c to [] a is going (λ input rest given. (ap (λ (es : List Event). es ++ []) (does input).0, (does input).1 ∙ ap (λ (d : Configuration). with_input d input) (sym at) ∙ ap (λ (xs : List ℕ). with_input to xs) given)),
+      ap (λ (d : Configuration). end_at d.control) at ∙ quiet_end t.control ∙ ap end_of (sym told),
+    )
 
 pub quiet_leads : (setting : Setting) (c to : Configuration) (turn : Turn) (a : Action Configuration) → step_of setting c ≡ a → (turn, to) ≡ turn_of c a → IsQuiet turn → end_at c.control ≡ None
     → StepsTo setting 1 [] c to × (end_at to.control ≡ end_of turn)
@@ -272,10 +273,11 @@ leads_then : (setting : Setting) (n k : ℕ) (es fs : List Event) (a b c : Confi
 leads_then setting n k es fs a b c first second input rest given =
     let split = TakesFrom-split es fs input rest given in
     let one = first input split.0 split.1 in
-    let two = second split.0 rest split.2 in
-    (trace-add (source_machine setting) n k (with_input a input) ∙ ap (λ (ts : List Event). ts ++ trace (source_machine setting) k (state (source_machine setting) n (with_input a input))) one.0
-    ∙ ap (λ (s : State). es ++ trace (source_machine setting) k s) one.1 ∙ ap (λ (ts : List Event). es ++ ts) two.0,
-    state-add (source_machine setting) n k (with_input a input) ∙ ap (λ (s : State). state (source_machine setting) k s) one.1 ∙ two.1)
+    let two = second split.0 rest split.2 in (
+      trace-add (source_machine setting) n k (with_input a input) ∙ ap (λ (ts : List Event). ts ++ trace (source_machine setting) k (state (source_machine setting) n (with_input a input))) one.0
+          ∙ ap (λ (s : State). es ++ trace (source_machine setting) k s) one.1 ∙ ap (λ (ts : List Event). es ++ ts) two.0,
+      state-add (source_machine setting) n k (with_input a input) ∙ ap (λ (s : State). state (source_machine setting) k s) one.1 ∙ two.1,
+    )
 
 stands_then : (outcome : Outcome) (setting : Setting) (n k m count : ℕ) (cut : List ℕ) (c : Configuration) → m ≡ n → Stands outcome setting k count cut c → Stands outcome setting (n + k) (m + count) cut c
 stands_then (Ok OfRun.Ended) setting n k m count cut c is stands = (omega (arith, stands.0), stands.1)
@@ -376,7 +378,7 @@ pub turned_refused : (setting : Setting) (old now : Configuration) (l : SourceSt
 turned_refused setting old now l h refused going = record {
   ran = evaluated_none setting 1 (Err refused) old [] l l h h (GivesEvents-none l) (held-none h.held) going (omega arith, refl);
   now_is = λ none. cc;
-      spent = λ none. cc;
+  spent = λ none. cc;
 }
 
 pub turned_print : (setting : Setting) (old now : Configuration) (l : SourceState) (h h' : SinkState) (piece : List ℕ) (result : Option RunEnd) → end_at old.control ≡ None
@@ -422,12 +424,12 @@ turned_read setting old now l l' h None going wants read = record {
   ran = evaluated_one setting (Ok OfRun.StepsSpent) old now read.0 l l' h h read.2
       (held-none h.held ∙ ap (λ (bytes : List ℕ). option_map (λ before. before ++ bytes) h.held) (sym read.3)) read.1 read.4 (refl, refl);
   now_is = λ is. refl;
-      spent = λ none. cc;
+  spent = λ none. cc;
 }
 turned_read setting old now l l' h (Some OfRun.InputFault) going wants read = record {
   ran = evaluated_none setting 1 (Ok OfRun.InputFault) old [] l l' h h read.0 (held-none h.held) going (omega arith, refl, read_asks setting old (step_of setting old) refl wants going);
   now_is = λ none. cc;
-      spent = λ none. cc;
+  spent = λ none. cc;
 }
 turned_read setting old now l l' h (Some OfRun.Ended) going wants read = absurd read
 turned_read setting old now l l' h (Some OfRun.HeapFull) going wants read = absurd read
