@@ -23,11 +23,11 @@ use Rattle.kk_meaning.specs.declared.turn.Turn.{Turn}
 use Rattle.kk_meaning.specs.declared.turn.Turn.TheVariants.{Went, Printed, WantsInput, Ended, HeapFull, StackFull}
 use Rattle.kk_meaning.specs.Turns.{turn_of, quiet_turn, TakesByte, Reads, end_of}
 use Rattle.rv_sim.specs.Devices.{GivesEvents, asked}
-use Rattle.rv_sim.proofs.Events.{GivesEvents-none, GivesEvents-join, held-none, held-join}
+use Rattle.rv_sim.proofs.Events.{GivesEvents-none, GivesEvents-join, gives_put, held-none, held-join}
 use Rattle.kk_tool.specs.declared.answer.RunEnd.{RunEnd}
 use Rattle.kk_tool.specs.declared.answer.RunEnd.TheVariants as OfRun
 use Rattle.kk_tool.specs.Evaluations.{end_for}
-use Rattle.kk_tool.specs.Evaluating.{with_input, StepsTo, AsksAt, PutsAt, Outcome, ending_for, Stands, HasEvaluated, HasTurned, outcome_of}
+use Rattle.kk_tool.specs.Evaluating.{with_input, StepsTo, AsksAt, PutsAt, Outcome, ending_for, Stands, HasEvaluated, HasGone, HasTurned, HasPrinted, HasRead, outcome_of}
 
 -- ---- a step that prints or takes a byte does not end the run
 
@@ -137,9 +137,10 @@ quiet_to : (setting : Setting) (c to t : Configuration) (turn : Turn) (a : Actio
     → StepsTo setting 1 [] c to × (end_at to.control ≡ end_of turn)
 quiet_to setting c to t turn a is same does going =
     let at : to ≡ t = ap (λ (p : Pair). p.1) same in
-    let told : turn ≡ quiet_turn t.control = ap (λ (p : Pair). p.0) same in
-    (leads_by setting c to [] a is going (λ input rest given. (ap (λ (es : List Event). es ++ []) (does input).0, (does input).1 ∙ ap (λ (d : Configuration). with_input d input) (sym at) ∙ ap (λ (xs : List ℕ). with_input to xs) given)),
-    ap (λ (d : Configuration). end_at d.control) at ∙ quiet_end t.control ∙ ap end_of (sym told))
+    let told : turn ≡ quiet_turn t.control = ap (λ (p : Pair). p.0) same in (
+      leads_by setting c to [] a is going (λ input rest given. (ap (λ (es : List Event). es ++ []) (does input).0, (does input).1 ∙ ap (λ (d : Configuration). with_input d input) (sym at) ∙ ap (λ (xs : List ℕ). with_input to xs) given)),
+      ap (λ (d : Configuration). end_at d.control) at ∙ quiet_end t.control ∙ ap end_of (sym told),
+    )
 
 pub quiet_leads : (setting : Setting) (c to : Configuration) (turn : Turn) (a : Action Configuration) → step_of setting c ≡ a → (turn, to) ≡ turn_of c a → IsQuiet turn → end_at c.control ≡ None
     → StepsTo setting 1 [] c to × (end_at to.control ≡ end_of turn)
@@ -272,10 +273,11 @@ leads_then : (setting : Setting) (n k : ℕ) (es fs : List Event) (a b c : Confi
 leads_then setting n k es fs a b c first second input rest given =
     let split = TakesFrom-split es fs input rest given in
     let one = first input split.0 split.1 in
-    let two = second split.0 rest split.2 in
-    (trace-add (source_machine setting) n k (with_input a input) ∙ ap (λ (ts : List Event). ts ++ trace (source_machine setting) k (state (source_machine setting) n (with_input a input))) one.0
-    ∙ ap (λ (s : State). es ++ trace (source_machine setting) k s) one.1 ∙ ap (λ (ts : List Event). es ++ ts) two.0,
-    state-add (source_machine setting) n k (with_input a input) ∙ ap (λ (s : State). state (source_machine setting) k s) one.1 ∙ two.1)
+    let two = second split.0 rest split.2 in (
+      trace-add (source_machine setting) n k (with_input a input) ∙ ap (λ (ts : List Event). ts ++ trace (source_machine setting) k (state (source_machine setting) n (with_input a input))) one.0
+          ∙ ap (λ (s : State). es ++ trace (source_machine setting) k s) one.1 ∙ ap (λ (ts : List Event). es ++ ts) two.0,
+      state-add (source_machine setting) n k (with_input a input) ∙ ap (λ (s : State). state (source_machine setting) k s) one.1 ∙ two.1,
+    )
 
 stands_then : (outcome : Outcome) (setting : Setting) (n k m count : ℕ) (cut : List ℕ) (c : Configuration) → m ≡ n → Stands outcome setting k count cut c → Stands outcome setting (n + k) (m + count) cut c
 stands_then (Ok OfRun.Ended) setting n k m count cut c is stands = (omega (arith, stands.0), stands.1)
@@ -325,3 +327,182 @@ evaluated_more setting outcome n m a l l' h h' early less ran = record {
   ending = ran.ending;
   stands = stands_more outcome setting n m ran.count ran.cut ran.new early less ran.stands;
 }
+
+-- ---- one step over the devices
+
+pub turned_went : (setting : Setting) (old now : Configuration) (l : SourceState) (h : SinkState) → end_at old.control ≡ None → ◌≡◌ {A = Pair} (Went, now) (turn_of old (step_of setting old))
+    → HasTurned setting (Ok None) old now l l h h
+unfolding evaluated_one
+turned_went setting old now l h going same =
+    let leads = quiet_leads setting old now Went (step_of setting old) refl same tt going in
+    record {
+      ran = evaluated_one setting (Ok OfRun.StepsSpent) old now [] l l h h (GivesEvents-none l) (held-none h.held) leads.0 leads.1 (refl, refl);
+      now_is = λ is. refl;
+      spent = λ none. cc;
+    }
+
+-- the ends of a program
+abbrev IsEnd : RunEnd → Type 0
+IsEnd OfRun.StepsSpent = ⊥
+IsEnd OfRun.InputFault = ⊥
+IsEnd OfRun.OutputFault = ⊥
+IsEnd _ = Unit {0}
+
+end_not_spent : (end : RunEnd) → IsEnd end → ◌≢◌ {A = Result (Option RunEnd) NoMemory} (Ok (Some end)) (Ok (Some OfRun.StepsSpent))
+end_not_spent OfRun.Ended is = λ same. cc
+end_not_spent OfRun.HeapFull is = λ same. cc
+end_not_spent OfRun.StackFull is = λ same. cc
+end_not_spent OfRun.StepsSpent is = absurd is
+end_not_spent OfRun.InputFault is = absurd is
+end_not_spent OfRun.OutputFault is = absurd is
+
+end_stands : (setting : Setting) (now : Configuration) (end : RunEnd) → IsEnd end → Stands (Ok end) setting 1 1 [] now
+end_stands setting now OfRun.Ended is = (omega arith, refl)
+end_stands setting now OfRun.HeapFull is = (omega arith, refl)
+end_stands setting now OfRun.StackFull is = (omega arith, refl)
+end_stands setting now OfRun.StepsSpent is = absurd is
+end_stands setting now OfRun.InputFault is = absurd is
+end_stands setting now OfRun.OutputFault is = absurd is
+
+pub turned_end : (setting : Setting) (old now : Configuration) (l : SourceState) (h : SinkState) (turn : Turn) (end : RunEnd) → end_at old.control ≡ None
+    → ◌≡◌ {A = Pair} (turn, now) (turn_of old (step_of setting old)) → IsQuiet turn → IsEnd end → end_of turn ≡ end_for end → HasTurned setting (Ok (Some end)) old now l l h h
+turned_end setting old now l h turn end going same quiet is_end is =
+    let leads = quiet_leads setting old now turn (step_of setting old) refl same quiet going in
+    record {
+      ran = evaluated_one setting (Ok end) old now [] l l h h (GivesEvents-none l) (held-none h.held) leads.0 (leads.1 ∙ is) (end_stands setting now end is_end);
+      now_is = λ none. cc;
+      spent = end_not_spent end is_end;
+    }
+
+pub turned_refused : (setting : Setting) (old now : Configuration) (l : SourceState) (h : SinkState) (refused : NoMemory) → end_at old.control ≡ None → HasTurned setting (Err refused) old now l l h h
+turned_refused setting old now l h refused going = record {
+  ran = evaluated_none setting 1 (Err refused) old [] l l h h (GivesEvents-none l) (held-none h.held) going (omega arith, refl);
+  now_is = λ none. cc;
+  spent = λ none. cc;
+}
+
+pub turned_print : (setting : Setting) (old now : Configuration) (l : SourceState) (h h' : SinkState) (piece : List ℕ) (result : Option RunEnd) → end_at old.control ≡ None
+    → ◌≡◌ {A = Pair} (Printed piece, now) (turn_of old (step_of setting old)) → HasPrinted piece result h h' → HasTurned setting (Ok result) old now l l h h'
+unfolding evaluated_one
+turned_print setting old now l h h' piece None going same printed =
+    let prints = print_leads setting old now piece (step_of setting old) refl same going in
+    record {
+      ran = evaluated_one setting (Ok OfRun.StepsSpent) old now (output piece ∷ []) l l h h' (gives_put piece l)
+          (printed.0 ∙ ap (λ (bytes : List ℕ). option_map (λ before. before ++ bytes) h.held) (sym (append-nil piece))) prints.leads prints.going (refl, refl);
+      now_is = λ is. refl;
+      spent = λ none. cc;
+    }
+turned_print setting old now l h h' piece (Some OfRun.OutputFault) going same printed =
+    let prints = print_leads setting old now piece (step_of setting old) refl same going in
+    record {
+      ran = evaluated_none setting 1 (Ok OfRun.OutputFault) old (take printed.0 piece) l l h h' (GivesEvents-none l) printed.2 going
+          (omega arith, record { piece = piece; some = prints.some; taken = printed.0; within = printed.1; first = refl; next = prints.next });
+      now_is = λ none. cc;
+      spent = λ none. cc;
+    }
+turned_print setting old now l h h' piece (Some OfRun.Ended) going same printed = absurd printed
+turned_print setting old now l h h' piece (Some OfRun.HeapFull) going same printed = absurd printed
+turned_print setting old now l h h' piece (Some OfRun.StackFull) going same printed = absurd printed
+turned_print setting old now l h h' piece (Some OfRun.StepsSpent) going same printed = absurd printed
+turned_print setting old now l h h' piece (Some OfRun.InputFault) going same printed = absurd printed
+
+-- a step that asks for a byte is not done yet
+not_wanted : {T : Type 0} (control : Control) → WantsInput ≡ quiet_turn control → T
+not_wanted control same = absurd (subst IsQuiet (sym same) (quiet_is_quiet control))
+
+pub wanted_stays : (c to : Configuration) (a : Action Configuration) → ◌≡◌ {A = Pair} (WantsInput, to) (turn_of c a) → to ≡ c
+wanted_stays c to (goes t) same = not_wanted t.control (ap (λ (p : Pair). p.0) same)
+wanted_stays c to (puts piece t) same = absurd (subst IsNoPrint (ap (λ (p : Pair). p.0) same) tt)
+wanted_stays c to (takes t) same = ap (λ (p : Pair). p.1) same
+wanted_stays c to (builds found t) same = not_wanted t.control (ap (λ (p : Pair). p.0) same)
+wanted_stays c to (calls found t) same = not_wanted t.control (ap (λ (p : Pair). p.0) same)
+
+pub turned_read : (setting : Setting) (old now : Configuration) (l l' : SourceState) (h : SinkState) (result : Option RunEnd) → end_at old.control ≡ None
+    → TakesByte (step_of setting old) → HasRead setting result old now l l' → HasTurned setting (Ok result) old now l l' h h
+unfolding evaluated_one
+turned_read setting old now l l' h None going wants read = record {
+  ran = evaluated_one setting (Ok OfRun.StepsSpent) old now read.0 l l' h h read.2
+      (held-none h.held ∙ ap (λ (bytes : List ℕ). option_map (λ before. before ++ bytes) h.held) (sym read.3)) read.1 read.4 (refl, refl);
+  now_is = λ is. refl;
+  spent = λ none. cc;
+}
+turned_read setting old now l l' h (Some OfRun.InputFault) going wants read = record {
+  ran = evaluated_none setting 1 (Ok OfRun.InputFault) old [] l l' h h read.0 (held-none h.held) going (omega arith, refl, read_asks setting old (step_of setting old) refl wants going);
+  now_is = λ none. cc;
+  spent = λ none. cc;
+}
+turned_read setting old now l l' h (Some OfRun.Ended) going wants read = absurd read
+turned_read setting old now l l' h (Some OfRun.HeapFull) going wants read = absurd read
+turned_read setting old now l l' h (Some OfRun.StackFull) going wants read = absurd read
+turned_read setting old now l l' h (Some OfRun.StepsSpent) going wants read = absurd read
+turned_read setting old now l l' h (Some OfRun.OutputFault) going wants read = absurd read
+
+pub turned_wanted : (setting setting' : Setting) (old mid now : Configuration) (l l' : SourceState) (h : SinkState) (result : Option RunEnd) → end_at old.control ≡ None → setting' ≡ setting
+    → ◌≡◌ {A = Pair} (WantsInput, mid) (turn_of old (step_of setting old)) → TakesByte (step_of setting' mid) → HasRead setting' result mid now l l' → HasTurned setting (Ok result) old now l l' h h
+turned_wanted setting setting' old mid now l l' h result going same_setting same wants read =
+    let stays = wanted_stays old mid (step_of setting old) same in
+    turned_read setting old now l l' h result going
+    (subst (λ (c : Configuration). TakesByte (step_of setting c)) stays (subst (λ (s : Setting). TakesByte (step_of s mid)) same_setting wants))
+    (subst (λ (c : Configuration). HasRead setting result c now l l') stays (subst (λ (s : Setting). HasRead s result mid now l l') same_setting read))
+
+-- the turn of a step under another name
+pub retold : (turn other : Turn) (now : Configuration) (p : Pair) → turn ≡ other → ◌≡◌ {A = Pair} (turn, now) p → ◌≡◌ {A = Pair} (other, now) p
+retold turn other now p is same = ap (λ (t : Turn). (t, now)) (sym is) ∙ same
+
+-- ---- many steps over the devices
+
+pub gone_none : (setting : Setting) (old : Configuration) (l : SourceState) (h : SinkState) → end_at old.control ≡ None → HasGone setting 0 old old l l h h
+unfolding evaluated_none
+gone_none setting old l h going = record { ran = evaluated_none setting 0 (Ok OfRun.StepsSpent) old [] l l h h (GivesEvents-none l) (held-none h.held) going (refl, refl); at = refl }
+
+pub gone_going : (setting : Setting) (n : ℕ) (old now : Configuration) (l l' : SourceState) (h h' : SinkState) → HasGone setting n old now l l' h h' → end_at now.control ≡ None
+gone_going setting n old now l l' h h' gone = ap (λ (c : Configuration). end_at c.control) (sym gone.at) ∙ gone.ran.ending
+
+pub gone_more : (setting : Setting) (n : ℕ) (old mid now : Configuration) (l l' l'' : SourceState) (h h' h'' : SinkState) → HasGone setting n old mid l l' h h'
+    → HasTurned setting (Ok None) mid now l' l'' h' h'' → HasGone setting (n + 1) old now l l'' h h''
+unfolding evaluated_then
+gone_more setting n old mid now l l' l'' h h' h'' gone turned =
+    let T : Configuration → Type 0 = λ c. (r : HasEvaluated setting 1 (Ok OfRun.StepsSpent) c l' l'' h' h'') × (r.new ≡ now) in
+    let next = subst T (sym gone.at) (turned.ran, turned.now_is refl) in
+    record { ran = evaluated_then setting (Ok OfRun.StepsSpent) n 1 old l l' l'' h h' h'' gone.ran next.0; at = next.1 }
+
+abbrev Turned : Type 0
+Turned = Result (Option RunEnd) NoMemory
+
+pub gone_on : (setting setting' : Setting) (n m : ℕ) (old mid now : Configuration) (l l' l'' : SourceState) (h h' h'' : SinkState) (found : Option RunEnd) → found ≡ None → setting' ≡ setting → n + 1 ≡ m
+    → HasGone setting n old mid l l' h h' → HasTurned setting' (Ok found) mid now l' l'' h' h'' → HasGone setting m old now l l'' h h''
+gone_on setting setting' n m old mid now l l' l'' h h' h'' found none same is gone turned =
+    let S : Setting → Type 0 = λ s. HasTurned s (Ok None) mid now l' l'' h' h'' in
+    let F : Option RunEnd → Type 0 = λ f. HasTurned setting' (Ok f) mid now l' l'' h' h'' in
+    let N : ℕ → Type 0 = λ k. HasGone setting k old now l l'' h h'' in
+    subst N is (gone_more setting n old mid now l l' l'' h h' h'' gone (subst S same (subst F none turned)))
+
+pub gone_same : (setting : Setting) (n m : ℕ) (old now : Configuration) (l l' : SourceState) (h h' : SinkState) → n ≡ m → HasGone setting n old now l l' h h' → HasGone setting m old now l l' h h'
+gone_same setting n m old now l l' h h' is gone = subst (λ (k : ℕ). HasGone setting k old now l l' h h') is gone
+
+pub gone_spent : (setting : Setting) (n m : ℕ) (old now : Configuration) (l l' : SourceState) (h h' : SinkState) → n ≡ m → HasGone setting n old now l l' h h' → HasEvaluated setting m (Ok OfRun.StepsSpent) old l l' h h'
+gone_spent setting n m old now l l' h h' is gone = subst (λ (k : ℕ). HasEvaluated setting k (Ok OfRun.StepsSpent) old l l' h h') is gone.ran
+
+-- how a run ended; what it is where memory was refused is of no matter
+abbrev end_in : Outcome → RunEnd
+end_in (Ok end) = end
+end_in (Err refused) = OfRun.Ended
+
+outcome_spent : (result : Turned) → result ≢ Ok None → result ≢ Ok (Some OfRun.StepsSpent) → outcome_of result ≢ Ok OfRun.StepsSpent
+outcome_spent (Ok None) some spent same = some refl
+outcome_spent (Ok (Some end)) some spent same = spent (ap (λ (o : Outcome). Ok (Some (end_in o))) same)
+outcome_spent (Err refused) some spent same = cc
+
+pub gone_stops : (setting setting' : Setting) (n steps : ℕ) (old mid now : Configuration) (l l' l'' : SourceState) (h h' h'' : SinkState) (result : Turned) → setting' ≡ setting → result ≢ Ok None
+    → n + 1 ≤ steps → HasGone setting n old mid l l' h h' → HasTurned setting' result mid now l' l'' h' h'' → HasEvaluated setting steps (outcome_of result) old l l'' h h''
+gone_stops setting setting' n steps old mid now l l' l'' h h' h'' result same some less gone turned =
+    let T : Configuration → Type 0 = λ c. HasEvaluated setting 1 (outcome_of result) c l' l'' h' h'' in
+    let S : Setting → Type 0 = λ s. HasEvaluated s 1 (outcome_of result) mid l' l'' h' h'' in
+    evaluated_more setting (outcome_of result) (n + 1) steps old l l'' h h'' (outcome_spent result some turned.spent) less
+    (evaluated_then setting (outcome_of result) n 1 old l l' l'' h h' h'' gone.ran (subst T (sym gone.at) (subst S same turned.ran)))
+
+pub gone_ends : (setting setting' : Setting) (n steps : ℕ) (old mid now : Configuration) (l l' l'' : SourceState) (h h' h'' : SinkState) (found : Option RunEnd) (end : RunEnd) → found ≡ Some end → setting' ≡ setting
+    → n + 1 ≤ steps → HasGone setting n old mid l l' h h' → HasTurned setting' (Ok found) mid now l' l'' h' h'' → HasEvaluated setting steps (Ok end) old l l'' h h''
+gone_ends setting setting' n steps old mid now l l' l'' h h' h'' found end is same less gone turned =
+    let F : Option RunEnd → Type 0 = λ f. HasTurned setting' (Ok f) mid now l' l'' h' h'' in
+    gone_stops setting setting' n steps old mid now l l' l'' h h' h'' (Ok (Some end)) same (λ none. cc) less gone (subst F is turned)

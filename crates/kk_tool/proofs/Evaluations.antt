@@ -1,5 +1,5 @@
 -- What a run by the store machine from its start has done of what the program means.
-use Rattle.std.proofs.Common.{◌≡◌, ◌≤◌, ◌<◌, ℕ, ◌+◌, List, [], ◌∷◌, ◌++◌, take, length, Option, Some, None, option_map, Result, Ok, Err, refl, sym, ap, subst, ◌∙◌, append-nil}
+use Rattle.std.proofs.Common.{◌≡◌, ◌≤◌, ◌<◌, ℕ, ◌+◌, List, [], ◌∷◌, ◌++◌, take, length, Option, Some, None, option_map, Result, Ok, Err, refl, sym, ap, subst, ◌∙◌, inr, append-nil}
 use Rattle.kk_base.specs.declared.error.NoMemory.{NoMemory}
 use Rattle.kk_base.specs.Faults.{Rises}
 use Rattle.kk_base.specs.Machines.{trace, state, ending_after}
@@ -14,7 +14,9 @@ use Rattle.rv_sim.specs.Devices.{asked}
 use Rattle.kk_tool.specs.declared.answer.RunEnd.{RunEnd}
 use Rattle.kk_tool.specs.declared.answer.RunEnd.TheVariants as OfRun
 use Rattle.kk_tool.specs.Evaluations.{end_for, is_input_end, is_output_end, HasCome, TakesNext, PrintsNext, StopsAt, RunsSource, RunsOutOfMemory}
-use Rattle.kk_tool.specs.Evaluating.{with_input, StepsTo, AsksAt, PutsAt, HasEvaluated}
+use Rattle.kk_source.specs.Settings.{IsRun}
+use Rattle.kk_syntax.specs.Programs.{ProgramTree}
+use Rattle.kk_tool.specs.Evaluating.{with_input, StepsTo, AsksAt, PutsAt, Outcome, asks_input, asks_output, HasEvaluated, HasRun}
 
 same_end : (end : Option End) → option_map (λ (e : End). e) end ≡ end
 same_end None = refl
@@ -105,3 +107,13 @@ runs_out_of_memory setting steps refused l l' h h' ran input_faults output_fault
   done = has_come setting ran.count ran.events ran.new None ran.leads ran.ending;
   early = ran.stands.0;
 }
+
+pub start_going : (setting : Setting) (c : Configuration) → c ≡ start setting → end_at c.control ≡ None
+start_going setting c is = ap (λ (d : Configuration). end_at d.control) is
+
+pub has_run : (program : ProgramTree) (cells depth steps : ℕ) (setting : Setting) (c : Configuration) (outcome : Outcome) (l l' : SourceState) (h h' : SinkState) → IsRun program cells depth setting → c ≡ start setting
+    → HasEvaluated setting steps outcome c l l' h h' → Rises (asks_input outcome) l.faults l'.faults → Rises (asks_output outcome) h.faults h'.faults → HasRun program cells depth steps outcome l l' h h'
+has_run program cells depth steps setting c (Ok end) l l' h h' run is ran input_faults output_faults =
+    (setting, run, runs_source setting steps end l l' h h' (subst (λ (d : Configuration). HasEvaluated setting steps (Ok end) d l l' h h') is ran) input_faults output_faults)
+has_run program cells depth steps setting c (Err refused) l l' h h' run is ran input_faults output_faults =
+    inr (setting, run, runs_out_of_memory setting steps refused l l' h h' (subst (λ (d : Configuration). HasEvaluated setting steps (Err refused) d l l' h h') is ran) input_faults output_faults)

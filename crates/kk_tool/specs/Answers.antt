@@ -101,7 +101,6 @@ pub data Answers (before after : Outside) : Option Request → Answer → Type 0
   simulated : (file : List ℕ) (steps : ℕ) (halt : Halt) → HasImage file after.image before.files → reason_of after.image ≡ None
       → RunsImage after.image steps halt before.input after.input before.out after.out → KeepsFiles before.files after.files
       → Answers before after (Some (sim file steps)) (Simulated halt steps)
-
   -- eval: the program of the text was run by its definition, for at most `steps` steps, and the run ended so
   evaluated : (file text : List ℕ) (cells depth steps : ℕ) (end : RunEnd) (program : ProgramTree) (setting : Setting) → HasText file text before.files → IsProgramOf text program
       → IsRun program cells depth setting → RunsSource setting steps end before.input after.input before.out after.out → KeepsFiles before.files after.files

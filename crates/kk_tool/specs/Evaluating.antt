@@ -1,5 +1,5 @@
 -- What the private functions of a run by the store machine speak of: the machine between two of its steps.
-use Rattle.std.specs.Prelude.{◌≡◌, ◌⊎◌, ◌≤◌, ◌<◌, ℕ, List, [], ◌∷◌, ◌++◌, take, length, Bool, false, Option, None, Some, option_map, Result, Ok, Err}
+use Rattle.std.specs.Prelude.{◌≡◌, ◌≢◌, ◌⊎◌, ◌≤◌, ◌<◌, ℕ, List, [], ◌∷◌, ◌++◌, take, length, Bool, false, Option, None, Some, option_map, Result, Ok, Err}
 use Rattle.kk_base.specs.declared.error.NoMemory.{NoMemory}
 use Rattle.kk_base.specs.Faults.{Rose}
 use Rattle.kk_base.specs.Machines.{trace, state}
@@ -86,6 +86,12 @@ outcome_of (Err refused) = Err refused
 pub record HasTurned (setting : Setting) (result : Result (Option RunEnd) NoMemory) (old now : Configuration) (input input' : SourceState) (out out' : SinkState) : Type 0 where
   pub ran : HasEvaluated setting 1 (outcome_of result) old input input' out out'
   pub now_is : result ≡ Ok None → ran.new ≡ now
+  pub spent : result ≢ Ok (Some OfRun.StepsSpent)
+
+-- a run of so many steps has come to a machine, and goes on from there
+pub record HasGone (setting : Setting) (steps : ℕ) (old now : Configuration) (input input' : SourceState) (out out' : SinkState) : Type 0 where
+  pub ran : HasEvaluated setting steps (Ok OfRun.StepsSpent) old input input' out out'
+  pub at : ran.new ≡ now
 
 -- a piece was put, or first bytes of it
 abbrev pub HasPrinted : List ℕ → Option RunEnd → SinkState → SinkState → Type 0

@@ -18,6 +18,9 @@ use std::alloc::Global;
 ///
 /// `sim` ends with `ImageExit`, `Trap`, `StepsSpent` or `Done` exactly as the image does by the table of instructions, and
 /// with `BadImage` exactly where its bytes fail a condition on images. No memory is wanted once an image is loaded.
+///
+/// `eval` ends with `Done`, `HeapFull`, `StackFull` or `StepsSpent` exactly as the program does by the definition of the
+/// language, within `--steps` of its steps. It wants memory as it goes: where there is none, it ends with `NoMemory`.
 pub fn kokarv<F: Store, I: Source, O: Sink, E: Sink>(
     alloc: Global,
     words: &[String],

@@ -18,42 +18,9 @@ use Rattle.rv_sim.specs.Simulation.{Simulation, processor_of, progress_of}
 use Rattle.rv_sim.specs.declared.halt.Turn.TheVariants.{Over}
 use Rattle.rv_sim.specs.declared.halt.Halt.TheVariants.{InputFault, OutputFault}
 use Rattle.rv_sim.specs.Devices.{halt_of, GivesContent, GivesEvents, asked, HasRun}
-use Rattle.rv_sim.proofs.Events.{GivesEvents-none, held-none}
-use Rattle.std.proofs.lemmas.Bool.{true≢false}
+use Rattle.rv_sim.proofs.Events.{GivesEvents-none, held-none, gives_byte, gives_none, gives_end, gives_put}
 use Rattle.rv_sim.proofs.Stepping.{can_load-bare, can_store-bare, does-same}
 use Rattle.rv_sim.proofs.Turns.{HasRun-one, HasRun-quiet, HasRun-failed}
-
--- ---- what a source gives
-
-content_byte : (byte : ℕ) (after before : Option (List ℕ)) → before ≡ option_map (λ rest. (byte ∷ []) ++ rest) after → GivesContent (input byte ∷ []) before after
-content_byte byte None before is = subst (λ (b : Option (List ℕ)). GivesContent (input byte ∷ []) b None) (sym is) tt
-content_byte byte (Some rest) before is = subst (λ (b : Option (List ℕ)). GivesContent (input byte ∷ []) b (Some rest)) (sym is) (refl, refl)
-
-content_none : (after before : Option (List ℕ)) → before ≡ option_map (λ rest. [] ++ rest) after → GivesContent [] before after
-content_none None before is = subst (λ (b : Option (List ℕ)). GivesContent [] b None) (sym is) tt
-content_none (Some rest) before is = subst (λ (b : Option (List ℕ)). GivesContent [] b (Some rest)) (sym is) refl
-
-content_end : (after before : Option (List ℕ)) → before ≡ option_map (λ rest. [] ++ rest) after → ((rest : List ℕ) → before ≡ Some rest → rest ≡ []) → GivesContent (input_end ∷ []) before after
-content_end None before is end = subst (λ (b : Option (List ℕ)). GivesContent (input_end ∷ []) b None) (sym is) tt
-content_end (Some rest) before is end =
-    let none = end rest is in
-    subst (λ (b : Option (List ℕ)). GivesContent (input_end ∷ []) b (Some rest)) (sym is) (subst (λ (xs : List ℕ). TakesFrom (input_end ∷ []) xs xs) (sym none) refl)
-
-gives_byte : (byte : ℕ) (after before : SourceState) → before.left ≡ option_map (λ rest. (byte ∷ []) ++ rest) after.left → before.ended ≡ false → All (λ b. b < 256) (byte ∷ []) → GivesEvents (input byte ∷ []) before after
-gives_byte byte after before is open_still small = record { content = content_byte byte after.left before.left is; once = (open_still, λ e. absurd (true≢false (sym e))); bytes = small }
-
-gives_none : (after before : SourceState) → before.left ≡ option_map (λ rest. [] ++ rest) after.left → after.ended ≡ before.ended → GivesEvents [] before after
-gives_none after before is same = record { content = content_none after.left before.left is; once = λ e. same ∙ e; bytes = All-nil (λ byte. byte < 256) }
-
-gives_end : (after before : SourceState) → before.left ≡ option_map (λ rest. [] ++ rest) after.left → ((rest : List ℕ) → before.left ≡ Some rest → rest ≡ []) → after.ended ≡ true → GivesEvents (input_end ∷ []) before after
-gives_end after before is end met = record { content = content_end after.left before.left is end; once = λ e. met; bytes = All-nil (λ byte. byte < 256) }
-
-content_put : (piece : List ℕ) (left : Option (List ℕ)) → GivesContent (output piece ∷ []) left left
-content_put piece None = tt
-content_put piece (Some left) = refl
-
-gives_put : (piece : List ℕ) (supply : SourceState) → GivesEvents (output piece ∷ []) supply supply
-gives_put piece supply = record { content = content_put piece supply.left; once = λ e. e; bytes = All-nil (λ byte. byte < 256) }
 
 asks-trace : (next : ℕ) (s : Processor) (left : List ℕ) → (asks left next s).trace ≡ s.trace ++ asked left ∷ []
 asks-trace next s [] = refl
