@@ -29,7 +29,7 @@ use Rattle.elf_image.specs.declared.part.Part.{Part}
 use Rattle.rv_place.specs.Images.{outside_lines}
 use Rattle.kk_back.specs.Images.{IsImageOf, step_instructions}
 use Rattle.kk_build.specs.Agreement.{Agrees, instructions_within, IsBounded}
-use Rattle.kk_build.specs.Built.{as_run}
+use Rattle.kk_build.specs.Built.{setting_of}
 use Rattle.kk_build.proofs.Alike.{agrees_alike, keeps_up_alike}
 
 -- ---- what its steps weigh makes no difference to what the store machine does
@@ -70,7 +70,7 @@ differ stack_full stack_full same = refl
 module _ (program : ProgramTree) (code : ProgramCode) (cells depth entry : ℕ) (parts : List Part) (keeps : KeepsMeaning program code) (image : IsImageOf code cells depth entry parts)
     (positions : PositionTable) (input : List ℕ) (bytes : All (λ byte. byte < 256) input) where
   abbrev setting : Setting
-  setting = as_run program positions cells depth
+  setting = setting_of program positions cells depth
 
   abbrev weighed : Machine State Note End
   weighed = heavy_store_machine (2 * step_instructions) setting
@@ -112,15 +112,15 @@ module _ {program : ProgramTree} {code : ProgramCode} {cells depth entry : ℕ} 
   of_file : (Holds : List Part → ℕ → Type 0) → Holds parts entry → Holds (parts_of file) (entry_of file)
   of_file Holds holds = subst (λ (p : List Part). Holds p (entry_of file)) loaded.parts_are (subst (λ (e : ℕ). Holds parts e) loaded.entry_is holds)
 
-  pub file_agrees : Agrees file (as_run program positions cells depth)
+  pub file_agrees : Agrees file (setting_of program positions cells depth)
   file_agrees = record {
     loads = loaded.sound;
     agrees = λ input bytes.
-        of_file (λ p e. ImageAgrees (store_machine (as_run program positions cells depth)) events_of exit_of (first_state (as_run program positions cells depth) input) (λ m. run_over rv32im m (start (memory_of p) e input)))
+        of_file (λ p e. ImageAgrees (store_machine (setting_of program positions cells depth)) events_of exit_of (first_state (setting_of program positions cells depth) input) (λ m. run_over rv32im m (start (memory_of p) e input)))
         (image_does program code cells depth entry parts keeps image positions input bytes);
   }
 
-  pub file_is_bounded : IsBounded file (as_run program positions cells depth)
+  pub file_is_bounded : IsBounded file (setting_of program positions cells depth)
   file_is_bounded input bytes =
-      of_file (λ p e. ImageKeepsUp (store_machine (as_run program positions cells depth)) events_of exit_of instructions_within (first_state (as_run program positions cells depth) input) (λ m. run_over rv32im m (start (memory_of p) e input)))
+      of_file (λ p e. ImageKeepsUp (store_machine (setting_of program positions cells depth)) events_of exit_of instructions_within (first_state (setting_of program positions cells depth) input) (λ m. run_over rv32im m (start (memory_of p) e input)))
       (image_is_bounded program code cells depth entry parts keeps image positions input bytes)

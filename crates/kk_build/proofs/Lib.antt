@@ -2,4 +2,5 @@ pub mod Agreeing
 pub mod Alike
 pub mod FileSteps
 pub mod Instances
+pub mod Runs
 pub mod Within

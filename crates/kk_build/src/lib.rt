@@ -9,7 +9,7 @@ ghost use Rattle.kk_syntax.specs.PlainTyping.{IsTyped};
 ghost use Rattle.kk_front.specs.Judgement.{Refuses};
 ghost use Rattle.kk_norm.specs.Normal.{IsWithin};
 ghost use Rattle.kk_build.specs.Agreement.{Agrees, IsBounded};
-ghost use Rattle.kk_build.specs.Built.{IsBuilt, as_run};
+ghost use Rattle.kk_build.specs.Built.{IsBuilt, setting_of};
 ghost use Rattle.kk_build.specs.Images.{IsImageFile};
 
 pub use cell_runtime::Ending;
@@ -48,8 +48,8 @@ fn file_of(alloc: Global, given: &Ground, cells: u32, depth: u32) -> Result<Byte
     requires small { IsWithin (ground_program given.now) }
     requires sizes { AreSizes cells depth }
     ensures image { IfOk result IsImageFile }
-    ensures agrees { IfOk result (λ file. (positions : PositionTable) → Agrees file (as_run (ground_program given.now) positions cells depth)) }
-    ensures bounded { IfOk result (λ file. (positions : PositionTable) → IsBounded file (as_run (ground_program given.now) positions cells depth)) }
+    ensures agrees { IfOk result (λ file. (positions : PositionTable) → Agrees file (setting_of (ground_program given.now) positions cells depth)) }
+    ensures bounded { IfOk result (λ file. (positions : PositionTable) → IsBounded file (setting_of (ground_program given.now) positions cells depth)) }
 {
     let core = normal(alloc, given)?;
     let image = image(alloc, &core, cells, depth)?;

@@ -123,7 +123,7 @@ module _ (first second : StoreState) (kept : KeepsFiles first second) (image ima
         → Comes (Ran end cells depth steps)
     ran_so machine end quiet has =
         ran file cells depth steps stats end quiet made has.runs
-        (means_run made.built.program image' cells depth made.built.agrees end has.runs.count has.runs.events has.runs.done) kept
+        (means_run made.built.program image' cells depth made.built.setting made.built.is_run made.built.agrees end has.runs.count has.runs.events has.runs.done) kept
 
     measured_so : (machine : Simulation) (end : RunEnd) (instructions free : ℕ) → tells_statistics stats end ≡ true → HasStopped image' steps (halt_for end) machine input input' output output'
         → instructions ≡ machine.executed → free ≡ free_cells cells (processor_of machine [] []) → Comes (Measured instructions free cells)
@@ -131,7 +131,7 @@ module _ (first second : StoreState) (kept : KeepsFiles first second) (image ima
         let is : IsMeasured image' has.runs.count has.runs.events cells instructions free =
         λ input rest takes. let both = has.measured cells input rest takes in (both.0 ∙ sym executed, both.1 ∙ sym left) in
         measured file cells depth steps stats instructions free asked made has.runs
-        (means_run made.built.program image' cells depth made.built.agrees OfRun.Ended has.runs.count has.runs.events has.runs.done) is kept
+        (means_run made.built.program image' cells depth made.built.setting made.built.is_run made.built.agrees OfRun.Ended has.runs.count has.runs.events has.runs.done) is kept
     measured_so machine OfRun.HeapFull instructions free asked has executed left = absurd (never asked)
     measured_so machine OfRun.StackFull instructions free asked has executed left = absurd (never asked)
     measured_so machine OfRun.StepsSpent instructions free asked has executed left = absurd (never asked)

@@ -5,12 +5,13 @@ use Rattle.kk_base.specs.Sink.{SinkState}
 use Rattle.kk_base.specs.Source.{SourceState}
 use Rattle.kk_base.specs.Trace.{Event, input_of}
 use Rattle.kk_base.proofs.Machines.{trace-mapped}
-use Rattle.kk_build.specs.SourceMeaning.{PositionTable, all_owned, exit_of, events_of, After, source_after, store_machine, first_state, Setting, End, ended, heap_full, stack_full}
+use Rattle.kk_build.specs.SourceMeaning.{IsRun, exit_of, events_of, After, source_after, store_machine, first_state, Setting, End, ended, heap_full, stack_full}
 use Rattle.kk_build.specs.ImageAfter.{ExitsWell, Ending, exited, file_after}
 use Rattle.rv_sim.specs.Devices.{ending_at}
 use Rattle.rv_sim.specs.declared.halt.Halt.{Halt}
 use Rattle.kk_build.specs.Agreement.{Agrees, AgreesOn}
-use Rattle.kk_build.specs.Built.{ProgramTree, as_run}
+use Rattle.kk_build.proofs.Runs.{one_setting}
+use Rattle.kk_build.specs.Built.{ProgramTree}
 use Rattle.kk_tool.specs.declared.answer.RunEnd.{RunEnd}
 use Rattle.kk_tool.specs.declared.answer.RunEnd.TheVariants as OfRun
 use Rattle.kk_tool.specs.ImageRuns.{HasDone, RunsImage}
@@ -49,14 +50,15 @@ module _ (image : List ℕ) (setting : Setting) (input : List ℕ) (agrees : Agr
   means OfRun.InputFault is = does_first
   means OfRun.OutputFault is = does_first
 
-module _ (program : ProgramTree) (image : List ℕ) (cells depth : ℕ) (agrees : (positions : PositionTable) → Agrees image (as_run program positions cells depth)) where
+module _ (program : ProgramTree) (image : List ℕ) (cells depth : ℕ) (setting : Setting) (is_run : IsRun program cells depth setting) (agrees : Agrees image setting) where
   pub means_run : (end : RunEnd) (count : ℕ) (events : List Event) → HasDone image count events (ending_at (halt_for end)) → MeansRun program cells depth end events
-  means_run end count events done positions input rest bytes takes =
+  means_run end count events done other other_is input rest bytes takes =
       let has = done input rest takes in
-      means image (as_run program positions cells depth) input ((agrees positions).agrees input bytes) count events has.0 end has.1
+      subst (λ s. Means end s input events) (one_setting program cells depth setting other is_run other_is)
+      (means image setting input (agrees.agrees input bytes) count events has.0 end has.1)
 
   pub ends_well : EndsWell image
-  ends_well input bytes count = ((agrees all_owned).agrees input bytes).ends_well count
+  ends_well input bytes count = (agrees.agrees input bytes).ends_well count
 
 -- the run of an image that ends well stops well
 pub stops_well : (image : List ℕ) (steps : ℕ) (halt : Halt) (input input' : SourceState) (out out' : SinkState) → EndsWell image → RunsImage image steps halt input input' out out' → ExitsWell exit_of (ending_at halt)

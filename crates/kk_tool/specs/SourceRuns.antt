@@ -1,8 +1,8 @@
 -- What the run of an image has done of what its program means, by the store machine of the source.
 use Rattle.std.specs.Prelude.{◌≡◌, ◌<◌, ℕ, List, All, Some}
 use Rattle.kk_base.specs.Trace.{Event, TakesFrom, IsPrefix}
-use Rattle.kk_build.specs.SourceMeaning.{PositionTable, exit_of, source_after, Setting, End, ended, heap_full, stack_full}
-use Rattle.kk_build.specs.Built.{ProgramTree, as_run}
+use Rattle.kk_build.specs.SourceMeaning.{IsRun, exit_of, source_after, Setting, End, ended, heap_full, stack_full}
+use Rattle.kk_build.specs.Built.{ProgramTree}
 use Rattle.rv_sim.specs.declared.halt.Halt.{Halt}
 use Rattle.rv_sim.specs.declared.halt.Halt.TheVariants as OfHalt
 use Rattle.kk_tool.specs.declared.answer.RunEnd.{RunEnd}
@@ -32,9 +32,9 @@ Means OfRun.HeapFull setting input events = EndsAs heap_full setting input event
 Means OfRun.StackFull setting input events = EndsAs stack_full setting input events
 Means _ setting input events = DoesFirst setting input events
 
--- A run with these events, which ended so, did what the program means, on so many cells and with such a depth: on each input of bytes that the
--- events can have taken, whichever positions are lent.
+-- A run with these events, which ended so, did what the program means as it is run, on so many cells and with such a depth: on each
+-- input of bytes that the events can have taken.
 abbrev pub MeansRun : ProgramTree → ℕ → ℕ → RunEnd → List Event → Type 0
 MeansRun program cells depth end events =
-    (positions : PositionTable) (input rest : List ℕ) → All (λ byte. byte < 256) input → TakesFrom events input rest
-    → Means end (as_run program positions cells depth) input events
+    (setting : Setting) → IsRun program cells depth setting → (input rest : List ℕ) → All (λ byte. byte < 256) input → TakesFrom events input rest
+    → Means end setting input events

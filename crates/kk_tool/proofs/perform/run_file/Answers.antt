@@ -16,7 +16,7 @@ pub run_answer-requires : goal.run_answer-requires
 run_answer-requires g c =
     let is = c.in-Ok.ensures.built.built in
     stops_well c.as_slice.result.now c.args.options.steps c.in-Ok-run_built.stopped.halt _ _ _ _
-    (subst EndsWell (sym c.as_slice.ensures) (ends_well is.program _ c.args.options.sizes.cells c.args.options.sizes.depth is.agrees)) c.in-Ok-run_built.ensures.ran.runs
+    (subst EndsWell (sym c.as_slice.ensures) (ends_well is.program _ c.args.options.sizes.cells c.args.options.sizes.depth is.setting is.is_run is.agrees)) c.in-Ok-run_built.ensures.ran.runs
 
 pub returns-in-Ok-run_built : goal.returns-in-Ok-run_built
 returns-in-Ok-run_built g c =
