@@ -5,7 +5,11 @@ use lib.Pointwise.{pointwise, bytes_decides}
 use Rattle.kk_core.specs.declared.decisions.Answer.{Answer}
 use Rattle.kk_match.specs.Parts.{Part}
 use Rattle.kk_match.specs.Graphs.{StateTree, agrees, left_after, kept_line, after, first_of, test_of}
-use Rattle.kk_match.specs.Built.{AreBelow}
+
+-- the rows of a state are below a number, and so is the row that it chooses where it has none
+abbrev pub AreBelow : ℕ → StateTree → Type 0
+AreBelow rows [] = 0 < rows
+AreBelow rows (line ∷ lines) = (line.row < rows) × AreBelow rows lines
 
 -- rows stay below a number
 kept_below : (rows row : ℕ) (left : Option (List Part)) (rest : StateTree) → row < rows → AreBelow rows rest → AreBelow rows (kept_line row left rest)
