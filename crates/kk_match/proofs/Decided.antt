@@ -1,5 +1,5 @@
 -- What turned nodes decide: those of a graph, and those of rows that are tried one after the other.
-use Rattle.std.proofs.Common.{◌≡◌, ℕ, suc, ◌+◌, ◌-◌, ◌<◌, ◌≤◌, Bool, false, Result, Ok, Err, List, [], ◌∷◌, ◌++◌, length, map, refl, sym, ap, ◌∙◌, subst, arith, append_assoc}
+use Rattle.std.proofs.Common.{◌≡◌, ℕ, suc, ◌+◌, ◌-◌, ◌<◌, ◌≤◌, Bool, false, Result, Ok, Err, List, [], ◌∷◌, ◌++◌, length, map, refl, sym, ap, ◌∙◌, subst, arith, append_assoc, true}
 use Rattle.std.specs.Prelude.{count_by, IfOk}
 use Rattle.kk_syntax.specs.declared.program.Constructor.{Constructor as Declared}
 use Rattle.kk_syntax.specs.Patterns.{Pattern}
@@ -14,7 +14,7 @@ use Rattle.kk_match.specs.Growing.{IsBuilt, IsOver, IsGraphOf}
 use Rattle.kk_match.specs.InTurn.{with_rows}
 use Rattle.kk_match.specs.Turned.{turn_node, turned}
 use Rattle.kk_match.proofs.After.{AreBelow}
-use Rattle.kk_match.proofs.Exact.{starts_last, has_tests, tests_right, tests_turned, reached_below}
+use Rattle.kk_match.proofs.Exact.{starts_last, has_tests, tests_right, tests_turned, rows_test, reached_below}
 use Rattle.kk_match.proofs.Growth.{reached_at}
 use Rattle.kk_match.proofs.InTurn.{RowsDone, rows_done, states_of_rows, rows_below}
 use Rattle.kk_match.proofs.Made.{types_in}
@@ -121,6 +121,10 @@ module _ (types : List ℕ) (nodes : List NodeTree) where
     turn_decides [] some is constructors same = absurd (omega (arith, some))
     turn_decides (p ∷ ps) some is constructors same =
         subst (λ ns. (t : TypeTree) → AreOfType constructors t (p ∷ ps) → Decides constructors t (p ∷ ps) (turned last ns)) (sym is) (in_turn_decides types p ps last (count ∙ ap length is) constructors same)
+
+pub turn_formed : (types : List ℕ) (ps : List Pattern) (nodes : List NodeTree) (last : ℕ) → nodes ≡ with_rows (lines_from types 0 ps) [] → HasMoreTests types (lines_from types 0 ps) (most_tests ps)
+    → IsFormed types ps (turned last nodes) (count_by is_test (turned last nodes)) true
+turn_formed types ps nodes last is more = (more, tests_turned last nodes ∙ (ap (count_by is_test) is ∙ rows_test (lines_from types 0 ps)))
 
 pub formed_as : (types : List ℕ) (ps : List Pattern) (nodes found : List NodeTree) (tests : ℕ) (by_rows form : Bool) → IsFormed types ps nodes (count_by is_test nodes) form → found ≡ nodes
     → tests ≡ count_by is_test found → by_rows ≡ form → IsFormed types ps found tests by_rows

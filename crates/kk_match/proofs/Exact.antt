@@ -1,5 +1,5 @@
 -- A graph of states has all of them, and its start is the last one.
-use Rattle.std.proofs.Common.{◌≡◌, ℕ, suc, ◌<◌, ◌≤◌, Bool, true, false, Option, None, Some, List, [], ◌∷◌, length, inl, inr, refl, sym, ap, ◌∙◌, subst, arith}
+use Rattle.std.proofs.Common.{◌≡◌, ℕ, suc, ◌<◌, ◌≤◌, Bool, true, false, Option, None, Some, List, [], ◌∷◌, length, inl, inr, refl, sym, ap, ◌∙◌, subst, arith, ◌-◌, zero-add, ◌++◌, ◌+◌}
 use Rattle.std.specs.Prelude.{count_by, cond}
 use Rattle.std.proofs.lemmas.Bool.{cases_lt}
 use Rattle.std.proofs.lemmas.List.Sums.{sum_by-cons, sum_by-append}
@@ -8,11 +8,12 @@ use Rattle.kk_core.specs.declared.decisions.Answer.{Answer}
 use Rattle.kk_core.specs.declared.decisions.Answer.TheVariants.{Number}
 use Rattle.kk_core.specs.Decisions.{NodeTree, chooses, tests}
 use Rattle.kk_match.specs.Parts.{Part}
-use Rattle.kk_match.specs.Graphs.{StateTree, after, test_of, IsReached, at_start, by_answer, by_another, testing, HasTests}
+use Rattle.kk_match.specs.Graphs.{StateTree, after, test_of, IsReached, at_start, by_answer, by_another, weight, testing, HasTests}
 use Rattle.kk_match.specs.Outcomes.{IsOutcome}
 use Rattle.kk_match.specs.Built.{Names, IsRight, no_state, one_more, AreRight}
 use Rattle.kk_match.specs.Growing.{IsGraphOf}
 use Rattle.kk_match.specs.Decided.{is_test}
+use Rattle.kk_match.specs.InTurn.{with_parts, with_rows}
 use Rattle.kk_match.specs.Turned.{turn_node, turned}
 use Rattle.kk_match.proofs.After.{AreBelow, after_below}
 use Rattle.kk_match.proofs.Growth.{reached_at, one_if, tests_as, testing_push}
@@ -113,6 +114,26 @@ tests_turned last (node ∷ nodes) =
     of : (node : NodeTree) → is_test (turn_node last node) ≡ is_test node
     of (chooses row) = refl
     of (tests way edges otherwise) = refl
+
+-- rows in turn have a test for each part
+parts_test : (other : ℕ) (qs : List Part) (nodes : List NodeTree) → count_by is_test (with_parts other qs nodes) ≡ length qs + count_by is_test nodes
+parts_test other [] nodes = sym (zero-add (count_by is_test nodes))
+parts_test other (q ∷ qs) nodes =
+    let test = tests q.at (record { found = q.asked; next = length (with_parts other qs nodes) - 1 } ∷ []) (Some other) in
+    let rest = parts_test other qs nodes in
+    let both = sum_by-append (λ n. cond (is_test n) 1 0) (with_parts other qs nodes) (test ∷ []) in
+    let one = sum_by-cons (λ n. cond (is_test n) 1 0) test [] in
+    omega (arith, rest, both, one)
+
+pub rows_test : (lines : StateTree) → count_by is_test (with_rows lines []) ≡ weight lines
+rows_test [] = refl
+rows_test (line ∷ lines) =
+    let nodes = with_rows lines [] in
+    let rest = rows_test lines in
+    let parts = parts_test (length nodes - 1) line.left (nodes ++ chooses line.row ∷ []) in
+    let both = sum_by-append (λ n. cond (is_test n) 1 0) nodes (chooses line.row ∷ []) in
+    let one = sum_by-cons (λ n. cond (is_test n) 1 0) (chooses line.row) [] in
+    omega (arith, rest, parts, both, one)
 
 pub has_tests : (types : List ℕ) (most : ℕ) (start : StateTree) (nodes : List NodeTree) (graph : IsGraphOf types most start nodes) → HasTests types start (testing graph.states)
 has_tests types most start nodes graph = record {

@@ -12,7 +12,7 @@ use Rattle.kk_source.specs.State.{Value, Store}
 use Rattle.kk_source.specs.ValueTypes.{IsOf}
 use Rattle.kk_core.specs.declared.decisions.Edge.{Edge}
 use Rattle.kk_core.specs.Decisions.{NodeTree, chooses, tests, targets, chosen}
-use Rattle.kk_match.specs.Graphs.{lines_from, HasTests, HasMoreTests}
+use Rattle.kk_match.specs.Graphs.{weight, lines_from, HasTests, HasMoreTests}
 
 -- the first row, from one of a number on, whose pattern matches a value
 abbrev pub first_row : Store → ℕ → List Pattern → Value → Option ℕ
@@ -52,8 +52,8 @@ is_test (tests at edges otherwise) = true
 abbrev pub most_tests : List Pattern → ℕ
 most_tests patterns = 8 * sum_by nodes_of_pattern patterns
 
--- The graph of the states has so many tests, and none of a position twice on a path; or, row by row, it would have more tests
--- than may be.
+-- The graph of the states has so many tests, and none of a position twice on a path. Or it would have more tests than may be;
+-- then the rows are tried one after the other, with a test for each of their parts.
 abbrev pub IsFormed : List ℕ → List Pattern → List NodeTree → ℕ → Bool → Type 0
 IsFormed types patterns nodes count false = HasTests types (lines_from types 0 patterns) count × (count ≤ most_tests patterns) × TestOnce nodes
-IsFormed types patterns nodes count true = HasMoreTests types (lines_from types 0 patterns) (most_tests patterns)
+IsFormed types patterns nodes count true = HasMoreTests types (lines_from types 0 patterns) (most_tests patterns) × (count ≡ weight (lines_from types 0 patterns))

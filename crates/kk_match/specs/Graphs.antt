@@ -1,5 +1,5 @@
 -- The states of a match, and the graph of their tests.
-use Rattle.std.specs.Prelude.{◌≡◌, ◌≢◌, ℕ, suc, ℤ, ◌+◌, Bool, false, List, [], ◌∷◌, AllPairs, Contains, Option, None, Some, is_some, option_map, if◌then◌else◌, nat_eq}
+use Rattle.std.specs.Prelude.{◌≡◌, ◌≢◌, ℕ, suc, ℤ, ◌+◌, Bool, false, List, [], ◌∷◌, length, AllPairs, Contains, Option, None, Some, is_some, option_map, if◌then◌else◌, nat_eq}
 use lib.Pointwise.{pointwise}
 use Rattle.kk_syntax.specs.Patterns.{Pattern}
 use Rattle.kk_core.specs.declared.decisions.Answer.{Answer}
@@ -48,6 +48,11 @@ test_of (line ∷ lines) = first_of line.left
 abbrev pub row_of : StateTree → ℕ
 row_of [] = 0
 row_of (line ∷ lines) = line.row
+
+-- the parts that are left, in all
+abbrev pub weight : StateTree → ℕ
+weight [] = 0
+weight (line ∷ lines) = length line.left + weight lines
 
 -- the state of rows that have these parts, from one of a number on
 abbrev pub lines_of : ℕ → List (List Part) → StateTree

@@ -1,17 +1,17 @@
-use Rattle.std.proofs.Common.{◌≡◌, ◌<◌, ◌-◌, suc, [], length, map, option_map, false, sym, ap, ◌∙◌, subst, arith}
+use Rattle.std.proofs.Common.{◌≡◌, ◌<◌, ◌-◌, suc, [], length, map, option_map, false, sym, ap, ◌∙◌, subst, arith, true}
 use Rattle.std.proofs.lemmas.List.{length-map}
 use Rattle.kk_syntax.specs.Patterns.{pattern_tree}
 use Rattle.kk_syntax.specs.Programs.{constructor_tree}
 use Rattle.kk_syntax.specs.Types.{TypeTree}
 use Rattle.kk_core.specs.Decisions.{node_tree, AreOrderly}
-use Rattle.kk_match.specs.Decided.{AreOfType, Decides, most_tests, IsFormed}
+use Rattle.kk_match.specs.Decided.{AreOfType, Decides, most_tests}
 use Rattle.kk_match.specs.Graphs.{lines_of, lines_from, HasMoreTests}
 use Rattle.kk_match.specs.Growing.{IsGraph, IsGraphOf}
 use Rattle.kk_match.specs.InTurn.{with_rows}
 use Rattle.kk_match.specs.Parts.{types_of}
 use Rattle.kk_match.specs.Turned.{turned}
 use Rattle.kk_match.specs.Views.{part_of, state_tree}
-use Rattle.kk_match.proofs.Decided.{also, also_all, types_same, lines_same, graph_some, graph_orderly, graph_decides, graph_formed, turn_some, turn_orderly, turn_decides, formed_as}
+use Rattle.kk_match.proofs.Decided.{also, also_all, types_same, lines_same, graph_some, graph_orderly, graph_decides, graph_formed, turn_some, turn_orderly, turn_decides, turn_formed, formed_as}
 use Rattle.kk_match.proofs.deciding.decide.Goals as goal
 
 pub finished-requires : goal.finished-requires
@@ -121,4 +121,9 @@ returns-clause-formed c =
     subst (HasMoreTests types (lines_from types 0 ps)) most
     (subst (λ s. HasMoreTests types s c.in_ok-most.most) start
     (subst (λ o. IsGraph types c.in_ok-most.most (state_tree c.in_ok-state.state) (option_map (λ ns. ns.items) o)) c.in-None.is c.in_ok-nodes.ensures)) in
-    also c.finished-in-None.result c.finished-in-None.ensures.by_rows (λ found by. subst (λ b. IsFormed types ps (map node_tree found.nodes.items) found.tests b) (sym by) more)
+    let nodes = map node_tree c.in_ok-nodes-in-None.nodes.items in
+    let last = length c.in_ok-nodes-in-None.nodes.items - 1 in
+    let again = c.in_ok-state-in-None.ensures ∙ (ap (λ qs. lines_of 0 (map (λ q. map part_of q.items) qs)) c.deref-in-None.ensures.value ∙ (ap (lines_of 0) c.in_ok-questions.ensures ∙ lines_same types (λ p. pattern_tree p.now) 0 rows.patterns.items)) in
+    let is : nodes ≡ with_rows (lines_from types 0 ps) [] = c.in_ok-nodes-in-None.ensures ∙ ap (λ s. with_rows s []) again in
+    also_all c.finished-in-None.result c.finished-in-None.ensures.nodes c.finished-in-None.ensures.tests c.finished-in-None.ensures.by_rows
+    (λ found same tests by. formed_as types ps (turned last nodes) (map node_tree found.nodes.items) found.tests found.by_rows true (turn_formed types ps nodes last is more) same tests by)
