@@ -27,7 +27,8 @@ AreOfType constructors t patterns = Each (λ p. IsPatternOf (values_of construct
 -- test looks at is there.
 abbrev pub Decides : List ConstructorTree → TypeTree → List Pattern → List NodeTree → Type 0
 Decides constructors t patterns nodes =
-    (store : Store) (v : Value) (row : ℕ) → IsOf constructors store t v → first_row store 0 patterns v ≡ Some row → chosen (slice_get store) v nodes ≡ Some row
+    (store : Store) (v : Value) (row : ℕ) → IsOf constructors store t v → first_row store 0 patterns v ≡ Some row
+    → chosen (slice_get store) v nodes ≡ Some row
 
 -- ---- which tests
 
@@ -55,5 +56,7 @@ most_tests patterns = 8 * sum_by nodes_of_pattern patterns
 -- The graph of the states has so many tests, and none of a position twice on a path. Or it would have more tests than may be;
 -- then the rows are tried one after the other, with a test for each of their parts.
 abbrev pub IsFormed : List ℕ → List Pattern → List NodeTree → ℕ → Bool → Type 0
-IsFormed types patterns nodes count false = HasTests types (lines_from types 0 patterns) count × (count ≤ most_tests patterns) × TestOnce nodes
-IsFormed types patterns nodes count true = HasMoreTests types (lines_from types 0 patterns) (most_tests patterns) × (count ≡ weight (lines_from types 0 patterns))
+IsFormed types patterns nodes count false =
+    HasTests types (lines_from types 0 patterns) count × (count ≤ most_tests patterns) × TestOnce nodes
+IsFormed types patterns nodes count true =
+    HasMoreTests types (lines_from types 0 patterns) (most_tests patterns) × (count ≡ weight (lines_from types 0 patterns))

@@ -53,12 +53,14 @@ IsNumbered types most before from state later (Some number) = Grows types most b
 -- a state has its node, or too many test
 abbrev pub IsMade : List ℕ → ℕ → GraphTree → StateTree → GraphTree → Option Node → Type 0
 IsMade types most before state later None = IsOver types most before state
-IsMade types most before state later (Some node) = Grows types most before state later × IsRight types later.states state (node_tree node)
+IsMade types most before state later (Some node) =
+    Grows types most before state later × IsRight types later.states state (node_tree node)
 
 -- each edge leads to what its answer leaves
 abbrev pub EdgesLead : List StateTree → List ℕ → StateTree → List Edge → Type 0
 EdgesLead states at state [] = Unit {0}
-EdgesLead states at state (edge ∷ edges) = Names states edge.next (after at (Some edge.found) state) × EdgesLead states at state edges
+EdgesLead states at state (edge ∷ edges) =
+    Names states edge.next (after at (Some edge.found) state) × EdgesLead states at state edges
 
 -- the node behind all edges, if there is one
 abbrev pub OtherLeads : List StateTree → List ℕ → StateTree → Option (Option Answer) → Option ℕ → Type 0

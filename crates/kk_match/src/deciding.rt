@@ -5,9 +5,8 @@ ghost use Rattle.kk_match.specs.Graphs.{lines_of};
 ghost use Rattle.kk_match.specs.Growing.{IsGraph};
 ghost use Rattle.kk_match.specs.Parts.{types_of, parts_of};
 ghost use Rattle.kk_match.specs.Turned.{turned};
-ghost use Rattle.kk_match.specs.Views.{part_of, line_tree, state_tree};
+ghost use Rattle.kk_match.specs.Views.{part_of, line_tree, state_tree, constructors_in, types_in, patterns_in, nodes_in};
 ghost use Rattle.kk_syntax.specs.Patterns.{pattern_tree};
-ghost use Rattle.kk_syntax.specs.Programs.{constructor_tree};
 ghost use Rattle.kk_syntax.specs.Types.{TypeTree};
 
 use crate::graph::{Given, Graph, number_of, tests_in};
@@ -35,10 +34,11 @@ pub struct Rows<'a> {
 /// there is one.
 pub fn decide(alloc: Global, rows: &Rows<'_>) -> Result<Decisions, NoMemory>
     requires { 0 < length rows.now.patterns.items }
-    ensures decides { IfOk result (λ found. (t : TypeTree) → AreOfType (map constructor_tree rows.now.constructors.now) t (map (λ p. pattern_tree p.now) rows.now.patterns.items)
-        → Decides (map constructor_tree rows.now.constructors.now) t (map (λ p. pattern_tree p.now) rows.now.patterns.items) (map node_tree found.nodes.items)) }
-    ensures formed { IfOk result (λ found. IsFormed (types_of rows.now.constructors.now) (map (λ p. pattern_tree p.now) rows.now.patterns.items) (map node_tree found.nodes.items) found.tests found.by_rows) }
-    ensures tests { IfOk result (λ found. found.tests ≡ count_by is_test (map node_tree found.nodes.items)) }
+    ensures decides { IfOk result (λ found. (t : TypeTree) → AreOfType (constructors_in rows.now) t (patterns_in rows.now)
+        → Decides (constructors_in rows.now) t (patterns_in rows.now) (nodes_in found)) }
+    ensures formed { IfOk result (λ found.
+        IsFormed (types_in rows.now) (patterns_in rows.now) (nodes_in found) found.tests found.by_rows) }
+    ensures tests { IfOk result (λ found. found.tests ≡ count_by is_test (nodes_in found)) }
     ensures rows { IfOk result (λ found. found.rows ≡ length rows.now.patterns.items) }
 {
     let count = rows.patterns.len();
@@ -57,7 +57,8 @@ pub fn decide(alloc: Global, rows: &Rows<'_>) -> Result<Decisions, NoMemory>
 
 // What each row asks.
 fn questions_of_rows(alloc: Global, rows: &Rows<'_>) -> Result<Vec<Vec<Question>>, NoMemory>
-    ensures { IfOk result (λ found. map (λ qs. map part_of qs.items) found.items ≡ map (λ p. parts_of (types_of rows.now.constructors.now) [] (pattern_tree p.now)) rows.now.patterns.items) }
+    ensures { IfOk result (λ found. map (λ qs. map part_of qs.items) found.items
+        ≡ map (λ p. parts_of (types_in rows.now) [] (pattern_tree p.now)) rows.now.patterns.items) }
 {
     let mut found = Vec::new(alloc);
     for pattern in &rows.patterns {
@@ -97,7 +98,8 @@ fn graph(
     most: usize,
     start: State<'_>,
 ) -> Result<Option<Vec<Node>>, NoMemory>
-    ensures { IfOk result (λ found. IsGraph (types_of constructors.now) most (state_tree start.entry) (option_map (λ nodes. nodes.items) found)) }
+    ensures { IfOk result (λ found. IsGraph (types_of constructors.now) most (state_tree start.entry)
+        (option_map (λ nodes. nodes.items) found)) }
 {
     let given = Given {
         alloc,
@@ -122,9 +124,9 @@ fn finished(
     by_rows: bool,
 ) -> Result<Decisions, NoMemory>
     requires { AreOrderly (turned (length nodes.items - 1) (map node_tree nodes.items)) rows }
-    ensures nodes { IfOk result (λ found. map node_tree found.nodes.items ≡ turned (length nodes.items - 1) (map node_tree nodes.items)) }
+    ensures nodes { IfOk result (λ found. nodes_in found ≡ turned (length nodes.items - 1) (map node_tree nodes.items)) }
     ensures rows { IfOk result (λ found. found.rows ≡ rows) }
-    ensures tests { IfOk result (λ found. found.tests ≡ count_by is_test (map node_tree found.nodes.items)) }
+    ensures tests { IfOk result (λ found. found.tests ≡ count_by is_test (nodes_in found)) }
     ensures by_rows { IfOk result (λ found. found.by_rows ≡ by_rows) }
 {
     let nodes = turned(alloc, nodes)?;

@@ -5,8 +5,7 @@ ghost use Rattle.kk_match.specs.Decided.{is_test};
 ghost use Rattle.kk_match.specs.Graphs.{test_of, after};
 ghost use Rattle.kk_match.specs.Growing.{AreApart, IsBuilt, IsNumbered, IsMade, HasEdges, HasOther, IsPut};
 ghost use Rattle.kk_match.specs.Outcomes.{IsOutcome, with_lines};
-ghost use Rattle.kk_match.specs.Parts.{types_of};
-ghost use Rattle.kk_match.specs.Views.{part_of, state_tree, graph_tree};
+ghost use Rattle.kk_match.specs.Views.{part_of, state_tree, graph_tree, types_given};
 
 use crate::outcome::{asked, unlisted};
 use crate::question::Question;
@@ -51,8 +50,9 @@ impl<'a> Graph<'a> {
     /// than may test. The recursion is as deep as a path of tests.
     #[cycle(number)]
     pub fn number(&mut self, given: &Given<'_>, state: State<'a>) -> Result<Option<u32>, NoMemory>
-        requires { IsBuilt (types_of given.now.constructors.now) given.now.most (graph_tree self.old) }
-        ensures { IfOk result (IsNumbered (types_of given.now.constructors.now) given.now.most (graph_tree self.old) (state_tree state.entry) (state_tree state.entry) (graph_tree self.new)) }
+        requires { IsBuilt (types_given given.now) given.now.most (graph_tree self.old) }
+        ensures { IfOk result (IsNumbered (types_given given.now) given.now.most (graph_tree self.old)
+            (state_tree state.entry) (state_tree state.entry) (graph_tree self.new)) }
     {
         if let Some(known) = self.states.get_index_of(&state) {
             let number = number_of(known)?;
@@ -67,8 +67,9 @@ impl<'a> Graph<'a> {
     // The node of a state.
     #[cycle(number)]
     fn node(&mut self, given: &Given<'_>, state: &State<'a>) -> Result<Option<Node>, NoMemory>
-        requires { IsBuilt (types_of given.now.constructors.now) given.now.most (graph_tree self.old) }
-        ensures { IfOk result (IsMade (types_of given.now.constructors.now) given.now.most (graph_tree self.old) (state_tree state.now) (graph_tree self.new)) }
+        requires { IsBuilt (types_given given.now) given.now.most (graph_tree self.old) }
+        ensures { IfOk result (IsMade (types_given given.now) given.now.most (graph_tree self.old)
+            (state_tree state.now) (graph_tree self.new)) }
     {
         match state.test() {
             Some(test) => self.branch(given, state, test),
@@ -84,9 +85,10 @@ impl<'a> Graph<'a> {
         state: &State<'a>,
         test: &Question,
     ) -> Result<Option<Node>, NoMemory>
-        requires built { IsBuilt (types_of given.now.constructors.now) given.now.most (graph_tree self.old) }
+        requires built { IsBuilt (types_given given.now) given.now.most (graph_tree self.old) }
         requires is_test { test_of (state_tree state.now) ≡ Some (part_of test.now) }
-        ensures { IfOk result (IsMade (types_of given.now.constructors.now) given.now.most (graph_tree self.old) (state_tree state.now) (graph_tree self.new)) }
+        ensures { IfOk result (IsMade (types_given given.now) given.now.most (graph_tree self.old)
+            (state_tree state.now) (graph_tree self.new)) }
     {
         let answers = asked(given.alloc, given.constructors, test, state)?;
         let Some(edges) = self.edges(given, state, test, &answers)? else {
@@ -108,10 +110,11 @@ impl<'a> Graph<'a> {
         test: &Question,
         answers: &[Answer],
     ) -> Result<Option<Vec<Edge>>, NoMemory>
-        requires built { IsBuilt (types_of given.now.constructors.now) given.now.most (graph_tree self.old) }
+        requires built { IsBuilt (types_given given.now) given.now.most (graph_tree self.old) }
         requires is_test { test_of (state_tree state.now) ≡ Some (part_of test.now) }
-        requires answers { answers.now ≡ with_lines (types_of given.now.constructors.now) (part_of test.now) [] (state_tree state.now) }
-        ensures { IfOk result (λ found. HasEdges (types_of given.now.constructors.now) given.now.most (graph_tree self.old) (state_tree state.now) (part_of test.now) answers.now (graph_tree self.new) (option_map (λ edges. edges.items) found)) }
+        requires answers { answers.now ≡ with_lines (types_given given.now) (part_of test.now) [] (state_tree state.now) }
+        ensures { IfOk result (λ found. HasEdges (types_given given.now) given.now.most (graph_tree self.old)
+            (state_tree state.now) (part_of test.now) answers.now (graph_tree self.new) (option_map (λ edges. edges.items) found)) }
     {
         let mut edges = Vec::new(given.alloc);
         for answer in answers {
@@ -135,9 +138,10 @@ impl<'a> Graph<'a> {
         test: &Question,
         answers: &[Answer],
     ) -> Result<Option<Option<u32>>, NoMemory>
-        requires built { IsBuilt (types_of given.now.constructors.now) given.now.most (graph_tree self.old) }
+        requires built { IsBuilt (types_given given.now) given.now.most (graph_tree self.old) }
         requires is_test { test_of (state_tree state.now) ≡ Some (part_of test.now) }
-        ensures { IfOk result (HasOther (types_of given.now.constructors.now) given.now.most (graph_tree self.old) (state_tree state.now) (part_of test.now) answers.now (graph_tree self.new)) }
+        ensures { IfOk result (HasOther (types_given given.now) given.now.most (graph_tree self.old)
+            (state_tree state.now) (part_of test.now) answers.now (graph_tree self.new)) }
     {
         match unlisted(given.constructors, test.asked, answers)? {
             Some(outcome) => match self.step(given, state, test, outcome)? {
@@ -157,10 +161,11 @@ impl<'a> Graph<'a> {
         test: &Question,
         outcome: Option<Answer>,
     ) -> Result<Option<u32>, NoMemory>
-        requires built { IsBuilt (types_of given.now.constructors.now) given.now.most (graph_tree self.old) }
+        requires built { IsBuilt (types_given given.now) given.now.most (graph_tree self.old) }
         requires is_test { test_of (state_tree state.now) ≡ Some (part_of test.now) }
-        requires outcome { IsOutcome (types_of given.now.constructors.now) test.now.asked outcome }
-        ensures { IfOk result (IsNumbered (types_of given.now.constructors.now) given.now.most (graph_tree self.old) (state_tree state.now) (after test.now.at.items outcome (state_tree state.now)) (graph_tree self.new)) }
+        requires outcome { IsOutcome (types_given given.now) test.now.asked outcome }
+        ensures { IfOk result (IsNumbered (types_given given.now) given.now.most (graph_tree self.old)
+            (state_tree state.now) (after test.now.at.items outcome (state_tree state.now)) (graph_tree self.new)) }
     {
         let later = state.after(given.alloc, &test.at, outcome)?;
         self.number(given, later)
@@ -173,9 +178,10 @@ impl<'a> Graph<'a> {
         state: State<'a>,
         node: Node,
     ) -> Result<Option<u32>, NoMemory>
-        requires built { IsBuilt (types_of given.now.constructors.now) given.now.most (graph_tree self.old) }
-        requires right { IsRight (types_of given.now.constructors.now) (map state_tree self.old.states.keys) (state_tree state) (node_tree node) }
-        ensures { IfOk result (IsNumbered (types_of given.now.constructors.now) given.now.most (graph_tree self.old) (state_tree state.entry) (state_tree state.entry) (graph_tree self.new)) }
+        requires built { IsBuilt (types_given given.now) given.now.most (graph_tree self.old) }
+        requires right { IsRight (types_given given.now) (map state_tree self.old.states.keys) (state_tree state) (node_tree node) }
+        ensures { IfOk result (IsNumbered (types_given given.now) given.now.most (graph_tree self.old)
+            (state_tree state.entry) (state_tree state.entry) (graph_tree self.new)) }
     {
         let tests = is_test(&node);
         let (number, is_new) = put(&mut self.states, state)?;
@@ -195,7 +201,8 @@ impl<'a> Graph<'a> {
 // The number of a state, which is put behind the others where it is new, and whether it is.
 fn put<'a>(states: &mut IndexSet<State<'a>>, state: State<'a>) -> Result<(u32, bool), NoMemory>
     requires { AreApart (map state_tree states.old.keys) }
-    ensures { IfOk result (λ found. IsPut (map state_tree states.old.keys) (state_tree state.entry) (map state_tree states.new.keys) found.0 found.1) }
+    ensures { IfOk result (λ found. IsPut (map state_tree states.old.keys) (state_tree state.entry)
+        (map state_tree states.new.keys) found.0 found.1) }
 {
     let (index, is_new) = states.insert_full(state)?;
     let number = number_of(index)?;
