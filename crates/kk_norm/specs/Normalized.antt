@@ -1,7 +1,7 @@
 -- The core form of a program. The variables of a core body are numbered from the number of its parameters on, in the
 -- order of the text, those of an expression's parts before its own: an expression takes as many numbers as its size, the
--- own one last, so what is computed later has the greater number. Which decisions a match has is left open here: `[]` stands in
--- their place, and the promise on a core form is still made for programs without matches alone.
+-- own one last, so what is computed later has the greater number. First the core form as it is written today, of programs
+-- without matches (a match would have no decisions); then what a core form of any program is.
 use Rattle.std.specs.Prelude.{ℕ, ◌≡◌, ◌+◌, List, [], ◌∷◌, map, Bool, true, false, length}
 use Rattle.kk_syntax.specs.declared.program.Form.{Form}
 use Rattle.kk_syntax.specs.declared.program.Form.TheVariants.{Call}
