@@ -3,6 +3,7 @@ pub mod Closed
 pub mod CoreTyped
 pub mod CoreTypedPrograms
 pub mod Delivery
+pub mod Examples
 pub mod Facts
 pub mod Forms
 pub mod Functions
