@@ -14,7 +14,8 @@ use Rattle.kk_norm.specs.OpenedCells.{openings}
 
 -- In a type with the one constructor 7, the pattern of a pair whose second part is a pair: `Pair(x, Pair(_, y))`.
 abbrev nested : Pattern
-nested = constructor 7 (part (pattern_variable 1) (part (constructor 7 (part anything (part (pattern_variable 2) no_part))) no_part))
+nested =
+    constructor 7 (part (pattern_variable 1) (part (constructor 7 (part anything (part (pattern_variable 2) no_part))) no_part))
 
 -- match p { Pair(x, Pair(_, y)) -> x - y }, where p is parameter 0, x is variable 1 and y is variable 2
 abbrev body : Tree
@@ -36,12 +37,23 @@ one_row false i is = absurd (cc)
 decides : (constructors : List ConstructorTree) → Decides constructors (nested ∷ []) (chooses 0 ∷ [])
 decides constructors = λ t store v i of value is. one_row (matches store nested v) i is
 
-pub is_its_code : (constructors : List ConstructorTree) → IsCode constructors (final true) [] 1 body (use_of 0 (case 0 (chooses 0 ∷ []) arms))
+pub is_its_code : (constructors : List ConstructorTree)
+    → IsCode constructors (final true) [] 1 body (use_of 0 (case 0 (chooses 0 ∷ []) arms))
 is_its_code constructors = (
   chooses 0 ∷ [],
   arms,
   decides constructors,
-  (subtraction, no_arm, refl, (use_of 4 (compute 5 (Binary Subtract) (1 ∷ 4 ∷ []) (give 5)), (compute 5 (Binary Subtract) (1 ∷ 4 ∷ []) (give 5), refl, refl), refl), refl),
+  (
+    subtraction,
+    no_arm,
+    refl,
+    (
+      use_of 4 (compute 5 (Binary Subtract) (1 ∷ 4 ∷ []) (give 5)),
+      (compute 5 (Binary Subtract) (1 ∷ 4 ∷ []) (give 5), refl, refl),
+      refl,
+    ),
+    refl,
+  ),
   refl,
 )
 

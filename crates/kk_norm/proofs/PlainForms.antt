@@ -10,9 +10,11 @@ use Rattle.kk_norm.specs.Normalized.{Then, final, next, size, size_all, atom, at
 
 mutual
   -- the code of an expression without matches is the one that is written
-  plain_code : (constructors : List ConstructorTree) (k : Then) (names : Names) (n : ℕ) (e : Tree) → NoMatches e → IsCode constructors k names n e (code k names n e)
+  plain_code : (constructors : List ConstructorTree) (k : Then) (names : Names) (n : ℕ) (e : Tree) → NoMatches e
+      → IsCode constructors k names n e (code k names n e)
   plain_code constructors k names n (variable x) plain = refl
-  plain_code constructors k names n (apply form es) plain = plain_codes constructors names n es (finish k (n + size_all es) form (atoms names n es)) plain
+  plain_code constructors k names n (apply form es) plain =
+      plain_codes constructors names n es (finish k (n + size_all es) form (atoms names n es)) plain
   plain_code constructors k names n (branch e positive negative) plain = (
     code (within k) names (n + size e) positive,
     code (within k) names (n + size e + size positive) negative,
@@ -27,7 +29,8 @@ mutual
     plain_code constructors (next _) names n first plain.0,
   )
 
-  plain_codes : (constructors : List ConstructorTree) (names : Names) (n : ℕ) (es : Trees) (last : Code) → NoMatchesAll es → AreCodes constructors names n es last (code_all names n es last)
+  plain_codes : (constructors : List ConstructorTree) (names : Names) (n : ℕ) (es : Trees) (last : Code) → NoMatchesAll es
+      → AreCodes constructors names n es last (code_all names n es last)
   plain_codes constructors names n no_tree last plain = refl
   plain_codes constructors names n (tree first rest) last plain = (
     code_all names (n + size first) rest last,
@@ -35,7 +38,8 @@ mutual
     plain_code constructors (next _) names n first plain.0,
   )
 
-plain_cores : (constructors : List ConstructorTree) (functions : List FunctionTree) → ArePlain functions → AreCoresOf constructors functions (map normal_function functions)
+plain_cores : (constructors : List ConstructorTree) (functions : List FunctionTree) → ArePlain functions
+    → AreCoresOf constructors functions (map normal_function functions)
 plain_cores constructors [] plain = refl
 plain_cores constructors (function ∷ functions) plain = (
   record {
@@ -47,4 +51,5 @@ plain_cores constructors (function ∷ functions) plain = (
 )
 
 pub plain_form : (program : ProgramTree) → ArePlain program.functions → IsCoreForm program (normal_program program)
-plain_form program plain = record { functions = plain_cores program.constructors program.functions plain; texts = refl; main = refl }
+plain_form program plain =
+    record { functions = plain_cores program.constructors program.functions plain; texts = refl; main = refl }
