@@ -17,6 +17,7 @@ pub mod Openings
 pub mod PatternNames
 pub mod Picking
 pub mod Plain
+pub mod PlainCodes
 pub mod PlainForms
 pub mod ProgramTrees
 pub mod Programs

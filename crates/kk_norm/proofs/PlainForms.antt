@@ -7,7 +7,8 @@ use Rattle.kk_core.specs.Codes as Core
 use Rattle.kk_core.specs.Codes.{Code, FunctionCode, ProgramCode}
 use Rattle.kk_norm.specs.Names.{Names, named}
 use Rattle.kk_norm.specs.NoMatches.{NoMatches, NoMatchesAll, ArePlain}
-use Rattle.kk_norm.specs.Normalized.{Then, final, next, size, size_all, atom, atoms, within, joined, finish, code, code_all, normal_function, normal_program, IsCode, AreCodes, IsCoreOf, AreCoresOf, IsCoreForm}
+use Rattle.kk_norm.specs.Normalized.{Then, final, next, size, size_all, atom, atoms, within, joined, finish, IsCode, AreCodes, IsCoreOf, AreCoresOf, IsCoreForm}
+use Rattle.kk_norm.proofs.PlainCodes.{code, code_all, normal_function, normal_program}
 
 mutual
   -- the code of an expression without matches is the one that is written
@@ -76,21 +77,28 @@ mutual
   only_code constructors k names n (sequence binder first rest) c plain coded =
       only_code constructors (next coded.0) names n first c plain.0 coded.2
       ∙ ap (λ (later : Code). code (next later) names n first)
-      (only_code constructors k (named (variable_of binder) (atom names n first) names) (n + size first) rest coded.0 plain.1 coded.1)
+      (only_code constructors k (named (variable_of binder) (atom names n first) names)
+      (n + size first) rest coded.0 plain.1 coded.1)
 
   only_codes : (constructors : List ConstructorTree) (names : Names) (n : ℕ) (es : Trees) (last c : Code) → NoMatchesAll es
       → AreCodes constructors names n es last c → c ≡ code_all names n es last
   only_codes constructors names n no_tree last c plain coded = coded
   only_codes constructors names n (tree first rest) last c plain coded =
       only_code constructors (next coded.0) names n first c plain.0 coded.2
-      ∙ ap (λ (later : Code). code (next later) names n first) (only_codes constructors names (n + size first) rest last coded.0 plain.1 coded.1)
+      ∙ ap (λ (later : Code). code (next later) names n first)
+      (only_codes constructors names (n + size first) rest last coded.0 plain.1 coded.1)
 
 only_core : (constructors : List ConstructorTree) (function : FunctionTree) (core : FunctionCode) → NoMatches function.body
     → IsCoreOf constructors function core → core ≡ normal_function function
 only_core constructors function core plain is =
     ap (λ (p : ℕ). record { parameters = p; variables = core.variables; body = core.body }) is.parameters
     ∙ (ap (λ (v : ℕ). record { parameters = length function.parameters; variables = v; body = core.body }) is.variables
-    ∙ ap (λ (body : Code). record { parameters = length function.parameters; variables = length function.parameters + size function.body; body = body })
+    ∙ ap (λ (body : Code). record {
+      parameters = length function.parameters;
+      variables = length function.parameters + size
+          function.body;
+      body = body;
+    })
     (only_code constructors (final true) [] (length function.parameters) function.body core.body plain is.body))
 
 only_cores : (constructors : List ConstructorTree) (functions : List FunctionTree) (cores : List FunctionCode) → ArePlain functions
@@ -102,9 +110,14 @@ only_cores constructors (function ∷ functions) (core ∷ cores) plain are =
     ∙ ap (λ (more : List FunctionCode). normal_function function ∷ more)
     (only_cores constructors functions cores (λ f other is. plain (suc f) other is) are.1)
 
-pub only_form : (program : ProgramTree) (core : ProgramCode) → ArePlain program.functions → IsCoreForm program core → core ≡ normal_program program
+pub only_form : (program : ProgramTree) (core : ProgramCode) → ArePlain program.functions → IsCoreForm program core
+    → core ≡ normal_program program
 only_form program core plain form =
     ap (λ (functions : List FunctionCode). record { functions = functions; texts = core.texts; main = core.main })
     (only_cores program.constructors program.functions core.functions plain form.functions)
-    ∙ (ap (λ (texts : List (List ℕ)). record { functions = map normal_function program.functions; texts = texts; main = core.main }) form.texts
+    ∙ (ap (λ (texts : List (List ℕ)). record {
+      functions = map normal_function program.functions;
+      texts = texts;
+      main = core.main;
+    }) form.texts
     ∙ ap (λ (main : ℕ). record { functions = map normal_function program.functions; texts = program.texts; main = main }) form.main)

@@ -43,20 +43,23 @@ pub record WritesValue (e : Tree) (old new : Writer) (x : ℕ) : Type 0 where
   pub number : new.next ≡ old.next + size e
   pub names : new.names.items ≡ old.names.items
   pub value : x ≡ atom (names_of old.names.items) old.next e
-  pub steps : (constructors : List ConstructorTree) (rest : Code) → IsWritten constructors (next rest) (names_of old.names.items) old.next e old new rest
+  pub steps : (constructors : List ConstructorTree) (rest : Code)
+      → IsWritten constructors (next rest) (names_of old.names.items) old.next e old new rest
 
 -- the same of several expressions, whose values are in xs
 pub record WritesValues (es : Trees) (old new : Writer) (xs : List ℕ) : Type 0 where
   pub number : new.next ≡ old.next + size_all es
   pub names : new.names.items ≡ old.names.items
   pub values : xs ≡ atoms (names_of old.names.items) old.next es
-  pub steps : (constructors : List ConstructorTree) (rest : Code) → (code : Code) × AreCodes constructors (names_of old.names.items) old.next es rest code × (behind new rest ≡ behind old code)
+  pub steps : (constructors : List ConstructorTree) (rest : Code)
+      → (code : Code) × AreCodes constructors (names_of old.names.items) old.next es rest code × (behind new rest ≡ behind old code)
 
 -- statements are written: what comes behind them in their block is then numbered and named as in the block
 pub record WritesStatements (statements : List StatementTree) (last : Tree) (old new : Writer) : Type 0 where
   pub number : new.next + size last ≡ old.next + size (block_of statements last)
   pub value : atom (names_of new.names.items) new.next last ≡ atom (names_of old.names.items) old.next (block_of statements last)
-  pub steps : (constructors : List ConstructorTree) (k : Then) (code : Code) → IsCode constructors k (names_of new.names.items) new.next last code
+  pub steps : (constructors : List ConstructorTree) (k : Then) (code : Code)
+      → IsCode constructors k (names_of new.names.items) new.next last code
       → IsWritten constructors k (names_of old.names.items) old.next (block_of statements last) old new code
 
 -- the names of a writer are among those of another: they are its first ones
@@ -67,7 +70,8 @@ KeepsNames old new = take (length old.names.items) new.names.items ≡ old.names
 pub record WritesEnd (tail : Bool) (e : Tree) (old new : Writer) (last : Code) : Type 0 where
   pub number : new.next ≡ old.next + size e
   pub names : new.names.items ≡ old.names.items
-  pub steps : (constructors : List ConstructorTree) → IsWritten constructors (final tail) (names_of old.names.items) old.next e old new last
+  pub steps : (constructors : List ConstructorTree)
+      → IsWritten constructors (final tail) (names_of old.names.items) old.next e old new last
 
 -- a code goes on by variable a as the codes of two expressions whose numbers begin at n
 abbrev pub IsChoice : List ConstructorTree → Bool → Names → ℕ → ℕ → Tree → Tree → Code → Type 0
@@ -79,12 +83,16 @@ IsChoice constructors tail names n a positive negative code =
 pub record WritesChoice (tail : Bool) (e positive negative : Tree) (old new : Writer) (last : Code) : Type 0 where
   pub number : new.next ≡ old.next + size e + size positive + size negative
   pub names : new.names.items ≡ old.names.items
-  pub last_is : (constructors : List ConstructorTree) → IsChoice constructors tail (names_of old.names.items) (old.next + size e) (atom (names_of old.names.items) old.next e) positive negative last
-  pub steps : (constructors : List ConstructorTree) (rest : Code) → IsWritten constructors (next rest) (names_of old.names.items) old.next e old new rest
+  pub last_is : (constructors : List ConstructorTree)
+      → IsChoice constructors tail (names_of old.names.items) (old.next + size e)
+      (atom (names_of old.names.items) old.next e) positive negative last
+  pub steps : (constructors : List ConstructorTree) (rest : Code)
+      → IsWritten constructors (next rest) (names_of old.names.items) old.next e old new rest
 
 -- an expression is written as a block of its own, and nothing is added to the steps
 pub record WritesBlock (tail : Bool) (e : Tree) (old new : Writer) (block : Code) : Type 0 where
   pub number : new.next ≡ old.next + size e
   pub names : new.names.items ≡ old.names.items
-  pub block_is : (constructors : List ConstructorTree) → IsCode constructors (final tail) (names_of old.names.items) old.next e block
+  pub block_is : (constructors : List ConstructorTree)
+      → IsCode constructors (final tail) (names_of old.names.items) old.next e block
   pub steps : new.steps.items ≡ old.steps.items

@@ -39,6 +39,11 @@ pub invariant_of-result : goal.invariant_of-result
 invariant_of-result c =
     let program : ProgramTree = ground_program c.args.given.now in
     record {
-      main_in = omega (arith, as_many program.constructors program.functions _ (c.in_ok-functions.ensures program.constructors),
-          length-map c.in_ok-functions.functions.items function_code, main_in_range c.args.given.now c.requires.typed, c.in_ok-functions.functions.ok.0);
+      main_in = omega (
+        arith,
+        as_many program.constructors program.functions _ (c.in_ok-functions.ensures program.constructors),
+        length-map c.in_ok-functions.functions.items function_code,
+        main_in_range c.args.given.now c.requires.typed,
+        c.in_ok-functions.functions.ok.0,
+      );
     }
