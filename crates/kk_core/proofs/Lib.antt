@@ -1,1 +1,9 @@
+mod ChosenArms
 mod Examples
+mod PlainTypes
+mod Safe
+mod SafeRuns
+mod SafeSteps
+mod Stands
+mod TypedExamples
+mod TypedStates

@@ -1,48 +1,30 @@
 -- What it is that a run of the core machine is never stuck: in each of its states, the step finds what it asks for. The machine
 -- itself has an answer for everything: it stays where no arm is chosen, no cell of that constructor is named or no function is
 -- there, and takes a default for what is missing.
-use Rattle.std.specs.Prelude.{◌≡◌, ◌<◌, ℕ, ℤ, Bool, List, [], ◌∷◌, map, length, Some, slice_get}
+use Rattle.std.specs.Prelude.{◌≡◌, ℕ, Bool, List, [], map, length, Some, slice_get}
 use Rattle.kk_base.specs.Machines.{state}
-use Rattle.kk_syntax.specs.declared.operator.UnaryOperator.TheVariants.{Negate, Not}
-use Rattle.kk_syntax.specs.declared.program.Form.{Form}
-use Rattle.kk_syntax.specs.declared.program.Form.TheVariants.{Number, Unit as Nothing, ReadByte, PrintText, Unary, Binary, Print, Construct, Call}
 use Rattle.kk_syntax.specs.Programs.{ConstructorTree}
-use Rattle.kk_source.specs.State.{Value, integer, unit, place, Environment}
+use Rattle.kk_source.specs.State.{Value, unit, place, Environment}
 use Rattle.kk_source.specs.Live.{value_of}
 use Rattle.kk_source.specs.FormEffects.{truth}
+use Rattle.kk_source.specs.NeverStuck.{ArgumentsFit}
 use Rattle.kk_core.specs.Codes.{Code, give, tail_call, branch, case, compute, unpack, FunctionCode, ProgramCode}
 use Rattle.kk_core.specs.CoreMachine.{arm_at, core_machine}
 use Rattle.kk_core.specs.CoreStates.{CoreSetting, Join, CallFrame, CoreControl, running, stopped, CoreConfiguration, CoreState, core_first_state}
 use Rattle.kk_core.specs.Decisions.{chosen}
 
 module _ (constructors : List ConstructorTree) (program : ProgramCode) where
-  -- a function is there, and takes as many values
+  -- a call is of a function that is there, and has as many arguments as that has parameters
   abbrev pub CallFits : ℕ → List Value → Type 0
   CallFits f vs = (function : FunctionCode) × (slice_get program.functions f ≡ Some function) × (length vs ≡ function.parameters)
-
-  -- What a form asks of the values of its arguments. `!` takes `False` or `True`; the other operators, and a print, take
-  -- integers. A construction takes as many values as its constructor has fields. The constructor is there, as is the string
-  -- literal that is printed.
-  abbrev pub ArgumentsFit : Form → List Value → Type 0
-  ArgumentsFit (Number number) vs = vs ≡ []
-  ArgumentsFit Nothing vs = vs ≡ []
-  ArgumentsFit ReadByte vs = vs ≡ []
-  ArgumentsFit (PrintText form text) vs = (vs ≡ []) × (text < length program.texts)
-  ArgumentsFit (Unary Negate) vs = (n : ℤ) × (vs ≡ integer n ∷ [])
-  ArgumentsFit (Unary Not) vs = (t : Bool) × (vs ≡ truth t ∷ [])
-  ArgumentsFit (Binary operator) vs = (n m : ℤ) × (vs ≡ integer n ∷ integer m ∷ [])
-  ArgumentsFit (Print form) vs = (n : ℤ) × (vs ≡ integer n ∷ [])
-  ArgumentsFit (Construct c) vs =
-      (constructor : ConstructorTree) × (slice_get constructors c ≡ Some constructor) × (length vs ≡ length constructor.fields)
-  ArgumentsFit (Call f) vs = CallFits f vs
 
   -- the value of the last function, that of `main`, is `()`
   abbrev pub ResultFits : Value → List Join → List CallFrame → Type 0
   ResultFits v [] [] = v ≡ unit
   ResultFits v _ _ = Unit {0}
 
-  -- What a code asks. A branch tests `False` or `True`; decisions choose a row that has an arm; and an opening finds a cell of
-  -- its constructor, with as many fields.
+  -- What a code asks. A branch tests `False` or `True`; decisions choose a row that has an arm; an opening finds a cell of its
+  -- constructor, with as many fields; and a form has the arguments that it asks for in the store machine, too.
   abbrev pub CodeFits : Code → Environment → List Join → CoreConfiguration → Type 0
   CodeFits (give x) environment joins c = ResultFits (value_of environment x) joins c.frames
   CodeFits (tail_call f arguments) environment joins c = CallFits f (map (value_of environment) arguments)
@@ -50,7 +32,8 @@ module _ (constructors : List ConstructorTree) (program : ProgramCode) where
   CodeFits (case x decisions arms) environment joins c =
       (row : ℕ) × (body : Code) × (chosen (slice_get c.store) (value_of environment x) decisions ≡ Some row)
       × (arm_at arms row ≡ Some body)
-  CodeFits (compute x form arguments rest) environment joins c = ArgumentsFit form (map (value_of environment) arguments)
+  CodeFits (compute x form arguments rest) environment joins c =
+      ArgumentsFit constructors program.texts CallFits form (map (value_of environment) arguments)
   CodeFits (unpack x by fields rest) environment joins c =
       (at : ℕ) × (vs : List Value) × (value_of environment x ≡ place at)
       × (slice_get c.store at ≡ Some (record { made_by = by; fields = vs })) × (length vs ≡ length fields)

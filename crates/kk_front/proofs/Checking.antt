@@ -32,7 +32,8 @@ module _ (program : ProgramTree) (plain : IsPlainProgram program) where
   all_covered : Each (IsFunctionCovered program) program.functions
   all_covered =
       each_from (IsFunctionCovered program) program.functions
-      (λ f function there. subst (λ (all : List (List Outline)). Each (IsMatchCovered program) all) (sym (no_matches function.body (plain.bodies f function there))) tt)
+      (λ f function there. subst (λ (all : List (List Outline)). Each (IsMatchCovered program) all)
+      (sym (no_matches function.body (plain.bodies f function there))) tt)
 
   main_function : HasMain program → HasMainFunction program
   main_function main =
@@ -44,7 +45,8 @@ module _ (program : ProgramTree) (plain : IsPlainProgram program) where
         result = main.result;
       }
 
-  program_checked : HasMain program → HasTruthsAndTexts program → (typings : List (List Choice)) → ArePrincipal program typings → IsChecked program typings
+  program_checked : HasMain program → HasTruthsAndTexts program → (typings : List (List Choice)) → ArePrincipal program typings
+      → IsChecked program typings
   program_checked main whole typings are =
       record {
         as_many = are.length;
@@ -55,7 +57,10 @@ module _ (program : ProgramTree) (plain : IsPlainProgram program) where
         main = main_function main;
       }
 
-pub checked : ResolvedProgramsHaveMain → ResolvedProgramsArePlain → ResolvedProgramsHaveTruthsAndTexts → (text : List ℕ) (program : ProgramTree) (typings : List (List Choice)) → IsProgramOf text program → ArePrincipal program typings → IsChecked program typings
+pub checked : ResolvedProgramsHaveMain → ResolvedProgramsArePlain → ResolvedProgramsHaveTruthsAndTexts → (text : List ℕ)
+    (program : ProgramTree) (typings : List (List Choice)) → IsProgramOf text program → ArePrincipal program typings
+    → IsChecked program typings
 checked mains plain whole text program typings h are =
     let facts = found text program h in
-    program_checked program (plain facts.tree program facts.resolved) (mains facts.tree program facts.resolved) (whole facts.tree program facts.resolved) typings are
+    program_checked program (plain facts.tree program facts.resolved) (mains facts.tree program facts.resolved)
+    (whole facts.tree program facts.resolved) typings are

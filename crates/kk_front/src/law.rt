@@ -11,8 +11,8 @@ use kk_names::{
     resolved_programs_have_truths_and_texts,
 };
 
-/// An accepted program is typed, is checked with principal typings, and keeps each limit: on the parameters and on the nodes of a function, on the number of
-/// its instances, and on their nodes in all. It is a law, and does nothing.
+/// An accepted program is typed, it is checked with its principal typings, and it keeps each limit: on the parameters and on
+/// the nodes of a function, on the number of its instances, and on their nodes in all. It is a law, and does nothing.
 pub fn accepted_programs_are_typed()
     ensures typed { (text : List ℕ) (program : ProgramTree) → IsProgramOf text program → IsTyped program }
     ensures checked { (text : List ℕ) (program : ProgramTree) (typings : List (List Choice)) → IsProgramOf text program

@@ -8,7 +8,8 @@ use Rattle.kk_syntax.specs.Typing.{Choice}
 use Rattle.kk_mono.specs.Instances.{InstanceTree, main_instance, called_at, calls, origin_in, IsAtTypes, IsInstanceProgram}
 use Rattle.kk_instances.proofs.Called.{IsThere, there_too, each_found}
 
-module _ (program made : ProgramTree) (typings : List (List Choice)) (instances : List InstanceTree) (is : IsInstanceProgram program typings instances made) where
+module _ (program made : ProgramTree) (typings : List (List Choice)) (instances : List InstanceTree)
+    (is : IsInstanceProgram program typings instances made) where
   abbrev origin : ℕ → ℕ
   origin = origin_in instances
 
@@ -18,7 +19,8 @@ module _ (program made : ProgramTree) (typings : List (List Choice)) (instances 
     pub there : slice_get program.functions instance.function ≡ Some function
     pub at_types : IsAtTypes instances instance.at (slice_index_or typings instance.function []) function found
 
-  pub found_at : (n : ℕ) (instance : InstanceTree) (found : FunctionTree) → slice_get instances n ≡ Some instance → slice_get made.functions n ≡ Some found → IsFound n instance found
+  pub found_at : (n : ℕ) (instance : InstanceTree) (found : FunctionTree) → slice_get instances n ≡ Some instance
+      → slice_get made.functions n ≡ Some found → IsFound n instance found
   found_at n instance found instance_is found_is =
       let each = is.each n instance found instance_is found_is in
       record { function = each.0; there = each.1; at_types = each.2 }
@@ -34,10 +36,12 @@ module _ (program made : ProgramTree) (typings : List (List Choice)) (instances 
   pub instance_at : (n : ℕ) (found : FunctionTree) → slice_get made.functions n ≡ Some found → IsThere instances n
   instance_at n found at = there_too made.functions instances n found is.as_many at
 
-  pub bodies : (n : ℕ) (found : FunctionTree) → IsThere instances n → slice_get made.functions n ≡ Some found → Each (IsThere instances) (calls found.body)
+  pub bodies : (n : ℕ) (found : FunctionTree) → IsThere instances n → slice_get made.functions n ≡ Some found
+      → Each (IsThere instances) (calls found.body)
   bodies n found instance at =
       let known = found_at n instance.0 found instance.1 at in
-      each_found instances (calls found.body) (called_at instance.0.at (slice_index_or typings instance.0.function [])) known.at_types.called
+      each_found instances (calls found.body)
+      (called_at instance.0.at (slice_index_or typings instance.0.function [])) known.at_types.called
 
   -- ---- `main`
 

@@ -47,12 +47,14 @@ binary_put s r GreaterEqual = refl
 
 -- the signature of a function at types
 abbrev pub signature_at : FunctionTree → List TypeTree → Signature
-signature_at function ts = record { parameters = map (put (type_at ts)) function.parameters; result = put (type_at ts) function.result }
+signature_at function ts =
+    record { parameters = map (put (type_at ts)) function.parameters; result = put (type_at ts) function.result }
 
 -- the instances have these signatures
 abbrev pub AreSigned : ProgramTree → List InstanceTree → List Signature → Type 0
 AreSigned program instances signatures =
-    (n f : ℕ) (ts : List TypeTree) (function : FunctionTree) → slice_get instances n ≡ Some (record { function = f; at = ts }) → slice_get program.functions f ≡ Some function → slice_get signatures n ≡ Some (signature_at function ts)
+    (n f : ℕ) (ts : List TypeTree) (function : FunctionTree) → slice_get instances n ≡ Some (record { function = f; at = ts })
+    → slice_get program.functions f ≡ Some function → slice_get signatures n ≡ Some (signature_at function ts)
 
 -- what instances are typed by
 abbrev pub table_with : ProgramTree → List Signature → Table
@@ -63,7 +65,8 @@ pub record IsSound (program : ProgramTree) (all : List (List Outline)) (texts : 
   pub covered : Each (IsMatchCovered program) all
   pub there : Each (λ text. text < length program.texts) texts
 
-module _ (program : ProgramTree) (instances : List InstanceTree) (signatures : List Signature) (signed : AreSigned program instances signatures) (at : List TypeTree) where
+module _ (program : ProgramTree) (instances : List InstanceTree) (signatures : List Signature)
+    (signed : AreSigned program instances signatures) (at : List TypeTree) where
   abbrev origin : ℕ → ℕ
   origin = origin_in instances
 
@@ -80,21 +83,26 @@ module _ (program : ProgramTree) (instances : List InstanceTree) (signatures : L
   abbrev pub AreCalled : List Choice → List ℕ → Type 0
   AreCalled choices ns = map (slice_get instances) ns ≡ map Some (called_at at choices)
 
-  along : (choices others more : List Choice) (ns : List ℕ) → choices ≡ others → AreCalled (choices ++ more) ns → AreCalled (others ++ more) ns
+  along : (choices others more : List Choice) (ns : List ℕ) → choices ≡ others → AreCalled (choices ++ more) ns
+      → AreCalled (others ++ more) ns
   along choices others more ns is called = called ∙ ap (λ (cs : List Choice). map Some (called_at at (cs ++ more))) is
 
-  split : (choices one other more : List Choice) (ms ks ns : List ℕ) → choices ≡ one ++ other → AreCalled (choices ++ more) ((ms ++ ks) ++ ns) → AreCalled (one ++ (other ++ more)) (ms ++ (ks ++ ns))
+  split : (choices one other more : List Choice) (ms ks ns : List ℕ) → choices ≡ one ++ other
+      → AreCalled (choices ++ more) ((ms ++ ks) ++ ns) → AreCalled (one ++ (other ++ more)) (ms ++ (ks ++ ns))
   split choices one other more ms ks ns is called =
       ap (map (slice_get instances)) (sym (append_assoc ms ks ns))
-      ∙ (along choices (one ++ other) more ((ms ++ ks) ++ ns) is called ∙ ap (λ (cs : List Choice). map Some (called_at at cs)) (append_assoc one other more))
+      ∙ (along choices (one ++ other) more ((ms ++ ks) ++ ns) is called
+      ∙ ap (λ (cs : List Choice). map Some (called_at at cs)) (append_assoc one other more))
 
   -- patterns call nothing
-  held_calls : (ts : List TypeTree) (rest more : List Choice) → called_at at ((map holding ts ++ rest) ++ more) ≡ called_at at (rest ++ more)
+  held_calls : (ts : List TypeTree) (rest more : List Choice)
+      → called_at at ((map holding ts ++ rest) ++ more) ≡ called_at at (rest ++ more)
   held_calls [] rest more = refl
   held_calls (t ∷ ts) rest more = held_calls ts rest more
 
   mutual
-    pattern_calls : (scope : Scope) (p : Pattern) (t : TypeTree) (choices more : List Choice) → IsPatternTyped program scope p t choices → called_at at (choices ++ more) ≡ called_at at more
+    pattern_calls : (scope : Scope) (p : Pattern) (t : TypeTree) (choices more : List Choice)
+        → IsPatternTyped program scope p t choices → called_at at (choices ++ more) ≡ called_at at more
     pattern_calls scope anything t choices more none = ap (λ (cs : List Choice). called_at at (cs ++ more)) none
     pattern_calls scope (pattern_variable x) t choices more typed = ap (λ (cs : List Choice). called_at at (cs ++ more)) typed.1
     pattern_calls scope (exactly value) t choices more typed = ap (λ (cs : List Choice). called_at at (cs ++ more)) typed.1
@@ -102,7 +110,8 @@ module _ (program : ProgramTree) (instances : List InstanceTree) (signatures : L
         ap (λ (cs : List Choice). called_at at (cs ++ more)) uses.choices_are
         ∙ patterns_calls scope parts (map (put (type_at uses.at)) uses.of.parameters) uses.rest more uses.arguments
 
-    patterns_calls : (scope : Scope) (ps : Patterns) (ts : List TypeTree) (choices more : List Choice) → ArePatternsTyped program scope ps ts choices → called_at at (choices ++ more) ≡ called_at at more
+    patterns_calls : (scope : Scope) (ps : Patterns) (ts : List TypeTree) (choices more : List Choice)
+        → ArePatternsTyped program scope ps ts choices → called_at at (choices ++ more) ≡ called_at at more
     patterns_calls scope no_part [] choices more none = ap (λ (cs : List Choice). called_at at (cs ++ more)) none
     patterns_calls scope no_part (t ∷ ts) choices more typed = absurd typed
     patterns_calls scope (part first rest) [] choices more typed = absurd typed
@@ -111,7 +120,9 @@ module _ (program : ProgramTree) (instances : List InstanceTree) (signatures : L
         ∙ (ap (called_at at) (append_assoc one other more)
         ∙ (pattern_calls scope first t one (other ++ more) first_typed ∙ patterns_calls scope rest ts other more rest_typed))
 
-  row_calls : (scope : Scope) (p : Pattern) (u : TypeTree) (ts : List TypeTree) (choices rest one other more : List Choice) (ns : List ℕ) → choices ≡ map holding ts ++ rest → rest ≡ one ++ other → IsPatternTyped program scope p u one → AreCalled (choices ++ more) ns → AreCalled (other ++ more) ns
+  row_calls : (scope : Scope) (p : Pattern) (u : TypeTree) (ts : List TypeTree) (choices rest one other more : List Choice)
+      (ns : List ℕ) → choices ≡ map holding ts ++ rest → rest ≡ one ++ other → IsPatternTyped program scope p u one
+      → AreCalled (choices ++ more) ns → AreCalled (other ++ more) ns
   row_calls scope p u ts choices rest one other more ns is rest_is typed called =
       called
       ∙ ap (map Some)
@@ -121,7 +132,8 @@ module _ (program : ProgramTree) (instances : List InstanceTree) (signatures : L
       ∙ (ap (called_at at) (append_assoc one other more) ∙ pattern_calls scope p u one (other ++ more) typed))))
 
   -- what a form calls stands before what its arguments call
-  form_calls : (form : Form) (ts : List TypeTree) (choices : List Choice) (ns : List ℕ) → AreCalled (chosen_at (renamed_form origin form) ts ++ choices) (called_by form ++ ns) → AreCalled choices ns
+  form_calls : (form : Form) (ts : List TypeTree) (choices : List Choice) (ns : List ℕ)
+      → AreCalled (chosen_at (renamed_form origin form) ts ++ choices) (called_by form ++ ns) → AreCalled choices ns
   form_calls (Call n) ts choices ns called = cc
   form_calls (Construct c) ts choices ns called = called
   form_calls _ ts choices ns called = called
@@ -135,44 +147,68 @@ module _ (program : ProgramTree) (instances : List InstanceTree) (signatures : L
   abbrev given : Scheme → List TypeTree → TypeTree
   given scheme ts = ground (put (type_at ts) scheme.result)
 
-  form_is : (form : Form) (scheme made : Scheme) (ts : List TypeTree) → Some made ≡ Some scheme → IsFormTyped table form (taken made ts) (given made ts) → IsFormTyped table form (taken scheme ts) (given scheme ts)
-  form_is form scheme made ts is typed = let same : made ≡ scheme = cc in subst (λ (s : Scheme). IsFormTyped table form (taken s ts) (given s ts)) same typed
+  form_is : (form : Form) (scheme made : Scheme) (ts : List TypeTree) → Some made ≡ Some scheme
+      → IsFormTyped table form (taken made ts) (given made ts) → IsFormTyped table form (taken scheme ts) (given scheme ts)
+  form_is form scheme made ts is typed =
+      let same : made ≡ scheme = cc in subst (λ (s : Scheme). IsFormTyped table form (taken s ts) (given s ts)) same typed
 
-  call_there : (n : ℕ) (function : FunctionTree) (ts : List TypeTree) → slice_get program.functions (origin n) ≡ Some function → slice_get instances n ≡ Some (record { function = origin n; at = map ground ts }) → IsFormTyped table (Call n) (taken (function_scheme function) ts) (given (function_scheme function) ts)
+  call_there : (n : ℕ) (function : FunctionTree) (ts : List TypeTree) → slice_get program.functions (origin n) ≡ Some function
+      → slice_get instances n ≡ Some (record { function = origin n; at = map ground ts })
+      → IsFormTyped table (Call n) (taken (function_scheme function) ts) (given (function_scheme function) ts)
   call_there n function ts there instance =
       signed n (origin n) (map ground ts) function instance there
-      ∙ (ap (λ (us : List TypeTree). Some (record { parameters = us; result = put (type_at (map ground ts)) function.result })) (sym (put_all_at_types (type_at at) ts function.parameters))
-      ∙ ap (λ (t : TypeTree). Some (record { parameters = taken (function_scheme function) ts; result = t })) (sym (put_at_types (type_at at) ts function.result)))
+      ∙ (ap (λ (us : List TypeTree). Some (record { parameters = us; result = put (type_at (map ground ts)) function.result }))
+      (sym (put_all_at_types (type_at at) ts function.parameters))
+      ∙ ap (λ (t : TypeTree). Some (record { parameters = taken (function_scheme function) ts; result = t }))
+      (sym (put_at_types (type_at at) ts function.result)))
 
-  call_typed : (n : ℕ) (scheme : Scheme) (ts : List TypeTree) → form_scheme program (Call (origin n)) ≡ Some scheme → slice_get instances n ≡ Some (record { function = origin n; at = map ground ts }) → IsFormTyped table (Call n) (taken scheme ts) (given scheme ts)
+  call_typed : (n : ℕ) (scheme : Scheme) (ts : List TypeTree) → form_scheme program (Call (origin n)) ≡ Some scheme
+      → slice_get instances n ≡ Some (record { function = origin n; at = map ground ts })
+      → IsFormTyped table (Call n) (taken scheme ts) (given scheme ts)
   call_typed n scheme ts is instance = by_function (slice_get program.functions (origin n)) refl is
     where
-      by_function : (o : Option FunctionTree) → slice_get program.functions (origin n) ≡ o → option_map function_scheme o ≡ Some scheme → IsFormTyped table (Call n) (taken scheme ts) (given scheme ts)
+      by_function : (o : Option FunctionTree) → slice_get program.functions (origin n) ≡ o
+          → option_map function_scheme o ≡ Some scheme → IsFormTyped table (Call n) (taken scheme ts) (given scheme ts)
       by_function None there none = absurd (cc)
-      by_function (Some function) there found = form_is (Call n) scheme (function_scheme function) ts found (call_there n function ts there instance)
+      by_function (Some function) there found =
+          form_is (Call n) scheme (function_scheme function) ts found (call_there n function ts there instance)
 
-  form_at : (form : Form) (scheme : Scheme) (ts : List TypeTree) (t : TypeTree) (choices : List Choice) (ns : List ℕ) → form_scheme program (renamed_form origin form) ≡ Some scheme → length ts ≡ scheme.variables → t ≡ put (type_at ts) scheme.result → Each (λ text. text < length program.texts) (printed_by form) → AreCalled (chosen_at (renamed_form origin form) ts ++ choices) (called_by form ++ ns) → IsFormTyped table form (taken scheme ts) (given scheme ts)
+  form_at : (form : Form) (scheme : Scheme) (ts : List TypeTree) (t : TypeTree) (choices : List Choice) (ns : List ℕ)
+      → form_scheme program (renamed_form origin form) ≡ Some scheme → length ts ≡ scheme.variables
+      → t ≡ put (type_at ts) scheme.result → Each (λ text. text < length program.texts) (printed_by form)
+      → AreCalled (chosen_at (renamed_form origin form) ts ++ choices) (called_by form ++ ns)
+      → IsFormTyped table form (taken scheme ts) (given scheme ts)
   form_at (Number value) scheme ts t choices ns is long gives texts called = form_is (Number value) scheme _ ts is (refl, refl)
   form_at Nothing scheme ts t choices ns is long gives texts called = form_is Nothing scheme _ ts is (refl, refl)
   form_at ReadByte scheme ts t choices ns is long gives texts called = form_is ReadByte scheme _ ts is (refl, refl)
-  form_at (PrintText form text) scheme ts t choices ns is long gives texts called = form_is (PrintText form text) scheme _ ts is (refl, refl, texts.0)
+  form_at (PrintText form text) scheme ts t choices ns is long gives texts called =
+      form_is (PrintText form text) scheme _ ts is (refl, refl, texts.0)
   form_at (Unary operator) scheme ts t choices ns is long gives texts called =
-      form_is (Unary operator) scheme _ ts is (ap (λ (u : TypeTree). u ∷ []) (unary_put (type_at at) (type_at ts) operator), unary_put (type_at at) (type_at ts) operator)
-  form_at (Binary operator) scheme ts t choices ns is long gives texts called = form_is (Binary operator) scheme _ ts is (refl, binary_put (type_at at) (type_at ts) operator)
+      form_is (Unary operator) scheme _ ts is
+      (ap (λ (u : TypeTree). u ∷ []) (unary_put (type_at at) (type_at ts) operator), unary_put (type_at at) (type_at ts) operator)
+  form_at (Binary operator) scheme ts t choices ns is long gives texts called =
+      form_is (Binary operator) scheme _ ts is (refl, binary_put (type_at at) (type_at ts) operator)
   form_at (Print form) scheme ts t choices ns is long gives texts called = form_is (Print form) scheme _ ts is (refl, refl)
   form_at (Construct c) scheme ts t choices ns is long gives texts called =
-      fields_put program.constructors (type_at at) (put (type_at ts) scheme.result) c (map (put (type_at ts)) scheme.parameters) (fields_found program c scheme ts (put (type_at ts) scheme.result) is long refl)
+      fields_put program.constructors (type_at at) (put (type_at ts) scheme.result) c (map (put (type_at ts)) scheme.parameters)
+      (fields_found program c scheme ts (put (type_at ts) scheme.result) is long refl)
   form_at (Call n) scheme ts t choices ns is long gives texts called =
       let instance : slice_get instances n ≡ Some (record { function = origin n; at = map ground ts }) = cc in
       call_typed n scheme ts is instance
 
-  form_typed : (form : Form) (scheme : Scheme) (ts : List TypeTree) (t : TypeTree) (choices : List Choice) (ns : List ℕ) → form_scheme program (renamed_form origin form) ≡ Some scheme → length ts ≡ scheme.variables → t ≡ put (type_at ts) scheme.result → Each (λ text. text < length program.texts) (printed_by form) → AreCalled (chosen_at (renamed_form origin form) ts ++ choices) (called_by form ++ ns) → IsFormTyped table form (taken scheme ts) (ground t)
+  form_typed : (form : Form) (scheme : Scheme) (ts : List TypeTree) (t : TypeTree) (choices : List Choice) (ns : List ℕ)
+      → form_scheme program (renamed_form origin form) ≡ Some scheme → length ts ≡ scheme.variables
+      → t ≡ put (type_at ts) scheme.result → Each (λ text. text < length program.texts) (printed_by form)
+      → AreCalled (chosen_at (renamed_form origin form) ts ++ choices) (called_by form ++ ns)
+      → IsFormTyped table form (taken scheme ts) (ground t)
   form_typed form scheme ts t choices ns is long gives texts called =
-      subst (λ (u : TypeTree). IsFormTyped table form (taken scheme ts) (ground u)) (sym gives) (form_at form scheme ts t choices ns is long gives texts called)
+      subst (λ (u : TypeTree). IsFormTyped table form (taken scheme ts) (ground u)) (sym gives)
+      (form_at form scheme ts t choices ns is long gives texts called)
 
   -- ---- expressions
 
-  parts : (xs ys : List (List Outline)) (ms ns : List ℕ) → IsSound program (xs ++ ys) (ms ++ ns) → IsSound program xs ms × IsSound program ys ns
+  parts : (xs ys : List (List Outline)) (ms ns : List ℕ) → IsSound program (xs ++ ys) (ms ++ ns)
+      → IsSound program xs ms × IsSound program ys ns
   parts xs ys ms ns sound =
       let covered = each_parts (IsMatchCovered program) xs ys sound.covered in
       let there = each_parts (λ text. text < length program.texts) ms ns sound.there in
@@ -181,60 +217,103 @@ module _ (program : ProgramTree) (instances : List InstanceTree) (signatures : L
   abbrev IsTreeSound : Tree → Type 0
   IsTreeSound e = IsSound program (matches e) (printed e)
 
-  rows_covered : (scope : Scope) (rows : Rows) (u t : TypeTree) (choices : List Choice) → AreRowsTypedBy program scope (renamed_rows origin rows) u t choices → IsMatchCovered program (asked_by rows) → IsCovered (values_of program.constructors) (ground u) (asked_by rows)
+  rows_covered : (scope : Scope) (rows : Rows) (u t : TypeTree) (choices : List Choice)
+      → AreRowsTypedBy program scope (renamed_rows origin rows) u t choices → IsMatchCovered program (asked_by rows)
+      → IsCovered (values_of program.constructors) (ground u) (asked_by rows)
   rows_covered scope rows u t choices typed covered =
       covered (ground u)
       (each_pattern_put program.constructors (type_at at) u (asked_by rows)
-      (subst (Each (IsPatternOf (values_of program.constructors) u)) (same_asked origin rows) (rows_of_type program scope (renamed_rows origin rows) u t choices typed)))
+      (subst (Each (IsPatternOf (values_of program.constructors) u)) (same_asked origin rows)
+      (rows_of_type program scope (renamed_rows origin rows) u t choices typed)))
 
   mutual
-    pub tree_typed : (e : Tree) (scope inner : Scope) (t : TypeTree) (choices more : List Choice) (ns : List ℕ) → Stands (type_at at) scope inner → IsTypedBy program scope (renamed origin e) t choices → IsTreeSound e → AreCalled (choices ++ more) (calls e ++ ns) → HasType table inner e (ground t) × AreCalled more ns
-    tree_typed (variable x) scope inner t choices more ns stands typed sound called = (stands x t typed.0, along choices [] more ns typed.1 called)
+    pub tree_typed : (e : Tree) (scope inner : Scope) (t : TypeTree) (choices more : List Choice) (ns : List ℕ)
+        → Stands (type_at at) scope inner → IsTypedBy program scope (renamed origin e) t choices → IsTreeSound e
+        → AreCalled (choices ++ more) (calls e ++ ns) → HasType table inner e (ground t) × AreCalled more ns
+    tree_typed (variable x) scope inner t choices more ns stands typed sound called =
+        (stands x t typed.0, along choices [] more ns typed.1 called)
     tree_typed (apply form es) scope inner t choices more ns stands uses sound called =
         let us = map (put (type_at uses.at)) uses.of.parameters in
-        let here = split choices (chosen_at (renamed_form origin form) uses.at) uses.rest more (called_by form) (calls_of_all es) ns uses.choices_are called in
+        let here =
+        split choices (chosen_at (renamed_form origin form) uses.at) uses.rest more (called_by form)
+        (calls_of_all es) ns uses.choices_are called in
         let both = parts [] (gathered_all of_matches es) (printed_by form) (gathered_all of_texts es) sound in
-        let rest = trees_typed es scope inner us uses.rest more ns stands uses.arguments both.1 (form_calls form uses.at (uses.rest ++ more) (calls_of_all es ++ ns) here) in
-        ((map ground us, rest.0, form_typed form uses.of uses.at t (uses.rest ++ more) (calls_of_all es ++ ns) uses.is uses.each uses.gives both.0.there here), rest.1)
-    tree_typed (branch e positive negative) scope inner t choices more ns stands (one, other, is, e_typed, (two, three, rest_is, p_typed, n_typed)) sound called =
-        let both = parts (matches e) (matches positive ++ matches negative) (printed e) (printed positive ++ printed negative) sound in
+        let rest =
+        trees_typed es scope inner us uses.rest more ns stands uses.arguments both.1
+        (form_calls form uses.at (uses.rest ++ more) (calls_of_all es ++ ns) here) in
+        let taken_is =
+        form_typed form uses.of uses.at t (uses.rest ++ more) (calls_of_all es ++ ns) uses.is uses.each uses.gives
+        both.0.there here in
+        ((map ground us, rest.0, taken_is), rest.1)
+    tree_typed (branch e positive negative) scope inner t choices more ns stands (one, other, is, e_typed, rest) sound called =
+        let both =
+        parts (matches e) (matches positive ++ matches negative) (printed e) (printed positive ++ printed negative) sound in
         let either = parts (matches positive) (matches negative) (printed positive) (printed negative) both.1 in
-        let first = tree_typed e scope inner bool one (other ++ more) ((calls positive ++ calls negative) ++ ns) stands e_typed both.0 (split choices one other more (calls e) (calls positive ++ calls negative) ns is called) in
-        let second = tree_typed positive scope inner t two (three ++ more) (calls negative ++ ns) stands p_typed either.0 (split other two three more (calls positive) (calls negative) ns rest_is first.1) in
-        let third = tree_typed negative scope inner t three more ns stands n_typed either.1 second.1 in
+        let first =
+        tree_typed e scope inner bool one (other ++ more) ((calls positive ++ calls negative) ++ ns) stands e_typed both.0
+        (split choices one other more (calls e) (calls positive ++ calls negative) ns is called) in
+        let second =
+        tree_typed positive scope inner t rest.0 (rest.1 ++ more) (calls negative ++ ns) stands rest.3 either.0
+        (split other rest.0 rest.1 more (calls positive) (calls negative) ns rest.2 first.1) in
+        let third = tree_typed negative scope inner t rest.1 more ns stands rest.4 either.1 second.1 in
         ((first.0, second.0, third.0), third.1)
     tree_typed (match e rows) scope inner t choices more ns stands holds sound called =
         let typed = holds.inside in
-        let both = parts (matches e) (gathered_rows of_matches rows) (printed e) (gathered_rows of_texts rows) (record { covered = sound.covered.1; there = sound.there }) in
-        let held = along choices (holding holds.of ∷ holds.rest) more ((calls e ++ calls_of_rows rows) ++ ns) holds.choices_are called in
-        let first = tree_typed e scope inner holds.of typed.0 (typed.1 ++ more) (calls_of_rows rows ++ ns) stands typed.3 both.0 (split holds.rest typed.0 typed.1 more (calls e) (calls_of_rows rows) ns typed.2 held) in
+        let both =
+        parts (matches e) (gathered_rows of_matches rows) (printed e) (gathered_rows of_texts rows)
+        (record { covered = sound.covered.1; there = sound.there }) in
+        let held =
+        along choices (holding holds.of ∷ holds.rest) more ((calls e ++ calls_of_rows rows) ++ ns) holds.choices_are called in
+        let first =
+        tree_typed e scope inner holds.of typed.0 (typed.1 ++ more) (calls_of_rows rows ++ ns) stands typed.3 both.0
+        (split holds.rest typed.0 typed.1 more (calls e) (calls_of_rows rows) ns typed.2 held) in
         let second = rows_typed rows scope inner holds.of t typed.1 more ns stands typed.4 both.1 first.1 in
         ((ground holds.of, first.0, second.0, rows_covered scope rows holds.of t typed.1 typed.4 sound.covered.0), second.1)
     tree_typed (sequence binder e rest) scope inner t choices more ns stands holds sound called =
         let typed = holds.inside in
         let both = parts (matches e) (matches rest) (printed e) (printed rest) sound in
         let held = along choices (holding holds.of ∷ holds.rest) more ((calls e ++ calls rest) ++ ns) holds.choices_are called in
-        let first = tree_typed e scope inner holds.of typed.0 (typed.1 ++ more) (calls rest ++ ns) stands typed.3 both.0 (split holds.rest typed.0 typed.1 more (calls e) (calls rest) ns typed.2 held) in
-        let second = tree_typed rest (with_binder binder holds.of scope) (with_binder binder (ground holds.of) inner) t typed.1 more ns (stands_binder (type_at at) binder scope inner holds.of stands) typed.4 both.1 first.1 in
+        let first =
+        tree_typed e scope inner holds.of typed.0 (typed.1 ++ more) (calls rest ++ ns) stands typed.3 both.0
+        (split holds.rest typed.0 typed.1 more (calls e) (calls rest) ns typed.2 held) in
+        let second =
+        tree_typed rest (with_binder binder holds.of scope) (with_binder binder (ground holds.of) inner) t typed.1 more ns
+        (stands_binder (type_at at) binder scope inner holds.of stands) typed.4 both.1 first.1 in
         ((ground holds.of, first.0, second.0), second.1)
 
-    trees_typed : (es : Trees) (scope inner : Scope) (ts : List TypeTree) (choices more : List Choice) (ns : List ℕ) → Stands (type_at at) scope inner → AreTypedBy program scope (renamed_all origin es) ts choices → IsSound program (gathered_all of_matches es) (gathered_all of_texts es) → AreCalled (choices ++ more) (calls_of_all es ++ ns) → HaveTypes table inner es (map ground ts) × AreCalled more ns
+    trees_typed : (es : Trees) (scope inner : Scope) (ts : List TypeTree) (choices more : List Choice) (ns : List ℕ)
+        → Stands (type_at at) scope inner → AreTypedBy program scope (renamed_all origin es) ts choices
+        → IsSound program (gathered_all of_matches es) (gathered_all of_texts es)
+        → AreCalled (choices ++ more) (calls_of_all es ++ ns) → HaveTypes table inner es (map ground ts) × AreCalled more ns
     trees_typed no_tree scope inner [] choices more ns stands none sound called = (tt, along choices [] more ns none called)
     trees_typed no_tree scope inner (t ∷ ts) choices more ns stands typed sound called = absurd typed
     trees_typed (tree e rest) scope inner [] choices more ns stands typed sound called = absurd typed
     trees_typed (tree e rest) scope inner (t ∷ ts) choices more ns stands (one, other, is, e_typed, rest_typed) sound called =
         let both = parts (matches e) (gathered_all of_matches rest) (printed e) (gathered_all of_texts rest) sound in
-        let first = tree_typed e scope inner t one (other ++ more) (calls_of_all rest ++ ns) stands e_typed both.0 (split choices one other more (calls e) (calls_of_all rest) ns is called) in
+        let first =
+        tree_typed e scope inner t one (other ++ more) (calls_of_all rest ++ ns) stands e_typed both.0
+        (split choices one other more (calls e) (calls_of_all rest) ns is called) in
         let second = trees_typed rest scope inner ts other more ns stands rest_typed both.1 first.1 in
         ((first.0, second.0), second.1)
 
-    rows_typed : (rows : Rows) (scope inner : Scope) (u t : TypeTree) (choices more : List Choice) (ns : List ℕ) → Stands (type_at at) scope inner → AreRowsTypedBy program scope (renamed_rows origin rows) u t choices → IsSound program (gathered_rows of_matches rows) (gathered_rows of_texts rows) → AreCalled (choices ++ more) (calls_of_rows rows ++ ns) → AreRowsTyped table inner rows (ground u) (ground t) × AreCalled more ns
+    rows_typed : (rows : Rows) (scope inner : Scope) (u t : TypeTree) (choices more : List Choice) (ns : List ℕ)
+        → Stands (type_at at) scope inner → AreRowsTypedBy program scope (renamed_rows origin rows) u t choices
+        → IsSound program (gathered_rows of_matches rows) (gathered_rows of_texts rows)
+        → AreCalled (choices ++ more) (calls_of_rows rows ++ ns)
+        → AreRowsTyped table inner rows (ground u) (ground t) × AreCalled more ns
     rows_typed no_row scope inner u t choices more ns stands none sound called = (tt, along choices [] more ns none called)
     rows_typed (row p body rest) scope inner u t choices more ns stands (one, other, is, binds, rest_typed) sound called =
         let typed = binds.inside in
         let bound_scope = with_bound (bound p) binds.at scope in
         let both = parts (matches body) (gathered_rows of_matches rest) (printed body) (gathered_rows of_texts rest) sound in
-        let here = row_calls bound_scope p u binds.at one binds.rest typed.0 typed.1 (other ++ more) (calls body ++ (calls_of_rows rest ++ ns)) binds.choices_are typed.2 typed.3 (split choices one other more (calls body) (calls_of_rows rest) ns is called) in
-        let first = tree_typed body bound_scope (with_pattern program.constructors p (ground u) inner) t typed.1 (other ++ more) (calls_of_rows rest ++ ns) (pattern_stands program (type_at at) p u scope inner binds.at typed.0 stands typed.3) typed.4 both.0 here in
+        let here =
+        row_calls bound_scope p u binds.at one binds.rest typed.0 typed.1 (other ++ more)
+        (calls body ++ (calls_of_rows rest ++ ns)) binds.choices_are typed.2 typed.3
+        (split choices one other more (calls body) (calls_of_rows rest) ns is called) in
+        let first =
+        tree_typed body bound_scope (with_pattern program.constructors p (ground u) inner) t typed.1 (other ++ more)
+        (calls_of_rows rest ++ ns)
+        (pattern_stands program (type_at at) p u scope inner binds.at typed.0 stands typed.3) typed.4 both.0 here in
         let second = rows_typed rest scope inner u t other more ns stands rest_typed both.1 first.1 in
-        ((pattern_put program.constructors (type_at at) u (outline_of p) (pattern_of_type program bound_scope p u typed.0 typed.3), first.0, second.0), second.1)
+        let of_type = pattern_of_type program bound_scope p u typed.0 typed.3 in
+        ((pattern_put program.constructors (type_at at) u (outline_of p) of_type, first.0, second.0), second.1)

@@ -18,13 +18,16 @@ use Rattle.kk_instances.proofs.Found.{found_at, origin_is, function_at, instance
 
 -- The functions that an expression calls have the same signatures under their other numbers. So where it has a type with
 -- those, it has the type itself.
-module _ (signatures others : List Signature) (new : ℕ → ℕ) (P : ℕ → Type 0) (same : (f : ℕ) (s : Signature) → P f → slice_get signatures (new f) ≡ Some s → slice_get others f ≡ Some s) where
-  form_typed : (form : Form) (ts : List TypeTree) (t : TypeTree) → Each P (called_by form) → IsFormTyped signatures (renamed_form new form) ts t → IsFormTyped others form ts t
+module _ (signatures others : List Signature) (new : ℕ → ℕ) (P : ℕ → Type 0)
+    (same : (f : ℕ) (s : Signature) → P f → slice_get signatures (new f) ≡ Some s → slice_get others f ≡ Some s) where
+  form_typed : (form : Form) (ts : List TypeTree) (t : TypeTree) → Each P (called_by form)
+      → IsFormTyped signatures (renamed_form new form) ts t → IsFormTyped others form ts t
   form_typed (Call f) ts t only is = same f _ only.0 is
   form_typed _ ts t only is = is
 
   mutual
-    tree_typed : (e : Tree) (scope : Scope) (t : TypeTree) → Each P (calls e) → HasType signatures scope (renamed new e) t → HasType others scope e t
+    tree_typed : (e : Tree) (scope : Scope) (t : TypeTree) → Each P (calls e) → HasType signatures scope (renamed new e) t
+        → HasType others scope e t
     tree_typed (variable x) scope t only has = has
     tree_typed (apply form es) scope t only has =
         let parts = each_parts P (called_by form) (calls_of_all es) only in
@@ -41,13 +44,15 @@ module _ (signatures others : List Signature) (new : ℕ → ℕ) (P : ℕ → T
         let parts = each_parts P (calls first) (calls rest) only in
         (has.0, tree_typed first scope has.0 parts.0 has.1, tree_typed rest (with_binder binder has.0 scope) t parts.1 has.2)
 
-    trees_typed : (es : Trees) (scope : Scope) (ts : List TypeTree) → Each P (calls_of_all es) → HaveTypes signatures scope (renamed_all new es) ts → HaveTypes others scope es ts
+    trees_typed : (es : Trees) (scope : Scope) (ts : List TypeTree) → Each P (calls_of_all es)
+        → HaveTypes signatures scope (renamed_all new es) ts → HaveTypes others scope es ts
     trees_typed no_tree scope ts only have = have
     trees_typed (tree first rest) scope ts only have =
         let parts = each_parts P (calls first) (calls_of_all rest) only in
         (have.0, have.1, have.2, tree_typed first scope have.0 parts.0 have.3, trees_typed rest scope have.1 parts.1 have.4)
 
-module _ (program made : ProgramTree) (typings : List (List Choice)) (instances : List InstanceTree) (typed : IsTyped program) (is : IsInstanceProgram program typings instances made) where
+module _ (program made : ProgramTree) (typings : List (List Choice)) (instances : List InstanceTree) (typed : IsTyped program)
+    (is : IsInstanceProgram program typings instances made) where
   abbrev origin : ℕ → ℕ
   origin = origin_in instances
 
@@ -76,7 +81,8 @@ module _ (program made : ProgramTree) (typings : List (List Choice)) (instances 
   plainly_found : (n : ℕ) (found : FunctionTree) → Is n → slice_get made.functions n ≡ Some found → IsPlainlyFound n found
   plainly_found n found instance at =
       let known = found_at program made typings instances is n instance.0 found instance.1 at in
-      let there : slice_get program.functions (origin n) ≡ Some known.function = ap (slice_get program.functions) (origin_is program made typings instances is n instance.0 instance.1) ∙ known.there in
+      let there : slice_get program.functions (origin n) ≡ Some known.function =
+      ap (slice_get program.functions) (origin_is program made typings instances is n instance.0 instance.1) ∙ known.there in
       let closed = typed.closed (origin n) known.function there in
       record {
         instance = instance.0;
@@ -105,10 +111,14 @@ module _ (program made : ProgramTree) (typings : List (List Choice)) (instances 
   typed_functions n found at =
       let instance = instance_at program made typings instances is n found at in
       let known = plainly_found n found instance at in
-      subst (λ (ts : List TypeTree). HasType made_signatures (with_parameters 0 ts []) found.body found.result) (sym known.parameters)
+      subst (λ (ts : List TypeTree). HasType made_signatures (with_parameters 0 ts []) found.body found.result)
+      (sym known.parameters)
       (subst (HasType made_signatures (with_parameters 0 known.function.parameters []) found.body) (sym known.result)
-      (tree_typed signatures made_signatures origin Is signed found.body (with_parameters 0 known.function.parameters []) known.function.result (bodies program made typings instances is n found instance at)
-      (subst (λ (body : Tree). HasType signatures (with_parameters 0 known.function.parameters []) body known.function.result) (sym known.body) known.has)))
+      (tree_typed signatures made_signatures origin Is signed found.body
+      (with_parameters 0 known.function.parameters []) known.function.result
+      (bodies program made typings instances is n found instance at)
+      (subst (λ (body : Tree). HasType signatures (with_parameters 0 known.function.parameters []) body known.function.result)
+      (sym known.body) known.has)))
 
   closed_functions : (n : ℕ) (found : FunctionTree) → slice_get made.functions n ≡ Some found → HasClosedTypes found
   closed_functions n found at =
@@ -123,5 +133,7 @@ module _ (program made : ProgramTree) (typings : List (List Choice)) (instances 
   instances_plain = record {
     functions = typed_functions;
     closed = closed_functions;
-    main = signed made.main _ (is_main program made typings instances is) (ap (slice_get signatures) (main_first program made typings instances is) ∙ typed.main);
+    main =
+        signed made.main _ (is_main program made typings instances is)
+        (ap (slice_get signatures) (main_first program made typings instances is) ∙ typed.main);
   }

@@ -20,29 +20,35 @@ module _ (s : ℕ → TypeTree) where
   abbrev pub Stands : Scope → Scope → Type 0
   Stands scope ground = (x : ℕ) (t : TypeTree) → type_in scope x ≡ Some t → type_in ground x ≡ Some (put s t)
 
-  pub stands_one : (scope ground : Scope) (x : ℕ) (u : TypeTree) → Stands scope ground → Stands (record { variable = x; type = u } ∷ scope) (record { variable = x; type = put s u } ∷ ground)
+  pub stands_one : (scope ground : Scope) (x : ℕ) (u : TypeTree) → Stands scope ground
+      → Stands (record { variable = x; type = u } ∷ scope) (record { variable = x; type = put s u } ∷ ground)
   stands_one scope ground x u stands y t = by (x == y)
     where
-      by : (same : Bool) → (if same then Some u else type_in scope y) ≡ Some t → (if same then Some (put s u) else type_in ground y) ≡ Some (put s t)
+      by : (same : Bool) → (if same then Some u else type_in scope y) ≡ Some t
+          → (if same then Some (put s u) else type_in ground y) ≡ Some (put s t)
       by true is = ap (option_map (put s)) is
       by false is = stands y t is
 
-  pub stands_binder : (binder : Binder) (scope ground : Scope) (u : TypeTree) → Stands scope ground → Stands (with_binder binder u scope) (with_binder binder (put s u) ground)
+  pub stands_binder : (binder : Binder) (scope ground : Scope) (u : TypeTree) → Stands scope ground
+      → Stands (with_binder binder u scope) (with_binder binder (put s u) ground)
   stands_binder OfBinder.Nothing scope ground u stands = stands
   stands_binder OfBinder.Wildcard scope ground u stands = stands
   stands_binder (OfBinder.Variable x) scope ground u stands = stands_one scope ground x u stands
 
-  pub stands_parameters : (us : List TypeTree) (next : ℕ) (scope ground : Scope) → Stands scope ground → Stands (with_parameters next us scope) (with_parameters next (map (put s) us) ground)
+  pub stands_parameters : (us : List TypeTree) (next : ℕ) (scope ground : Scope) → Stands scope ground
+      → Stands (with_parameters next us scope) (with_parameters next (map (put s) us) ground)
   stands_parameters [] next scope ground stands = stands
   stands_parameters (u ∷ us) next scope ground stands =
-      stands_parameters us (next + 1) (record { variable = next; type = u } ∷ scope) (record { variable = next; type = put s u } ∷ ground) (stands_one scope ground next u stands)
+      stands_parameters us (next + 1) (record { variable = next; type = u } ∷ scope)
+      (record { variable = next; type = put s u } ∷ ground) (stands_one scope ground next u stands)
 
 -- a variable is none of these
 abbrev IsNone : List ℕ → ℕ → Type 0
 IsNone variables x = Each (λ y. (y == x) ≡ false) variables
 
 -- variables that are bound hide no other
-bound_looks : (xs : List ℕ) (ts : List TypeTree) (scope : Scope) (x : ℕ) → IsNone xs x → type_in (with_bound xs ts scope) x ≡ type_in scope x
+bound_looks : (xs : List ℕ) (ts : List TypeTree) (scope : Scope) (x : ℕ) → IsNone xs x
+    → type_in (with_bound xs ts scope) x ≡ type_in scope x
 bound_looks [] ts scope x none = refl
 bound_looks (y ∷ ys) [] scope x none = refl
 bound_looks (y ∷ ys) (t ∷ ts) scope x none =
@@ -54,23 +60,29 @@ module _ (program : ProgramTree) (s : ℕ → TypeTree) (inner : Scope) where
   -- that it had before.
   abbrev Looks : Scope → Scope → List ℕ → ℕ → Type 0
   Looks ground behind variables x =
-      ((t : TypeTree) × (type_in inner x ≡ Some t) × (type_in behind x ≡ Some (put s t))) ⊎ (IsNone variables x × (type_in behind x ≡ type_in ground x))
+      ((t : TypeTree) × (type_in inner x ≡ Some t) × (type_in behind x ≡ Some (put s t))) ⊎
+      (IsNone variables x × (type_in behind x ≡ type_in ground x))
 
-  looks_both : (xs ys : List ℕ) (ground between behind : Scope) (x : ℕ) → Looks ground between xs x → Looks between behind ys x → Looks ground behind (xs ++ ys) x
+  looks_both : (xs ys : List ℕ) (ground between behind : Scope) (x : ℕ) → Looks ground between xs x → Looks between behind ys x
+      → Looks ground behind (xs ++ ys) x
   looks_both xs ys ground between behind x first (inl found) = inl found
   looks_both xs ys ground between behind x (inl found) (inr other) = inl (found.0, found.1, other.1 ∙ found.2)
   looks_both xs ys ground between behind x (inr one) (inr other) =
       inr (each_both (λ y. (y == x) ≡ false) xs ys one.0 other.0, other.1 ∙ one.1)
 
-  variable_looks : (y : ℕ) (u : TypeTree) (ground : Scope) (x : ℕ) → type_in inner y ≡ Some u → Looks ground (record { variable = y; type = put s u } ∷ ground) (y ∷ []) x
+  variable_looks : (y : ℕ) (u : TypeTree) (ground : Scope) (x : ℕ) → type_in inner y ≡ Some u
+      → Looks ground (record { variable = y; type = put s u } ∷ ground) (y ∷ []) x
   variable_looks y u ground x is = by (y == x) refl
     where
-      by : (b : Bool) → (y == x) ≡ b → ((t : TypeTree) × (type_in inner x ≡ Some t) × ((if b then Some (put s u) else type_in ground x) ≡ Some (put s t))) ⊎ (IsNone (y ∷ []) x × ((if b then Some (put s u) else type_in ground x) ≡ type_in ground x))
+      by : (b : Bool) → (y == x) ≡ b
+          → ((t : TypeTree) × (type_in inner x ≡ Some t) × ((if b then Some (put s u) else type_in ground x) ≡ Some (put s t))) ⊎
+          (IsNone (y ∷ []) x × ((if b then Some (put s u) else type_in ground x) ≡ type_in ground x))
       by true same = inl (u, subst (λ (z : ℕ). type_in inner z ≡ Some u) (eqb-true y x same) is, refl)
       by false other = inr ((other, tt), refl)
 
   mutual
-    pattern_looks : (p : Pattern) (u : TypeTree) (ground : Scope) (choices : List Choice) → IsPatternTyped program inner p u choices → (x : ℕ) → Looks ground (with_pattern program.constructors p (put s u) ground) (bound p) x
+    pattern_looks : (p : Pattern) (u : TypeTree) (ground : Scope) (choices : List Choice) → IsPatternTyped program inner p u choices
+        → (x : ℕ) → Looks ground (with_pattern program.constructors p (put s u) ground) (bound p) x
     pattern_looks anything u ground choices typed x = inr (tt, refl)
     pattern_looks (pattern_variable y) u ground choices typed x = variable_looks y u ground x typed.0
     pattern_looks (exactly value) u ground choices typed x = inr (tt, refl)
@@ -78,10 +90,13 @@ module _ (program : ProgramTree) (s : ℕ → TypeTree) (inner : Scope) where
         let us = map (put (type_at uses.at)) uses.of.parameters in
         let fields : field_types program.constructors (put s u) c ≡ Some (map (put s) us) =
         fields_put program.constructors s u c us (fields_found program c uses.of uses.at u uses.is uses.each uses.gives) in
-        subst (λ (o : Option (List TypeTree)). Looks ground (with_parts program.constructors parts (types_or_none o) ground) (bound_all parts) x) (sym fields)
+        subst (λ (o : Option (List TypeTree)). Looks ground (with_parts program.constructors parts (types_or_none o) ground)
+        (bound_all parts) x) (sym fields)
         (patterns_look parts us ground uses.rest uses.arguments x)
 
-    patterns_look : (ps : Patterns) (us : List TypeTree) (ground : Scope) (choices : List Choice) → ArePatternsTyped program inner ps us choices → (x : ℕ) → Looks ground (with_parts program.constructors ps (map (put s) us) ground) (bound_all ps) x
+    patterns_look : (ps : Patterns) (us : List TypeTree) (ground : Scope) (choices : List Choice)
+        → ArePatternsTyped program inner ps us choices → (x : ℕ)
+        → Looks ground (with_parts program.constructors ps (map (put s) us) ground) (bound_all ps) x
     patterns_look no_part [] ground choices typed x = inr (tt, refl)
     patterns_look no_part (u ∷ us) ground choices typed x = absurd typed
     patterns_look (part first rest) [] ground choices typed x = absurd typed
@@ -91,11 +106,14 @@ module _ (program : ProgramTree) (s : ℕ → TypeTree) (inner : Scope) where
         (pattern_looks first u ground typed.0 typed.3 x) (patterns_look rest us between typed.1 typed.4 x)
 
 -- what a pattern binds stands in the instance as in the function
-pub pattern_stands : (program : ProgramTree) (s : ℕ → TypeTree) (p : Pattern) (u : TypeTree) (scope ground : Scope) (at : List TypeTree) (choices : List Choice) → Stands s scope ground → IsPatternTyped program (with_bound (bound p) at scope) p u choices
+pub pattern_stands : (program : ProgramTree) (s : ℕ → TypeTree) (p : Pattern) (u : TypeTree) (scope ground : Scope)
+    (at : List TypeTree) (choices : List Choice) → Stands s scope ground
+    → IsPatternTyped program (with_bound (bound p) at scope) p u choices
     → Stands s (with_bound (bound p) at scope) (with_pattern program.constructors p (put s u) ground)
 pattern_stands program s p u scope ground at choices stands typed x t is =
     by (pattern_looks program s (with_bound (bound p) at scope) p u ground choices typed x)
   where
-    by : Looks program s (with_bound (bound p) at scope) ground (with_pattern program.constructors p (put s u) ground) (bound p) x → type_in (with_pattern program.constructors p (put s u) ground) x ≡ Some (put s t)
+    by : Looks program s (with_bound (bound p) at scope) ground (with_pattern program.constructors p (put s u) ground) (bound p) x
+        → type_in (with_pattern program.constructors p (put s u) ground) x ≡ Some (put s t)
     by (inl found) = found.2 ∙ ap (option_map (put s)) (sym found.1 ∙ is)
     by (inr other) = other.1 ∙ stands x t (sym (bound_looks (bound p) at scope x other.0) ∙ is)

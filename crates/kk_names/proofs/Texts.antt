@@ -47,7 +47,8 @@ meaning_printless : (names : List Declared) (name : List ℕ) → ArePrintless n
 meaning_printless [] name printless = tt
 meaning_printless (declared ∷ more) name printless = by (bytes_eq declared.name name) (meaning_printless more name printless.1)
   where
-    by : (same : Bool) → IsPrintless (meaning_in more name) → IsPrintless (if same then Some declared.callee else meaning_in more name)
+    by : (same : Bool) → IsPrintless (meaning_in more name)
+        → IsPrintless (if same then Some declared.callee else meaning_in more name)
     by true later = printless.0
     by false later = later
 
@@ -118,9 +119,11 @@ mutual
 abbrev AreBelow : ℕ → List ℕ → Type 0
 AreBelow n = Each (λ text. text < n)
 
-applied_prints : (n : ℕ) (meaning : Option Callee) (arguments : Trees) → IsPrintless meaning → AreBelow n (gathered_all of_texts arguments) → AreBelow n (printed (applied meaning arguments))
+applied_prints : (n : ℕ) (meaning : Option Callee) (arguments : Trees) → IsPrintless meaning
+    → AreBelow n (gathered_all of_texts arguments) → AreBelow n (printed (applied meaning arguments))
 applied_prints n None arguments printless below = tt
-applied_prints n (Some callee) arguments printless below = subst (λ (texts : List ℕ). AreBelow n (texts ++ gathered_all of_texts arguments)) (sym printless) below
+applied_prints n (Some callee) arguments printless below =
+    subst (λ (texts : List ℕ). AreBelow n (texts ++ gathered_all of_texts arguments)) (sym printless) below
 
 variable_prints : (n : ℕ) (by : Option ℕ) → AreBelow n (printed (variable_or_unit by))
 variable_prints n None = tt
@@ -131,42 +134,56 @@ in_turn n = each_both (λ text. text < n)
 
 module _ (functions : List Declared) (names : ArePrintless functions) (n : ℕ) where
   mutual
-    tree_prints : (scope : Scope) (before : Before) (w : Written) → count (past w before) ≤ n → AreBelow n (printed (meant functions scope before w))
+    tree_prints : (scope : Scope) (before : Before) (w : Written) → count (past w before) ≤ n
+        → AreBelow n (printed (meant functions scope before w))
     tree_prints scope before (number value) few = tt
     tree_prints scope before unit few = tt
     tree_prints scope before (variable name) few = variable_prints n (number_in scope name.name)
     tree_prints scope before (call name arguments) few =
-        applied_prints n (meaning_in functions name.name) (meant_all functions scope before arguments) (meaning_printless functions name.name names) (trees_print scope before arguments few)
+        applied_prints n (meaning_in functions name.name) (meant_all functions scope before arguments)
+        (meaning_printless functions name.name names) (trees_print scope before arguments few)
     tree_prints scope before (dot_call first name others) few =
-        applied_prints n (meaning_in functions name.name) (meant_all functions scope before (written first others)) (meaning_printless functions name.name names)
-        (in_turn n _ _ (tree_prints scope before first (let more = all_longer others (past first before) in omega (arith, few, more))) (trees_print scope (past first before) others few))
+        let more = all_longer others (past first before) in
+        applied_prints n (meaning_in functions name.name) (meant_all functions scope before (written first others))
+        (meaning_printless functions name.name names)
+        (in_turn n _ _ (tree_prints scope before first (omega (arith, few, more))) (trees_print scope (past first before) others few))
     tree_prints scope before (construct name arguments) few =
-        applied_prints n (meaning_in constructors name.name) (meant_all functions scope before arguments) (meaning_printless constructors name.name constructors_printless) (trees_print scope before arguments few)
+        applied_prints n (meaning_in constructors name.name) (meant_all functions scope before arguments)
+        (meaning_printless constructors name.name constructors_printless) (trees_print scope before arguments few)
     tree_prints scope before (unary operator operand) few = in_turn n _ [] (tree_prints scope before operand few) tt
     tree_prints scope before (binary operator left right) few =
-        in_turn n _ _ (tree_prints scope before left (let more = longer right (past left before) in omega (arith, few, more))) (in_turn n _ [] (tree_prints scope (past left before) right few) tt)
+        in_turn n _ _ (tree_prints scope before left (let more = longer right (past left before) in omega (arith, few, more)))
+        (in_turn n _ [] (tree_prints scope (past left before) right few) tt)
     tree_prints scope before (both left right) few =
-        in_turn n _ _ (tree_prints scope before left (let more = longer right (past left before) in omega (arith, few, more))) (in_turn n _ [] (tree_prints scope (past left before) right few) tt)
+        in_turn n _ _ (tree_prints scope before left (let more = longer right (past left before) in omega (arith, few, more)))
+        (in_turn n _ [] (tree_prints scope (past left before) right few) tt)
     tree_prints scope before (either left right) few =
-        in_turn n _ _ (tree_prints scope before left (let more = longer right (past left before) in omega (arith, few, more))) (tree_prints scope (past left before) right few)
-    tree_prints scope before (print_text form text) few = ((let more = length-append before.texts (text ∷ []) in omega (arith, few, more)), tt)
+        in_turn n _ _ (tree_prints scope before left (let more = longer right (past left before) in omega (arith, few, more)))
+        (tree_prints scope (past left before) right few)
+    tree_prints scope before (print_text form text) few =
+        ((let more = length-append before.texts (text ∷ []) in omega (arith, few, more)), tt)
     tree_prints scope before (branch condition positive negative) few =
         let two = longer positive (past condition before) in
         let three = longer negative (past positive (past condition before)) in
         in_turn n _ _ (tree_prints scope before condition (omega (arith, few, two, three)))
-        (in_turn n _ _ (tree_prints scope (past condition before) positive (omega (arith, few, three))) (tree_prints scope (past positive (past condition before)) negative few))
+        (in_turn n _ _ (tree_prints scope (past condition before) positive (omega (arith, few, three)))
+        (tree_prints scope (past positive (past condition before)) negative few))
     tree_prints scope before (branch_alone condition positive) few =
         let two = longer positive (past condition before) in
-        in_turn n _ _ (tree_prints scope before condition (omega (arith, few, two))) (in_turn n _ [] (tree_prints scope (past condition before) positive few) tt)
+        in_turn n _ _ (tree_prints scope before condition (omega (arith, few, two)))
+        (in_turn n _ [] (tree_prints scope (past condition before) positive few) tt)
     tree_prints scope before (match scrutinee rows) few = tt
     tree_prints scope before (sequence binder first rest) few =
         let two = longer rest (past first (past_binder binder before)) in
-        in_turn n _ _ (tree_prints scope (past_binder binder before) first (omega (arith, few, two))) (tree_prints (with_binder binder before.variables scope) (past first (past_binder binder before)) rest few)
+        in_turn n _ _ (tree_prints scope (past_binder binder before) first (omega (arith, few, two)))
+        (tree_prints (with_binder binder before.variables scope) (past first (past_binder binder before)) rest few)
 
-    trees_print : (scope : Scope) (before : Before) (ws : Writtens) → count (past_all ws before) ≤ n → AreBelow n (gathered_all of_texts (meant_all functions scope before ws))
+    trees_print : (scope : Scope) (before : Before) (ws : Writtens) → count (past_all ws before) ≤ n
+        → AreBelow n (gathered_all of_texts (meant_all functions scope before ws))
     trees_print scope before no_written few = tt
     trees_print scope before (written first rest) few =
-        in_turn n _ _ (tree_prints scope before first (let more = all_longer rest (past first before) in omega (arith, few, more))) (trees_print scope (past first before) rest few)
+        in_turn n _ _ (tree_prints scope before first (let more = all_longer rest (past first before) in omega (arith, few, more)))
+        (trees_print scope (past first before) rest few)
 
   -- ---- programs
 
@@ -178,20 +195,23 @@ module _ (functions : List Declared) (names : ArePrintless functions) (n : ℕ) 
       let more = texts_longer ds (with_texts texts (function_declaration name parameters effects result body)) in
       omega (arith, one, more)
 
-  functions_print : (ds : List WrittenDeclaration) (texts : List (List ℕ)) → length (with_all_texts texts ds) ≤ n → Each (λ (function : FunctionTree). AreBelow n (printed function.body)) (functions_of functions texts ds)
+  functions_print : (ds : List WrittenDeclaration) (texts : List (List ℕ)) → length (with_all_texts texts ds) ≤ n
+      → Each (λ (function : FunctionTree). AreBelow n (printed function.body)) (functions_of functions texts ds)
   functions_print [] texts few = tt
   functions_print (type_declaration name parameters cases ∷ ds) texts few = functions_print ds texts few
   functions_print (function_declaration name parameters effects result body ∷ ds) texts few =
       let behind = with_texts texts (function_declaration name parameters effects result body) in
       let more = texts_longer ds behind in
-      (tree_prints (with_parameters 0 parameters []) (before_body texts parameters) body (omega (arith, few, more)), functions_print ds behind few)
+      let first = tree_prints (with_parameters 0 parameters []) (before_body texts parameters) body (omega (arith, few, more)) in
+      (first, functions_print ds behind few)
 
 truth : (c : ℕ) → c ≤ 1 → field_types (bool_constructor (codes "False") 0 ∷ bool_constructor (codes "True") 1 ∷ []) bool c ≡ Some []
 truth zero small = refl
 truth (suc zero) small = refl
 truth (suc (suc c)) small = absurd (omega arith)
 
-no_other : (c : ℕ) (ts : List TypeTree) → field_types (bool_constructor (codes "False") 0 ∷ bool_constructor (codes "True") 1 ∷ []) bool c ≡ Some ts → c ≤ 1
+no_other : (c : ℕ) (ts : List TypeTree)
+    → field_types (bool_constructor (codes "False") 0 ∷ bool_constructor (codes "True") 1 ∷ []) bool c ≡ Some ts → c ≤ 1
 no_other zero ts is = omega arith
 no_other (suc zero) ts is = omega arith
 no_other (suc (suc c)) ts is = absurd (cc)
@@ -200,5 +220,7 @@ pub resolved_programs_have_truths_and_texts : ResolvedProgramsHaveTruthsAndTexts
 resolved_programs_have_truths_and_texts tree program resolved =
     subst HasTruthsAndTexts (sym resolved.makes.is) (record {
       truths = record { truths = truth; no_others = no_other };
-      texts = functions_print (functions_in tree.declarations) (functions_printless tree.declarations) (length (texts_meant tree.declarations)) tree.declarations [] (omega arith);
+      texts =
+          functions_print (functions_in tree.declarations) (functions_printless tree.declarations)
+          (length (texts_meant tree.declarations)) tree.declarations [] (omega arith);
     })

@@ -52,7 +52,8 @@ module _ (ts : List TypeTree) (n : ℕ) (long : length ts ≡ n) where
   pub own_put : (t : TypeTree) → put (type_at ts) (put (type_at (variables_below n)) t) ≡ put (type_at ts) t
   own_put t = put_put (type_at ts) (type_at (variables_below n)) (type_at ts) variable_at t
 
-  pub own_put_all : (us : List TypeTree) → map (put (type_at ts)) (map (put (type_at (variables_below n))) us) ≡ map (put (type_at ts)) us
+  pub own_put_all : (us : List TypeTree)
+      → map (put (type_at ts)) (map (put (type_at (variables_below n))) us) ≡ map (put (type_at ts)) us
   own_put_all us = put_put_all (type_at ts) (type_at (variables_below n)) (type_at ts) variable_at us
 
 -- ---- constructors and patterns
@@ -61,19 +62,23 @@ listed : (s : ℕ → TypeTree) (ts : TypeTrees) → type_list (put_each s ts) �
 listed s no_type = refl
 listed s (type first rest) = ap (λ us. put s first ∷ us) (listed s rest)
 
-fields_of_put : (found : Option ConstructorTree) (by : ℕ) (s : ℕ → TypeTree) (arguments : TypeTrees) (us : List TypeTree) → fields_of found by arguments ≡ Some us → fields_of found by (put_each s arguments) ≡ Some (map (put s) us)
+fields_of_put : (found : Option ConstructorTree) (by : ℕ) (s : ℕ → TypeTree) (arguments : TypeTrees) (us : List TypeTree)
+    → fields_of found by arguments ≡ Some us → fields_of found by (put_each s arguments) ≡ Some (map (put s) us)
 fields_of_put None by s arguments us is = absurd (cc)
 fields_of_put (Some constructor) by s arguments us is = by_test (constructor.of_type == by) is
   where
-    by_test : (b : Bool) → (if b then Some (map (with_arguments arguments) constructor.fields) else None) ≡ Some us → (if b then Some (map (with_arguments (put_each s arguments)) constructor.fields) else None) ≡ Some (map (put s) us)
+    by_test : (b : Bool) → (if b then Some (map (with_arguments arguments) constructor.fields) else None) ≡ Some us
+        → (if b then Some (map (with_arguments (put_each s arguments)) constructor.fields) else None) ≡ Some (map (put s) us)
     by_test true is =
         let same : map (with_arguments arguments) constructor.fields ≡ us = cc in
         ap (λ (ts : List TypeTree). Some (map (put (type_at ts)) constructor.fields)) (listed s arguments)
-        ∙ ap (λ (ts : List TypeTree). Some ts) (sym (put_all_at_types s (type_list arguments) constructor.fields) ∙ ap (map (put s)) same)
+        ∙ ap (λ (ts : List TypeTree). Some ts)
+        (sym (put_all_at_types s (type_list arguments) constructor.fields) ∙ ap (map (put s)) same)
     by_test false is = absurd (cc)
 
 module _ (constructors : List ConstructorTree) (s : ℕ → TypeTree) where
-  pub fields_put : (t : TypeTree) (c : ℕ) (us : List TypeTree) → field_types constructors t c ≡ Some us → field_types constructors (put s t) c ≡ Some (map (put s) us)
+  pub fields_put : (t : TypeTree) (c : ℕ) (us : List TypeTree) → field_types constructors t c ≡ Some us
+      → field_types constructors (put s t) c ≡ Some (map (put s) us)
   fields_put int32 c us is = absurd (cc)
   fields_put unit_type c us is = absurd (cc)
   fields_put (type_variable of) c us is = absurd (cc)
@@ -86,16 +91,21 @@ module _ (constructors : List ConstructorTree) (s : ℕ → TypeTree) where
   numbers_put (named by arguments) is = is
 
   mutual
-    pub pattern_put : (t : TypeTree) (p : Outline) → IsPatternOf (values_of constructors) t p → IsPatternOf (values_of constructors) (put s t) p
+    pub pattern_put : (t : TypeTree) (p : Outline) → IsPatternOf (values_of constructors) t p
+        → IsPatternOf (values_of constructors) (put s t) p
     pattern_put t any of = tt
     pattern_put t (exactly n) of = numbers_put t of
     pattern_put t (made c parts) (us, is, of) = (map (put s) us, fields_put t c us is, patterns_put us parts of)
 
-    patterns_put : (ts : List TypeTree) (ps : Outlines) → ArePatternsOf (values_of constructors) ts ps → ArePatternsOf (values_of constructors) (map (put s) ts) ps
+    patterns_put : (ts : List TypeTree) (ps : Outlines) → ArePatternsOf (values_of constructors) ts ps
+        → ArePatternsOf (values_of constructors) (map (put s) ts) ps
     patterns_put [] no_outline of = tt
     patterns_put [] (outline p ps) of = absurd of
     patterns_put (t ∷ ts) no_outline of = absurd of
     patterns_put (t ∷ ts) (outline p ps) of = (pattern_put t p of.0, patterns_put ts ps of.1)
 
-  pub each_pattern_put : (t : TypeTree) (rows : List Outline) → Each (IsPatternOf (values_of constructors) t) rows → Each (IsPatternOf (values_of constructors) (put s t)) rows
-  each_pattern_put t rows each = each_weaker (IsPatternOf (values_of constructors) t) (IsPatternOf (values_of constructors) (put s t)) (pattern_put t) rows each
+  pub each_pattern_put : (t : TypeTree) (rows : List Outline) → Each (IsPatternOf (values_of constructors) t) rows
+      → Each (IsPatternOf (values_of constructors) (put s t)) rows
+  each_pattern_put t rows each =
+      each_weaker (IsPatternOf (values_of constructors) t) (IsPatternOf (values_of constructors) (put s t))
+      (pattern_put t) rows each

@@ -39,7 +39,8 @@ pub record HasMainFunction (program : ProgramTree) : Type 0 where
 -- `bool` is as it must be, and so is `main`.
 pub record IsChecked (program : ProgramTree) (typings : List (List Choice)) : Type 0 where
   pub as_many : length typings ≡ length program.functions
-  pub typed : (f : ℕ) (function : FunctionTree) (choices : List Choice) → slice_get program.functions f ≡ Some function → slice_get typings f ≡ Some choices → IsTyping program function choices
+  pub typed : (f : ℕ) (function : FunctionTree) (choices : List Choice) → slice_get program.functions f ≡ Some function
+      → slice_get typings f ≡ Some choices → IsTyping program function choices
   pub covered : Each (IsFunctionCovered program) program.functions
   pub texts : Each (PrintsTexts program) program.functions
   pub truths : HasTruths program.constructors
