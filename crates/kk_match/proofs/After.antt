@@ -4,8 +4,12 @@ use Rattle.std.specs.Prelude.{if◌then◌else◌}
 use lib.Pointwise.{pointwise, bytes_decides}
 use Rattle.kk_core.specs.declared.decisions.Answer.{Answer}
 use Rattle.kk_match.specs.Parts.{Part}
-use Rattle.kk_match.specs.Graphs.{StateTree, agrees, left_after, kept_line, after, first_of, test_of}
-use Rattle.kk_match.specs.Built.{AreBelow}
+use Rattle.kk_match.specs.Graphs.{StateTree, agrees, left_after, kept_line, after, first_of, test_of, weight}
+
+-- the rows of a state are below a number, and so is the row that it chooses where it has none
+abbrev pub AreBelow : ℕ → StateTree → Type 0
+AreBelow rows [] = 0 < rows
+AreBelow rows (line ∷ lines) = (line.row < rows) × AreBelow rows lines
 
 -- rows stay below a number
 kept_below : (rows row : ℕ) (left : Option (List Part)) (rest : StateTree) → row < rows → AreBelow rows rest → AreBelow rows (kept_line row left rest)
@@ -15,11 +19,6 @@ kept_below rows row (Some left) rest here below = (here, below)
 pub after_below : (rows : ℕ) (at : List ℕ) (outcome : Option Answer) (state : StateTree) → AreBelow rows state → AreBelow rows (after at outcome state)
 after_below rows at outcome [] below = below
 after_below rows at outcome (line ∷ lines) below = kept_below rows line.row (left_after at outcome line.left) (after at outcome lines) below.0 (after_below rows at outcome lines below.1)
-
--- the parts that are left, in all
-abbrev pub weight : StateTree → ℕ
-weight [] = 0
-weight (line ∷ lines) = length line.left + weight lines
 
 abbrev kept_length : Option (List Part) → ℕ
 kept_length None = 0

@@ -1,5 +1,5 @@
 -- The edges of a test lead on for each answer of its kind.
-use Rattle.std.proofs.Common.{◌≡◌, ℕ, zero, suc, ◌+◌, ◌<◌, Bool, true, false, not, ◌&&◌, ◌||◌, ◌⊎◌, nat_eq, Option, None, Some, List, [], ◌∷◌, ◌++◌, length, map, refl, sym, ap, ◌∙◌, subst, inl, inr, arith, add-zero}
+use Rattle.std.proofs.Common.{◌≡◌, ℕ, zero, suc, ◌+◌, ◌<◌, Bool, true, false, not, ◌&&◌, ◌||◌, ◌⊎◌, nat_eq, Option, None, Some, List, [], ◌∷◌, ◌++◌, length, get_or, map, refl, sym, ap, ◌∙◌, subst, inl, inr, arith, add-zero}
 use Rattle.std.specs.Prelude.{slice_get, if◌then◌else◌, ◌==◌}
 use Rattle.std.specs.List.{list_any}
 use Rattle.std.proofs.lemmas.Bool.{cases_Bool, both_ways, eqb-true, eq-eqb}
@@ -16,25 +16,22 @@ use Rattle.kk_match.specs.Parts.{Part, both_same, is_kind, IsKind}
 use Rattle.kk_match.specs.Graphs.{StateTree, after, test_of}
 use Rattle.kk_match.specs.Outcomes.{is_listed, with_asked, with_parts, with_lines, unlisted_from, unlisted, IsOutcome}
 use Rattle.kk_match.specs.Built.{Names, Branches}
+use Rattle.kk_match.specs.Growing.{EdgesLead, OtherLeads}
 use Rattle.kk_match.proofs.After.{LacksIn, Lacks, after_same}
-use Rattle.kk_match.proofs.Keyed.{answer_decides}
+use Rattle.kk_match.proofs.Keyed.{answer_decides, neither}
 
-either : (a b : Bool) → (a || b) ≡ true → (a ≡ true) ⊎ (b ≡ true)
+pub either : (a b : Bool) → (a || b) ≡ true → (a ≡ true) ⊎ (b ≡ true)
 either true b any = inl refl
 either false b any = inr any
-
-neither : (a b : Bool) → (a || b) ≡ false → (a ≡ false) × (b ≡ false)
-neither true b none = absurd (both_ways true none refl)
-neither false b none = (refl, none)
 
 own : (a : Answer) → is_answer a a ≡ true
 own (Number n) = (Decides-int_eq n n).1 refl
 own (Constructor c) = eq-eqb c c refl
 
-swapped : (one other : Answer) → is_answer other one ≡ true → is_answer one other ≡ true
+pub swapped : (one other : Answer) → is_answer other one ≡ true → is_answer one other ≡ true
 swapped one other same = subst (λ x. is_answer one x ≡ true) (sym (answer_decides other one same)) (own one)
 
-unlike : (one other : Answer) → is_answer other one ≡ false → is_answer one other ≡ false
+pub unlike : (one other : Answer) → is_answer other one ≡ false → is_answer one other ≡ false
 unlike one other differ = elim (cases_Bool (is_answer one other)) [
   | inl same ↦ absurd (both_ways (is_answer other one) differ (swapped other one same))
   | inr differs ↦ differs
@@ -42,7 +39,7 @@ unlike one other differ = elim (cases_Bool (is_answer one other)) [
 
 -- ---- the answers that are asked
 
-abbrev AreKind : List ℕ → Answer → List Answer → Type 0
+abbrev pub AreKind : List ℕ → Answer → List Answer → Type 0
 AreKind types asked answers = (found : Answer) → is_listed answers found ≡ true → IsKind types asked found
 
 kind_pushed : (types : List ℕ) (asked : Answer) (answers : List Answer) (last : Answer) → AreKind types asked answers → IsKind types asked last → AreKind types asked (answers ++ last ∷ [])
@@ -70,9 +67,24 @@ kind_parts : (types : List ℕ) (test : Part) (answers : List Answer) (qs : List
 kind_parts types test answers [] kind = kind
 kind_parts types test answers (q ∷ qs) kind = kind_parts types test (with_asked types test answers q) qs (kind_asked types test answers q kind)
 
-kind_lines : (types : List ℕ) (test : Part) (answers : List Answer) (lines : StateTree) → AreKind types test.asked answers → AreKind types test.asked (with_lines types test answers lines)
+pub kind_lines : (types : List ℕ) (test : Part) (answers : List Answer) (lines : StateTree) → AreKind types test.asked answers → AreKind types test.asked (with_lines types test answers lines)
 kind_lines types test answers [] kind = kind
 kind_lines types test answers (line ∷ lines) kind = kind_lines types test (with_parts types test answers line.left) lines (kind_parts types test answers line.left kind)
+
+listed_at : (answers : List Answer) (i : ℕ) (d : Answer) → i < length answers → is_listed answers (get_or answers i d) ≡ true
+listed_at [] i d lt = absurd (omega (arith, lt))
+listed_at (a ∷ answers) zero d lt = ap (λ b. b || is_listed answers a) (own a)
+listed_at (a ∷ answers) (suc i) d lt = or_else (is_answer (get_or answers i d) a) (is_listed answers (get_or answers i d)) (listed_at answers i d (omega (arith, lt)))
+  where
+    or_else : (a b : Bool) → b ≡ true → (a || b) ≡ true
+    or_else true b is = refl
+    or_else false b is = is
+
+-- each answer that is asked is of the test's kind
+pub kind_at : (types : List ℕ) (test : Part) (lines : StateTree) (answers : List Answer) (i : ℕ) (d : Answer) → answers ≡ with_lines types test [] lines → i < length answers
+    → IsKind types test.asked (get_or answers i d)
+kind_at types test lines answers i d are lt =
+    kind_lines types test [] lines (λ a none. absurd (both_ways false refl none)) (get_or answers i d) (subst (λ given. is_listed given (get_or answers i d) ≡ true) are (listed_at answers i d lt))
 
 -- what is listed stays
 listed_pushed : (answers : List Answer) (last found : Answer) → is_listed answers found ≡ true → is_listed (answers ++ last ∷ []) found ≡ true
@@ -151,7 +163,7 @@ lacks_none at (line ∷ lines) = (lacks_none_in at line.left, lacks_none at line
 -- ---- what is not listed
 
 -- what may lead on besides the listed answers
-abbrev Rest : List ℕ → Answer → List Answer → Option (Option Answer) → Type 0
+abbrev pub Rest : List ℕ → Answer → List Answer → Option (Option Answer) → Type 0
 Rest types asked answers None = (found : Answer) → IsKind types asked found → is_listed answers found ≡ true
 Rest types asked answers (Some None) = IsOutcome types asked None
 Rest types asked answers (Some (Some found)) = IsKind types asked found × (is_listed answers found ≡ false)
@@ -189,7 +201,7 @@ both_there (Some of) (Some other) same = (other, refl)
 both_there (Some of) None same = absurd (both_ways false refl same)
 both_there None other same = absurd (both_ways false refl same)
 
-rest_right : (types : List ℕ) (asked : Answer) (answers : List Answer) → Rest types asked answers (unlisted types asked answers)
+pub rest_right : (types : List ℕ) (asked : Answer) (answers : List Answer) → Rest types asked answers (unlisted types asked answers)
 rest_right types (Number n) answers = tt
 rest_right types (Constructor c) answers = by (unlisted_from types (Constructor c) answers 0 types) (rest_from types (Constructor c) answers 0 types)
   where
@@ -205,19 +217,15 @@ rest_right types (Constructor c) answers = by (unlisted_from types (Constructor 
     by (Some None) none = absurd none
     by (Some (Some found)) right = right
 
+-- what leads on by none of the answers may be an outcome
+pub unlisted_right : (types : List ℕ) (asked : Answer) (answers : List Answer) (outcome : Option Answer) → unlisted types asked answers ≡ Some outcome → IsOutcome types asked outcome
+unlisted_right types asked answers outcome is = by outcome (subst (Rest types asked answers) is (rest_right types asked answers))
+  where
+    by : (outcome : Option Answer) → Rest types asked answers (Some outcome) → IsOutcome types asked outcome
+    by None right = right
+    by (Some a) right = right.0
+
 -- ---- the edges
-
--- each edge leads to what its answer leaves
-abbrev pub EdgesLead : List StateTree → List ℕ → StateTree → List Edge → Type 0
-EdgesLead states at state [] = Unit {0}
-EdgesLead states at state (edge ∷ edges) = Names states edge.next (after at (Some edge.found) state) × EdgesLead states at state edges
-
--- the node behind all edges, if there is one
-abbrev pub OtherLeads : List StateTree → List ℕ → StateTree → Option (Option Answer) → Option ℕ → Type 0
-OtherLeads states at state None None = Unit {0}
-OtherLeads states at state None (Some j) = ⊥
-OtherLeads states at state (Some outcome) None = ⊥
-OtherLeads states at state (Some outcome) (Some j) = Names states j (after at outcome state)
 
 next_there : (states : List StateTree) (at : List ℕ) (state : StateTree) (edges : List Edge) (otherwise : Option ℕ) (found : Answer) → EdgesLead states at state edges
     → is_listed (map (λ (e : Edge). e.found) edges) found ≡ true → (j : ℕ) × (next_by edges otherwise found ≡ Some j) × Names states j (after at (Some found) state)
@@ -263,8 +271,15 @@ branches types states state test answers edges otherwise is_test answers_are fou
     | inl listed ↦ next_there states test.at state edges otherwise answer lead (ap (λ fs. is_listed fs answer) found ∙ listed)
     | inr none ↦ whole_by answer kind none (unlisted types test.asked answers) otherwise (rest_right types test.asked answers) other (next_else edges otherwise answer (ap (λ fs. is_listed fs answer) found ∙ none))
   ];
+  another = another_by test.asked otherwise other;
 }
   where
+    another_by : (asked : Answer) (otherwise : Option ℕ) → OtherLeads states test.at state (unlisted types asked answers) otherwise → IsOutcome types asked None
+        → (j : ℕ) × Names states j (after test.at None state)
+    another_by (Number n) None other is = absurd other
+    another_by (Number n) (Some j) other is = (j, other)
+    another_by (Constructor c) otherwise other is = absurd is
+
     kinds : AreKind types test.asked (map (λ (e : Edge). e.found) edges)
     kinds = subst (AreKind types test.asked) (sym (found ∙ answers_are)) (kind_lines types test [] state (λ a listed. absurd (both_ways false refl listed)))
 

@@ -1,5 +1,5 @@
 -- The states of a match, and the graph of their tests.
-use Rattle.std.specs.Prelude.{◌≡◌, ◌≢◌, ℕ, ℤ, ◌+◌, Bool, false, List, [], ◌∷◌, AllPairs, Contains, Option, None, Some, is_some, option_map, if◌then◌else◌, nat_eq}
+use Rattle.std.specs.Prelude.{◌≡◌, ◌≢◌, ℕ, suc, ℤ, ◌+◌, Bool, false, List, [], ◌∷◌, length, AllPairs, Contains, Option, None, Some, is_some, option_map, if◌then◌else◌, nat_eq}
 use lib.Pointwise.{pointwise}
 use Rattle.kk_syntax.specs.Patterns.{Pattern}
 use Rattle.kk_core.specs.declared.decisions.Answer.{Answer}
@@ -49,6 +49,16 @@ abbrev pub row_of : StateTree → ℕ
 row_of [] = 0
 row_of (line ∷ lines) = line.row
 
+-- the parts that are left, in all
+abbrev pub weight : StateTree → ℕ
+weight [] = 0
+weight (line ∷ lines) = length line.left + weight lines
+
+-- the state of rows that have these parts, from one of a number on
+abbrev pub lines_of : ℕ → List (List Part) → StateTree
+lines_of k [] = []
+lines_of k (left ∷ lefts) = record { row = k; left = left } ∷ lines_of (k + 1) lefts
+
 -- the state of rows from one of a number on, of which nothing is known
 abbrev pub lines_from : List ℕ → ℕ → List Pattern → StateTree
 lines_from types k [] = []
@@ -75,3 +85,10 @@ pub record HasTests (types : List ℕ) (start : StateTree) (t : ℕ) : Type 0 wh
   pub reached : (state : StateTree) → Contains states state → IsReached types start state
   pub all : (state : StateTree) → IsReached types start state → Contains states state
   pub tests : testing states ≡ t
+
+-- more than so many states that are reached test
+pub record HasMoreTests (types : List ℕ) (start : StateTree) (most : ℕ) : Type 0 where
+  pub states : List StateTree
+  pub apart : AllPairs (λ one other. one ≢ other) states
+  pub reached : (state : StateTree) → Contains states state → IsReached types start state
+  pub tests : testing states ≡ suc most

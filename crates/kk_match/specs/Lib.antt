@@ -1,5 +1,9 @@
 pub mod Built
+pub mod Decided
 pub mod Graphs
+pub mod Growing
+pub mod InTurn
 pub mod Outcomes
 pub mod Parts
+pub mod Turned
 pub mod Views

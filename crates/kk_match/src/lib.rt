@@ -1,10 +1,13 @@
 //! The decisions of a match: which tests its rows of patterns ask for, and in which order.
 #![tactic(auto)]
 
+mod deciding;
+mod graph;
+mod in_turn;
+mod nodes;
 mod outcome;
 mod question;
 mod state;
+mod turned;
 
-pub use outcome::{asked, unlisted};
-pub use question::{Question, questions};
-pub use state::{Line, State};
+pub use deciding::{Rows, decide};

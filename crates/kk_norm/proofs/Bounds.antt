@@ -27,4 +27,5 @@ abbrev mutual
 
   pub RowsOpenAtMost : Bounds → Rows → Type 0
   RowsOpenAtMost given no_row = Unit {0}
-  RowsOpenAtMost given (row pattern body rest) = (openings pattern ≤ given.cells) × OpensAtMost given body × RowsOpenAtMost given rest
+  RowsOpenAtMost given (row pattern body rest) =
+      (openings pattern ≤ given.cells) × OpensAtMost given body × RowsOpenAtMost given rest

@@ -156,7 +156,7 @@ all_small constructors (function ∷ functions) [] are = absurd are
 all_small constructors (function ∷ functions) (core ∷ cores) are =
     omega (arith, forms_small constructors (final true) [] (length function.parameters) function.body core.body are.0.body, all_small constructors functions cores are.1)
 
-as_many : (constructors : List ConstructorTree) (functions : List FunctionTree) (cores : List FunctionCode) → AreCoresOf constructors functions cores → length cores ≡ length functions
+pub as_many : (constructors : List ConstructorTree) (functions : List FunctionTree) (cores : List FunctionCode) → AreCoresOf constructors functions cores → length cores ≡ length functions
 as_many constructors [] cores are = ap length are
 as_many constructors (function ∷ functions) [] are = absurd are
 as_many constructors (function ∷ functions) (core ∷ cores) are = omega (arith, as_many constructors functions cores are.1)

@@ -22,17 +22,22 @@ pub record AreGood (given : Bounds) (functions : List FunctionTree) (codes : Lis
   pub none : (f : ℕ) → slice_get functions f ≡ None → slice_get codes f ≡ None
 
 -- the core form of a function by its number
-pub core_at_number : (constructors : List ConstructorTree) (functions : List FunctionTree) (codes : List FunctionCode) → AreCoresOf constructors functions codes
-    → (f : ℕ) (function : FunctionTree) → slice_get functions f ≡ Some function → (code : FunctionCode) × (slice_get codes f ≡ Some code) × IsCoreOf constructors function code
+pub core_at_number : (constructors : List ConstructorTree) (functions : List FunctionTree) (codes : List FunctionCode)
+    → AreCoresOf constructors functions codes
+    → (f : ℕ) (function : FunctionTree) → slice_get functions f ≡ Some function
+    → (code : FunctionCode) × (slice_get codes f ≡ Some code) × IsCoreOf constructors function code
 core_at_number constructors [] codes are f function is = absurd (cc)
 core_at_number constructors (first ∷ functions) [] are f function is = absurd are
 core_at_number constructors (first ∷ functions) (code ∷ codes) are zero function is =
     let same : first ≡ function = cc in (code, refl, subst (λ (g : FunctionTree). IsCoreOf constructors g code) same are.0)
-core_at_number constructors (first ∷ functions) (code ∷ codes) are (suc f) function is = core_at_number constructors functions codes are.1 f function is
+core_at_number constructors (first ∷ functions) (code ∷ codes) are (suc f) function is =
+    core_at_number constructors functions codes are.1 f function is
 
-pub no_core_at_number : (constructors : List ConstructorTree) (functions : List FunctionTree) (codes : List FunctionCode) → AreCoresOf constructors functions codes
+pub no_core_at_number : (constructors : List ConstructorTree) (functions : List FunctionTree) (codes : List FunctionCode)
+    → AreCoresOf constructors functions codes
     → (f : ℕ) → slice_get functions f ≡ None → slice_get codes f ≡ None
 no_core_at_number constructors [] codes are f is = rw are refl
 no_core_at_number constructors (first ∷ functions) [] are f is = absurd are
 no_core_at_number constructors (first ∷ functions) (code ∷ codes) are zero is = absurd (cc)
-no_core_at_number constructors (first ∷ functions) (code ∷ codes) are (suc f) is = no_core_at_number constructors functions codes are.1 f is
+no_core_at_number constructors (first ∷ functions) (code ∷ codes) are (suc f) is =
+    no_core_at_number constructors functions codes are.1 f is

@@ -24,7 +24,8 @@ use Rattle.kk_norm.proofs.Openings.{core_at}
 use Rattle.kk_norm.proofs.Steps as Steps
 
 -- a body has at most as many nodes as the greatest
-pub at_most_greatest : (functions : List FunctionTree) (f : ℕ) (function : FunctionTree) → slice_get functions f ≡ Some function → Shapes.nodes_of function.body ≤ greatest_of functions
+pub at_most_greatest : (functions : List FunctionTree) (f : ℕ) (function : FunctionTree) → slice_get functions f ≡ Some function
+    → Shapes.nodes_of function.body ≤ greatest_of functions
 at_most_greatest [] f function is = absurd (cc)
 at_most_greatest (first ∷ functions) zero function is =
     let same : first ≡ function = cc in
@@ -32,15 +33,21 @@ at_most_greatest (first ∷ functions) zero function is =
 at_most_greatest (first ∷ functions) (suc f) function is =
     omega (arith, at_most_greatest functions f function is)
 
-module _ (program : ProgramTree) (code : ProgramCode) (given : Bounds) (good : AreGood given program.functions code.functions) (texts : code.texts ≡ program.texts) (main : code.main ≡ program.main) (in_range : program.main < length program.functions) where
+module _ (program : ProgramTree) (code : ProgramCode) (given : Bounds) (good : AreGood given program.functions code.functions)
+    (texts : code.texts ≡ program.texts) (main : code.main ≡ program.main)
+    (in_range : program.main < length program.functions) where
   -- at the start the core machine stands for the store machine
-  starts : (positions : PositionTable) (cells depth : ℕ) (input : List ℕ) → Related given 0 given.most (first_state (setting_of program positions cells depth) input) (core_first_state (core_setting_of code positions cells depth) input)
+  starts : (positions : PositionTable) (cells depth : ℕ) (input : List ℕ)
+      → Related given 0 given.most (first_state (setting_of program positions cells depth) input)
+      (core_first_state (core_setting_of code positions cells depth) input)
   starts positions cells depth input =
       let function : FunctionTree = slice_index_or program.functions program.main no_function in
-      let found : slice_get program.functions program.main ≡ Some function = slice_get-get_or program.functions program.main no_function in_range in
+      let found : slice_get program.functions program.main ≡ Some function
+      = slice_get-get_or program.functions program.main no_function in_range in
       let one : IsGood given code.functions program.main function = good.each program.main function found in
       let found_code : slice_get code.functions code.main ≡ Some one.code = ap (slice_get code.functions) main ∙ one.found in
-      let code_is : slice_index_or code.functions code.main no_code ≡ one.code = get_or_from_slice_get code.functions code.main one.code no_code found_code in
+      let code_is : slice_index_or code.functions code.main no_code ≡ one.code
+      = get_or_from_slice_get code.functions code.main one.code no_code found_code in
       record {
         k = final true;
         names = [];
@@ -62,17 +69,24 @@ module _ (program : ProgramTree) (code : ProgramCode) (given : Bounds) (good : A
 
   -- The machines agree, where something holds of each state of the source by which a row of each match matches, and the steps
   -- of the source weigh enough.
-  pub agrees : (positions : PositionTable) (cells depth : ℕ) (input : List ℕ) (cost : ℕ) (weight : CoreState → ℕ) → ((t : CoreState) → weight t ≤ cost)
+  pub agrees : (positions : PositionTable) (cells depth : ℕ) (input : List ℕ) (cost : ℕ) (weight : CoreState → ℕ)
+      → ((t : CoreState) → weight t ≤ cost)
       → (Sane : State → Type 0) (heavy : State → ℕ)
       → ((s : State) → Sane s → Sane (step (setting_of program positions cells depth) s).1)
-      → ((of : Rows) (environment : Environment) (fs : List Frame) (v : Value) (store : Store) (input : List ℕ) → given.matches ≡ true → Sane (source_at (value v) (rows of environment ∷ fs) store input) → RowFound given.constructors of store v)
+      → ((of : Rows) (environment : Environment) (fs : List Frame) (v : Value) (store : Store) (input : List ℕ)
+      → given.matches ≡ true → Sane (source_at (value v) (rows of environment ∷ fs) store input)
+      → RowFound given.constructors of store v)
       → ((s : State) → openings_at s.machine.control s.machine.frames s.machine.store ≤ given.cells → core_steps s * cost ≤ heavy s)
       → Sane (first_state (setting_of program positions cells depth) input)
-      → Agree (weighed_store_machine heavy (setting_of program positions cells depth)) (core_machine weight (core_setting_of code positions cells depth)) 0 (λ m. m * (given.most + 1) + given.most + 1)
-      (first_state (setting_of program positions cells depth) input) (core_first_state (core_setting_of code positions cells depth) input)
+      → Agree (weighed_store_machine heavy (setting_of program positions cells depth))
+      (core_machine weight (core_setting_of code positions cells depth)) 0 (λ m. m * (given.most + 1) + given.most + 1)
+      (first_state (setting_of program positions cells depth) input)
+      (core_first_state (core_setting_of code positions cells depth) input)
   agrees positions cells depth input cost weight light Sane heavy stays_sane row_there enough sane =
       let setting : Setting = setting_of program positions cells depth in
       simulates_agree (weighed_store_machine heavy setting) (core_machine weight (core_setting_of code positions cells depth))
-      (Steps.SaneRelated setting code given cost weight light good texts Sane heavy stays_sane row_there enough) Passing (given.most + 1)
+      (Steps.SaneRelated setting code given cost weight light good texts Sane heavy stays_sane row_there enough) Passing
+      (given.most + 1)
       (Steps.simulates setting code given cost weight light good texts Sane heavy stays_sane row_there enough)
-      0 given.most (first_state setting input) (core_first_state (core_setting_of code positions cells depth) input) (starts positions cells depth input, sane)
+      0 given.most (first_state setting input) (core_first_state (core_setting_of code positions cells depth) input)
+      (starts positions cells depth input, sane)

@@ -3,6 +3,7 @@ pub mod Closed
 pub mod CoreTyped
 pub mod CoreTypedPrograms
 pub mod Delivery
+pub mod Examples
 pub mod Facts
 pub mod Forms
 pub mod Functions
@@ -16,6 +17,7 @@ pub mod Openings
 pub mod PatternNames
 pub mod Picking
 pub mod Plain
+pub mod PlainCodes
 pub mod PlainForms
 pub mod ProgramTrees
 pub mod Programs

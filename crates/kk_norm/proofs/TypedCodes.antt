@@ -13,7 +13,8 @@ use Rattle.kk_core.specs.PlainCoreTyping as Typed
 use Rattle.kk_core.specs.PlainCoreTyping.{HasCodeType}
 use Rattle.kk_core.specs.Sizes.{AreBound, Ordered}
 use Rattle.kk_norm.specs.Names.{Names, name_of, named}
-use Rattle.kk_norm.specs.Normalized.{Then, final, next, size, size_all, atom, atoms, after, after_use, within, joined, finish, finish_call, code, code_all}
+use Rattle.kk_norm.specs.Normalized.{Then, final, next, size, size_all, atom, atoms, after, after_use, within, joined, finish, finish_call}
+use Rattle.kk_norm.proofs.PlainCodes.{code, code_all}
 use Rattle.kk_norm.proofs.Scopes.{bind_type, bound_in, type_here, typed_is_bound, Grows, grows_not, grows_more, grows_one, AreNamed, named_later, named_bound}
 
 -- ---- codes that are typed and in order, form by form

@@ -1,17 +1,25 @@
 -- How far the loops over arguments and over statements have come, and what blocks, variables and forms add.
-use Rattle.std.proofs.Common.{◌≡◌, ℕ, ◌+◌, ◌<◌, ◌≤◌, Bool, zero, suc, List, [], ◌∷◌, ◌++◌, length, take, map, refl, sym, ap, subst, ◌∙◌, arith, append_assoc}
+use Rattle.std.proofs.Common.{Result, Ok, Err, ◌≡◌, ℕ, ◌+◌, ◌<◌, ◌≤◌, Bool, zero, suc, List, [], ◌∷◌, ◌++◌, length, take, map, false, refl, sym, ap, subst, ◌∙◌, arith, append_assoc}
+use Rattle.std.specs.Prelude.{IfOk}
 use Rattle.std.proofs.lemmas.List.{append-nil}
 use Rattle.kk_syntax.specs.Shapes.{variable_of}
 use Rattle.kk_syntax.specs.declared.program.Form.{Form}
 use Rattle.kk_syntax.specs.declared.program.Form.TheVariants.{Call}
-use Rattle.kk_syntax.specs.Trees.{Tree, Trees, no_tree, tree, variable, apply, StatementTree, block_of}
-use Rattle.kk_core.specs.Codes.{Code, compute, use_of, computes, uses, plug, step_piece}
+use Rattle.kk_syntax.specs.Programs.{ConstructorTree}
+use Rattle.kk_syntax.specs.Trees.{Tree, Trees, no_tree, tree, variable, apply, branch as if_tree, StatementTree, block_of}
+use Rattle.kk_core.specs.Codes as Codes
+use Rattle.kk_core.specs.Codes.{Code, give, compute, use_of, inside, computes, uses, runs, plug, step_piece}
 use Rattle.kk_norm.specs.declared.naming.Named.{Named}
 use Rattle.kk_norm.specs.declared.writer.Writer.{Writer}
 use Rattle.kk_norm.specs.Names.{Names, name_of, named}
 use Rattle.kk_norm.specs.NoMatches.{NoMatches, NoMatchesAll}
-use Rattle.kk_norm.specs.Normalized.{Then, final, next, size, size_all, atom, atoms, finish, code, code_all}
-use Rattle.kk_norm.specs.Written.{names_of, behind, WritesPiece, WritesStep, WritesValue, WritesValues, WritesStatements, KeepsNames, WritesEnd}
+use Rattle.kk_norm.specs.Normalized.{Then, final, next, size, size_all, atom, atoms, finish, IsCode, AreCodes}
+use Rattle.kk_norm.specs.Written.{names_of, behind, WritesPiece, WritesStep, WritesValue, WritesValues, WritesStatements, KeepsNames, WritesEnd, WritesChoice, WritesBlock, IsWritten}
+
+-- what follows where a call succeeds, from what it promises
+pub if_ok_three : {A E : Type 0} (r : Result A E) (P Q R S : A → Type 0) → IfOk r P → IfOk r Q → IfOk r R → ((x : A) → P x → Q x → R x → S x) → IfOk r S
+if_ok_three (Ok x) P Q R S one two three all = all x one two three
+if_ok_three (Err e) P Q R S one two three all = tt
 
 -- ---- expressions
 
@@ -20,13 +28,18 @@ pub record ValuesSoFar (old now : Writer) (left all : Trees) (xs : List ℕ) : T
   pub number : now.next + size_all left ≡ old.next + size_all all
   pub names : now.names.items ≡ old.names.items
   pub values : xs ++ atoms (names_of old.names.items) now.next left ≡ atoms (names_of old.names.items) old.next all
-  pub steps : (rest : Code) → behind now (code_all (names_of old.names.items) now.next left rest) ≡ behind old (code_all (names_of old.names.items) old.next all rest)
+  pub steps : (constructors : List ConstructorTree) (rest code : Code) → AreCodes constructors (names_of old.names.items) now.next left rest code
+      → (whole : Code) × AreCodes constructors (names_of old.names.items) old.next all rest whole × (behind now code ≡ behind old whole)
   pub plain : NoMatchesAll left
 
-pub values_start : (writer : Writer) (all : Trees) → NoMatchesAll all → ValuesSoFar writer writer all all []
-values_start writer all plain = record { number = refl; names = refl; values = refl; steps = λ rest. refl; plain = plain }
+pub values_start : (writer : Writer) (all : Trees) → NoMatchesAll all
+    → ValuesSoFar writer writer all all []
+values_start writer all plain =
+    record { number = refl; names = refl; values = refl; steps = λ constructors rest code coded. (code, coded, refl); plain = plain }
 
-pub values_more : (old now new : Writer) (e : Tree) (left all : Trees) (xs : List ℕ) (x : ℕ) → ValuesSoFar old now (tree e left) all xs → WritesValue e now new x → ValuesSoFar old new left all (xs ++ x ∷ [])
+pub values_more : (old now new : Writer) (e : Tree) (left all : Trees) (xs : List ℕ) (x : ℕ)
+    → ValuesSoFar old now (tree e left) all xs → WritesValue e now new x
+    → ValuesSoFar old new left all (xs ++ x ∷ [])
 values_more old now new e left all xs x so_far writes =
     let names : Names = names_of old.names.items in
     let here : names_of now.names.items ≡ names = ap names_of so_far.names in
@@ -38,20 +51,22 @@ values_more old now new e left all xs x so_far writes =
           append_assoc xs (x ∷ []) (atoms names new.next left)
           ∙ (ap (λ y. xs ++ (y ∷ atoms names new.next left)) (writes.value ∙ ap (λ some. atom some now.next e) here)
           ∙ (ap (λ n. xs ++ (atom names now.next e ∷ atoms names n left)) at ∙ so_far.values));
-      steps = λ rest.
-          writes.steps (code_all names new.next left rest)
-          ∙ (ap (λ some. behind now (code (next (code_all names new.next left rest)) some now.next e)) here
-          ∙ (ap (λ n. behind now (code (next (code_all names n left rest)) names now.next e)) at ∙ so_far.steps rest));
+      steps = λ constructors rest code coded.
+          let one = writes.steps constructors code in
+          let whole = so_far.steps constructors rest one.0
+          (code, subst (λ (n : ℕ). AreCodes constructors names n left rest code) at coded, subst (λ (some : Names). IsCode constructors (next code) some now.next e one.0) here one.1) in
+          (whole.0, whole.1, one.2 ∙ whole.2);
       plain = so_far.plain.1;
     }
 
-pub values_done : (old now : Writer) (all : Trees) (xs : List ℕ) → ValuesSoFar old now no_tree all xs → WritesValues all old now xs
+pub values_done : (old now : Writer) (all : Trees) (xs : List ℕ)
+    → ValuesSoFar old now no_tree all xs → WritesValues all old now xs
 values_done old now all xs so_far =
     record {
       number = omega (arith, so_far.number);
       names = so_far.names;
       values = sym (append-nil xs) ∙ so_far.values;
-      steps = so_far.steps;
+      steps = λ constructors rest. so_far.steps constructors rest rest refl;
     }
 
 -- ---- statements
@@ -66,46 +81,62 @@ take_of_take (suc a) (suc b) (x ∷ xs) le = ap (λ l. x ∷ l) (take_of_take a 
 pub record StatementsSoFar (old now : Writer) (left all : List StatementTree) : Type 0 where
   pub number : (last : Tree) → now.next + size (block_of left last) ≡ old.next + size (block_of all last)
   pub value : (last : Tree) → atom (names_of now.names.items) now.next (block_of left last) ≡ atom (names_of old.names.items) old.next (block_of all last)
-  pub steps : (last : Tree) (k : Then) → behind now (code k (names_of now.names.items) now.next (block_of left last)) ≡ behind old (code k (names_of old.names.items) old.next (block_of all last))
+  pub steps : (constructors : List ConstructorTree) (last : Tree) (k : Then) (code : Code) → IsCode constructors k (names_of now.names.items) now.next (block_of left last) code
+      → IsWritten constructors k (names_of old.names.items) old.next (block_of all last) old now code
   pub plain : (last : Tree) → NoMatches (block_of all last) → NoMatches (block_of left last)
   pub longer : length old.names.items ≤ length now.names.items
   pub kept : KeepsNames old now
 
-pub statements_start : (writer : Writer) (all : List StatementTree) → KeepsNames writer writer → StatementsSoFar writer writer all all
+pub statements_start : (writer : Writer) (all : List StatementTree) → KeepsNames writer writer
+    → StatementsSoFar writer writer all all
 statements_start writer all kept =
-    record { number = λ last. refl; value = λ last. refl; steps = λ last k. refl; plain = λ last plain. plain; longer = omega arith; kept = kept }
+    record {
+      number = λ last. refl;
+      value = λ last. refl;
+      steps = λ constructors last k code coded. (code, coded, refl);
+      plain = λ last plain. plain;
+      longer = omega arith;
+      kept = kept;
+    }
 
 -- a statement's value is written, and then what it binds is named
 pub statements_more : (old now between new : Writer) (s : StatementTree) (left all : List StatementTree) (x : ℕ)
     → StatementsSoFar old now (s ∷ left) all → WritesValue s.value now between x
-    → new.next ≡ between.next → new.steps.items ≡ between.steps.items → names_of new.names.items ≡ named (variable_of s.binder) x (names_of between.names.items)
+    → new.next ≡ between.next → new.steps.items ≡ between.steps.items
+    → names_of new.names.items ≡ named (variable_of s.binder) x (names_of between.names.items)
     → length between.names.items ≤ length new.names.items → take (length between.names.items) new.names.items ≡ between.names.items
     → StatementsSoFar old new left all
 statements_more old now between new s left all x so_far writes number steps names longer kept =
     let names_now : Names = names_of now.names.items in
     let at : new.next ≡ now.next + size s.value = number ∙ writes.number in
     let bound : Names = named (variable_of s.binder) (atom names_now now.next s.value) names_now in
-    let named_so : names_of new.names.items ≡ bound = names ∙ (ap (λ some. named (variable_of s.binder) x (names_of some)) writes.names ∙ ap (λ y. named (variable_of s.binder) y names_now) writes.value) in
+    let named_so : names_of new.names.items ≡ bound
+    = names ∙ (ap (λ some. named (variable_of s.binder) x (names_of some)) writes.names ∙ ap (λ y. named (variable_of s.binder) y names_now) writes.value) in
     let lengths : length between.names.items ≡ length now.names.items = ap length writes.names in
     record {
       number = λ last. omega (arith, at, so_far.number last);
       value = λ last. ap (λ some. atom some new.next (block_of left last)) named_so ∙ (ap (λ n. atom bound n (block_of left last)) at ∙ so_far.value last);
-      steps = λ last k.
-          ap (λ some. behind new (code k some new.next (block_of left last))) named_so
-          ∙ (ap (λ n. behind new (code k bound n (block_of left last))) at
-          ∙ (ap (λ items. plug (map step_piece items) (code k bound (now.next + size s.value) (block_of left last))) steps
-          ∙ (writes.steps (code k bound (now.next + size s.value) (block_of left last)) ∙ so_far.steps last k)));
+      steps = λ constructors last k code coded.
+          let one = writes.steps constructors code in
+          let moved : IsCode constructors k bound (now.next + size s.value) (block_of left last) code
+          = subst (λ (n : ℕ). IsCode constructors k bound n (block_of left last) code) at
+          (subst (λ (some : Names). IsCode constructors k some new.next (block_of left last) code) named_so coded) in
+          let whole = so_far.steps constructors last k one.0 (code, moved, one.1) in
+          (whole.0, whole.1, ap (λ items. plug (map step_piece items) code) steps ∙ (one.2 ∙ whole.2));
       plain = λ last plain. (so_far.plain last plain).1;
       longer = omega (arith, so_far.longer);
       kept = kept_longer old.names.items now.names.items new.names.items so_far.longer so_far.kept
           (ap (λ n. take n new.names.items) (sym lengths) ∙ (kept ∙ writes.names));
     }
   where
-    kept_longer : (first second third : List Named) → length first ≤ length second → take (length first) second ≡ first → take (length second) third ≡ second → take (length first) third ≡ first
+    kept_longer : (first second third : List Named) → length first ≤ length second → take (length first) second ≡ first
+        → take (length second) third ≡ second → take (length first) third ≡ first
     kept_longer first second third le one two = sym (take_of_take (length first) (length second) third le) ∙ (ap (take (length first)) two ∙ one)
 
-pub statements_done : (old now : Writer) (all : List StatementTree) → StatementsSoFar old now [] all → (last : Tree) → WritesStatements all last old now
-statements_done old now all so_far last = record { number = so_far.number last; value = so_far.value last; steps = λ k. so_far.steps last k }
+pub statements_done : (old now : Writer) (all : List StatementTree)
+    → StatementsSoFar old now [] all → (last : Tree) → WritesStatements all last old now
+statements_done old now all so_far last =
+    record { number = so_far.number last; value = so_far.value last; steps = λ constructors k code coded. so_far.steps constructors last k code coded }
 
 -- ---- what is asked of the calls in the loops, and of those around them
 
@@ -144,7 +175,8 @@ pub names_back : (old now after : Writer) (bound : ℕ) (left : List Named) → 
 names_back old now after bound left is kept same taken =
     taken ∙ (ap (take bound) same ∙ (ap (λ n. take n now.names.items) is ∙ kept))
 
-pub block_value : (e last : Tree) (all : List StatementTree) (old now after new : Writer) (x : ℕ) → e ≡ block_of all last → WritesStatements all last old now → WritesValue last now after x
+pub block_value : (e last : Tree) (all : List StatementTree) (old now after new : Writer) (x : ℕ)
+    → e ≡ block_of all last → WritesStatements all last old now → WritesValue last now after x
     → new.next ≡ after.next → new.steps.items ≡ after.steps.items → new.names.items ≡ old.names.items → WritesValue e old new x
 block_value e last all old now after new x is first second number steps names =
     subst (λ (one : Tree). WritesValue one old new x) (sym is)
@@ -152,36 +184,56 @@ block_value e last all old now after new x is first second number steps names =
       number = omega (arith, number, second.number, first.number);
       names = names;
       value = second.value ∙ first.value;
-      steps = λ rest. ap (λ items. plug (map step_piece items) rest) steps ∙ (second.steps rest ∙ first.steps (next rest));
+      steps = λ constructors rest.
+          let one = second.steps constructors rest in
+          let whole = first.steps constructors (next rest) one.0 one.1 in
+          (whole.0, whole.1, ap (λ items. plug (map step_piece items) rest) steps ∙ (one.2 ∙ whole.2));
     })
 
-pub block_end : (tail : Bool) (e last : Tree) (all : List StatementTree) (old now after new : Writer) (end : Code) → e ≡ block_of all last → WritesStatements all last old now → WritesEnd tail last now after end
+pub block_end : (tail : Bool) (e last : Tree) (all : List StatementTree) (old now after new : Writer) (end : Code)
+    → e ≡ block_of all last → WritesStatements all last old now → WritesEnd tail last now after end
     → new.next ≡ after.next → new.steps.items ≡ after.steps.items → new.names.items ≡ old.names.items → WritesEnd tail e old new end
 block_end tail e last all old now after new end is first second number steps names =
     subst (λ (one : Tree). WritesEnd tail one old new end) (sym is)
     (record {
       number = omega (arith, number, second.number, first.number);
       names = names;
-      steps = ap (λ items. plug (map step_piece items) end) steps ∙ (second.steps ∙ first.steps (final tail));
+      steps = λ constructors.
+          let one = second.steps constructors in
+          let whole = first.steps constructors (final tail) one.0 one.1 in
+          (whole.0, whole.1, ap (λ items. plug (map step_piece items) end) steps ∙ (one.2 ∙ whole.2));
     })
 
--- ---- variables and forms
+-- ---- variables, forms and choices
 
-pub variable_value : (e : Tree) (v x : ℕ) (old new : Writer) → e ≡ variable v → x ≡ name_of (names_of old.names.items) v → WritesPiece (uses x) old new → WritesValue e old new x
+pub variable_value : (e : Tree) (v x : ℕ) (old new : Writer) → e ≡ variable v → x ≡ name_of (names_of old.names.items) v
+    → WritesPiece (uses x) old new → WritesValue e old new x
 variable_value e v x old new is name writes =
     subst (λ (one : Tree). WritesValue one old new x) (sym is)
     (record {
       number = omega (arith, writes.number);
       names = writes.names;
       value = name;
-      steps = λ rest. writes.steps rest ∙ ap (λ y. behind old (use_of y rest)) name;
+      steps = λ constructors rest.
+          (use_of (name_of (names_of old.names.items) v) rest, refl, writes.steps rest ∙ ap (λ y. behind old (use_of y rest)) name);
+    })
+
+pub variable_end : (tail : Bool) (e : Tree) (v x : ℕ) (writer : Writer) (last : Code) → e ≡ variable v
+    → x ≡ name_of (names_of writer.names.items) v → last ≡ give x → WritesEnd tail e writer writer last
+variable_end tail e v x writer last is name last_is =
+    subst (λ (one : Tree). WritesEnd tail one writer writer last) (sym is)
+    (record {
+      number = omega arith;
+      names = refl;
+      steps = λ constructors. (give (name_of (names_of writer.names.items) v), refl, ap (behind writer) (last_is ∙ ap (λ (y : ℕ). give y) name));
     })
 
 finish_next : (rest : Code) (m : ℕ) (form : Form) (xs : List ℕ) → compute m form xs rest ≡ finish (next rest) m form xs
 finish_next rest m (Call f) xs = refl
 finish_next rest m form xs = refl
 
-pub apply_value : (e : Tree) (form : Form) (es : Trees) (xs : List ℕ) (old now new : Writer) (x : ℕ) → e ≡ apply form es → WritesValues es old now xs → WritesStep (computes now.next form xs) now new x → WritesValue e old new x
+pub apply_value : (e : Tree) (form : Form) (es : Trees) (xs : List ℕ) (old now new : Writer) (x : ℕ)
+    → e ≡ apply form es → WritesValues es old now xs → WritesStep (computes now.next form xs) now new x → WritesValue e old new x
 apply_value e form es xs old now new x is first second =
     let names : Names = names_of old.names.items in
     subst (λ (one : Tree). WritesValue one old new x) (sym is)
@@ -189,10 +241,108 @@ apply_value e form es xs old now new x is first second =
       number = omega (arith, second.number, first.number);
       names = second.names ∙ first.names;
       value = second.is ∙ first.number;
-      steps = λ rest.
-          second.steps rest
-          ∙ (first.steps (compute now.next form xs rest)
-          ∙ (ap (λ n. behind old (code_all names old.next es (compute n form xs rest))) first.number
-          ∙ (ap (λ all. behind old (code_all names old.next es (compute (old.next + size_all es) form all rest))) first.values
-          ∙ ap (λ last. behind old (code_all names old.next es last)) (finish_next rest (old.next + size_all es) form (atoms names old.next es)))));
+      steps = λ constructors rest.
+          let own : compute now.next form xs rest ≡ finish (next rest) (old.next + size_all es) form (atoms names old.next es)
+          = ap (λ (n : ℕ). compute n form xs rest) first.number
+          ∙ (ap (λ (all : List ℕ). compute (old.next + size_all es) form all rest) first.values ∙ finish_next rest (old.next + size_all es) form (atoms names old.next es)) in
+          let one = first.steps constructors (compute now.next form xs rest) in
+          (one.0, subst (λ (last : Code). AreCodes constructors names old.next es last one.0) own one.1, second.steps rest ∙ one.2);
     })
+
+pub apply_end : (tail : Bool) (e : Tree) (form : Form) (es : Trees) (xs : List ℕ) (old now new : Writer) (last : Code)
+    → e ≡ apply form es → WritesValues es old now xs → new.next ≡ now.next + 1 → new.names.items ≡ now.names.items
+    → behind new last ≡ behind now (finish (final tail) now.next form xs) → WritesEnd tail e old new last
+apply_end tail e form es xs old now new last is first number names_kept written =
+    let names : Names = names_of old.names.items in
+    let own : finish (final tail) now.next form xs ≡ finish (final tail) (old.next + size_all es) form (atoms names old.next es)
+    = ap (λ (n : ℕ). finish (final tail) n form xs) first.number ∙ ap (λ (all : List ℕ). finish (final tail) (old.next + size_all es) form all) first.values in
+    subst (λ (one : Tree). WritesEnd tail one old new last) (sym is)
+    (record {
+      number = omega (arith, number, first.number);
+      names = names_kept ∙ first.names;
+      steps = λ constructors.
+          let one = first.steps constructors (finish (final tail) now.next form xs) in
+          (one.0, subst (λ (end : Code). AreCodes constructors names old.next es end one.0) own one.1, written ∙ one.2);
+    })
+
+-- an `if` as a step, whose value the next variable takes
+pub choice_value : (e condition positive negative : Tree) (old now new : Writer) (last : Code) (x : ℕ)
+    → e ≡ if_tree condition positive negative → WritesChoice false condition positive negative old now last → WritesStep (runs now.next last) now new x
+    → WritesValue e old new x
+choice_value e condition positive negative old now new last x is first second =
+    let names : Names = names_of old.names.items in
+    let m : ℕ = old.next + size condition + size positive + size negative in
+    let a : ℕ = atom names old.next condition in
+    subst (λ (one : Tree). WritesValue one old new x) (sym is)
+    (record {
+      number = omega (arith, second.number, first.number);
+      names = second.names ∙ first.names;
+      value = second.is ∙ first.number;
+      steps = λ constructors rest.
+          let parts = first.last_is constructors in
+          let own : inside now.next last rest ≡ inside m (Codes.branch a parts.0 parts.1) rest
+          = ap (λ (n : ℕ). inside n last rest) first.number ∙ ap (λ (block : Code). inside m block rest) parts.4 in
+          let one = first.steps constructors (inside now.next last rest) in
+          (one.0, (parts.0, parts.1, parts.2, parts.3, subst (λ (behind_it : Code). IsCode constructors (next behind_it) names old.next condition one.0) own one.1), second.steps rest ∙ one.2);
+    })
+
+-- an `if` as the end of a block
+pub choice_end : (tail : Bool) (e condition positive negative : Tree) (old now new : Writer) (last : Code)
+    → e ≡ if_tree condition positive negative → WritesChoice tail condition positive negative old now last
+    → new.next ≡ now.next + 1 → new.names.items ≡ now.names.items → new.steps.items ≡ now.steps.items
+    → WritesEnd tail e old new last
+choice_end tail e condition positive negative old now new last is first number names_kept steps =
+    let names : Names = names_of old.names.items in
+    subst (λ (one : Tree). WritesEnd tail one old new last) (sym is)
+    (record {
+      number = omega (arith, number, first.number);
+      names = names_kept ∙ first.names;
+      steps = λ constructors.
+          let parts = first.last_is constructors in
+          let one = first.steps constructors last in
+          (one.0, (parts.0, parts.1, parts.2, parts.3, subst (λ (behind_it : Code). IsCode constructors (next behind_it) names old.next condition one.0) parts.4 one.1), ap (λ items. plug (map step_piece items) last) steps ∙ one.2);
+    })
+
+-- a condition and two blocks
+pub choice_done : (tail : Bool) (condition positive negative : Tree) (old first second third : Writer) (x : ℕ) (yes_code no_code last : Code)
+    → WritesValue condition old first x → WritesBlock tail positive first second yes_code → WritesBlock tail negative second third no_code
+    → last ≡ Codes.branch x yes_code no_code → WritesChoice tail condition positive negative old third last
+choice_done tail condition positive negative old first second third x yes_code no_code last writes one two last_is =
+    let names : Names = names_of old.names.items in
+    let here : names_of first.names.items ≡ names = ap names_of writes.names in
+    let there : names_of second.names.items ≡ names = ap names_of one.names ∙ here in
+    record {
+      number = omega (arith, two.number, one.number, writes.number);
+      names = two.names ∙ (one.names ∙ writes.names);
+      last_is = λ constructors. (
+        yes_code,
+        no_code,
+        subst (λ (n : ℕ). IsCode constructors (final tail) names n positive yes_code) writes.number (subst (λ (some : Names). IsCode constructors (final tail) some first.next positive yes_code) here (one.block_is constructors)),
+        subst (λ (n : ℕ). IsCode constructors (final tail) names n negative no_code) (second_at writes.number one.number) (subst (λ (some : Names). IsCode constructors (final tail) some second.next negative no_code) there (two.block_is constructors)),
+        last_is ∙ ap (λ (y : ℕ). Codes.branch y yes_code no_code) writes.value,
+      );
+      steps = λ constructors rest.
+          let whole = writes.steps constructors rest in
+          (whole.0, whole.1, ap (λ items. plug (map step_piece items) rest) (two.steps ∙ one.steps) ∙ whole.2);
+    }
+  where
+    second_at : first.next ≡ old.next + size condition → second.next ≡ first.next + size positive → second.next ≡ old.next + size condition + size positive
+    second_at one two = omega arith
+
+-- a block of its own, written where there were no steps
+pub block_done : (tail : Bool) (e : Tree) (old began ended new : Writer) (last block : Code)
+    → began.next ≡ old.next → began.names.items ≡ old.names.items → began.steps.items ≡ [] → WritesEnd tail e began ended last
+    → block ≡ behind ended last → new.next ≡ ended.next → new.names.items ≡ ended.names.items → new.steps.items ≡ old.steps.items
+    → WritesBlock tail e old new block
+block_done tail e old began ended new last block number names none writes block_is number_kept names_kept steps_kept =
+    record {
+      number = omega (arith, number_kept, writes.number, number);
+      names = names_kept ∙ (writes.names ∙ names);
+      block_is = λ constructors.
+          let one = writes.steps constructors in
+          let is : one.0 ≡ block = sym (block_is ∙ (one.2 ∙ ap (λ items. plug (map step_piece items) one.0) none)) in
+          subst (λ (code : Code). IsCode constructors (final tail) (names_of old.names.items) old.next e code) is
+          (subst (λ (some : Names). IsCode constructors (final tail) some old.next e one.0) (ap names_of names)
+          (subst (λ (n : ℕ). IsCode constructors (final tail) (names_of began.names.items) n e one.0) number one.1));
+      steps = steps_kept;
+    }

@@ -1,8 +1,7 @@
--- The core form of a program. The variables of a core body are numbered from the number of its parameters on, in the
+-- What a core form of a program is. The variables of a core body are numbered from the number of its parameters on, in the
 -- order of the text, those of an expression's parts before its own: an expression takes as many numbers as its size, the
--- own one last, so what is computed later has the greater number. Which decisions a match has is left open here: `[]` stands in
--- their place, and the promise on a core form is still made for programs without matches alone.
-use Rattle.std.specs.Prelude.{ℕ, ◌≡◌, ◌+◌, List, [], ◌∷◌, map, Bool, true, false, length}
+-- own one last, so what is computed later has the greater number. A form is determined but for the decisions of its matches.
+use Rattle.std.specs.Prelude.{ℕ, ◌≡◌, ◌+◌, List, [], ◌∷◌, Bool, true, false, length}
 use Rattle.kk_syntax.specs.declared.program.Form.{Form}
 use Rattle.kk_syntax.specs.declared.program.Form.TheVariants.{Call}
 use Rattle.kk_syntax.specs.Trees.{Tree, variable, apply, branch, match, sequence, Trees, no_tree, tree, Rows, no_row, row}
@@ -132,47 +131,6 @@ abbrev mutual
   parts_names a n no_part names = names
   parts_names a n (part first others) names =
       parts_names (a + 1) (n + pattern_size first) others (pattern_names a n first names)
-
--- The code of an expression whose numbers begin at n, and of what comes after it. The value is in `atom names n e`.
-abbrev mutual
-  pub code : Then → Names → ℕ → Tree → Code
-  code k names n (variable x) = after_use k (name_of names x)
-  code k names n (apply form es) = code_all names n es (finish k (n + size_all es) form (atoms names n es))
-  code k names n (branch e positive negative) =
-      code (next (joined k (n + size e + size positive + size negative) (Core.branch (atom names n e) (code (within k) names (n + size e) positive) (code (within k) names (n + size e + size positive) negative)))) names n e
-  code k names n (match e rows) =
-      code (next (joined k (n + size e + size_rows rows) (case (atom names n e) [] (arms (within k) names (atom names n e) (n + size e) rows)))) names n e
-  code k names n (sequence binder first rest) =
-      code (next (code k (named (variable_of binder) (atom names n first) names) (n + size first) rest)) names n first
-
-  pub code_all : Names → ℕ → Trees → Code → Code
-  code_all names n no_tree last = last
-  code_all names n (tree first rest) last = code (next (code_all names (n + size first) rest last)) names n first
-
-  -- the arms of a match on variable a
-  pub arms : Then → Names → ℕ → ℕ → Rows → Arms
-  arms k names a n no_row = no_arm
-  arms k names a n (row pattern body rest) =
-      arm pattern (opened a n pattern (code k (pattern_names a n pattern names) (n + pattern_size pattern) body)) (arms k names a (n + pattern_size pattern + size body) rest)
-
--- the code that an `if` on variable a ends with, where the numbers of its branches begin at n
-abbrev pub choice_code : Then → Names → ℕ → ℕ → Tree → Tree → Code
-choice_code k names n a positive negative =
-    Core.branch a (code k names n positive) (code k names (n + size positive) negative)
-
--- the core form of a function and of a program
-abbrev pub normal_function : FunctionTree → FunctionCode
-normal_function function = record {
-  parameters = length function.parameters;
-  variables = length function.parameters + size function.body;
-  body = code (final true) [] (length function.parameters) function.body;
-}
-
-abbrev pub normal_program : ProgramTree → ProgramCode
-normal_program program =
-    record { functions = map normal_function program.functions; texts = program.texts; main = program.main }
-
--- ---- the core form of any program
 
 -- the patterns of rows
 abbrev pub patterns_in : Rows → List Pattern

@@ -1,6 +1,7 @@
 ghost use Rattle.std.specs.Prelude.{◌≡◌, ◌≤◌, List, map, vec_len, IfOk};
 ghost use Rattle.kk_syntax.specs.GroundPrograms.{instance_tree, ground_program};
 ghost use Rattle.kk_syntax.specs.PlainTyping.{IsTyped};
+ghost use Rattle.kk_syntax.specs.Programs.{ConstructorTree};
 ghost use Rattle.kk_syntax.specs.Shapes.{nodes_of};
 ghost use Rattle.kk_syntax.specs.Trees.{expr_tree};
 ghost use Rattle.kk_syntax.specs.Types.{TypeTree};
@@ -8,7 +9,7 @@ ghost use Rattle.kk_core.specs.Codes.{function_code, core_code};
 ghost use Rattle.kk_core.specs.Sizes.{most_parameters, most_nodes};
 ghost use Rattle.kk_norm.specs.NoMatches.{NoMatches, ArePlain};
 ghost use Rattle.kk_norm.specs.Normal.{AreWithin, IsWithin, IsNormalForm};
-ghost use Rattle.kk_norm.specs.Normalized.{normal_function, normal_program};
+ghost use Rattle.kk_norm.specs.Normalized.{IsCoreOf, AreCoresOf, IsCoreForm};
 
 use crate::writer::Writer;
 use kk_base::NoMemory;
@@ -23,7 +24,7 @@ use std::alloc::Global;
 pub fn normal(alloc: Global, given: &Ground) -> Result<Core, NoMemory>
     requires typed { IsTyped (ground_program given.now) }
     requires small { IsWithin (ground_program given.now) }
-    ensures form { IfOk result (λ core. core_code core ≡ normal_program (ground_program given.now)) }
+    ensures form { IfOk result (λ core. IsCoreForm (ground_program given.now) (core_code core)) }
     ensures means { IfOk result (λ core. IsNormalForm (ground_program given.now) (core_code core)) }
 {
     let functions = all_functions(alloc, given)?;
@@ -38,7 +39,7 @@ pub fn normal(alloc: Global, given: &Ground) -> Result<Core, NoMemory>
 fn all_functions(alloc: Global, given: &Ground) -> Result<Vec<CoreFunction>, NoMemory>
     requires plain { ArePlain (ground_program given.now).functions }
     requires small { AreWithin (ground_program given.now).functions }
-    ensures { IfOk result (λ cores. map function_code cores.items ≡ map normal_function (ground_program given.now).functions) }
+    ensures { IfOk result (λ cores. (constructors : List ConstructorTree) → AreCoresOf constructors (ground_program given.now).functions (map function_code cores.items)) }
 {
     let mut cores = Vec::new(alloc);
     for instance in &given.instances {
@@ -53,7 +54,7 @@ fn core_function(alloc: Global, instance: &Instance) -> Result<CoreFunction, NoM
     requires plain { NoMatches (expr_tree instance.now.body) }
     requires few { vec_len instance.now.parameters ≤ most_parameters }
     requires small { nodes_of (expr_tree instance.now.body) ≤ most_nodes }
-    ensures { IfOk result (λ core. (types : List TypeTree) → function_code core ≡ normal_function (instance_tree types instance.now)) }
+    ensures { IfOk result (λ core. (constructors : List ConstructorTree) (types : List TypeTree) → IsCoreOf constructors (instance_tree types instance.now) (function_code core)) }
 {
     let parameters = instance.parameters.len() as u32;
     let mut writer = Writer::new(alloc, parameters);

@@ -1,5 +1,7 @@
-//! Tests of the machine that runs programs: tests alone.
+//! Tests of the machine that runs programs, and of what decides a match: tests alone.
 #![tactic(auto)]
 
+#[cfg(test)]
+mod decisions;
 #[cfg(test)]
 mod runs;

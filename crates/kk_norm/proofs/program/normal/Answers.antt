@@ -1,9 +1,13 @@
-use Rattle.std.proofs.Common.{ap, sym, subst, map, ◌∙◌}
+use Rattle.std.proofs.Common.{refl, sym, subst, ◌∙◌, arith}
+use Rattle.std.proofs.lemmas.List.{length-map}
 use Rattle.kk_syntax.specs.GroundPrograms.{ground_program}
 use Rattle.kk_syntax.specs.Programs.{ProgramTree}
+use Rattle.kk_core.specs.Codes.{ProgramCode, function_code}
 use Rattle.kk_norm.specs.Normal.{IsNormalForm}
-use Rattle.kk_norm.specs.Normalized.{normal_function}
+use Rattle.kk_norm.specs.Normalized.{IsCoreForm}
+use Rattle.kk_norm.proofs.Forms.{as_many}
 use Rattle.kk_norm.proofs.Plain.{are_plain}
+use Rattle.kk_norm.proofs.PlainForms.{only_form}
 use Rattle.kk_norm.proofs.Programs.{main_in_range}
 use Rattle.kk_norm.proofs.TypedPrograms.{is_normal_form}
 use Rattle.kk_norm.proofs.program.normal.Goals as goal
@@ -13,12 +17,33 @@ all_functions-requires-clause-plain c = are_plain (ground_program c.args.given.n
 
 pub returns-clause-form : goal.returns-clause-form
 returns-clause-form c =
-    ap (λ functions. record { functions = functions; texts = c.in_ok-texts.texts.items; main = 0 }) c.in_ok-functions.ensures
-    ∙ ap (λ texts. record { functions = map normal_function (ground_program c.args.given.now).functions; texts = texts; main = 0 }) (c.in_ok-texts.ensures ∙ c.deref.ensures.value)
+    record {
+      functions = c.in_ok-functions.ensures (ground_program c.args.given.now).constructors;
+      texts = c.in_ok-texts.ensures ∙ c.deref.ensures.value;
+      main = refl;
+    }
 
 pub returns-clause-means : goal.returns-clause-means
 returns-clause-means c =
     let program : ProgramTree = ground_program c.args.given.now in
-    subst (λ (functions : _). IsNormalForm program (record { functions = functions; texts = c.in_ok-texts.texts.items; main = 0 })) (sym c.in_ok-functions.ensures)
-    (subst (λ (texts : _). IsNormalForm program (record { functions = map normal_function program.functions; texts = texts; main = 0 })) (sym (c.in_ok-texts.ensures ∙ c.deref.ensures.value))
-    (is_normal_form program c.requires.typed c.requires.small (main_in_range c.args.given.now c.requires.typed)))
+    let form : IsCoreForm program _
+    = record {
+      functions = c.in_ok-functions.ensures program.constructors;
+      texts = c.in_ok-texts.ensures ∙ c.deref.ensures.value;
+      main = refl;
+    } in
+    subst (λ (code : ProgramCode). IsNormalForm program code) (sym (only_form program _ (are_plain program c.requires.typed) form))
+    (is_normal_form program c.requires.typed c.requires.small (main_in_range c.args.given.now c.requires.typed))
+
+pub invariant_of-result : goal.invariant_of-result
+invariant_of-result c =
+    let program : ProgramTree = ground_program c.args.given.now in
+    record {
+      main_in = omega (
+        arith,
+        as_many program.constructors program.functions _ (c.in_ok-functions.ensures program.constructors),
+        length-map c.in_ok-functions.functions.items function_code,
+        main_in_range c.args.given.now c.requires.typed,
+        c.in_ok-functions.functions.ok.0,
+      );
+    }

@@ -1,11 +1,18 @@
-use Rattle.std.proofs.Common.{◌+◌, List, map, drop, subst, ◌∙◌, refl}
+use Rattle.std.proofs.Common.{ℕ, ◌+◌, List, map, drop, sym, ap, subst, ◌∙◌, refl}
 use Rattle.std.proofs.Common.{rules}
 use Rattle.std.proofs.lemmas.Result.{IfOk-weaker}
 use Rattle.kk_syntax.specs.declared.program.Expr.TheViews.{the_lemmas}
-use Rattle.kk_syntax.specs.Trees.{StatementTree, expr_tree, statement_tree, trees_of}
-use Rattle.kk_syntax.proofs.Views.{variable_is, apply_is, block_is}
+use Rattle.kk_syntax.specs.Trees.{StatementTree, Trees, expr_tree, statement_tree, trees_of}
+use Rattle.kk_core.specs.Codes.{Code, branch, runs, plug, step_piece, block_code, last_code}
+use Rattle.kk_core.specs.declared.form.Block.{Block}
+use Rattle.kk_core.specs.declared.form.Step.{Step}
+use Rattle.kk_norm.specs.declared.writer.Writer.{Writer}
+use Rattle.kk_norm.specs.Written.{WritesStep}
+use Rattle.kk_syntax.proofs.Views.{variable_is, apply_is, branch_is, block_is}
 use Rattle.kk_norm.proofs.ProgramTrees.{next_expr, next_statement}
-use Rattle.kk_norm.proofs.WritingAll.{StatementsSoFar, statements_more, value_asked, statement_asked, statements_asked, last_asked, names_back, block_value, block_end, variable_value, apply_value}
+use Rattle.kk_norm.proofs.Writing.{return_code, if_code}
+use Rattle.kk_norm.proofs.Writing as Writing
+use Rattle.kk_norm.proofs.WritingAll.{if_ok_three, ValuesSoFar, values_more, variable_end, apply_end, choice_value, choice_end, choice_done, block_done, StatementsSoFar, statements_more, value_asked, statement_asked, statements_asked, last_asked, names_back, block_value, block_end, variable_value, apply_value}
 use Rattle.kk_norm.proofs.writer.Writer.+code.Goals as goal
 
 pub end-statements-requires : goal.end-statements-requires
@@ -92,3 +99,56 @@ values-value-requires t c = (
       (expr_tree c.expr-item.result) (trees_of (map expr_tree (drop (c.loop-expr.expr-index + 1) c.args.exprs.now)))
       c.loop-expr.invariant (next_expr c.args.exprs.now c.loop-expr.expr-index c.expr-item.result c.expr-item.is c.loop-expr-test.true) c.requires.room,
 )
+
+pub block-returns : goal.block-returns
+block-returns t c =
+    let began : Writer = record { alloc = c.args.self.now.alloc; names = c.args.self.now.names; steps = c.replace-outer.new.dest; next = c.args.self.now.next } in
+    let new : Writer = record { alloc = c.end.new.self.alloc; names = c.end.new.self.names; steps = c.replace-steps.new.dest; next = c.end.new.self.next } in
+    block_done c.args.tail (expr_tree c.args.expr.now) c.args.self.now began c.end.new.self new (last_code c.in_ok-last.last) _ refl refl
+    (cc (c.replace-outer.ensures.after, c.new.ensures.items)) c.in_ok-last.ensures
+    (Writing.block_is _ ∙ ap (λ (items : List Step). plug (map step_piece items) (last_code c.in_ok-last.last)) (cc c.replace-steps.ensures.value)) refl refl
+    (cc (c.replace-steps.ensures.after, c.replace-outer.ensures.value))
+
+pub choice-returns : goal.choice-returns
+choice-returns t c =
+    choice_done c.args.tail (expr_tree c.args.condition.now) (expr_tree c.args.positive.now) (expr_tree c.args.negative.now) c.args.self.now c.value.new.self c.block.new.self c.block-2.new.self
+    c.in_ok-on.on (block_code c.in_ok-positive.positive) (block_code c.in_ok-negative.negative) _ c.in_ok-on.ensures c.in_ok-positive.ensures c.in_ok-negative.ensures
+    (if_code c.in_ok-on.on c.in_ok-positive-2.positive c.in_ok-negative-2.negative
+    ∙ (ap (λ (block : Block). branch c.in_ok-on.on (block_code block) (block_code c.in_ok-negative-2.negative.value)) c.in_ok-positive-2.ensures.ok
+    ∙ ap (λ (block : Block). branch c.in_ok-on.on (block_code c.in_ok-positive.positive) (block_code block)) c.in_ok-negative-2.ensures.ok))
+
+pub end-returns-in-Variable : goal.end-returns-in-Variable
+end-returns-in-Variable t c =
+    variable_end c.args.tail (expr_tree c.args.expr.now) c.in-Variable.variable c.name.result c.args.self.now _
+    (variable_is c.args.expr.now c.in-Variable.variable c.in-Variable.is) c.name.ensures (return_code c.name.result)
+
+pub end-returns-in_ok-arguments-in-Apply : goal.end-returns-in_ok-arguments-in-Apply
+end-returns-in_ok-arguments-in-Apply t c =
+    if_ok_three c.finish.result _ _ _ _ c.finish.ensures.number c.finish.ensures.names c.finish.ensures.steps
+    (λ last number names steps. apply_end c.args.tail (expr_tree c.args.expr.now) c.in-Apply.form (trees_of (map expr_tree c.deref.result.now)) c.in_ok-arguments-in-Apply.arguments.items c.args.self.now c.values.new.self c.finish.new.self (last_code last)
+    (apply_is c.args.expr.now c.in-Apply.form c.in-Apply.arguments c.deref.result.now c.in-Apply.is c.deref.ensures.value) c.in_ok-arguments-in-Apply.ensures number names steps)
+
+pub end-returns-in_ok-last-in-If : goal.end-returns-in_ok-last-in-If
+end-returns-in_ok-last-in-If t c =
+    choice_end c.args.tail (expr_tree c.args.expr.now) (expr_tree c.deref-in-If.result.now) (expr_tree c.deref-in-If-2.result.now) (expr_tree c.deref-in-If-3.result.now) c.args.self.now c.choice.new.self _ (last_code c.in_ok-last-in-If.last)
+    (branch_is c.args.expr.now c.deref-in-If.result.now c.deref-in-If-2.result.now c.deref-in-If-3.result.now c.in-If.condition c.in-If.positive c.in-If.negative c.in-If.is c.deref-in-If.ensures c.deref-in-If-2.ensures c.deref-in-If-3.ensures)
+    c.in_ok-last-in-If.ensures refl refl refl
+
+pub value-returns-in_ok-last-in-If : goal.value-returns-in_ok-last-in-If
+value-returns-in_ok-last-in-If t c =
+    IfOk-weaker c.inside.result _ _
+    (λ x writes. choice_value (expr_tree c.args.expr.now) (expr_tree c.deref-in-If.result.now) (expr_tree c.deref-in-If-2.result.now) (expr_tree c.deref-in-If-3.result.now) c.args.self.now c.choice.new.self c.inside.new.self (last_code c.in_ok-last-in-If.last) x
+    (branch_is c.args.expr.now c.deref-in-If.result.now c.deref-in-If-2.result.now c.deref-in-If-3.result.now c.in-If.condition c.in-If.positive c.in-If.negative c.in-If.is c.deref-in-If.ensures c.deref-in-If-2.ensures c.deref-in-If-3.ensures)
+    c.in_ok-last-in-If.ensures
+    (subst (λ (code : Code). WritesStep (runs c.choice.new.self.next code) c.choice.new.self c.inside.new.self x)
+    (Writing.block_is _ ∙ ap (λ (items : List Step). plug (map step_piece items) (last_code c.in_ok-last-in-If.last)) c.new-steps.ensures.items) writes))
+    c.inside.ensures
+
+pub values-loop-expr-preserved : goal.values-loop-expr-preserved
+values-loop-expr-preserved t c =
+    let left = trees_of (map expr_tree (drop (c.loop-expr.expr-index + 1) c.args.exprs.now)) in
+    let all = trees_of (map expr_tree c.args.exprs.now) in
+    subst (λ (xs : List ℕ). ValuesSoFar c.args.self.now c.value.new.self left all xs) (sym c.in_ok-push.ensures.items)
+    (values_more c.args.self.now c.loop-expr.self c.value.new.self (expr_tree c.expr-item.result) left all c.loop-expr.variables.items c.in_ok-variable.variable
+    (subst (λ (es : Trees). ValuesSoFar c.args.self.now c.loop-expr.self es all c.loop-expr.variables.items) (next_expr c.args.exprs.now c.loop-expr.expr-index c.expr-item.result c.expr-item.is c.loop-expr-test.true) c.loop-expr.invariant)
+    c.in_ok-variable.ensures)

@@ -1,0 +1,55 @@
+ghost use Rattle.std.specs.Prelude.{◌≡◌, ◌+◌, ◌*◌, map, sum_by, IfOk};
+ghost use Rattle.kk_syntax.specs.Patterns.{pattern_tree, patterns_of};
+ghost use Rattle.kk_syntax.specs.Shapes.{nodes_of_pattern, nodes_of_patterns};
+ghost use Rattle.kk_match.specs.Decided.{most_tests};
+
+use kk_base::NoMemory;
+use kk_syntax::Pat;
+
+/// How many states of these patterns may test.
+pub fn most_tests(patterns: &[&Pat]) -> Result<usize, NoMemory>
+    ensures { IfOk result (λ most. most ≡ most_tests (map (λ p. pattern_tree p.now) patterns.now)) }
+{
+    let mut count = 0;
+    for pattern in patterns {
+        count = sum(count, nodes_of_pattern(pattern)?)?;
+    }
+    match count.checked_mul(8) {
+        Some(most) => Ok(most),
+        None => Err(NoMemory),
+    }
+}
+
+// The nodes of a pattern: 1, and those of its parts.
+#[cycle(nodes)]
+fn nodes_of_pattern(pattern: &Pat) -> Result<usize, NoMemory>
+    ensures { IfOk result (λ count. count ≡ nodes_of_pattern (pattern_tree pattern.now)) }
+{
+    match pattern {
+        Pat::Wildcard | Pat::Variable(_) | Pat::Number(_) => Ok(1),
+        Pat::Constructor(_, parts) => {
+            let inner = nodes_of_patterns(parts)?;
+            sum(inner, 1)
+        }
+    }
+}
+
+#[cycle(nodes)]
+fn nodes_of_patterns(patterns: &[Pat]) -> Result<usize, NoMemory>
+    ensures { IfOk result (λ count. count ≡ nodes_of_patterns (patterns_of (map pattern_tree patterns.now))) }
+{
+    let mut count = 0;
+    for pattern in patterns {
+        count = sum(count, nodes_of_pattern(pattern)?)?;
+    }
+    Ok(count)
+}
+
+fn sum(one: usize, other: usize) -> Result<usize, NoMemory>
+    ensures { IfOk result (λ both. both ≡ one + other) }
+{
+    match one.checked_add(other) {
+        Some(both) => Ok(both),
+        None => Err(NoMemory),
+    }
+}

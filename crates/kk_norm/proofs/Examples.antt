@@ -1,0 +1,61 @@
+-- A core form of a match with a nested pattern, whose variables, openings and order can be read here.
+use Rattle.std.proofs.Common.{◌≡◌, ℕ, Bool, true, false, List, [], ◌∷◌, Some, None, refl}
+use Rattle.std.specs.Prelude.{if◌then◌else◌}
+use Rattle.kk_syntax.specs.declared.operator.BinaryOperator.TheVariants.{Subtract}
+use Rattle.kk_syntax.specs.declared.program.Form.TheVariants.{Binary}
+use Rattle.kk_syntax.specs.Patterns.{Pattern, anything, variable as pattern_variable, constructor, no_part, part}
+use Rattle.kk_syntax.specs.Programs.{ConstructorTree}
+use Rattle.kk_syntax.specs.Trees.{Tree, variable, apply, match, no_tree, tree, no_row, row}
+use Rattle.kk_core.specs.Choosing.{Decides, matches}
+use Rattle.kk_core.specs.Codes.{Code, give, case, compute, use_of, unpack, Arms, no_arm, arm}
+use Rattle.kk_core.specs.Decisions.{chooses}
+use Rattle.kk_norm.specs.Normalized.{final, IsCode}
+use Rattle.kk_norm.specs.OpenedCells.{openings}
+
+-- In a type with the one constructor 7, the pattern of a pair whose second part is a pair: `Pair(x, Pair(_, y))`.
+abbrev nested : Pattern
+nested =
+    constructor 7 (part (pattern_variable 1) (part (constructor 7 (part anything (part (pattern_variable 2) no_part))) no_part))
+
+-- match p { Pair(x, Pair(_, y)) -> x - y }, where p is parameter 0, x is variable 1 and y is variable 2
+abbrev body : Tree
+body = match (variable 0) (row nested (apply (Binary Subtract) (tree (variable 1) (tree (variable 2) no_tree))) no_row)
+
+-- what is done in the arm behind its openings
+abbrev subtraction : Code
+subtraction = use_of 1 (use_of 4 (compute 5 (Binary Subtract) (1 ∷ 4 ∷ []) (give 5)))
+
+-- The outer pair is opened before the inner one, each field has a number, and the numbers follow one another.
+abbrev arms : Arms
+arms = arm nested (unpack 0 7 (1 ∷ 2 ∷ []) (unpack 2 7 (3 ∷ 4 ∷ []) subtraction)) no_arm
+
+-- where there is one row, it is chosen
+one_row : (b : Bool) (i : ℕ) → (if b then Some 0 else None) ≡ Some i → Some 0 ≡ Some i
+one_row true i is = is
+one_row false i is = absurd (cc)
+
+decides : (constructors : List ConstructorTree) → Decides constructors (nested ∷ []) (chooses 0 ∷ [])
+decides constructors = λ t store v i of value is. one_row (matches store nested v) i is
+
+pub is_its_code : (constructors : List ConstructorTree)
+    → IsCode constructors (final true) [] 1 body (use_of 0 (case 0 (chooses 0 ∷ []) arms))
+is_its_code constructors = (
+  chooses 0 ∷ [],
+  arms,
+  decides constructors,
+  (
+    subtraction,
+    no_arm,
+    refl,
+    (
+      use_of 4 (compute 5 (Binary Subtract) (1 ∷ 4 ∷ []) (give 5)),
+      (compute 5 (Binary Subtract) (1 ∷ 4 ∷ []) (give 5), refl, refl),
+      refl,
+    ),
+    refl,
+  ),
+  refl,
+)
+
+pub opens_two : openings nested ≡ 2
+opens_two = refl
