@@ -9,10 +9,10 @@ use Rattle.kk_syntax.specs.Shapes.{gathered_all, gathered_rows}
 use Rattle.kk_syntax.specs.Trees.{Tree, variable, apply, branch, match, sequence, Trees, no_tree, tree, Rows, no_row, row}
 use Rattle.kk_syntax.specs.Types.{TypeTree, unit_type, type_variable, named, TypeTrees, types_of, type_list, put, put_each, type_at, variables_below}
 use Rattle.kk_syntax.specs.Typing.{Scope, Scheme, Choice, holding, variables_of_type, scheme_in, constructor_scheme, chosen_at, IsPatternTyped, ArePatternsTyped, IsTypedBy, AreTypedBy, AreRowsTypedBy, IsTyping}
-use Rattle.kk_cover.specs.Covered.{Each}
+use Rattle.kk_syntax.specs.Covered.{Each, asked_by}
 use Rattle.kk_syntax.specs.Outlines.{Outline, outline_of, outlines_of}
 use Rattle.kk_syntax.specs.OfType.{IsPatternOf, ArePatternsOf, fields_of, field_types, is_int32, values_of}
-use Rattle.kk_cover.specs.Matches.{asked_by, of_matches, matches}
+use Rattle.kk_cover.specs.Matches.{of_matches, matches}
 use Rattle.kk_cover.specs.TypedRows.{AreOfChosenType}
 use Rattle.kk_cover.proofs.Keeping.{each-append}
 use Rattle.kk_cover.proofs.Knowing.{fields_made}

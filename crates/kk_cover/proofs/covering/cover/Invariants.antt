@@ -1,6 +1,6 @@
 use Rattle.std.proofs.Common.{take}
 use Rattle.kk_syntax.specs.Programs.{program_tree}
-use Rattle.kk_cover.specs.Covered.{Each}
+use Rattle.kk_syntax.specs.Covered.{Each}
 use Rattle.kk_cover.specs.Matches.{IsFunctionCovered}
 use Rattle.kk_cover.proofs.covering.cover.Given as goal
 
