@@ -1,29 +1,19 @@
 -- The rules and the constructions of a block, by its statements and its last expression.
-use Rattle.std.proofs.Common.{◌≡◌, ℕ, ◌==◌, Bool, true, false, not, ◌||◌, cond, List, [], ◌∷◌, ◌++◌, length, map, refl, ap, sym, ◌∙◌, arith, append_assoc}
-use Rattle.std.proofs.lemmas.Bool.{eqb-true, false_from_ne_true}
+use Rattle.std.proofs.Common.{◌≡◌, ℕ, Bool, ◌||◌, cond, List, [], ◌∷◌, ◌++◌, map, refl, ap, sym, ◌∙◌, append_assoc}
 use Rattle.kk_syntax.specs.declared.program.Expr.{Expr}
 use Rattle.kk_syntax.specs.declared.program.Expr.TheVariants.{Block}
-use Rattle.kk_syntax.specs.declared.program.Form.TheVariants.{Construct}
 use Rattle.kk_syntax.specs.declared.program.Statement.{Statement}
-use Rattle.kk_syntax.specs.Patterns.{Pattern, constructor, patterns_of}
-use Rattle.kk_syntax.specs.Trees.{Tree, trees_of, StatementTree, block_of, expr_tree, statement_tree}
-use Rattle.kk_syntax.proofs.OwnedPlaces.{is_none}
+use Rattle.kk_syntax.specs.Trees.{Tree, StatementTree, block_of, expr_tree, statement_tree}
+use Rattle.kk_syntax.proofs.OwnedPlaces.{is_none, builds_block}
 use Rattle.kk_syntax.proofs.Views.{block_tree}
 use Rattle.kk_borrow.specs.declared.owned_place.Place.{Place}
 use Rattle.kk_borrow.specs.declared.owned_place.Place.TheVariants.{Always}
 use Rattle.kk_borrow.specs.declared.scope.Binding.{Binding}
-use Rattle.kk_syntax.specs.OwnedPositions.{is_val, opens, makes, builds}
-use Rattle.kk_borrow.specs.Statements.{builds_statements, placed_statements, place_behind}
+use Rattle.kk_syntax.specs.OwnedPositions.{is_val, builds}
+use Rattle.kk_borrow.specs.Statements.{placed_statements, place_behind}
+use Rattle.kk_syntax.specs.OwnedSearch.{builds_statements}
 use Rattle.kk_borrow.specs.Rules.{RuleTree}
 use Rattle.kk_borrow.specs.Demands.{place_if, placed, origins_in, tail_rules}
-
-or_assoc : (a b c : Bool) → (a || (b || c)) ≡ ((a || b) || c)
-or_assoc true b c = refl
-or_assoc false b c = refl
-
-pub builds_block : (ss : List StatementTree) (last : Tree) → builds (block_of ss last) ≡ (builds_statements ss || builds last)
-builds_block [] last = refl
-builds_block (s ∷ ss) last = ap (λ b. builds s.value || b) (builds_block ss last) ∙ or_assoc (builds s.value) (builds_statements ss) (builds last)
 
 placed_rest : (f : ℕ) (ss : List StatementTree) (last : Tree) → placed f Always (block_of ss last) ≡ placed_statements f ss ++ placed f Always last
 placed_rest f [] last = refl

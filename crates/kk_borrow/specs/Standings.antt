@@ -1,5 +1,5 @@
 -- The state of the search for the least set: how each position stands, and which rules are still to be read.
-use Rattle.std.specs.Prelude.{◌≡◌, ◌<◌, ℕ, ◌+◌, List, [], Option, All, length, map, replicate, set, slice_get, slice_index_or, IsTrue}
+use Rattle.std.specs.Prelude.{◌<◌, ℕ, ◌+◌, List, [], Option, All, length, map, replicate, set, slice_get, slice_index_or, IsTrue}
 use Rattle.std.specs.List.{sum_by}
 use Rattle.kk_syntax.specs.declared.positions.Ownership.{Ownership}
 use Rattle.kk_syntax.specs.declared.positions.Ownership.TheVariants as Of

@@ -1,15 +1,11 @@
--- The constructions of statements alone, and their rules.
-use Rattle.std.specs.Prelude.{ℕ, Bool, false, ◌||◌, List, [], ◌∷◌, ◌++◌}
+-- The rules of statements alone.
+use Rattle.std.specs.Prelude.{ℕ, List, [], ◌∷◌, ◌++◌}
 use Rattle.kk_syntax.specs.Trees.{StatementTree}
 use Rattle.kk_borrow.specs.declared.owned_place.Place.{Place}
 use Rattle.kk_borrow.specs.declared.owned_place.Place.TheVariants.{Always}
-use Rattle.kk_syntax.specs.OwnedPositions.{is_val, builds}
+use Rattle.kk_syntax.specs.OwnedPositions.{is_val}
 use Rattle.kk_borrow.specs.Rules.{RuleTree}
 use Rattle.kk_borrow.specs.Demands.{place_if, placed}
-
-abbrev pub builds_statements : List StatementTree → Bool
-builds_statements [] = false
-builds_statements (s ∷ ss) = builds s.value || builds_statements ss
 
 abbrev pub placed_statements : ℕ → List StatementTree → List RuleTree
 placed_statements f [] = []

@@ -2,7 +2,8 @@ ghost use Rattle.std.specs.Prelude.{◌≡◌, ◌++◌, map, IfOk, OnOk};
 ghost use Rattle.kk_syntax.specs.Patterns.{pattern_tree};
 ghost use Rattle.kk_syntax.specs.Trees.{expr_tree, trees_of, row_tree, rows_of, statement_tree};
 ghost use Rattle.kk_syntax.specs.OwnedPositions.{is_val, opens, makes, builds, builds_any, builds_rows, reuses};
-ghost use Rattle.kk_borrow.specs.Statements.{builds_statements, placed_statements, place_behind};
+ghost use Rattle.kk_syntax.specs.OwnedSearch.{builds_statements};
+ghost use Rattle.kk_borrow.specs.Statements.{placed_statements, place_behind};
 ghost use Rattle.kk_borrow.specs.Rules.{rule_trees};
 ghost use Rattle.kk_borrow.specs.Demands.{place_in, place_if, at_place, placed, placed_all, placed_rows};
 

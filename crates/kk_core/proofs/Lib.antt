@@ -1,5 +1,6 @@
 mod ChosenArms
 mod Examples
+mod PlainTypes
 mod Safe
 mod SafeRuns
 mod SafeSteps

@@ -141,8 +141,8 @@ module _ (table : Table) (setting : CoreSetting) (typed : IsCoreTyped table sett
         let more : Store = record { made_by = c; fields = v ∷ vs } ∷ [] in (
           r,
           bound_runs table (from.store ++ more) environment joins runs.facts (x ∷ runs.names) runs.low runs.high x rest runs.tail s
-              runs.type r (place (length from.store)) (stand_longer table.constructors from.store more runs.facts environment runs.low
-              runs.stand) runs.ordered.1
+              runs.type r (place (length from.store))
+              (stand_longer table.constructors from.store more runs.facts environment runs.low runs.stand) runs.ordered.1
               (construct_of table.constructors (from.store ++ more) s c effect.0 (place (length from.store)) (v ∷ vs) effect.1
               (length from.store, refl, get_behind from.store (record { made_by = c; fields = v ∷ vs }))
               (all_longer from.store more table.constructors effect.0 (v ∷ vs) effect.2))

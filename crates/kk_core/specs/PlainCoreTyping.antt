@@ -2,7 +2,7 @@
 -- know cells yet ask for these in place of CoreTyping's.
 use Rattle.std.specs.Prelude.{◌≡◌, ℕ, List, [], ◌∷◌, length, Bool, true, false, Some, slice_get}
 use Rattle.kk_syntax.specs.Types.{TypeTree, unit_type}
-use Rattle.kk_syntax.specs.PlainTyping.{Signature, Scope, type_in, with_parameters, bool, IsFormTyped}
+use Rattle.kk_syntax.specs.PlainTyping.{Signature, Scope, type_in, with_parameters, bool, IsFormTyped, IsPlainForm}
 use Rattle.kk_core.specs.Codes.{Code, give, tail_call, branch, case, compute, use_of, unpack, inside, FunctionCode, ProgramCode}
 use Rattle.kk_core.specs.Sizes.{IsOrdered}
 
@@ -17,7 +17,8 @@ HaveTypes scope (x ∷ xs) (t ∷ ts) = (type_in scope x ≡ Some t) × HaveType
 abbrev pub HasCodeType : List Signature → Bool → Scope → Code → TypeTree → Type 0
 HasCodeType signatures tail scope (give x) t = type_in scope x ≡ Some t
 HasCodeType signatures tail scope (tail_call f arguments) t =
-    (tail ≡ true) × (ts : List TypeTree) × HaveTypes scope arguments ts × (slice_get signatures f ≡ Some (record { parameters = ts; result = t }))
+    (tail ≡ true) × (ts : List TypeTree) × HaveTypes scope arguments ts
+    × (slice_get signatures f ≡ Some (record { parameters = ts; result = t }))
 HasCodeType signatures tail scope (branch x positive negative) t =
     (type_in scope x ≡ Some bool) × HasCodeType signatures tail scope positive t × HasCodeType signatures tail scope negative t
 HasCodeType signatures tail scope (case x decisions arms) t = ⊥
@@ -28,7 +29,8 @@ HasCodeType signatures tail scope (use_of x rest) t =
     (s : TypeTree) × (type_in scope x ≡ Some s) × HasCodeType signatures tail scope rest t
 HasCodeType signatures tail scope (unpack x c fields rest) t = ⊥
 HasCodeType signatures tail scope (inside x block rest) t =
-    (s : TypeTree) × HasCodeType signatures false scope block s × HasCodeType signatures tail (record { variable = x; type = s } ∷ scope) rest t
+    (s : TypeTree) × HasCodeType signatures false scope block s
+    × HasCodeType signatures tail (record { variable = x; type = s } ∷ scope) rest t
 
 -- a function has a signature: as many parameters, and a body of the type of its result; and its variables are in order
 pub record IsCodeTyped (signatures : List Signature) (function : FunctionCode) (signature : Signature) : Type 0 where
@@ -48,3 +50,20 @@ pub record IsPlainCoreTyped (code : ProgramCode) : Type 0 where
   pub signatures : List Signature
   pub functions : AreCodesTyped signatures code.functions signatures
   pub main : slice_get signatures code.main ≡ Some (record { parameters = []; result = unit_type })
+
+-- ---- without cells
+
+-- a code without cases and openings, which constructs `False` and `True` alone
+abbrev pub IsPlainCode : Code → Type 0
+IsPlainCode (give x) = Unit {0}
+IsPlainCode (tail_call f arguments) = Unit {0}
+IsPlainCode (branch x positive negative) = IsPlainCode positive × IsPlainCode negative
+IsPlainCode (case x decisions arms) = ⊥
+IsPlainCode (compute x form arguments rest) = IsPlainForm form × IsPlainCode rest
+IsPlainCode (use_of x rest) = IsPlainCode rest
+IsPlainCode (unpack x c fields rest) = ⊥
+IsPlainCode (inside x block rest) = IsPlainCode block × IsPlainCode rest
+
+abbrev pub ArePlainCodes : List FunctionCode → Type 0
+ArePlainCodes [] = Unit {0}
+ArePlainCodes (function ∷ functions) = IsPlainCode function.body × ArePlainCodes functions

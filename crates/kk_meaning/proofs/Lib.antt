@@ -8,3 +8,4 @@ pub mod Patterns
 pub mod Popped
 pub mod Results
 pub mod Stepped
+pub mod TailCalls

@@ -2,7 +2,7 @@ ghost use Rattle.std.specs.Prelude.{◌≡◌, ◌<◌, true, length, slice_get,
 ghost use Rattle.kk_syntax.specs.OwnedPositions.{IsLeast, Told, function_at};
 ghost use Rattle.kk_syntax.specs.OwnedSearch.{each_lent, with_owned, FindsUsed, AsksIn, Asks};
 ghost use Rattle.kk_syntax.specs.PositionsOf.{positions_of, is_lent};
-ghost use Rattle.kk_syntax.specs.Programs.{function_tree, program_tree};
+ghost use Rattle.kk_syntax.specs.Programs.{ProgramTree, function_tree, program_tree};
 ghost use Rattle.kk_syntax.specs.declared.positions.Ownership.TheVariants as OfOwnership;
 
 use crate::handed::handed;
@@ -64,7 +64,7 @@ fn asked(
     ensures { IfOk result (λ found. Asks (program_tree program.now) (positions_of positions.now) found) }
 {
     for (number, function) in program.functions.iter().enumerate() {
-        let found = asked_in(alloc, program, positions, number, function)?;
+        let found = asked_in(alloc, positions, number, function)?;
         if found.is_some() {
             return Ok(found);
         }
@@ -75,15 +75,13 @@ fn asked(
 // A lent position that a rule asks for in a function, if there is one.
 fn asked_in(
     alloc: Global,
-    _program: &Program,
     positions: &Positions,
     number: usize,
     function: &Fun,
 ) -> Result<Option<Position>, NoMemory>
-    requires told { Told (program_tree _program.now) (positions_of positions.now) }
-    requires at { function_at (program_tree _program.now) number ≡ function_tree function.now }
-    ensures { IfOk result (λ found.
-        AsksIn (program_tree _program.now) (positions_of positions.now) number (function_tree function.now) found) }
+    ensures { IfOk result (λ found. (program : ProgramTree)
+        → Told program (positions_of positions.now) → function_at program number ≡ function_tree function.now
+        → AsksIn program (positions_of positions.now) number (function_tree function.now) found) }
 {
     match used(positions, number, function) {
         Some(position) => Ok(Some(position)),

@@ -1,8 +1,9 @@
 ghost use Rattle.std.specs.Prelude.{◌≡◌, map};
 ghost use Rattle.kk_syntax.specs.OwnedPositions.{owned_in, takes, is_val, opens, makes, builds, builds_any, builds_rows, reuses, uses, uses_any, uses_rows};
+ghost use Rattle.kk_syntax.specs.OwnedSearch.{builds_statements, uses_statements};
 ghost use Rattle.kk_syntax.specs.Patterns.{pattern_tree};
 ghost use Rattle.kk_syntax.specs.PositionsOf.{positions_of};
-ghost use Rattle.kk_syntax.specs.Trees.{expr_tree, trees_of, row_tree, rows_of, statement_tree, block_of};
+ghost use Rattle.kk_syntax.specs.Trees.{expr_tree, trees_of, row_tree, rows_of, statement_tree};
 
 use kk_syntax::{Binder, Expr, Form, Pat, Position, Positions, Row, Statement};
 
@@ -24,7 +25,11 @@ pub fn uses(positions: &Positions, owned: bool, variable: usize, expr: &Expr) ->
             uses(positions, reuses(rows), variable, scrutinee)
                 || uses_rows(positions, variable, rows)
         }
-        Expr::Block(statements, value) => uses_block(positions, owned, variable, statements, value),
+        Expr::Block(statements, value) => {
+            let last = owned || !statements.is_empty();
+            uses_statements(positions, variable, statements)
+                || uses(positions, last, variable, value)
+        }
     }
 }
 
@@ -55,26 +60,18 @@ fn uses_rows(positions: &Positions, variable: usize, rows: &[Row]) -> bool
     false
 }
 
-// The same for a block.
+// The same for the values of statements.
 #[cycle(uses)]
-fn uses_block(
-    positions: &Positions,
-    owned: bool,
-    variable: usize,
-    statements: &[Statement],
-    value: &Expr,
-) -> bool
-    ensures { result ≡ uses (owned_in (positions_of positions.now)) owned variable (block_of (map statement_tree statements.now) (expr_tree value.now)) }
+fn uses_statements(positions: &Positions, variable: usize, statements: &[Statement]) -> bool
+    ensures { result ≡ uses_statements (owned_in (positions_of positions.now)) variable (map statement_tree statements.now) }
 {
-    let mut last = owned;
     for statement in statements {
-        let first = is_val(statement.binder);
-        if uses(positions, first, variable, &statement.value) {
+        let owned = is_val(statement.binder);
+        if uses(positions, owned, variable, &statement.value) {
             return true;
         }
-        last = true;
     }
-    uses(positions, last, variable, value)
+    false
 }
 
 // Whether an argument of a form stands at an owned place.
@@ -134,7 +131,7 @@ fn builds(expr: &Expr) -> bool
             builds(condition) || builds(positive) || builds(negative)
         }
         Expr::Match(scrutinee, rows) => builds(scrutinee) || builds_rows(rows),
-        Expr::Block(statements, value) => builds_block(statements, value),
+        Expr::Block(statements, value) => builds_statements(statements) || builds(value),
     }
 }
 
@@ -163,15 +160,15 @@ fn builds_rows(rows: &[Row]) -> bool
 }
 
 #[cycle(builds)]
-fn builds_block(statements: &[Statement], value: &Expr) -> bool
-    ensures { result ≡ builds (block_of (map statement_tree statements.now) (expr_tree value.now)) }
+fn builds_statements(statements: &[Statement]) -> bool
+    ensures { result ≡ builds_statements (map statement_tree statements.now) }
 {
     for statement in statements {
         if builds(&statement.value) {
             return true;
         }
     }
-    builds(value)
+    false
 }
 
 // Whether a form with its arguments is a construction with fields.

@@ -9,6 +9,7 @@ pub mod Operators
 pub mod Roomier
 pub mod Safe
 pub mod SafeRuns
+pub mod Settings
 pub mod Sound
 pub mod TakenInput
 mod TypedExamples

@@ -2,6 +2,8 @@ ghost use Rattle.std.specs.Prelude.{◌≡◌, ◌≤◌, ◌↔◌, ℕ, List, 
 ghost use Rattle.kk_base.specs.Trace.{IsPrefix, TakesFrom};
 ghost use Rattle.kk_base.specs.Machines.{state};
 ghost use Rattle.kk_syntax.specs.GroundTyping.{IsGroundTyped};
+ghost use Rattle.kk_syntax.specs.Programs.{ProgramTree};
+ghost use Rattle.kk_source.specs.Settings.{IsRun};
 ghost use Rattle.kk_source.specs.State.{Setting, Value};
 ghost use Rattle.kk_source.specs.Live.{is_live, Reached};
 ghost use Rattle.kk_source.specs.NeverStuck.{NeverStuck};
@@ -44,4 +46,12 @@ pub fn only_taken_input_counts()
 /// there. It is a law, and does nothing.
 pub fn typed_programs_are_never_stuck()
     ensures { (setting : Setting) (input : List ℕ) → IsGroundTyped setting.program → NeverStuck setting input }
+{}
+
+/// A program is run in exactly one way, for so many cells and such a depth: it has exactly one least set of owned positions.
+/// It is a law, and does nothing.
+pub fn programs_are_run_in_one_way()
+    ensures some { (program : ProgramTree) (cells depth : ℕ) → (setting : Setting) × IsRun program cells depth setting }
+    ensures one { (program : ProgramTree) (cells depth : ℕ) (one other : Setting)
+        → IsRun program cells depth one → IsRun program cells depth other → one ≡ other }
 {}

@@ -1,12 +1,12 @@
 -- What a search for the owned positions goes through: it begins with no position, and while a rule asks for a lent
 -- position, that becomes owned.
-use Rattle.std.specs.Prelude.{◌≡◌, ◌<◌, ℕ, Bool, true, false, if◌then◌else◌, IsTrue, Option, Some, None, List, [], ◌∷◌, ◌++◌, map, length, replicate, set, slice_index_or}
+use Rattle.std.specs.Prelude.{◌≡◌, ◌<◌, ℕ, Bool, true, false, ◌||◌, if◌then◌else◌, IsTrue, Option, Some, None, List, [], ◌∷◌, ◌++◌, map, length, replicate, set, slice_index_or}
 use Rattle.kk_syntax.specs.declared.positions.Ownership.TheVariants.{Owned, Lent}
 use Rattle.kk_syntax.specs.declared.positions.Position.{Position}
-use Rattle.kk_syntax.specs.OwnedPositions.{PositionSet, uses, OwnsUsed, is_lent_variable, lent_in_row, handed_by, OwnsHanded, Closed, Within, owned_in}
+use Rattle.kk_syntax.specs.OwnedPositions.{PositionSet, is_val, builds, uses, OwnsUsed, is_lent_variable, lent_in_row, handed_by, OwnsHanded, Closed, Within, owned_in}
 use Rattle.kk_syntax.specs.PositionsOf.{PositionTable, is_lent}
 use Rattle.kk_syntax.specs.Programs.{FunctionTree, ProgramTree}
-use Rattle.kk_syntax.specs.Trees.{Tree, variable, apply, branch, match, sequence, Rows, no_row, row}
+use Rattle.kk_syntax.specs.Trees.{Tree, variable, apply, branch, match, sequence, Rows, no_row, row, StatementTree}
 
 -- the table that has each parameter lent
 abbrev pub each_lent : List FunctionTree → PositionTable
@@ -15,6 +15,15 @@ each_lent functions = map (λ f. replicate (length f.parameters) Lent) functions
 -- the table with one more position owned
 abbrev pub with_owned : PositionTable → Position → PositionTable
 with_owned table p = set table p.function (set (slice_index_or table p.function []) p.parameter Owned)
+
+-- the constructions of statements alone, and their variables at owned places
+abbrev pub builds_statements : List StatementTree → Bool
+builds_statements [] = false
+builds_statements (s ∷ ss) = builds s.value || builds_statements ss
+
+abbrev pub uses_statements : PositionSet → ℕ → List StatementTree → Bool
+uses_statements set x [] = false
+uses_statements set x (s ∷ ss) = uses set (is_val s.binder) x s.value || uses_statements set x ss
 
 -- What tail calls are given, found by a walk over the body: proved to be the positions of `handed`.
 abbrev mutual

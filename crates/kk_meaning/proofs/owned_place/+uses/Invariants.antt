@@ -1,7 +1,8 @@
 use Rattle.std.proofs.Common.{◌≡◌, map, drop}
-use Rattle.kk_syntax.specs.OwnedPositions.{uses, uses_any, uses_rows, owned_in}
+use Rattle.kk_syntax.specs.OwnedPositions.{uses_any, uses_rows, owned_in}
+use Rattle.kk_syntax.specs.OwnedSearch.{uses_statements}
 use Rattle.kk_syntax.specs.PositionsOf.{positions_of}
-use Rattle.kk_syntax.specs.Trees.{expr_tree, trees_of, row_tree, rows_of, statement_tree, block_of}
+use Rattle.kk_syntax.specs.Trees.{expr_tree, trees_of, row_tree, rows_of, statement_tree}
 use Rattle.kk_meaning.proofs.owned_place.+uses.Given as goal
 
 abbrev pub invariant-uses_any-loop-index : goal.invariant-uses_any-loop-index
@@ -14,7 +15,7 @@ invariant-uses_rows-loop-row l =
     uses_rows (owned_in (positions_of l.positions)) l.variable (rows_of (map row_tree (drop l.row-index l.rows)))
     ≡ uses_rows (owned_in (positions_of l.positions)) l.variable (rows_of (map row_tree l.rows))
 
-abbrev pub invariant-uses_block-loop-statement : goal.invariant-uses_block-loop-statement
-invariant-uses_block-loop-statement l =
-    uses (owned_in (positions_of l.positions)) l.last l.variable (block_of (map statement_tree (drop l.statement-index l.statements)) (expr_tree l.value))
-    ≡ uses (owned_in (positions_of l.positions)) l.owned l.variable (block_of (map statement_tree l.statements) (expr_tree l.value))
+abbrev pub invariant-uses_statements-loop-statement : goal.invariant-uses_statements-loop-statement
+invariant-uses_statements-loop-statement l =
+    uses_statements (owned_in (positions_of l.positions)) l.variable (map statement_tree (drop l.statement-index l.statements))
+    ≡ uses_statements (owned_in (positions_of l.positions)) l.variable (map statement_tree l.statements)

@@ -1,10 +1,7 @@
-use Rattle.std.proofs.Common.{◌≡◌, List, [], map, reverse, sym, subst, ap, arith}
+use Rattle.std.proofs.Common.{◌≡◌, [], map, reverse, sym, subst, ap, arith}
 use Rattle.std.proofs.lemmas.List.{take_all}
-use Rattle.kk_syntax.specs.declared.program.Expr.{Expr}
-use Rattle.kk_syntax.specs.Trees.{expr_tree, trees_of, apply as applied}
 use Rattle.kk_source.specs.Actions.{Action}
-use Rattle.kk_source.specs.State.{Value, Frame, Configuration}
-use Rattle.kk_source.specs.Step.{expression_step, form_step}
+use Rattle.kk_source.specs.State.{Configuration}
 use Rattle.kk_meaning.specs.View.{value_view, environment_of}
 use Rattle.kk_meaning.specs.Machines.{setting_of, configuration_of, frames_below}
 use Rattle.kk_meaning.specs.Performs.{Performs}

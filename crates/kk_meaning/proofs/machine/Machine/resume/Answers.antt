@@ -5,7 +5,6 @@ use Rattle.kk_source.specs.State.{Value, Frame, arguments, Configuration}
 use Rattle.kk_syntax.specs.Trees.{no_tree, trees_of, expr_tree}
 use Rattle.kk_meaning.specs.declared.frame.Frame.TheVariants as OfFrame
 use Rattle.kk_meaning.proofs.Listed.{newest_is, no_items}
-use Rattle.kk_source.specs.Step.{value_step, form_step}
 use Rattle.kk_meaning.specs.Frames.{frame_view}
 use Rattle.kk_meaning.specs.View.{value_view, environment_of}
 use Rattle.kk_meaning.specs.Machines.{setting_of, configuration_of, frames_below}

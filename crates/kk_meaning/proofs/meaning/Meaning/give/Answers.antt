@@ -1,5 +1,4 @@
 use Rattle.std.proofs.Common.{◌≡◌, List, ap, ◌∙◌}
-use Rattle.kk_source.specs.FormEffects.{byte_value}
 use Rattle.kk_source.specs.State.{Frame, Configuration}
 use Rattle.kk_source.specs.Step.{at_value}
 use Rattle.kk_meaning.specs.declared.turn.Turn.{Turn}
