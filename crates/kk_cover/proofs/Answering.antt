@@ -1,9 +1,9 @@
 -- A match as rows of one position.
 use Rattle.std.proofs.Common.{inl, inr, List, [], ◌∷◌, map}
-use Rattle.kk_cover.specs.Covered.{Each, IsExample}
+use Rattle.kk_syntax.specs.Covered.{Each, IsMissed}
 use Rattle.kk_syntax.specs.Outlines.{Outline, Outlines, no_outline, outline, Clash, ClashIn}
 use Rattle.kk_syntax.specs.OfType.{Values, IsPatternOf, ArePatternsOf}
-use Rattle.kk_cover.specs.Narrowing.{IsExampleIn, top}
+use Rattle.kk_cover.specs.Narrowing.{IsMissedIn, top}
 
 abbrev pub ones : List Outline → List Outlines
 ones rows = map (λ p. outline p no_outline) rows
@@ -20,10 +20,10 @@ one_clashes : (e : Outline) (rows : List Outline) → Each (Clash e) rows → Ea
 one_clashes e [] clashes = tt
 one_clashes e (p ∷ rows) clashes = (inl clashes.0, one_clashes e rows clashes.1)
 
-pub one_example : {T : Type 0} (values : Values T) (t : T) (rows : List Outline) (es : Outlines) → IsExampleIn values (t ∷ []) (ones rows) es → IsExample values t rows (top es)
-one_example values t rows no_outline example = absurd example.typed
-one_example values t rows (outline e no_outline) example = record { typed = example.typed.0; small = example.small.0; clashes = one_clash e rows example.clashes }
-one_example values t rows (outline e (outline d ds)) example = absurd example.typed.1
+pub one_missed : {T : Type 0} (values : Values T) (t : T) (rows : List Outline) (es : Outlines) → IsMissedIn values (t ∷ []) (ones rows) es → IsMissed values t rows (top es)
+one_missed values t rows no_outline missed = absurd missed.typed
+one_missed values t rows (outline e no_outline) missed = record { typed = missed.typed.0; clashes = one_clash e rows missed.clashes }
+one_missed values t rows (outline e (outline d ds)) missed = absurd missed.typed.1
 
-pub one_examples : {T : Type 0} (values : Values T) (t : T) (rows : List Outline) (e : Outline) → IsExample values t rows e → IsExampleIn values (t ∷ []) (ones rows) (outline e no_outline)
-one_examples values t rows e example = record { typed = (example.typed, tt); small = (example.small, tt); clashes = one_clashes e rows example.clashes }
+pub one_misses : {T : Type 0} (values : Values T) (t : T) (rows : List Outline) (e : Outline) → IsMissed values t rows e → IsMissedIn values (t ∷ []) (ones rows) (outline e no_outline)
+one_misses values t rows e missed = record { typed = (missed.typed, tt); clashes = one_clashes e rows missed.clashes }

@@ -203,13 +203,18 @@ settles_less program p more settles = elim settles [
 
     by : (w : ℕ) → p.width ≡ suc w → (a : Asked) → first_asked p.rows ≡ a → StepsTo program p w a more → left program more < weight program p
     by w width OfAsked.Nothing is step = subst (λ ps. left program ps < weight program p) (sym step) (single program p w width _ (opened_less program p w width _ refl refl))
-    by w width OfAsked.Number is step = subst (λ ps. left program ps < weight program p) (sym step.3) (single program p w width _ (opened_less program p w width _ refl refl))
+    by w width OfAsked.Number is step = subst (λ ps. left program ps < weight program p) (sym step.2) (single program p w width _ (opened_less program p w width _ refl refl))
     by w width (OfAsked.Constructor c) is step = subst (λ ps. left program ps < weight program p) (sym step.3) (split_less program p w width (owner program c) c step.0 is step.1)
 
 pub fewer : (program : ProgramTree) (p : OpenProblem) (before more after : List OpenProblem) → Settles program p more → after ≡ before ++ more → left program after < left program (before ++ (p ∷ []))
 unfolding left
 fewer program p before more after settles grown =
     omega (arith, ap (left program) grown, left-append program before more, left-append program before (p ∷ []), settles_less program p more settles)
+
+-- what a problem comes down to is less to do than the problem, before others
+pub left_next : (program : ProgramTree) (p : OpenProblem) (more ps : List OpenProblem) → Settles program p more → left program (more ++ ps) < left program (p ∷ ps)
+unfolding left
+left_next program p more ps settles = omega (arith, left-append program more ps, settles_less program p more settles)
 
 looks_parts : (k : ℕ) (ps : Outlines) → looks (back k ps) + looks (front k ps) ≡ looks ps
 unfolding looks

@@ -1,6 +1,6 @@
 -- Patterns of several positions, put behind one another and taken apart: their types and their clashes.
 use Rattle.std.proofs.Common.{◌⊎◌, inl, inr, ℕ, zero, suc, List, [], ◌∷◌, ◌++◌, length}
-use Rattle.kk_syntax.specs.Outlines.{Outline, any, exactly, made, Outlines, no_outline, outline, HaveSmallNumbers, Clash, ClashIn}
+use Rattle.kk_syntax.specs.Outlines.{Outline, any, exactly, made, Outlines, no_outline, outline, Clash, ClashIn}
 use Rattle.kk_syntax.specs.OfType.{Values, ArePatternsOf}
 use Rattle.kk_cover.specs.Narrowing.{join, anys, front, back}
 
@@ -23,25 +23,6 @@ typed_back values (u ∷ us) ts (outline e es) a = typed_back values us ts es a.
 pub typed_anys : {T : Type 0} (values : Values T) (us : List T) → ArePatternsOf values us (anys (length us))
 typed_anys values [] = tt
 typed_anys values (u ∷ us) = (tt, typed_anys values us)
-
--- the numbers of parts
-pub small_join : (qs ps : Outlines) → HaveSmallNumbers qs → HaveSmallNumbers ps → HaveSmallNumbers (join qs ps)
-small_join no_outline ps a b = b
-small_join (outline q qs) ps a b = (a.0, small_join qs ps a.1 b)
-
-pub small_front : (k : ℕ) (es : Outlines) → HaveSmallNumbers es → HaveSmallNumbers (front k es)
-small_front zero es a = tt
-small_front (suc k) no_outline a = tt
-small_front (suc k) (outline e es) a = (a.0, small_front k es a.1)
-
-pub small_back : (k : ℕ) (es : Outlines) → HaveSmallNumbers es → HaveSmallNumbers (back k es)
-small_back zero es a = a
-small_back (suc k) no_outline a = tt
-small_back (suc k) (outline e es) a = small_back k es a.1
-
-pub small_anys : (k : ℕ) → HaveSmallNumbers (anys k)
-small_anys zero = tt
-small_anys (suc k) = (tt, small_anys k)
 
 -- nothing clashes with wildcards
 pub any_clash : (e : Outline) → Clash e any → ⊥

@@ -1,7 +1,7 @@
 -- What holds of each of the rows that are kept, from what holds of each row, and back.
-use Rattle.std.proofs.Common.{◌≡◌, Bool, true, false, List, [], ◌∷◌, ◌++◌, Option, None, Some, refl}
+use Rattle.std.proofs.Common.{◌≡◌, ◌≤◌, Bool, true, false, List, [], ◌∷◌, ◌++◌, length, Option, None, Some, refl, arith}
 use Rattle.std.proofs.lemmas.Bool.{both_ways}
-use Rattle.kk_cover.specs.Covered.{Each}
+use Rattle.kk_syntax.specs.Covered.{Each}
 use Rattle.kk_cover.specs.Narrowing.{if_so, kept, each_kept}
 
 abbrev pub IfKept : {X : Type 0} → Option X → (X → Type 0) → Type 0
@@ -51,3 +51,11 @@ each_front P (x ∷ xs) ys a = (a.0, each_front P xs ys a.1)
 pub each_back : {X : Type 0} (P : X → Type 0) (xs ys : List X) → Each P (xs ++ ys) → Each P ys
 each_back P [] ys a = a
 each_back P (x ∷ xs) ys a = each_back P xs ys a.1
+
+pub kept_few : {X : Type 0} (f : X → Option X) (xs : List X) → length (each_kept f xs) ≤ length xs
+kept_few f [] = omega arith
+kept_few {X} f (x ∷ xs) = by (f x) (kept_few f xs)
+  where
+    by : (o : Option X) → length (each_kept f xs) ≤ length xs → length (kept o (each_kept f xs)) ≤ length (x ∷ xs)
+    by None le = omega (arith, le)
+    by (Some y) le = omega (arith, le)

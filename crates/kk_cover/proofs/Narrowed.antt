@@ -3,12 +3,12 @@ use Rattle.std.proofs.Common.{◌≡◌, inl, inr, ℕ, ℤ, Bool, true, false, 
 use Rattle.std.proofs.lemmas.Bool.{both_ways}
 use Rattle.kk_cover.specs.declared.problem.Asked.{Asked}
 use Rattle.kk_cover.specs.declared.problem.Asked.TheVariants.{Nothing, Number, Constructor}
-use Rattle.kk_cover.specs.Covered.{Each}
-use Rattle.kk_syntax.specs.Outlines.{Outline, any, exactly, made, Outlines, no_outline, outline, HasSmallNumbers, HaveSmallNumbers, Clash, ClashIn}
+use Rattle.kk_syntax.specs.Covered.{Each}
+use Rattle.kk_syntax.specs.Outlines.{Outline, any, exactly, made, Outlines, no_outline, outline, Clash, ClashIn}
 use Rattle.kk_syntax.specs.OfType.{Values, IsPatternOf, ArePatternsOf}
-use Rattle.kk_cover.specs.Narrowing.{IsExampleIn, join, anys, front, back, narrow, narrowed, open_row, opened}
+use Rattle.kk_cover.specs.Narrowing.{IsMissedIn, join, anys, front, back, narrow, narrowed, open_row, opened}
 use Rattle.kk_cover.specs.Problems.{is_blank, has_blank, has_constructor, asks_for, asked, or_else, first_asked, LacksNumber}
-use Rattle.kk_cover.proofs.Joining.{typed_join, typed_front, typed_back, typed_anys, small_join, small_front, small_back, small_anys}
+use Rattle.kk_cover.proofs.Joining.{typed_join, typed_front, typed_back, typed_anys}
 use Rattle.kk_cover.proofs.Keeping.{each_from, each_to, each_both}
 use Rattle.kk_cover.proofs.RowSteps.{row_typed, row_up, row_down, row_down_any, row_lacking, open_typed, number_up, free_up, open_down}
 
@@ -16,31 +16,27 @@ module _ {T : Type 0} (values : Values T) (us ts : List T) (t : T) (c : ℕ) (at
   pub narrowed_typed : Each (ArePatternsOf values (t ∷ ts)) rows → Each (ArePatternsOf values (us ++ ts)) (narrowed c (length us) rows)
   narrowed_typed typed = each_from (narrow c (length us)) (ArePatternsOf values (us ++ ts)) (ArePatternsOf values (t ∷ ts)) (row_typed values us ts t c at_c) rows typed
 
-  pub narrowed_up : (es : Outlines) → Each (ArePatternsOf values (t ∷ ts)) rows → IsExampleIn values (us ++ ts) (narrowed c (length us) rows) es → IsExampleIn values (t ∷ ts) rows (outline (made c (front (length us) es)) (back (length us) es))
+  pub narrowed_up : (es : Outlines) → Each (ArePatternsOf values (t ∷ ts)) rows → IsMissedIn values (us ++ ts) (narrowed c (length us) rows) es → IsMissedIn values (t ∷ ts) rows (outline (made c (front (length us) es)) (back (length us) es))
   narrowed_up es typed example = record {
     typed = ((us, at_c, typed_front values us ts es example.typed), typed_back values us ts es example.typed);
-    small = (small_front (length us) es example.small, small_back (length us) es example.small);
     clashes = each_to (narrow c (length us)) (ClashIn es) (ClashIn (outline (made c (front (length us) es)) (back (length us) es))) (ArePatternsOf values (t ∷ ts)) (row_up values us ts t c at_c es) rows typed example.clashes;
   }
 
-  pub narrowed_down : (ds es : Outlines) → Each (ArePatternsOf values (t ∷ ts)) rows → ArePatternsOf values us ds → ArePatternsOf values ts es → HaveSmallNumbers (outline (made c ds) es) → Each (ClashIn (outline (made c ds) es)) rows → IsExampleIn values (us ++ ts) (narrowed c (length us) rows) (join ds es)
-  narrowed_down ds es typed of_ds of_es small clashes = record {
+  pub narrowed_down : (ds es : Outlines) → Each (ArePatternsOf values (t ∷ ts)) rows → ArePatternsOf values us ds → ArePatternsOf values ts es → Each (ClashIn (outline (made c ds) es)) rows → IsMissedIn values (us ++ ts) (narrowed c (length us) rows) (join ds es)
+  narrowed_down ds es typed of_ds of_es clashes = record {
     typed = typed_join values us ts ds es of_ds of_es;
-    small = small_join ds es small.0 small.1;
     clashes = each_from (narrow c (length us)) (ClashIn (join ds es)) (λ row. ArePatternsOf values (t ∷ ts) row × ClashIn (outline (made c ds) es) row) (λ row a. row_down values us ts t c at_c ds es of_ds row a.0 a.1) rows (each_both (ArePatternsOf values (t ∷ ts)) (ClashIn (outline (made c ds) es)) rows typed clashes);
   }
 
-  pub narrowed_down_any : (es : Outlines) → Each (ArePatternsOf values (t ∷ ts)) rows → ArePatternsOf values ts es → HaveSmallNumbers es → Each (ClashIn (outline any es)) rows → IsExampleIn values (us ++ ts) (narrowed c (length us) rows) (join (anys (length us)) es)
-  narrowed_down_any es typed of_es small clashes = record {
+  pub narrowed_down_any : (es : Outlines) → Each (ArePatternsOf values (t ∷ ts)) rows → ArePatternsOf values ts es → Each (ClashIn (outline any es)) rows → IsMissedIn values (us ++ ts) (narrowed c (length us) rows) (join (anys (length us)) es)
+  narrowed_down_any es typed of_es clashes = record {
     typed = typed_join values us ts (anys (length us)) es (typed_anys values us) of_es;
-    small = small_join (anys (length us)) es (small_anys (length us)) small;
     clashes = each_from (narrow c (length us)) (ClashIn (join (anys (length us)) es)) (λ row. ArePatternsOf values (t ∷ ts) row × ClashIn (outline any es) row) (λ row a. row_down_any values us ts t c at_c es row a.0 a.1) rows (each_both (ArePatternsOf values (t ∷ ts)) (ClashIn (outline any es)) rows typed clashes);
   }
 
-  pub narrowed_lacking : (e : Outline) (es : Outlines) → Each (λ row. asks_for c row ≡ false) rows → ArePatternsOf values ts es → HaveSmallNumbers es → Each (ClashIn (outline e es)) rows → IsExampleIn values (us ++ ts) (narrowed c (length us) rows) (join (anys (length us)) es)
-  narrowed_lacking e es lacks of_es small clashes = record {
+  pub narrowed_lacking : (e : Outline) (es : Outlines) → Each (λ row. asks_for c row ≡ false) rows → ArePatternsOf values ts es → Each (ClashIn (outline e es)) rows → IsMissedIn values (us ++ ts) (narrowed c (length us) rows) (join (anys (length us)) es)
+  narrowed_lacking e es lacks of_es clashes = record {
     typed = typed_join values us ts (anys (length us)) es (typed_anys values us) of_es;
-    small = small_join (anys (length us)) es (small_anys (length us)) small;
     clashes = each_from (narrow c (length us)) (ClashIn (join (anys (length us)) es)) (λ row. (asks_for c row ≡ false) × ClashIn (outline e es) row) (λ row a. row_lacking values us ts t c at_c e es row a.0 a.1) rows (each_both (λ row. asks_for c row ≡ false) (ClashIn (outline e es)) rows lacks clashes);
   }
 
@@ -48,24 +44,21 @@ module _ {T : Type 0} (values : Values T) (t : T) (ts : List T) (rows : List Out
   pub opened_typed : Each (ArePatternsOf values (t ∷ ts)) rows → Each (ArePatternsOf values ts) (opened rows)
   opened_typed typed = each_from open_row (ArePatternsOf values ts) (ArePatternsOf values (t ∷ ts)) (open_typed values t ts) rows typed
 
-  pub opened_down : (e : Outline) (es : Outlines) → ArePatternsOf values ts es → HaveSmallNumbers es → Each (ClashIn (outline e es)) rows → IsExampleIn values ts (opened rows) es
-  opened_down e es of_es small clashes = record {
+  pub opened_down : (e : Outline) (es : Outlines) → ArePatternsOf values ts es → Each (ClashIn (outline e es)) rows → IsMissedIn values ts (opened rows) es
+  opened_down e es of_es clashes = record {
     typed = of_es;
-    small = small;
     clashes = each_from open_row (ClashIn es) (ClashIn (outline e es)) (open_down e es) rows clashes;
   }
 
-  pub opened_free : (es : Outlines) → Each (ArePatternsOf values (t ∷ ts)) rows → Each (λ row. asked row ≡ Nothing) rows → IsExampleIn values ts (opened rows) es → IsExampleIn values (t ∷ ts) rows (outline any es)
+  pub opened_free : (es : Outlines) → Each (ArePatternsOf values (t ∷ ts)) rows → Each (λ row. asked row ≡ Nothing) rows → IsMissedIn values ts (opened rows) es → IsMissedIn values (t ∷ ts) rows (outline any es)
   opened_free es typed nothing example = record {
     typed = (tt, example.typed);
-    small = (tt, example.small);
     clashes = each_to open_row (ClashIn es) (ClashIn (outline any es)) (λ row. ArePatternsOf values (t ∷ ts) row × (asked row ≡ Nothing)) (λ row a b. free_up values t ts es row a.0 a.1 b) rows (each_both (ArePatternsOf values (t ∷ ts)) (λ row. asked row ≡ Nothing) rows typed nothing) example.clashes;
   }
 
-  pub opened_number : (n : ℤ) (es : Outlines) → Each (ArePatternsOf values (t ∷ ts)) rows → Each (LacksNumber n) rows → IsPatternOf values t (exactly n) → HasSmallNumbers (exactly n) → IsExampleIn values ts (opened rows) es → IsExampleIn values (t ∷ ts) rows (outline (exactly n) es)
-  opened_number n es typed lacks of_n fits example = record {
+  pub opened_number : (n : ℤ) (es : Outlines) → Each (ArePatternsOf values (t ∷ ts)) rows → Each (LacksNumber n) rows → IsPatternOf values t (exactly n) → IsMissedIn values ts (opened rows) es → IsMissedIn values (t ∷ ts) rows (outline (exactly n) es)
+  opened_number n es typed lacks of_n example = record {
     typed = (of_n, example.typed);
-    small = (fits, example.small);
     clashes = each_to open_row (ClashIn es) (ClashIn (outline (exactly n) es)) (λ row. ArePatternsOf values (t ∷ ts) row × LacksNumber n row) (λ row a b. number_up values t ts n es row a.0 a.1 b) rows (each_both (ArePatternsOf values (t ∷ ts)) (LacksNumber n) rows typed lacks) example.clashes;
   }
 

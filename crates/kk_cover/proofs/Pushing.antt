@@ -1,10 +1,10 @@
 -- A problem is settled by the problems that are added for it.
-use Rattle.std.proofs.Common.{◌≡◌, ◌≤◌, inr, ℕ, suc, ℤ, List, [], ◌∷◌, ◌++◌, length, Result, Ok, Err, refl, subst, FitsSigned, w32}
+use Rattle.std.proofs.Common.{◌≡◌, ◌≤◌, inr, ℕ, suc, ℤ, List, [], ◌∷◌, ◌++◌, length, Result, Ok, Err, refl, subst}
 use Rattle.std.specs.Result.{OnOk}
 use Rattle.kk_syntax.specs.Programs.{ProgramTree}
 use Rattle.kk_cover.specs.declared.problem.Asked.TheVariants as OfAsked
 use Rattle.kk_cover.specs.declared.problem.Head.TheVariants.{Free, Number}
-use Rattle.kk_cover.specs.Covered.{Each}
+use Rattle.kk_syntax.specs.Covered.{Each}
 use Rattle.kk_cover.specs.Narrowing.{opened}
 use Rattle.kk_cover.specs.Problems.{OpenProblem, child, children, first_asked, LacksNumber, owner, IsEnough, StepsTo, Settled}
 
@@ -20,10 +20,10 @@ module _ (program : ProgramTree) (p : OpenProblem) (before after : List OpenProb
     grown = grown;
   }
 
-  pub number_settled : (w : ℕ) (n : ℤ) → FitsSigned w32 n → Each (LacksNumber n) p.rows → p.width ≡ suc w → OfAsked.Number ≡ first_asked p.rows → after ≡ before ++ (child p (Number n) (opened p.rows) w ∷ []) → Settled program p before after
-  number_settled w n fits lacks width asked grown = record {
+  pub number_settled : (w : ℕ) (n : ℤ) → Each (LacksNumber n) p.rows → p.width ≡ suc w → OfAsked.Number ≡ first_asked p.rows → after ≡ before ++ (child p (Number n) (opened p.rows) w ∷ []) → Settled program p before after
+  number_settled w n lacks width asked grown = record {
     more = child p (Number n) (opened p.rows) w ∷ [];
-    settles = inr (w, width, subst (λ a. StepsTo program p w a (child p (Number n) (opened p.rows) w ∷ [])) asked (n, fits, lacks, refl));
+    settles = inr (w, width, subst (λ a. StepsTo program p w a (child p (Number n) (opened p.rows) w ∷ [])) asked (n, lacks, refl));
     grown = grown;
   }
 

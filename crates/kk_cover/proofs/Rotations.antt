@@ -1,13 +1,13 @@
 -- The first positions of rows, turned to their end: types, examples and weights.
 use Rattle.std.proofs.Common.{◌≡◌, ◌≤◌, inl, inr, ℕ, List, [], ◌∷◌, ◌++◌, length, map, take, drop, refl, sym, ap, subst, arith, length-append}
 use Rattle.std.proofs.lemmas.List.{take-append-drop, length-take-le}
-use Rattle.kk_cover.specs.Covered.{Each}
-use Rattle.kk_syntax.specs.Outlines.{any, exactly, made, Outlines, no_outline, outline, HaveSmallNumbers, ClashIn}
+use Rattle.kk_syntax.specs.Covered.{Each}
+use Rattle.kk_syntax.specs.Outlines.{any, exactly, made, Outlines, no_outline, outline, ClashIn}
 use Rattle.kk_syntax.specs.OfType.{Values, ArePatternsOf}
-use Rattle.kk_cover.specs.Narrowing.{IsExampleIn, IsCoveredIn, join, front, back}
+use Rattle.kk_cover.specs.Narrowing.{IsMissedIn, IsCoveredIn, join, front, back}
 use Rattle.kk_cover.specs.Problems.{OpenProblem}
 use Rattle.kk_cover.specs.Turned.{rotated, leading, first_leading, turned}
-use Rattle.kk_cover.proofs.Joining.{typed_join, typed_front, typed_back, small_join, small_front, small_back, clash_split, clash_left, clash_right}
+use Rattle.kk_cover.proofs.Joining.{typed_join, typed_front, typed_back, clash_split, clash_left, clash_right}
 use Rattle.kk_cover.proofs.Deciding.{Leads, Closed}
 
 each_map : {X Y : Type 0} (f : X → Y) (P : Y → Type 0) (Q : X → Type 0) → ((x : X) → Q x → P (f x)) → (xs : List X) → Each Q xs → Each P (map f xs)
@@ -26,9 +26,6 @@ join_parts : {T : Type 0} (values : Values T) (us ts : List T) (es : Outlines) �
 join_parts values [] ts es a = refl
 join_parts values (u ∷ us) ts no_outline a = absurd a
 join_parts values (u ∷ us) ts (outline e es) a = ap (outline e) (join_parts values us ts es a.1)
-
-rotated_small : (k : ℕ) (es : Outlines) → HaveSmallNumbers es → HaveSmallNumbers (rotated k es)
-rotated_small k es a = small_join (back k es) (front k es) (small_back k es a) (small_front k es a)
 
 module _ {T : Type 0} (values : Values T) (us ts : List T) where
   rotated_typed : (ps : Outlines) → ArePatternsOf values (us ++ ts) ps → ArePatternsOf values (ts ++ us) (rotated (length us) ps)
@@ -53,18 +50,16 @@ module _ {T : Type 0} (values : Values T) (us ts : List T) where
   rows_typed : (rows : List Outlines) → Each (ArePatternsOf values (us ++ ts)) rows → Each (ArePatternsOf values (ts ++ us)) (map (rotated (length us)) rows)
   rows_typed rows typed = each_map (rotated (length us)) (ArePatternsOf values (ts ++ us)) (ArePatternsOf values (us ++ ts)) rotated_typed rows typed
 
-  rows_down : (rows : List Outlines) (es : Outlines) → Each (ArePatternsOf values (us ++ ts)) rows → IsExampleIn values (us ++ ts) rows es → IsExampleIn values (ts ++ us) (map (rotated (length us)) rows) (rotated (length us) es)
+  rows_down : (rows : List Outlines) (es : Outlines) → Each (ArePatternsOf values (us ++ ts)) rows → IsMissedIn values (us ++ ts) rows es → IsMissedIn values (ts ++ us) (map (rotated (length us)) rows) (rotated (length us) es)
   rows_down rows es typed example = record {
     typed = rotated_typed es example.typed;
-    small = rotated_small (length us) es example.small;
     clashes = each_two (rotated (length us)) (ClashIn (rotated (length us) es)) (ArePatternsOf values (us ++ ts)) (ClashIn es) (λ row a b. rotated_clash es row example.typed a b) rows typed example.clashes;
   }
 
 -- of the rows before, from the rows that are turned
-rows_up : {T : Type 0} (values : Values T) (us ts : List T) (rows : List Outlines) (es : Outlines) → Each (ArePatternsOf values (us ++ ts)) rows → IsExampleIn values (ts ++ us) (map (rotated (length us)) rows) es → IsExampleIn values (us ++ ts) rows (rotated (length ts) es)
+rows_up : {T : Type 0} (values : Values T) (us ts : List T) (rows : List Outlines) (es : Outlines) → Each (ArePatternsOf values (us ++ ts)) rows → IsMissedIn values (ts ++ us) (map (rotated (length us)) rows) es → IsMissedIn values (us ++ ts) rows (rotated (length ts) es)
 rows_up values us ts rows es typed example = record {
   typed = rotated_typed values ts us es example.typed;
-  small = rotated_small (length ts) es example.small;
   clashes = each_back_from (rotated (length us)) (ClashIn es) (ArePatternsOf values (us ++ ts)) (ClashIn (rotated (length ts) es)) (λ row a b. unrotated_clash values us ts es row example.typed a b) rows typed example.clashes;
 }
 
@@ -91,7 +86,7 @@ module _ {T : Type 0} (values : Values T) (p : OpenProblem) where
       parts : (us ts : List T) → length us ≡ first_leading p.rows → length (us ++ ts) ≡ p.width → Each (ArePatternsOf values (us ++ ts)) p.rows → IsCoveredIn values (us ++ ts) p.rows
       parts us ts len wide typed es example =
           let rows = subst (λ k. Each (ArePatternsOf values (ts ++ us)) (map (rotated k) p.rows)) len (rows_typed values us ts p.rows typed) in
-          let down = subst (λ k. IsExampleIn values (ts ++ us) (map (rotated k) p.rows) (rotated (length us) es)) len (rows_down values us ts p.rows es typed example) in
+          let down = subst (λ k. IsMissedIn values (ts ++ us) (map (rotated k) p.rows) (rotated (length us) es)) len (rows_down values us ts p.rows es typed example) in
           closed.covered (ts ++ us) (omega (arith, length-append us ts, length-append ts us, wide)) rows (rotated (length us) es) down
 
       at : (types : List T) → first_leading p.rows ≤ length types → length types ≡ p.width → Each (ArePatternsOf values types) p.rows → IsCoveredIn values types p.rows
@@ -100,13 +95,13 @@ module _ {T : Type 0} (values : Values T) (p : OpenProblem) where
   pub leads_turned : (S : Type 0) → Leads values (λ es. S) p → Leads values (λ es. S) (turned p)
   leads_turned S leads = at leads.types (first_within values leads.types p.rows leads.typed) leads.wide leads.typed leads.lifts
     where
-      parts : (us ts : List T) → length us ≡ first_leading p.rows → length (us ++ ts) ≡ p.width → Each (ArePatternsOf values (us ++ ts)) p.rows → ((es : Outlines) → IsExampleIn values (us ++ ts) p.rows es → S) → Leads values (λ es. S) (turned p)
+      parts : (us ts : List T) → length us ≡ first_leading p.rows → length (us ++ ts) ≡ p.width → Each (ArePatternsOf values (us ++ ts)) p.rows → ((es : Outlines) → IsMissedIn values (us ++ ts) p.rows es → S) → Leads values (λ es. S) (turned p)
       parts us ts len wide typed lifts = record {
         types = ts ++ us;
         wide = omega (arith, length-append us ts, length-append ts us, wide);
         typed = subst (λ k. Each (ArePatternsOf values (ts ++ us)) (map (rotated k) p.rows)) len (rows_typed values us ts p.rows typed);
-        lifts = λ es example. lifts (rotated (length ts) es) (rows_up values us ts p.rows es typed (subst (λ k. IsExampleIn values (ts ++ us) (map (rotated k) p.rows) es) (sym len) example));
+        lifts = λ es example. lifts (rotated (length ts) es) (rows_up values us ts p.rows es typed (subst (λ k. IsMissedIn values (ts ++ us) (map (rotated k) p.rows) es) (sym len) example));
       }
 
-      at : (types : List T) → first_leading p.rows ≤ length types → length types ≡ p.width → Each (ArePatternsOf values types) p.rows → ((es : Outlines) → IsExampleIn values types p.rows es → S) → Leads values (λ es. S) (turned p)
-      at types le = split_types (λ xs. length xs ≡ p.width → Each (ArePatternsOf values xs) p.rows → ((es : Outlines) → IsExampleIn values xs p.rows es → S) → Leads values (λ es. S) (turned p)) (first_leading p.rows) types le parts
+      at : (types : List T) → first_leading p.rows ≤ length types → length types ≡ p.width → Each (ArePatternsOf values types) p.rows → ((es : Outlines) → IsMissedIn values types p.rows es → S) → Leads values (λ es. S) (turned p)
+      at types le = split_types (λ xs. length xs ≡ p.width → Each (ArePatternsOf values xs) p.rows → ((es : Outlines) → IsMissedIn values xs p.rows es → S) → Leads values (λ es. S) (turned p)) (first_leading p.rows) types le parts

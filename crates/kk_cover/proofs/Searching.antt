@@ -2,22 +2,22 @@
 use Rattle.std.proofs.Common.{◌≡◌, true, false, List, [], ◌∷◌, ◌++◌, length, refl, sym, subst}
 use Rattle.kk_syntax.specs.Types.{TypeTree}
 use Rattle.kk_syntax.specs.Programs.{ProgramTree}
-use Rattle.kk_cover.specs.Covered.{Each, IsExample, IsCovered}
+use Rattle.kk_syntax.specs.Covered.{Each, IsMissed, IsCovered}
 use Rattle.kk_syntax.specs.Outlines.{Outline, Outlines, ClashIn}
 use Rattle.kk_syntax.specs.OfType.{Values, IsPatternOf, ArePatternsOf, values_of}
-use Rattle.kk_cover.specs.Narrowing.{IsExampleIn, IsCoveredIn, anys, top}
+use Rattle.kk_cover.specs.Narrowing.{IsMissedIn, IsCoveredIn, anys, top}
 use Rattle.kk_cover.specs.Problems.{OpenProblem, built, Settled}
 use Rattle.kk_cover.specs.Turned.{turned, Tells, Picked}
-use Rattle.kk_cover.proofs.Joining.{typed_anys, small_anys}
+use Rattle.kk_cover.proofs.Joining.{typed_anys}
 use Rattle.kk_cover.proofs.Keeping.{each-append, each_front, each_back}
 use Rattle.kk_cover.proofs.Knowing.{knows}
 use Rattle.kk_cover.proofs.Deciding.{Leads, Closed, Decides, settles_leads, settles_closed, decides_next}
 use Rattle.kk_cover.proofs.Rotations.{closed_turned, leads_turned}
-use Rattle.kk_cover.proofs.Answering.{ones, one_typed, one_example, one_examples}
+use Rattle.kk_cover.proofs.Answering.{ones, one_typed, one_missed, one_misses}
 
 -- an example for a problem, at some types
 abbrev pub Exists : ProgramTree → OpenProblem → List TypeTree → Type 0
-Exists program p ts = (es : Outlines) × IsExampleIn (values_of program.constructors) ts p.rows es
+Exists program p ts = (es : Outlines) × IsMissedIn (values_of program.constructors) ts p.rows es
 
 -- what the open problems say of a problem
 abbrev pub Decided : ProgramTree → OpenProblem → List OpenProblem → Type 0
@@ -47,11 +47,10 @@ goes_on program p q before after settled decided ts wide typed =
     decides_next (values_of program.constructors) program (knows program) q settled.more (λ es. Exists program p ts) (IsCoveredIn (values_of program.constructors) ts p.rows) before after settled.settles settled.grown (decided ts wide typed)
 
 -- an open problem without rows has an example, wildcards
-wildcards : {T : Type 0} (values : Values T) (Sought : Outlines → Type 0) (p : OpenProblem) → p.rows ≡ [] → Leads values Sought p → Sought (built p.path (anys p.width))
+pub wildcards : {T : Type 0} (values : Values T) (Sought : Outlines → Type 0) (p : OpenProblem) → p.rows ≡ [] → Leads values Sought p → Sought (built p.path (anys p.width))
 wildcards {T} values Sought p none leads =
     leads.lifts (anys p.width) (record {
       typed = subst (λ k. ArePatternsOf values leads.types (anys k)) leads.wide (typed_anys values leads.types);
-      small = small_anys p.width;
       clashes = subst (Each (ClashIn (anys p.width))) (sym none) tt;
     })
 
@@ -64,7 +63,7 @@ tells_covered program p decided ts wide typed = (decided ts wide typed).covers t
 
 -- a problem on the way to an example: it leads there, and has an example itself
 pub record OnTheWay (program : ProgramTree) (rows : List Outline) (t : TypeTree) (p : OpenProblem) : Type 0 where
-  pub leads : Leads (values_of program.constructors) (λ es. IsExample (values_of program.constructors) t rows (top es)) p
+  pub leads : Leads (values_of program.constructors) (λ es. IsMissed (values_of program.constructors) t rows (top es)) p
   pub exists : Exists program p leads.types
 
 abbrev pub Going : ProgramTree → List Outline → OpenProblem → Type 0
@@ -73,25 +72,29 @@ Going program rows p = (t : TypeTree) → Each (IsPatternOf (values_of program.c
 abbrev pub first_problem : List Outline → OpenProblem
 first_problem rows = record { path = []; rows = ones rows; width = 1 }
 
+pub first_leads : (program : ProgramTree) (rows : List Outline) (t : TypeTree) → Each (IsPatternOf (values_of program.constructors) t) rows → Leads (values_of program.constructors) (λ es. IsMissed (values_of program.constructors) t rows (top es)) (first_problem rows)
+first_leads program rows t typed = record {
+  types = t ∷ [];
+  wide = refl;
+  typed = one_typed (values_of program.constructors) t rows typed;
+  lifts = λ es example. one_missed (values_of program.constructors) t rows es example;
+}
+
 pub sets_out : (program : ProgramTree) (rows : List Outline) → Tells program (first_problem rows) false → Going program rows (first_problem rows)
+unfolding first_leads
 sets_out program rows tells t typed = record {
-  leads = record {
-    types = t ∷ [];
-    wide = refl;
-    typed = one_typed (values_of program.constructors) t rows typed;
-    lifts = λ es example. one_example (values_of program.constructors) t rows es example;
-  };
+  leads = first_leads program rows t typed;
   exists = tells (t ∷ []) refl (one_typed (values_of program.constructors) t rows typed);
 }
 
 pub nothing_left : (program : ProgramTree) (rows : List Outline) → Tells program (first_problem rows) true → (t : TypeTree) → Each (IsPatternOf (values_of program.constructors) t) rows → IsCovered (values_of program.constructors) t rows
 nothing_left program rows tells t typed e example =
-    tells (t ∷ []) refl (one_typed (values_of program.constructors) t rows typed) _ (one_examples (values_of program.constructors) t rows e example)
+    tells (t ∷ []) refl (one_typed (values_of program.constructors) t rows typed) _ (one_misses (values_of program.constructors) t rows e example)
 
 pub picks_next : (program : ProgramTree) (rows : List Outline) (p q : OpenProblem) (children : List OpenProblem) → Settled program p [] children → Picked program children q → Going program rows p → Going program rows q
 picks_next program rows p q children settled picked going t typed =
     let values = values_of program.constructors in
-    let Sought : Outlines → Type 0 = λ es. IsExample values t rows (top es) in
+    let Sought : Outlines → Type 0 = λ es. IsMissed values t rows (top es) in
     let all : Each (Leads values Sought) children = subst (Each (Leads values Sought)) (sym settled.grown) (settles_leads values program (knows program) p settled.more Sought settled.settles (going t typed).leads) in
     let here : Leads values Sought q = (each_back (Leads values Sought) picked.before (q ∷ picked.behind) (subst (Each (Leads values Sought)) picked.place all)).0 in
     record { leads = here; exists = picked.tells here.types here.wide here.typed }
@@ -107,7 +110,7 @@ picks_none program rows p children settled tells going t typed =
     let closed = settles_closed (values_of program.constructors) program (knows program) p settled.more settled.settles (subst (Each (Closed (values_of program.constructors))) settled.grown (all_closed program children tells)) in
     closed.covered way.leads.types way.leads.wide way.leads.typed way.exists.0 way.exists.1
 
-pub arrives : (program : ProgramTree) (rows : List Outline) (p : OpenProblem) (e : Outline) → p.rows ≡ [] → e ≡ top (built p.path (anys p.width)) → Going program rows p → (t : TypeTree) → Each (IsPatternOf (values_of program.constructors) t) rows → IsExample (values_of program.constructors) t rows e
+pub arrives : (program : ProgramTree) (rows : List Outline) (p : OpenProblem) (e : Outline) → p.rows ≡ [] → e ≡ top (built p.path (anys p.width)) → Going program rows p → (t : TypeTree) → Each (IsPatternOf (values_of program.constructors) t) rows → IsMissed (values_of program.constructors) t rows e
 arrives program rows p e none is going t typed =
-    subst (IsExample (values_of program.constructors) t rows) (sym is)
-    (wildcards (values_of program.constructors) (λ es. IsExample (values_of program.constructors) t rows (top es)) p none (going t typed).leads)
+    subst (IsMissed (values_of program.constructors) t rows) (sym is)
+    (wildcards (values_of program.constructors) (λ es. IsMissed (values_of program.constructors) t rows (top es)) p none (going t typed).leads)

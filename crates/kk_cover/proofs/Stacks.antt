@@ -1,10 +1,10 @@
 -- A stack of patterns, whose first position is on top, seen as the outlines of these positions.
-use Rattle.std.proofs.Common.{◌≡◌, ◌≤◌, ℕ, zero, suc, ◌+◌, List, [], ◌∷◌, ◌++◌, length, map, take, get_or, refl, sym, ap, ◌∙◌, arith}
+use Rattle.std.proofs.Common.{◌≡◌, ◌≤◌, ℕ, zero, suc, ◌+◌, List, [], ◌∷◌, ◌++◌, length, map, take, get_or, refl, sym, ap, ◌∙◌, subst, arith}
 use Rattle.std.proofs.lemmas.List.{map-append, take_more}
 use Rattle.kk_cover.specs.declared.problem.Head.{Head}
 use Rattle.kk_cover.specs.declared.problem.Problem.{Problem}
 use Rattle.kk_syntax.specs.declared.program.Pat.{Pat}
-use Rattle.kk_syntax.specs.Outlines.{Outline, Outlines, no_outline, outline, outline_list, pattern_outline}
+use Rattle.kk_syntax.specs.Outlines.{Outline, Outlines, no_outline, outline, HasSmallNumbers, HaveSmallNumbers, outline_list, pattern_outline}
 use Rattle.kk_cover.specs.Narrowing.{join, front, back, top}
 use Rattle.kk_cover.specs.Problems.{problem_view, plug, built, stacked_on, stacked}
 use Rattle.kk_cover.proofs.Deciding.{built-append}
@@ -77,3 +77,9 @@ stacked_none (p ∷ stack) none = absurd (omega (arith, none))
 -- the last of the problems is taken
 pub popped_view : (problems rest : List Problem) (problem : Problem) → problems ≡ rest ++ (problem ∷ []) → map problem_view problems ≡ map problem_view rest ++ (problem_view problem ∷ [])
 popped_view problems rest problem is = ap (map problem_view) is ∙ map-append problem_view rest (problem ∷ [])
+
+-- the pattern on top of a stack
+pub top_small : (stack after : List Pat) (e : Pat) → stack ≡ after ++ (e ∷ []) → HaveSmallNumbers (stacked stack) → HasSmallNumbers (pattern_outline e)
+top_small stack after e popped small =
+    let all : HaveSmallNumbers (outline (pattern_outline e) (stacked after)) = subst HaveSmallNumbers (ap stacked popped ∙ stacked_push after e) small in
+    all.0

@@ -7,7 +7,7 @@ use Rattle.kk_syntax.specs.Shapes.{gathered_all, gathered_rows}
 use Rattle.kk_syntax.specs.Trees.{Tree, variable, apply, branch, match, sequence, Trees, no_tree, tree, Rows, no_row, row}
 use Rattle.kk_syntax.specs.Types.{TypeTree, put, type_at}
 use Rattle.kk_syntax.specs.Typing.{Scope, Choice, holding, chosen_at, IsTypedBy, AreTypedBy, AreRowsTypedBy, IsTyping}
-use Rattle.kk_cover.specs.Covered.{Each}
+use Rattle.kk_syntax.specs.Covered.{Each}
 use Rattle.kk_syntax.specs.Outlines.{Outline}
 use Rattle.kk_syntax.specs.Matches.{of_matches, matches}
 use Rattle.kk_syntax.proofs.PatternTypes.{rows_of_type}

@@ -1,17 +1,16 @@
 -- Rows of several patterns, one for each position, and what is left of them once the first position is known.
 use Rattle.std.specs.Prelude.{ℕ, ◌==◌, zero, suc, Bool, true, false, List, [], ◌∷◌, Option, None, Some}
-use Rattle.kk_cover.specs.Covered.{Each}
-use Rattle.kk_syntax.specs.Outlines.{Outline, any, exactly, made, Outlines, no_outline, outline, HaveSmallNumbers, ClashIn}
+use Rattle.kk_syntax.specs.Covered.{Each}
+use Rattle.kk_syntax.specs.Outlines.{Outline, any, exactly, made, Outlines, no_outline, outline, ClashIn}
 use Rattle.kk_syntax.specs.OfType.{Values, ArePatternsOf}
 
--- an example for rows of several positions
-pub record IsExampleIn {T : Type 0} (values : Values T) (ts : List T) (rows : List Outlines) (es : Outlines) : Type 0 where
+-- rows of several positions miss patterns: these are of the positions' types, and clash with each row
+pub record IsMissedIn {T : Type 0} (values : Values T) (ts : List T) (rows : List Outlines) (es : Outlines) : Type 0 where
   pub typed : ArePatternsOf values ts es
-  pub small : HaveSmallNumbers es
   pub clashes : Each (ClashIn es) rows
 
 abbrev pub IsCoveredIn : {T : Type 0} → Values T → List T → List Outlines → Type 0
-IsCoveredIn values ts rows = (es : Outlines) → IsExampleIn values ts rows es → ⊥
+IsCoveredIn values ts rows = (es : Outlines) → IsMissedIn values ts rows es → ⊥
 
 abbrev pub join : Outlines → Outlines → Outlines
 join no_outline qs = qs

@@ -1,6 +1,5 @@
 -- The open problems of the search: rows that are left at positions that are left, and how those were reached.
-use Rattle.std.specs.Prelude.{◌≡◌, ◌≢◌, ◌<◌, ◌≤◌, ◌⊎◌, ℕ, ◌+◌, ◌==◌, zero, suc, ℤ, Bool, true, false, List, [], ◌∷◌, ◌++◌, length, map, slice_index_or, FitsSigned, cond}
-use Rattle.std.specs.Int.{w32}
+use Rattle.std.specs.Prelude.{◌≡◌, ◌≢◌, ◌<◌, ◌≤◌, ◌⊎◌, ℕ, ◌+◌, ◌^◌, ◌==◌, zero, suc, ℤ, pos, Bool, true, false, List, [], ◌∷◌, ◌++◌, length, map, slice_index_or, cond}
 use Rattle.std.specs.List.{list_any}
 use Rattle.kk_syntax.specs.declared.program.Pat.{Pat}
 use Rattle.kk_syntax.specs.Programs.{ConstructorTree, ProgramTree}
@@ -12,7 +11,7 @@ use Rattle.kk_cover.specs.declared.problem.Asked.{Asked}
 use Rattle.kk_cover.specs.declared.problem.Asked.TheVariants as OfAsked
 use Rattle.kk_cover.specs.declared.problem.Asked.TheVariants.{Nothing}
 use Rattle.kk_cover.specs.declared.problem.Problem.{Problem}
-use Rattle.kk_cover.specs.Covered.{Each}
+use Rattle.kk_syntax.specs.Covered.{Each}
 use Rattle.kk_syntax.specs.Outlines.{Outline, any, exactly, made, Outlines, no_outline, outline, outline_list, pattern_outline}
 use Rattle.kk_cover.specs.Narrowing.{front, back, narrowed, opened}
 
@@ -46,6 +45,10 @@ problem_view problem = record { path = problem.path.items; rows = map (λ row. r
 abbrev pub child : OpenProblem → Head → List Outlines → ℕ → OpenProblem
 child problem head rows width = record { path = problem.path ++ (head ∷ []); rows = rows; width = width }
 
+-- there are fewer rows than numbers of 32 bits from 0 up
+abbrev pub IsFew : OpenProblem → Type 0
+IsFew problem = length problem.rows < 2 ^ 31
+
 -- a row that asks nothing
 abbrev pub is_blank : Outlines → Bool
 is_blank no_outline = true
@@ -62,6 +65,13 @@ LacksNumber n no_outline = Unit {0}
 LacksNumber n (outline any ps) = Unit {0}
 LacksNumber n (outline (exactly m) ps) = m ≢ n
 LacksNumber n (outline (made d qs) ps) = Unit {0}
+
+-- a number is the least from 0 up that no row asks for first
+pub record IsLeastLacking (rows : List Outlines) (number : ℤ) : Type 0 where
+  pub count : ℕ
+  pub is : number ≡ pos count
+  pub lacks : Each (LacksNumber number) rows
+  pub least : (less : ℕ) → less < count → Each (LacksNumber (pos less)) rows → ⊥
 
 -- whether a row asks for a constructor first
 abbrev pub asks_for : ℕ → Outlines → Bool
@@ -116,7 +126,7 @@ IsEnough program of rows end = (end ≡ length program.constructors) ⊎ ((d : �
 abbrev pub StepsTo : ProgramTree → OpenProblem → ℕ → Asked → List OpenProblem → Type 0
 StepsTo program p width Nothing after = after ≡ child p Free (opened p.rows) width ∷ []
 StepsTo program p width OfAsked.Number after =
-    (n : ℤ) × FitsSigned w32 n × Each (LacksNumber n) p.rows × (after ≡ child p (Number n) (opened p.rows) width ∷ [])
+    (n : ℤ) × Each (LacksNumber n) p.rows × (after ≡ child p (Number n) (opened p.rows) width ∷ [])
 StepsTo program p width (OfAsked.Constructor c) after =
     (end : ℕ) × (end ≤ length program.constructors) × IsEnough program (owner program c) p.rows end × (after ≡ children program (owner program c) p width end)
 

@@ -3,10 +3,10 @@ use Rattle.std.specs.Prelude.{◌≡◌, ℕ, suc, Bool, true, false, List, [], 
 use Rattle.std.specs.Bool.{MatchBool}
 use Rattle.kk_syntax.specs.Programs.{ProgramTree}
 use Rattle.kk_syntax.specs.Types.{TypeTree}
-use Rattle.kk_cover.specs.Covered.{Each}
+use Rattle.kk_syntax.specs.Covered.{Each}
 use Rattle.kk_syntax.specs.Outlines.{any, exactly, made, Outlines, no_outline, outline}
 use Rattle.kk_syntax.specs.OfType.{ArePatternsOf, values_of}
-use Rattle.kk_cover.specs.Narrowing.{IsExampleIn, IsCoveredIn, join, front, back}
+use Rattle.kk_cover.specs.Narrowing.{IsMissedIn, IsCoveredIn, join, front, back}
 use Rattle.kk_cover.specs.Problems.{OpenProblem}
 
 abbrev pub rotated : ℕ → Outlines → Outlines
@@ -26,11 +26,11 @@ first_leading (row ∷ rows) = leading row
 abbrev pub turned : OpenProblem → OpenProblem
 turned p = record { path = p.path; rows = map (rotated (first_leading p.rows)) p.rows; width = p.width }
 
--- whether the rows of a problem are covered, at all types at which they are typed; else there is an example
+-- whether the rows of a problem are covered, at all types at which they are typed; else they miss something
 abbrev pub Tells : ProgramTree → OpenProblem → Bool → Type 0
 Tells program p covered =
     (ts : List TypeTree) → length ts ≡ p.width → Each (ArePatternsOf (values_of program.constructors) ts) p.rows
-    → MatchBool covered (IsCoveredIn (values_of program.constructors) ts p.rows) ((es : Outlines) × IsExampleIn (values_of program.constructors) ts p.rows es)
+    → MatchBool covered (IsCoveredIn (values_of program.constructors) ts p.rows) ((es : Outlines) × IsMissedIn (values_of program.constructors) ts p.rows es)
 
 -- a problem of some that is not covered, where those behind it are
 pub record Picked (program : ProgramTree) (ps : List OpenProblem) (q : OpenProblem) : Type 0 where

@@ -1,8 +1,8 @@
-ghost use Rattle.std.specs.Prelude.{◌≡◌, ◌++◌, IfOk, OnOk, map};
+ghost use Rattle.std.specs.Prelude.{◌≡◌, ◌<◌, ◌^◌, ◌++◌, All, IfOk, OnOk, map};
 ghost use Rattle.std.specs.List.{flat_map};
 ghost use Rattle.kk_syntax.specs.Matches.{of_matches, matches};
 ghost use Rattle.kk_syntax.specs.Programs.{program_tree};
-ghost use Rattle.kk_syntax.specs.Shapes.{gathered_all, gathered_rows};
+ghost use Rattle.kk_syntax.specs.Shapes.{nodes_of, gathered_all, gathered_rows};
 ghost use Rattle.kk_syntax.specs.Trees.{expr_tree, trees_of, row_tree, rows_of, statement_tree};
 ghost use Rattle.kk_cover.specs.Matches.{match_rows, AnswersAll, AnswersProgram};
 
@@ -23,10 +23,12 @@ pub enum CoverError {
     NoMemory,
 }
 
-/// Whether each match of a typed program is covered. If not, the first function that has another, and an example.
+/// Whether each match of a typed program is covered. If not, the first function that has another, and an example. It asks that
+/// a function has fewer nodes than there are numbers from 0 up, so that an example that is a number can be written.
 ///
 /// The recursion is as deep as the program.
 pub fn cover(alloc: Global, typed: &Typed) -> Result<(), CoverError>
+    requires { All (λ function. nodes_of function.body < 2 ^ 31) (program_tree typed.now.program).functions }
     ensures { AnswersProgram typed.now.program result }
 {
     let program = &typed.program;
@@ -47,6 +49,7 @@ pub fn cover(alloc: Global, typed: &Typed) -> Result<(), CoverError>
 
 // An example for the first match of an expression that is not covered.
 fn first(alloc: Global, program: &Program, expr: &Expr) -> Result<Option<Pat>, NoMemory>
+    requires { nodes_of (expr_tree expr.now) < 2 ^ 31 }
     ensures { IfOk result (λ found. AnswersAll (program_tree program.now) (matches (expr_tree expr.now)) found) }
 {
     let mut all = Vec::new(alloc);

@@ -1,6 +1,6 @@
 ghost use Rattle.std.specs.Prelude.{◌≡◌, IfOk, OnOk, map};
 ghost use Rattle.kk_cover.specs.Narrowing.{anys, front, back, top};
-ghost use Rattle.kk_syntax.specs.Outlines.{outline_list, pattern_outline};
+ghost use Rattle.kk_syntax.specs.Outlines.{HasSmallNumbers, HaveSmallNumbers, outline_list, pattern_outline};
 ghost use Rattle.kk_cover.specs.Problems.{plug, built, stacked};
 
 use crate::problem::Head;
@@ -8,9 +8,11 @@ use kk_base::NoMemory;
 use kk_syntax::Pat;
 use std::alloc::Global;
 
-/// The pattern of what is known: its positions stand in the path, and so many wildcards behind them.
+/// The pattern of what is known: its positions stand in the path, and so many wildcards behind them. Its numbers fit into 32
+/// bits.
 pub fn build(alloc: Global, path: &[Head], width: usize) -> Result<Pat, NoMemory>
-    ensures { IfOk result (λ example. pattern_outline example ≡ top (built path.now (anys width))) }
+    ensures pattern { IfOk result (λ example. pattern_outline example ≡ top (built path.now (anys width))) }
+    ensures small { IfOk result (λ example. HasSmallNumbers (pattern_outline example)) }
 {
     let mut stack = wildcards(alloc, width)?;
     let mut place = path.len();
@@ -38,7 +40,8 @@ fn wildcards(alloc: Global, width: usize) -> Result<Vec<Pat>, NoMemory>
 // Puts what is known of a position before the patterns of the positions behind it, which stand in a stack with the first
 // on top. The parts of a constructor are the first of those.
 fn put(alloc: Global, head: Head, stack: &mut Vec<Pat>) -> Result<(), NoMemory>
-    ensures { OnOk result (stacked stack.new.items ≡ plug head (stacked stack.old.items)) }
+    ensures stack { OnOk result (stacked stack.new.items ≡ plug head (stacked stack.old.items)) }
+    ensures small { OnOk result (HaveSmallNumbers (stacked stack.old.items) → HaveSmallNumbers (stacked stack.new.items)) }
 {
     let pattern = match head {
         Head::Free => Pat::Wildcard,

@@ -1,4 +1,4 @@
-ghost use Rattle.std.specs.Prelude.{◌≡◌, [], ◌∷◌, IfOk, map};
+ghost use Rattle.std.specs.Prelude.{◌≡◌, ◌<◌, ◌^◌, [], ◌∷◌, IfOk, length, map};
 ghost use Rattle.kk_cover.specs.Covered.{Answers, row_outlines};
 ghost use Rattle.kk_syntax.specs.Outlines.{no_outline, outline};
 ghost use Rattle.kk_cover.specs.Problems.{problem_view};
@@ -16,6 +16,7 @@ use std::alloc::Global;
 /// Right at each type at which the rows are typed. The positions of the example are found from left to right: at each, the
 /// first problem that is not covered is gone into, and no other. There is no recursion.
 pub fn uncovered(alloc: Global, program: &Program, rows: &[Row]) -> Result<Option<Pat>, NoMemory>
+    requires { length rows.now < 2 ^ 31 }
     ensures { IfOk result (λ found. Answers program.now rows.now found) }
 {
     let mut problem = whole(alloc, rows)?;

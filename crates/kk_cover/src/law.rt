@@ -1,10 +1,11 @@
 ghost use Rattle.std.specs.Prelude.{List};
-ghost use Rattle.kk_syntax.specs.Covered.{Each, asked_by};
-ghost use Rattle.kk_syntax.specs.Matches.{matches};
 ghost use Rattle.kk_syntax.specs.Programs.{FunctionTree, ProgramTree};
 ghost use Rattle.kk_syntax.specs.Trees.{Rows};
 ghost use Rattle.kk_syntax.specs.Types.{TypeTree};
 ghost use Rattle.kk_syntax.specs.Typing.{Choice, Scope, AreRowsTypedBy, IsTyping};
+ghost use Rattle.kk_syntax.specs.Covered.{Each, asked_by};
+ghost use Rattle.kk_syntax.specs.Matches.{matches};
+ghost use Rattle.kk_cover.specs.Matches.{EachTypedProgramIsDecided};
 ghost use Rattle.kk_syntax.specs.OfType.{IsPatternOf, values_of};
 ghost use Rattle.kk_cover.specs.TypedRows.{AreOfChosenType};
 
@@ -17,4 +18,9 @@ pub fn typed_matches_have_typed_rows()
     ensures everywhere { (program : ProgramTree) (function : FunctionTree) (choices : List Choice)
         → IsTyping program function choices
         → Each (AreOfChosenType program choices) (matches function.body) }
+{}
+
+/// Each typed program is covered, or has exactly one first function that is not. It is a law, and does nothing.
+pub fn each_typed_program_is_decided()
+    ensures { EachTypedProgramIsDecided }
 {}

@@ -15,5 +15,5 @@ mod turning;
 
 pub use covering::{CoverError, cover};
 pub use finding::uncovered;
-pub use law::typed_matches_have_typed_rows;
+pub use law::{each_typed_program_is_decided, typed_matches_have_typed_rows};
 pub use spelling::example_text;

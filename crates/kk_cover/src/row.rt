@@ -1,4 +1,4 @@
-ghost use Rattle.std.specs.Prelude.{◌≡◌, true, IsTrue, IfOk, map, option_map};
+ghost use Rattle.std.specs.Prelude.{◌≡◌, ◌↔◌, true, IsTrue, IfOk, map, option_map};
 ghost use Rattle.kk_cover.specs.Narrowing.{narrow, open_row};
 ghost use Rattle.kk_syntax.specs.Outlines.{pattern_outline};
 ghost use Rattle.kk_cover.specs.Problems.{slot_outline, row_view, is_blank, asks_for, asked, LacksNumber};
@@ -125,7 +125,7 @@ pub fn asks_for(row: &[Slot], constructor: u32) -> bool
 
 /// Whether a row does not ask for a number at its first position.
 pub fn lacks_number(row: &[Slot], number: i32) -> bool
-    ensures { IsTrue result → LacksNumber number (row_view row.now) }
+    ensures { IsTrue result ↔ LacksNumber number (row_view row.now) }
 {
     match row.first() {
         Some(Slot::Number(other)) => *other != number,

@@ -1,7 +1,7 @@
-ghost use Rattle.std.specs.Prelude.{◌≡◌, true, IsTrue, IfOk, MatchOption, map};
-ghost use Rattle.kk_cover.specs.Covered.{Each};
+ghost use Rattle.std.specs.Prelude.{◌≡◌, ◌↔◌, ◌<◌, ◌^◌, true, IsTrue, IfOk, length, map};
+ghost use Rattle.kk_syntax.specs.Covered.{Each};
 ghost use Rattle.kk_cover.specs.Narrowing.{narrowed, opened};
-ghost use Rattle.kk_cover.specs.Problems.{row_view, has_blank, has_constructor, first_asked, LacksNumber};
+ghost use Rattle.kk_cover.specs.Problems.{row_view, has_blank, has_constructor, first_asked, LacksNumber, IsLeastLacking};
 
 use crate::problem::{Asked, Slot};
 use crate::row;
@@ -81,7 +81,7 @@ pub fn first_asked(rows: &[Vec<Slot>]) -> Asked
 
 // Whether no row asks for a number first.
 fn lack_number(rows: &[Vec<Slot>], number: i32) -> bool
-    ensures { IsTrue result → Each (LacksNumber number) (map (λ row. row_view row.items) rows.now) }
+    ensures { IsTrue result ↔ Each (LacksNumber number) (map (λ row. row_view row.items) rows.now) }
 {
     for row in rows {
         if !row::lacks_number(row, number) {
@@ -91,14 +91,14 @@ fn lack_number(rows: &[Vec<Slot>], number: i32) -> bool
     true
 }
 
-/// The least number from 0 up that no row asks for first. None where rows ask for all of them.
-pub fn least_number(rows: &[Vec<Slot>]) -> Option<i32>
-    ensures { MatchOption result (Unit {0}) (λ number. Each (LacksNumber number) (map (λ row. row_view row.items) rows.now)) }
+/// The least number from 0 up that no row asks for first. Rows are fewer than there are numbers from 0 up, so there is one.
+pub fn least_number(rows: &[Vec<Slot>]) -> i32
+    requires { length rows.now < 2 ^ 31 }
+    ensures { IsLeastLacking (map (λ row. row_view row.items) rows.now) result }
 {
-    for number in 0..i32::MAX {
-        if lack_number(rows, number) {
-            return Some(number);
-        }
+    let mut count: u32 = 0;
+    while !lack_number(rows, count as i32) {
+        count += 1;
     }
-    None
+    count as i32
 }

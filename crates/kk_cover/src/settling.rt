@@ -1,7 +1,7 @@
 ghost use Rattle.std.specs.Prelude.{◌≡◌, ◌<◌, ◌-◌, ◌++◌, List, [], ◌∷◌, IfOk, OnOk, map, length, vec_len};
 ghost use Rattle.kk_syntax.specs.Programs.{program_tree};
 ghost use Rattle.kk_cover.specs.Narrowing.{opened};
-ghost use Rattle.kk_cover.specs.Problems.{problem_view, child, made_child, children, Settled};
+ghost use Rattle.kk_cover.specs.Problems.{problem_view, child, made_child, children, IsFew, Settled};
 
 use crate::problem::{Asked, Head, Problem};
 use crate::{rows, table};
@@ -17,7 +17,8 @@ pub fn settle<'a>(
     problem: &Problem<'a>,
     problems: &mut Vec<Problem<'a>>,
 ) -> Result<(), NoMemory>
-    requires { 0 < vec_len problem.now.rows }
+    requires some { 0 < vec_len problem.now.rows }
+    requires few { IsFew (problem_view problem.now) }
     ensures { OnOk result (Settled (program_tree program.now) (problem_view problem.now) (map problem_view problems.old.items) (map problem_view problems.new.items)) }
 {
     if rows::has_blank(&problem.rows) || problem.width == 0 {
@@ -26,10 +27,10 @@ pub fn settle<'a>(
     let width = problem.width - 1;
     match rows::first_asked(&problem.rows) {
         Asked::Nothing => pass(alloc, problem, Head::Free, width, problems),
-        Asked::Number => match rows::least_number(&problem.rows) {
-            Some(number) => pass(alloc, problem, Head::Number(number), width, problems),
-            None => Err(NoMemory),
-        },
+        Asked::Number => {
+            let number = rows::least_number(&problem.rows);
+            pass(alloc, problem, Head::Number(number), width, problems)
+        }
         Asked::Constructor(constructor) => {
             let of_type = table::owner(program, constructor);
             let end = table::reach(program, of_type, &problem.rows)?;

@@ -1,6 +1,7 @@
 ghost use Rattle.std.specs.Prelude.{◌≡◌, IfOk, map, option_map, vec_len};
+ghost use Rattle.kk_syntax.specs.Covered.{Each};
 ghost use Rattle.kk_syntax.specs.Programs.{program_tree};
-ghost use Rattle.kk_cover.specs.Problems.{problem_view, row_view};
+ghost use Rattle.kk_cover.specs.Problems.{problem_view, row_view, IsFew};
 ghost use Rattle.kk_cover.specs.Turned.{rotated, leading, first_leading, turned, Tells, Picks};
 
 use crate::problem::{Problem, Slot};
@@ -14,6 +15,7 @@ use std::alloc::Global;
 /// The positions are taken in the order in which the first row looks at them: what it does not look at is turned to the end.
 /// So rows that look at pairs of positions far apart are decided at once. The search is a list of open problems.
 pub fn is_covered(alloc: Global, program: &Program, problem: &Problem) -> Result<bool, NoMemory>
+    requires { IsFew (problem_view problem.now) }
     ensures { IfOk result (λ covered. Tells (program_tree program.now) (problem_view problem.now) covered) }
 {
     let mut problems = Vec::new(alloc);
@@ -34,6 +36,7 @@ pub fn last_open<'a>(
     program: &Program,
     problems: Vec<Problem<'a>>,
 ) -> Result<Option<Problem<'a>>, NoMemory>
+    requires { Each IsFew (map problem_view problems.items) }
     ensures { IfOk result (λ found. Picks (program_tree program.now) (map problem_view problems.entry.items) (option_map problem_view found)) }
 {
     let mut left = problems;

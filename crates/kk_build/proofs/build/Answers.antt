@@ -19,7 +19,9 @@ returns-in-Ok-clause-ok c =
     let program = program_tree c.in_ok-accepted.accepted.typed.program in
     let made = ground_program c.in_ok-accepted.accepted.instances in
     let typed = c.accepted_programs_are_typed.ensures.typed c.args.text.now program c.in_ok-accepted.ensures.program in
-    let checked = c.accepted_programs_are_typed.ensures.checked c.args.text.now program _ c.in_ok-accepted.ensures.program c.in_ok-accepted.ensures.principal in
+    let checked =
+    c.accepted_programs_are_typed.ensures.checked c.args.text.now program _ c.in_ok-accepted.ensures.program
+    c.in_ok-accepted.ensures.principal in
     let means = c.instances_mean_the_program.ensures program made _ _ checked c.in_ok-accepted.ensures.instances.instances in
     built_by_instances c.args.text.now c.args.cells c.args.depth program made c.in-Ok.bytes
     (record { is_program = c.in_ok-accepted.ensures.program; typed = typed; means = means }) c.in-Ok.ensures.image c.in-Ok.ensures.agrees c.in-Ok.ensures.bounded

@@ -1,7 +1,7 @@
 use Rattle.std.proofs.Common.{take}
 use Rattle.kk_syntax.specs.Programs.{program_tree}
-use Rattle.kk_cover.specs.Covered.{Each}
-use Rattle.kk_cover.specs.Matches.{IsFunctionCovered}
+use Rattle.kk_syntax.specs.Covered.{Each}
+use Rattle.kk_syntax.specs.Matches.{IsFunctionCovered}
 use Rattle.kk_cover.proofs.covering.cover.Given as goal
 
 abbrev pub invariant-loop-number : goal.invariant-loop-number

@@ -1,7 +1,8 @@
 use Rattle.std.proofs.Common.{take}
 use Rattle.kk_syntax.specs.Programs.{program_tree}
-use Rattle.kk_cover.specs.Covered.{Each}
-use Rattle.kk_cover.specs.Matches.{match_rows, IsMatchCovered}
+use Rattle.kk_syntax.specs.Covered.{Each}
+use Rattle.kk_syntax.specs.Matches.{IsMatchCovered}
+use Rattle.kk_cover.specs.Matches.{match_rows}
 use Rattle.kk_cover.proofs.covering.first.Given as goal
 
 abbrev pub invariant-loop-rows : goal.invariant-loop-rows

@@ -1,13 +1,16 @@
 use Rattle.std.proofs.Common.{[], ◌∷◌}
 use Rattle.kk_syntax.specs.Programs.{program_tree}
 use Rattle.kk_cover.specs.Covered.{row_outlines}
-use Rattle.kk_cover.specs.Problems.{problem_view}
+use Rattle.kk_cover.specs.Problems.{problem_view, IsFew}
 use Rattle.kk_cover.proofs.Fewer.{left}
 use Rattle.kk_cover.proofs.Searching.{Going}
 use Rattle.kk_cover.proofs.finding.uncovered.Given as goal
 
 abbrev pub invariant-search : goal.invariant-search
-invariant-search l = Going (program_tree l.program) (row_outlines l.rows) (problem_view l.problem)
+invariant-search l = record {
+  going : Going (program_tree l.program) (row_outlines l.rows) (problem_view l.problem);
+  few : IsFew (problem_view l.problem);
+}
 
 abbrev pub decreases-search : goal.decreases-search
 decreases-search l = left (program_tree l.program) (problem_view l.problem ∷ [])

@@ -13,14 +13,16 @@ returns-in-Nothing c =
     (c.args.problem.now.width - 1) width (rw c.deref-2.ensures.value at c.in-Nothing.ensures))
     c.pass.ensures
 
-pub returns-in-Some : goal.returns-in-Some
-returns-in-Some c =
+pub returns-in-Number : goal.returns-in-Number
+returns-in-Number c =
     let width : c.args.problem.now.width ≡ suc (c.args.problem.now.width - 1) = omega arith in
-    let fits : FitsSigned w32 c.in-Some.number = search rules in
-    on_ok c.pass-in-Some.result _ _
-    (number_settled (program_tree c.args.program.now) (problem_view c.args.problem.now) (map problem_view c.args.problems.now.items) (map problem_view c.pass-in-Some.new.problems.items)
-    (c.args.problem.now.width - 1) c.in-Some.number fits (rw c.deref-in-Number.ensures.value at c.in-Some.ensures) width (rw c.deref-2.ensures.value at c.in-Number.ensures))
-    (simp to_z-of_z at c.pass-in-Some.ensures)
+    let number = c.least_number-number.result in
+    let fits : FitsSigned w32 number = search rules in
+    let least = rw c.deref-in-Number.ensures.value at c.least_number-number.ensures in
+    on_ok c.pass-in-Number.result _ _
+    (number_settled (program_tree c.args.program.now) (problem_view c.args.problem.now) (map problem_view c.args.problems.now.items) (map problem_view c.pass-in-Number.new.problems.items)
+    (c.args.problem.now.width - 1) number least.lacks width (rw c.deref-2.ensures.value at c.in-Number.ensures))
+    (simp to_z-of_z at c.pass-in-Number.ensures)
 
 pub returns-in_ok-end-in-Constructor : goal.returns-in_ok-end-in-Constructor
 returns-in_ok-end-in-Constructor c =

@@ -3,9 +3,12 @@ use Rattle.std.proofs.lemmas.Bool.{eqb-true}
 use Rattle.std.proofs.lemmas.List.{nil_from_length}
 use Rattle.kk_syntax.specs.Programs.{program_tree}
 use Rattle.kk_cover.specs.declared.problem.Problem.{Problem}
-use Rattle.kk_cover.specs.Problems.{OpenProblem, problem_view, row_view, Settled}
+use Rattle.kk_cover.specs.Problems.{OpenProblem, problem_view, row_view, IsFew, Settled}
 use Rattle.kk_cover.specs.Turned.{turned}
+use Rattle.kk_syntax.specs.Covered.{Each}
+use Rattle.kk_cover.proofs.FewRows.{settled_few, turned_few}
 use Rattle.kk_cover.proofs.Fewer.{left, fewer, left-turned}
+use Rattle.kk_cover.proofs.Keeping.{each_front, each_back}
 use Rattle.kk_cover.proofs.Searching.{Decided, turns, begins, goes_on, tells_open}
 use Rattle.kk_cover.proofs.Stacks.{popped_view}
 use Rattle.kk_cover.proofs.turning.is_covered.Goals as goal
@@ -18,7 +21,10 @@ search-init c =
     ap (map problem_view) c.in_ok-push.ensures.items
     ∙ (ap (λ (xs : List Problem). map problem_view (xs ++ (c.in_ok-turn.field-0 ∷ []))) c.new-problems.ensures.items
     ∙ ap (λ (q : OpenProblem). q ∷ []) c.in_ok-turn.ensures.view) in
-    subst (Decided program p) (sym is) (turns program p p [] (begins program p))
+    record {
+      decided = subst (Decided program p) (sym is) (turns program p p [] (begins program p));
+      few = subst (Each IsFew) (sym is) (turned_few p c.requires, tt);
+    }
 
 pub search-preserved : goal.search-preserved
 search-preserved c =
@@ -28,8 +34,20 @@ search-preserved c =
     let before = map problem_view c.pop.new.self.items in
     let after = map problem_view c.settle.new.problems.items in
     let settled = subst (λ x. Settled program x before after) c.in_ok-next.ensures.view c.in_ok-settle.ensures in
-    goes_on program p (turned q) before after settled
-    (turns program p q before (subst (Decided program p) (popped_view c.search.problems.items c.pop.new.self.items c.in-Some.current c.in-Some.ensures.items) c.search.invariant))
+    let popped = popped_view c.search.problems.items c.pop.new.self.items c.in-Some.current c.in-Some.ensures.items in
+    let few : Each IsFew (before ++ (q ∷ [])) = subst (Each IsFew) popped c.search.invariant.few in
+    record {
+      decided = goes_on program p (turned q) before after settled (turns program p q before (subst (Decided program p) popped c.search.invariant.decided));
+      few = settled_few program (turned q) (turned_few q (each_back IsFew before (q ∷ []) few).0) before after settled (each_front IsFew before (q ∷ []) few);
+    }
+
+pub settle-requires-clause-few : goal.settle-requires-clause-few
+settle-requires-clause-few c =
+    let q = problem_view c.in-Some.current in
+    let before = map problem_view c.pop.new.self.items in
+    let popped = popped_view c.search.problems.items c.pop.new.self.items c.in-Some.current c.in-Some.ensures.items in
+    let few : Each IsFew (before ++ (q ∷ [])) = subst (Each IsFew) popped c.search.invariant.few in
+    subst IsFew (sym c.in_ok-next.ensures.view) (turned_few q (each_back IsFew before (q ∷ []) few).0)
 
 pub search-smaller : goal.search-smaller
 search-smaller c =
@@ -49,4 +67,4 @@ returns-then-is_empty c =
     let zero : vec_len c.in-Some.current.rows ≡ 0 = eqb-true (vec_len c.in-Some.current.rows) 0 (sym c.is_empty.ensures ∙ c.if-is_empty.true) in
     let none = nil_from_length c.in-Some.current.rows.items (omega (arith, zero, c.in-Some.current.rows.ok.0)) in
     tells_open program p (problem_view c.in-Some.current) (map problem_view c.pop.new.self.items) (ap (map (λ row. row_view row.items)) none)
-    (subst (Decided program p) (popped_view c.search.problems.items c.pop.new.self.items c.in-Some.current c.in-Some.ensures.items) c.search.invariant)
+    (subst (Decided program p) (popped_view c.search.problems.items c.pop.new.self.items c.in-Some.current c.in-Some.ensures.items) c.search.invariant.decided)

@@ -1,0 +1,102 @@
+-- Rows never get more: of a problem with few rows, what it comes down to has few rows too. And each match of an expression has
+-- fewer rows than the expression has nodes.
+use Rattle.std.proofs.Common.{◌≡◌, ◌<◌, ◌≤◌, inl, inr, ℕ, suc, ◌+◌, ◌^◌, ◌==◌, zero, Bool, true, false, cond, List, [], ◌∷◌, ◌++◌, length, map, sym, ap, ◌∙◌, subst, arith}
+use Rattle.std.proofs.lemmas.List.{length-map}
+use Rattle.kk_syntax.specs.Covered.{Each, asked_by}
+use Rattle.kk_syntax.specs.declared.program.Row.{Row}
+use Rattle.kk_syntax.specs.Outlines.{Outline, no_outline, outline, pattern_outline}
+use Rattle.kk_syntax.specs.Patterns.{Pattern, anything, variable as pattern_variable, exactly, constructor}
+use Rattle.kk_syntax.specs.Programs.{ProgramTree}
+use Rattle.kk_syntax.specs.Shapes.{nodes_of, nodes_of_all, nodes_of_rows, nodes_of_pattern, gathered_all, gathered_rows}
+use Rattle.kk_syntax.specs.Trees.{Tree, variable, apply, branch, match, sequence, Trees, no_tree, tree, Rows, no_row, row}
+use Rattle.kk_cover.specs.declared.problem.Asked.{Asked}
+use Rattle.kk_cover.specs.declared.problem.Asked.TheVariants as OfAsked
+use Rattle.kk_cover.specs.Covered.{row_outlines}
+use Rattle.kk_syntax.specs.Matches.{of_matches, matches}
+use Rattle.kk_cover.specs.Narrowing.{narrow, open_row, opened}
+use Rattle.kk_cover.specs.Problems.{OpenProblem, IsFew, first_asked, owner, arity, made_child, children, StepsTo, Settles, Settled}
+use Rattle.kk_cover.specs.Turned.{turned, rotated, first_leading, Picked}
+use Rattle.kk_cover.proofs.Keeping.{each-append, each_back, kept_few}
+
+module _ (program : ProgramTree) (p : OpenProblem) (few : IsFew p) where
+  children_few : (of w end : ℕ) → Each IsFew (children program of p w end)
+  children_few of w zero = tt
+  children_few of w (suc d) = by (owner program d == of) (children_few of w d)
+    where
+      by : (b : Bool) → Each IsFew (children program of p w d) → Each IsFew (cond b (made_child program p w d ∷ children program of p w d) (children program of p w d))
+      by true rest = (let h = kept_few (narrow d (arity program d)) p.rows in omega (arith, h, few), rest)
+      by false rest = rest
+
+  opened_few : length (opened p.rows) < 2 ^ 31
+  opened_few = omega (arith, kept_few open_row p.rows, few)
+
+  steps_few : (w : ℕ) (a : Asked) (more : List OpenProblem) → StepsTo program p w a more → Each IsFew more
+  steps_few w OfAsked.Nothing more step = subst (Each IsFew) (sym step) (opened_few, tt)
+  steps_few w OfAsked.Number more step = subst (Each IsFew) (sym step.2) (opened_few, tt)
+  steps_few w (OfAsked.Constructor c) more step = subst (Each IsFew) (sym step.3) (children_few (owner program c) w step.0)
+
+  settles_few : (more : List OpenProblem) → Settles program p more → Each IsFew more
+  settles_few more settles = elim settles [
+    | inl closed ↦ subst (Each IsFew) (sym closed.1) tt
+    | inr steps ↦ steps_few steps.0 (first_asked p.rows) more steps.2
+  ]
+
+  pub settled_few : (before after : List OpenProblem) → Settled program p before after → Each IsFew before → Each IsFew after
+  settled_few before after settled few_before = subst (Each IsFew) (sym settled.grown) (each-append IsFew before settled.more few_before (settles_few settled.more settled.settles))
+
+pub turned_few : (p : OpenProblem) → IsFew p → IsFew (turned p)
+turned_few p few = omega (arith, length-map p.rows (rotated (first_leading p.rows)), few)
+
+pub whole_few : (rows : List Row) (p : OpenProblem) → length rows < 2 ^ 31 → p ≡ record { path = []; rows = map (λ e. outline e no_outline) (row_outlines rows); width = 1 } → IsFew p
+whole_few rows p few is =
+    let long : length p.rows ≡ length rows = ap (λ (q : OpenProblem). length q.rows) is ∙ (length-map (row_outlines rows) (λ e. outline e no_outline) ∙ length-map rows (λ (r : Row). pattern_outline r.pattern)) in
+    omega (arith, long, few)
+
+pub picked_few : (program : ProgramTree) (q : OpenProblem) (ps : List OpenProblem) → Picked program ps q → Each IsFew ps → IsFew q
+picked_few program q ps picked few = (each_back IsFew picked.before (q ∷ picked.behind) (subst (Each IsFew) picked.place few)).0
+
+-- ---- rows and nodes
+
+abbrev pub Within : ℕ → List Outline → Type 0
+Within n rows = length rows ≤ n
+
+widened : (m n : ℕ) (all : List (List Outline)) → m ≤ n → Each (Within m) all → Each (Within n) all
+widened m n [] le each = tt
+widened m n (rows ∷ all) le each = (omega (arith, le, each.0), widened m n all le each.1)
+
+two : (k m n : ℕ) (xs ys : List (List Outline)) → k ≤ n → m ≤ n → Each (Within k) xs → Each (Within m) ys → Each (Within n) (xs ++ ys)
+two k m n xs ys one other first rest = each-append (Within n) xs ys (widened k n xs one first) (widened m n ys other rest)
+
+some_nodes : (p : Pattern) → 1 ≤ nodes_of_pattern p
+some_nodes anything = omega arith
+some_nodes (pattern_variable x) = omega arith
+some_nodes (exactly value) = omega arith
+some_nodes (constructor c parts) = omega arith
+
+rows_nodes : (rows : Rows) → length (asked_by rows) ≤ nodes_of_rows rows
+rows_nodes no_row = omega arith
+rows_nodes (row pattern body rest) = omega (arith, some_nodes pattern, rows_nodes rest)
+
+mutual
+  pub match_nodes : (e : Tree) → Each (Within (nodes_of e)) (matches e)
+  match_nodes (variable x) = tt
+  match_nodes (apply form es) = widened (nodes_of_all es) _ (gathered_all of_matches es) (omega arith) (all_nodes es)
+  match_nodes (branch e positive negative) =
+      two (nodes_of e) (nodes_of positive + nodes_of negative) _ (matches e) (matches positive ++ matches negative) (omega arith) (omega arith) (match_nodes e)
+      (two (nodes_of positive) (nodes_of negative) _ (matches positive) (matches negative) (omega arith) (omega arith) (match_nodes positive) (match_nodes negative))
+  match_nodes (match e rows) = (
+    omega (arith, rows_nodes rows),
+    two (nodes_of e) (nodes_of_rows rows) _ (matches e) (gathered_rows of_matches rows) (omega arith) (omega arith) (match_nodes e) (body_nodes rows),
+  )
+  match_nodes (sequence binder first rest) =
+      two (nodes_of first) (nodes_of rest) _ (matches first) (matches rest) (omega arith) (omega arith) (match_nodes first) (match_nodes rest)
+
+  all_nodes : (es : Trees) → Each (Within (nodes_of_all es)) (gathered_all of_matches es)
+  all_nodes no_tree = tt
+  all_nodes (tree first rest) =
+      two (nodes_of first) (nodes_of_all rest) _ (matches first) (gathered_all of_matches rest) (omega arith) (omega arith) (match_nodes first) (all_nodes rest)
+
+  body_nodes : (rows : Rows) → Each (Within (nodes_of_rows rows)) (gathered_rows of_matches rows)
+  body_nodes no_row = tt
+  body_nodes (row pattern body rest) =
+      two (nodes_of body) (nodes_of_rows rest) _ (matches body) (gathered_rows of_matches rest) (omega arith) (omega arith) (match_nodes body) (body_nodes rest)
