@@ -4,7 +4,8 @@
 ghost use Rattle.std.specs.Prelude.{IfOk};
 ghost use Rattle.kk_base.specs.Sizes.{AreSizes};
 ghost use Rattle.kk_core.specs.Codes.{core_code};
-ghost use Rattle.kk_core.specs.CoreTyping.{IsCoreTyped, IsSmall};
+ghost use Rattle.kk_core.specs.CoreTyping.{IsSmall};
+ghost use Rattle.kk_core.specs.PlainCoreTyping.{IsPlainCoreTyped};
 ghost use Rattle.kk_back.specs.Images.{IsImageOf};
 
 use cell_runtime::text;
@@ -21,7 +22,7 @@ use std::alloc::Global;
 /// The loaded image does what the program does: on every input it tells the same events, and exits with 0, 101 or 102 as
 /// the program ends by itself, with the heap full or with the stack full.
 pub fn image(alloc: Global, core: &Core, cells: u32, depth: u32) -> Result<Image, NoMemory>
-    requires typed { IsCoreTyped (core_code core.now) }
+    requires typed { IsPlainCoreTyped (core_code core.now) }
     requires small { IsSmall (core_code core.now) }
     requires sizes { AreSizes cells depth }
     ensures { IfOk result (λ image. IsImageOf (core_code core.now) cells depth image.entry image.parts) }

@@ -7,19 +7,15 @@ use Rattle.kk_syntax.specs.declared.program.Form.TheVariants.{Construct}
 use Rattle.kk_syntax.specs.declared.program.Statement.{Statement}
 use Rattle.kk_syntax.specs.Patterns.{Pattern, constructor, patterns_of}
 use Rattle.kk_syntax.specs.Trees.{Tree, trees_of, StatementTree, block_of, expr_tree, statement_tree}
+use Rattle.kk_syntax.proofs.OwnedPlaces.{is_none}
 use Rattle.kk_syntax.proofs.Views.{block_tree}
 use Rattle.kk_borrow.specs.declared.owned_place.Place.{Place}
 use Rattle.kk_borrow.specs.declared.owned_place.Place.TheVariants.{Always}
 use Rattle.kk_borrow.specs.declared.scope.Binding.{Binding}
-use Rattle.kk_borrow.specs.OwnedPlaces.{is_val, opens, makes, builds}
+use Rattle.kk_syntax.specs.OwnedPositions.{is_val, opens, makes, builds}
 use Rattle.kk_borrow.specs.Statements.{builds_statements, placed_statements, place_behind}
 use Rattle.kk_borrow.specs.Rules.{RuleTree}
 use Rattle.kk_borrow.specs.Demands.{place_if, placed, origins_in, tail_rules}
-
--- whether a list has no element
-abbrev pub is_none : {X : Type 0} → List X → Bool
-is_none [] = true
-is_none (x ∷ xs) = false
 
 or_assoc : (a b c : Bool) → (a || (b || c)) ≡ ((a || b) || c)
 or_assoc true b c = refl
@@ -70,20 +66,3 @@ block_builds expr ss e is given given_is some some_is =
     let statements : some ≡ builds_statements (map statement_tree ss.items) = some_is ∙ ap (λ (xs : List Statement). builds_statements (map statement_tree xs)) given_is in
     ap (λ (x : Expr). builds (expr_tree x)) is
     ∙ (ap builds (block_tree ss e) ∙ (builds_block (map statement_tree ss.items) (expr_tree e.value) ∙ ap (λ (b : Bool). b || builds (expr_tree e.value)) (sym statements)))
-
-pub none_map : {X Y : Type 0} (f : X → Y) (xs : List X) → is_none (map f xs) ≡ is_none xs
-none_map f [] = refl
-none_map f (x ∷ xs) = refl
-
-pub opens_by : (by : ℕ) (ps : List Pattern) → opens (constructor by (patterns_of ps)) ≡ not (is_none ps)
-opens_by by [] = refl
-opens_by by (p ∷ ps) = refl
-
-pub makes_by : (by : ℕ) (ts : List Tree) → makes (Construct by) (trees_of ts) ≡ not (is_none ts)
-makes_by by [] = refl
-makes_by by (t ∷ ts) = refl
-
--- what a test for emptiness says
-pub none_by : {X : Type 0} (xs : List X) (n : ℕ) (b : Bool) → n ≡ length xs → b ≡ (n == 0) → is_none xs ≡ b
-none_by [] n b len is = sym (is ∙ ap (λ k. k == 0) len)
-none_by (x ∷ xs) n b len is = sym (is ∙ false_from_ne_true (n == 0) (λ e. let z = eqb-true n 0 e in omega (arith, len, z)))

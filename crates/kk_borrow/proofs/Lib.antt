@@ -6,5 +6,4 @@ pub mod Rows
 pub mod Scopes
 pub mod Search
 pub mod Steps
-pub mod Tables
 pub mod Waiting

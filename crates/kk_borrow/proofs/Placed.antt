@@ -2,14 +2,14 @@
 use Rattle.std.proofs.Common.{◌≡◌, ◌<◌, ℕ, ◌+◌, Bool, true, false, ◌==◌, ◌&&◌, ◌||◌, List, [], ◌∷◌, ◌++◌, refl, sym, ap, ◌∙◌, subst, inl, inr, All, IsTrue, ◌↔◌}
 use Rattle.std.proofs.lemmas.Bool.{both_ways, or_left, or_right, or_cases, eqb-true, eq-eqb, and_parts}
 use Rattle.std.proofs.lemmas.List.Elements.{All-nil, All-cons, All-head, All-tail, All-append}
+use Rattle.kk_syntax.proofs.Lists.{all_left, all_right}
 use Rattle.kk_syntax.specs.declared.program.Form.{Form}
 use Rattle.kk_syntax.specs.declared.program.Form.TheVariants.{Construct, Call}
 use Rattle.kk_syntax.specs.Programs.{ProgramTree}
 use Rattle.kk_syntax.specs.Trees.{Tree, variable, apply, branch, match, sequence, Trees, no_tree, tree, Rows, no_row, row}
 use Rattle.kk_borrow.specs.declared.owned_place.Place.{Place}
 use Rattle.kk_borrow.specs.declared.owned_place.Place.TheVariants.{Never, Always, With}
-use Rattle.kk_borrow.specs.Sets.{PositionSet, arity_of}
-use Rattle.kk_borrow.specs.OwnedPlaces.{takes, is_val, reuses, uses, uses_any, uses_rows}
+use Rattle.kk_syntax.specs.OwnedPositions.{PositionSet, arity_of, takes, is_val, reuses, uses, uses_any, uses_rows}
 use Rattle.kk_borrow.specs.Rules.{RuleTree, Has, Keeps}
 use Rattle.kk_borrow.specs.Demands.{place_in, place_if, at_place, placed, placed_all, placed_rows}
 
@@ -22,14 +22,6 @@ holds set (With p) = set p.function p.parameter
 -- each parameter of a function that passes a test is in a set
 abbrev pub Demands : ProgramTree → PositionSet → ℕ → (ℕ → Bool) → Type 0
 Demands program set f test = (x : ℕ) → x < arity_of program f → IsTrue (test x) → IsTrue (set f x)
-
-pub all_left : {X : Type 0} (P : X → Type 0) → (xs ys : List X) → All P (xs ++ ys) → All P xs
-all_left P [] ys all = All-nil P
-all_left P (x ∷ xs) ys all = All-cons P x xs (All-head P x (xs ++ ys) all) (all_left P xs ys (All-tail P x (xs ++ ys) all))
-
-pub all_right : {X : Type 0} (P : X → Type 0) → (xs ys : List X) → All P (xs ++ ys) → All P ys
-all_right P [] ys all = all
-all_right P (x ∷ xs) ys all = all_right P xs ys (All-tail P x (xs ++ ys) all)
 
 join : (program : ProgramTree) (set : PositionSet) (f : ℕ) (xs ys : List RuleTree) (u v : ℕ → Bool)
     → (All (Keeps program set) xs ↔ Demands program set f u) → (All (Keeps program set) ys ↔ Demands program set f v)

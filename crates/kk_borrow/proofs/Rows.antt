@@ -9,9 +9,9 @@ use Rattle.kk_borrow.specs.declared.standing.Standing.{Standing}
 use Rattle.kk_borrow.specs.declared.standing.Standing.TheVariants.{Owned, Lent}
 use Rattle.kk_borrow.specs.declared.rule.Rule.{Rule}
 use Rattle.kk_borrow.specs.Rules.{RuleTree, rule_tree, rule_trees}
-use Rattle.kk_borrow.specs.Sets.{owned_in}
+use Rattle.kk_syntax.specs.OwnedPositions.{owned_in}
 use Rattle.kk_borrow.specs.Standings.{ownership_of, waiting_of, waiting_at}
-use Rattle.kk_borrow.proofs.Tables.{lent_row, lent_told}
+use Rattle.kk_syntax.proofs.PositionTables.{lent_row, lent_told}
 
 -- rows of standings, as tables
 abbrev pub seen : {X Z : Type 0} → (X → List Standing) → (Standing → Z) → List X → List (List Z)

@@ -4,13 +4,13 @@ use Rattle.std.proofs.Common.{◌≡◌, ℕ, IsTrue, List, [], sym, subst, All}
 use Rattle.std.proofs.lemmas.List.Elements.{All-nil}
 use Rattle.kk_syntax.specs.PositionsOf.{PositionTable}
 use Rattle.kk_syntax.specs.Programs.{ProgramTree}
-use Rattle.kk_borrow.specs.Sets.{PositionSet, owned_in}
-use Rattle.kk_borrow.specs.Least.{Closed, IsLeast}
+use Rattle.kk_syntax.specs.OwnedPositions.{PositionSet, owned_in, Closed, IsLeast, Told}
+use Rattle.kk_syntax.specs.OwnedSearch.{each_lent}
 use Rattle.kk_borrow.specs.Rules.{RuleTree, Keeps}
 use Rattle.kk_borrow.specs.Demands.{rules_from}
-use Rattle.kk_borrow.specs.Standings.{WaitingTable, waiting_at, each_lent, none_waiting, Told, InProgram, Agrees, Follows}
+use Rattle.kk_borrow.specs.Standings.{WaitingTable, waiting_at, none_waiting, InProgram, Agrees, Follows}
 use Rattle.kk_borrow.proofs.Kept.{closed_same}
-use Rattle.kk_borrow.proofs.Tables.{start_told, start_within, in_program}
+use Rattle.kk_syntax.proofs.PositionTables.{start_told, start_within, owned_in_program}
 use Rattle.kk_borrow.proofs.Waiting.{none_at}
 
 pub record Searches (program : ProgramTree) (table : PositionTable) (waiting : WaitingTable) (queue : List RuleTree) : Type 0 where
@@ -24,7 +24,7 @@ start program table waiting queue table_is waiting_is queue_is =
     (subst (λ w. Searches program (each_lent program.functions) w queue) (sym waiting_is)
     (subst (λ q. Searches program (each_lent program.functions) (none_waiting program.functions) q) (sym queue_is)
     (record {
-      told = start_told program.functions;
+      told = start_told program;
       forth = λ set closed. record {
         within = start_within program.functions set;
         queued = (closed_same program set).1 closed;
@@ -46,7 +46,7 @@ pub end : (program : ProgramTree) (table : PositionTable) (waiting : WaitingTabl
 end program table waiting searches idle = record {
   told = searches.told;
   closed =
-      searches.back (owned_in table) (in_program program table searches.told)
+      searches.back (owned_in table) (owned_in_program program table searches.told)
       (record {
         within = λ f i is. is;
         queued = All-nil (Keeps program (owned_in table));

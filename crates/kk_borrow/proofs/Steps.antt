@@ -7,15 +7,16 @@ use Rattle.std.proofs.lemmas.List.Elements.{All-nil, All-head, All-append, All-p
 use Rattle.kk_syntax.specs.declared.positions.Ownership.TheVariants.{Owned, Lent}
 use Rattle.kk_syntax.specs.PositionsOf.{PositionTable, lends, is_lent}
 use Rattle.kk_syntax.specs.Programs.{ProgramTree}
-use Rattle.kk_borrow.specs.declared.position.Position.{Position}
-use Rattle.kk_borrow.specs.Sets.{PositionSet, arity_of, owned_in}
+use Rattle.kk_syntax.specs.declared.positions.Position.{Position}
+use Rattle.kk_syntax.specs.OwnedPositions.{PositionSet, arity_of, owned_in, Told}
+use Rattle.kk_syntax.specs.OwnedSearch.{with_owned}
 use Rattle.kk_borrow.specs.declared.rule.Rule.{Rule}
 use Rattle.kk_borrow.specs.Rules.{RuleTree, rule_tree, rule_trees, Has, Keeps}
 use Rattle.kk_borrow.specs.declared.standing.Standings.{Standings}
-use Rattle.kk_borrow.specs.Standings.{WaitingTable, ownerships, waitings, waiting_at, told_at, with_owned, with_waiting, work, Told, InProgram, Follows}
-use Rattle.kk_borrow.proofs.Placed.{all_left, all_right}
+use Rattle.kk_borrow.specs.Standings.{WaitingTable, ownerships, waitings, waiting_at, told_at, with_waiting, work, InProgram, Follows}
+use Rattle.kk_syntax.proofs.Lists.{all_left, all_right}
 use Rattle.kk_borrow.proofs.Rows.{waits_in_rows, waits_in_row}
-use Rattle.kk_borrow.proofs.Tables.{owned_told, lent_told, grown_told, grown_within, grown_more, grown_has}
+use Rattle.kk_syntax.proofs.PositionTables.{owned_told, lent_told, told_row, grown_told, grown_within, grown_more, grown_has}
 use Rattle.kk_borrow.proofs.Waiting.{at_same, at_other, less_lent}
 
 abbrev rule : List Position → Position → RuleTree
@@ -103,7 +104,7 @@ premise_unknown program table waiting queue ps p c told out =
     dropped program table waiting queue (rule (ps ++ p ∷ []) c) told
     (λ set in' has all.
     let lt = in' p.function p.parameter (All-head (Has set) p [] (all_right (Has set) ps (p ∷ []) all)) in
-    let n = told p.function in
+    let n = told_row program table told p.function in
     absurd (omega (arith, lt, n, out)))
 
 -- a conclusion that is owned, or that the program does not have
@@ -111,7 +112,7 @@ pub conclusion_known : (program : ProgramTree) (table : PositionTable) (waiting 
     → Follows program table waiting (queue ++ rule [] c ∷ []) table waiting queue
 conclusion_known program table waiting queue c told is =
     dropped program table waiting queue (rule [] c) told
-    (λ set in' has all lt. has c (owned_told table c.function c.parameter (let n = told c.function in omega (arith, lt, n)) is))
+    (λ set in' has all lt. has c (owned_told table c.function c.parameter (let n = told_row program table told c.function in omega (arith, lt, n)) is))
 
 -- a conclusion that is lent: it is owned from now on, and the rules that wait for it are read
 pub conclusion_lent : (program : ProgramTree) (table : PositionTable) (waiting : WaitingTable) (queue : List RuleTree) (c : Position) → Told program table → is_lent table c.function c.parameter ≡ true
@@ -120,9 +121,9 @@ pub conclusion_lent : (program : ProgramTree) (table : PositionTable) (waiting :
 conclusion_lent program table waiting queue c told is f_in i_in =
     let before = waiting_at waiting c.function c.parameter in
     let here = at_same waiting c [] f_in i_in in
-    let below : c.parameter < arity_of program c.function = (let lt = lent_told table c.function c.parameter is in let n = told c.function in omega (arith, lt, n)) in
+    let below : c.parameter < arity_of program c.function = (let lt = lent_told table c.function c.parameter is in let n = told_row program table told c.function in omega (arith, lt, n)) in
     record {
-      told = λ f. grown_told table c is f ∙ told f;
+      told = grown_told program table c told;
       forth = λ set agrees.
           let has : Has set c = All-head (Keeps program set) (rule [] c) [] (all_right (Keeps program set) queue (rule [] c ∷ []) agrees.queued) (All-nil (Has set)) below in
           record {

@@ -5,7 +5,7 @@ use Rattle.std.proofs.lemmas.List.{get_or_past, set_past, length_push}
 use Rattle.std.proofs.lemmas.List.Sums.{sum_by-set, sum_by_push}
 use Rattle.std.specs.List.{sum_by}
 use Rattle.kk_syntax.specs.Programs.{FunctionTree}
-use Rattle.kk_borrow.specs.declared.position.Position.{Position}
+use Rattle.kk_syntax.specs.declared.positions.Position.{Position}
 use Rattle.kk_borrow.specs.Rules.{RuleTree}
 use Rattle.kk_borrow.specs.Standings.{WaitingTable, waiting_at, with_waiting, none_waiting, cost, work}
 

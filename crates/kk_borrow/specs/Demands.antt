@@ -1,16 +1,16 @@
--- What the body of a function asks of ownership, as rules. They say what Obeys says (OwnedPlaces and TailCalls), and do
--- not depend on a set.
+-- What the body of a function asks of ownership, as rules. They say what the definition says (kk_syntax's OwnedPositions), and
+-- do not depend on a set.
 use Rattle.std.specs.Prelude.{ℕ, zero, suc, ◌+◌, Bool, ◌==◌, List, [], ◌∷◌, ◌++◌, map, filter, length, if◌then◌else◌}
 use Rattle.kk_syntax.specs.declared.program.Form.{Form}
 use Rattle.kk_syntax.specs.declared.program.Form.TheVariants.{Construct, Call}
 use Rattle.kk_syntax.specs.Programs.{FunctionTree}
 use Rattle.kk_syntax.specs.Shapes.{bound}
 use Rattle.kk_syntax.specs.Trees.{Tree, variable, apply, branch, match, sequence, Trees, no_tree, tree, Rows, no_row, row}
-use Rattle.kk_borrow.specs.declared.position.Position.{Position}
+use Rattle.kk_syntax.specs.declared.positions.Position.{Position}
 use Rattle.kk_borrow.specs.declared.owned_place.Place.{Place}
 use Rattle.kk_borrow.specs.declared.owned_place.Place.TheVariants.{Never, Always, With}
 use Rattle.kk_borrow.specs.declared.scope.Binding.{Binding}
-use Rattle.kk_borrow.specs.OwnedPlaces.{is_val, reuses}
+use Rattle.kk_syntax.specs.OwnedPositions.{is_val, reuses}
 use Rattle.kk_borrow.specs.Rules.{RuleTree}
 
 abbrev pub position : ℕ → ℕ → Position

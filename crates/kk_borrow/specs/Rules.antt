@@ -1,9 +1,9 @@
 -- The rules of ownership in a program, as statements on positions: a position is owned if each of some others is.
 use Rattle.std.specs.Prelude.{◌<◌, List, map, All, IsTrue}
 use Rattle.kk_syntax.specs.Programs.{ProgramTree}
-use Rattle.kk_borrow.specs.declared.position.Position.{Position}
+use Rattle.kk_syntax.specs.declared.positions.Position.{Position}
 use Rattle.kk_borrow.specs.declared.rule.Rule.{Rule}
-use Rattle.kk_borrow.specs.Sets.{PositionSet, arity_of}
+use Rattle.kk_syntax.specs.OwnedPositions.{PositionSet, arity_of}
 
 pub record RuleTree : Type 0 where
   pub premises : List Position

@@ -5,12 +5,11 @@ use Rattle.kk_syntax.specs.declared.positions.Ownership.{Ownership}
 use Rattle.kk_syntax.specs.declared.positions.Ownership.TheVariants as Of
 use Rattle.kk_syntax.specs.PositionsOf.{PositionTable}
 use Rattle.kk_syntax.specs.Programs.{FunctionTree, ProgramTree}
-use Rattle.kk_borrow.specs.declared.position.Position.{Position}
+use Rattle.kk_syntax.specs.declared.positions.Position.{Position}
 use Rattle.kk_borrow.specs.declared.standing.Standing.{Standing}
 use Rattle.kk_borrow.specs.declared.standing.Standing.TheVariants.{Owned, Lent}
 use Rattle.kk_borrow.specs.declared.standing.Standings.{Standings}
-use Rattle.kk_borrow.specs.Sets.{PositionSet, arity_of, owned_in}
-use Rattle.kk_borrow.specs.Least.{Within}
+use Rattle.kk_syntax.specs.OwnedPositions.{PositionSet, arity_of, owned_in, Within, Told}
 use Rattle.kk_borrow.specs.Rules.{RuleTree, rule_trees, Keeps}
 
 -- by a function's number and a parameter's, the rules that wait for that position to be owned
@@ -38,17 +37,11 @@ told_at table p = slice_get (slice_index_or table p.function []) p.parameter
 abbrev pub waiting_at : WaitingTable → ℕ → ℕ → List RuleTree
 waiting_at waiting function parameter = slice_index_or (slice_index_or waiting function []) parameter []
 
--- the table that has each parameter lent, and that for which no rule waits
-abbrev pub each_lent : List FunctionTree → PositionTable
-each_lent functions = map (λ f. replicate (length f.parameters) Of.Lent) functions
-
+-- the table for which no rule waits
 abbrev pub none_waiting : List FunctionTree → WaitingTable
 none_waiting functions = map (λ f. replicate (length f.parameters) []) functions
 
--- the tables with one position changed
-abbrev pub with_owned : PositionTable → Position → PositionTable
-with_owned table p = set table p.function (set (slice_index_or table p.function []) p.parameter Of.Owned)
-
+-- the table with other rules that wait for one position
 abbrev pub with_waiting : WaitingTable → Position → List RuleTree → WaitingTable
 with_waiting waiting p rules = set waiting p.function (set (slice_index_or waiting p.function []) p.parameter rules)
 
@@ -58,10 +51,6 @@ cost rule = length rule.premises + 1
 
 abbrev pub work : WaitingTable → List RuleTree → ℕ
 work waiting queue = sum_by (sum_by (sum_by cost)) waiting + sum_by cost queue
-
--- a table tells of each position of a program
-abbrev pub Told : ProgramTree → PositionTable → Type 0
-Told program table = (function : ℕ) → length (slice_index_or table function []) ≡ arity_of program function
 
 -- a set has positions of a program alone
 abbrev pub InProgram : ProgramTree → PositionSet → Type 0

@@ -3,7 +3,7 @@ use Rattle.std.specs.Prelude.{ℕ, Bool, false, ◌||◌, List, [], ◌∷◌, �
 use Rattle.kk_syntax.specs.Trees.{StatementTree}
 use Rattle.kk_borrow.specs.declared.owned_place.Place.{Place}
 use Rattle.kk_borrow.specs.declared.owned_place.Place.TheVariants.{Always}
-use Rattle.kk_borrow.specs.OwnedPlaces.{is_val, builds}
+use Rattle.kk_syntax.specs.OwnedPositions.{is_val, builds}
 use Rattle.kk_borrow.specs.Rules.{RuleTree}
 use Rattle.kk_borrow.specs.Demands.{place_if, placed}
 

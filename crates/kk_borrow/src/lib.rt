@@ -2,7 +2,6 @@
 #![tactic(auto)]
 
 mod owned_place;
-mod position;
 mod rule;
 mod scope;
 mod standing;
@@ -11,15 +10,14 @@ mod tail_call;
 ghost use Rattle.std.specs.Prelude.{◌≡◌, ◌++◌, ◌∷◌, [], ◌<◌, IfOk, OnOk, map, length};
 ghost use Rattle.kk_syntax.specs.PositionsOf.{positions_of};
 ghost use Rattle.kk_syntax.specs.Programs.{ProgramTree, function_tree, program_tree};
-ghost use Rattle.kk_borrow.specs.Least.{IsLeast};
+ghost use Rattle.kk_syntax.specs.OwnedPositions.{IsLeast, Told};
 ghost use Rattle.kk_borrow.specs.Rules.{rule_tree, rule_trees};
 ghost use Rattle.kk_borrow.specs.Demands.{rules_in, rules_from};
-ghost use Rattle.kk_borrow.specs.Standings.{ownerships, waitings, work, Told, Follows};
+ghost use Rattle.kk_borrow.specs.Standings.{ownerships, waitings, work, Follows};
 
 use kk_base::NoMemory;
 use kk_syntax::{Fun, Ownership, Positions, Program};
 use owned_place::Place;
-pub use position::Position;
 use rule::Rule;
 use scope::Scope;
 use standing::Standings;

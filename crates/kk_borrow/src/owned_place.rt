@@ -1,15 +1,14 @@
 ghost use Rattle.std.specs.Prelude.{◌≡◌, ◌++◌, map, IfOk, OnOk};
 ghost use Rattle.kk_syntax.specs.Patterns.{pattern_tree};
 ghost use Rattle.kk_syntax.specs.Trees.{expr_tree, trees_of, row_tree, rows_of, statement_tree};
-ghost use Rattle.kk_borrow.specs.OwnedPlaces.{is_val, opens, makes, builds, builds_any, builds_rows, reuses};
+ghost use Rattle.kk_syntax.specs.OwnedPositions.{is_val, opens, makes, builds, builds_any, builds_rows, reuses};
 ghost use Rattle.kk_borrow.specs.Statements.{builds_statements, placed_statements, place_behind};
 ghost use Rattle.kk_borrow.specs.Rules.{rule_trees};
 ghost use Rattle.kk_borrow.specs.Demands.{place_in, place_if, at_place, placed, placed_all, placed_rows};
 
-use crate::position::Position;
 use crate::rule::Rule;
 use kk_base::NoMemory;
-use kk_syntax::{Binder, Expr, Form, Pat, Row, Statement};
+use kk_syntax::{Binder, Expr, Form, Pat, Position, Row, Statement};
 use std::alloc::Global;
 
 /// When what stands at a place is owned.

@@ -1,4 +1,4 @@
-use crate::position::Position;
+use kk_syntax::Position;
 
 /// A position that is owned if each of some others is.
 #[derive(Debug, Drop)]

@@ -2,12 +2,12 @@ ghost use Rattle.std.specs.Prelude.{◌≡◌, ◌++◌, ◌∷◌, [], true, If
 ghost use Rattle.kk_syntax.specs.PositionsOf.{is_lent, positions_of};
 ghost use Rattle.kk_syntax.specs.Programs.{function_tree};
 ghost use Rattle.kk_borrow.specs.Rules.{rule_tree, rule_trees};
-ghost use Rattle.kk_borrow.specs.Standings.{ownership_of, waiting_of, ownerships, waitings, told_at, waiting_at, each_lent, none_waiting, with_owned, with_waiting};
+ghost use Rattle.kk_syntax.specs.OwnedSearch.{each_lent, with_owned};
+ghost use Rattle.kk_borrow.specs.Standings.{ownership_of, waiting_of, ownerships, waitings, told_at, waiting_at, none_waiting, with_waiting};
 
-use crate::position::Position;
 use crate::rule::Rule;
 use kk_base::NoMemory;
-use kk_syntax::{Fun, Ownership, Positions};
+use kk_syntax::{Fun, Ownership, Position, Positions};
 use std::alloc::Global;
 use std::mem;
 

@@ -3,11 +3,10 @@ ghost use Rattle.kk_syntax.specs.Trees.{expr_tree, trees_of, row_tree, rows_of};
 ghost use Rattle.kk_borrow.specs.Rules.{rule_trees};
 ghost use Rattle.kk_borrow.specs.Demands.{position, origins_in, passed, passed_by, tail_rules, tail_rules_in};
 
-use crate::position::Position;
 use crate::rule::Rule;
 use crate::scope::{Scope, bind};
 use kk_base::NoMemory;
-use kk_syntax::{Expr, Form, Row};
+use kk_syntax::{Expr, Form, Position, Row};
 use std::alloc::Global;
 
 /// Adds the rules for what the tail calls of an expression are given. The scope stays as it was.

@@ -17,7 +17,7 @@ use elf_image::write;
 use kk_back::image;
 use kk_base::{Bytes, NoMemory, Refusal};
 use kk_front::{accepted_programs_are_typed, read};
-use kk_instances::instances_mean_the_program;
+use kk_instances::{instances_mean_the_program, instances_of_plain_programs_are_plain};
 use kk_norm::normal;
 use kk_syntax::Ground;
 use std::alloc::Global;
@@ -35,6 +35,7 @@ pub fn build(alloc: Global, text: &[u8], cells: u32, depth: u32) -> Result<Bytes
     let accepted = read(alloc, text)?;
     accepted_programs_are_typed();
     instances_mean_the_program();
+    instances_of_plain_programs_are_plain();
     match file_of(alloc, &accepted.instances, cells, depth) {
         Ok(bytes) => Ok(bytes),
         Err(NoMemory) => Err(Refusal::NoMemory),

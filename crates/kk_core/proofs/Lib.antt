@@ -1,1 +1,8 @@
+mod ChosenArms
 mod Examples
+mod Safe
+mod SafeRuns
+mod SafeSteps
+mod Stands
+mod TypedExamples
+mod TypedStates

@@ -10,15 +10,16 @@ use Rattle.kk_core.specs.declared.form.Last.TheOpen.{Arm-F, Block-F, Last-F, Ste
 use Rattle.kk_core.specs.declared.form.Last.TheFolds.{fold-Block, fold-Last, fold-Step, fold-Arm}
 use Rattle.kk_core.specs.declared.form.CoreFunction.{CoreFunction}
 use Rattle.kk_core.specs.declared.form.Core.{Core}
+use Rattle.kk_core.specs.Decisions.{NodeTree, node_tree}
 
 -- A code, which is what a block does from one of its steps on.
 -- give: it ends with the value of a variable.
 -- tail_call: it ends as the call of a function on variables.
 -- branch: it goes on as the first code where the variable is `True`, and else as the second.
--- case: it goes on as the first arm whose pattern matches the value of the variable.
+-- case: it goes on as the arm of the row that the decisions choose for the value of the variable.
 -- compute: the variable takes the value of the form on variables, and the rest comes.
 -- use_of: the variable is still of use, and the rest comes.
--- unpack: the variables `fields` take the fields of the cell that the variable names, which that constructor made, and the
+-- unpack: the variables `fields` take the fields of the cell that the variable names, if that constructor made it, and the
 -- rest comes.
 -- inside: a block is run, the variable takes its value, and the rest comes.
 mutual
@@ -26,15 +27,21 @@ mutual
     give : (variable : ℕ) → Code
     tail_call : (function : ℕ) → (arguments : List ℕ) → Code
     branch : (on : ℕ) → (positive : Code) → (negative : Code) → Code
-    case : (on : ℕ) → (arms : Arms) → Code
+    case : (on : ℕ) → (decisions : List NodeTree) → (arms : Arms) → Code
     compute : (variable : ℕ) → (form : Form) → (arguments : List ℕ) → (rest : Code) → Code
     use_of : (variable : ℕ) → (rest : Code) → Code
     unpack : (variable : ℕ) → (constructor : ℕ) → (fields : List ℕ) → (rest : Code) → Code
     inside : (variable : ℕ) → (block : Code) → (rest : Code) → Code
 
+  -- Arm i is that of row i, with the row's pattern: by it the arm is typed, and the machine does not look at it.
   pub data Arms : Type 0 where
     no_arm : Arms
     arm : (pattern : Pattern) → (body : Code) → (rest : Arms) → Arms
+
+-- the patterns of arms, in their order
+abbrev pub patterns_of : Arms → List Pattern
+patterns_of no_arm = []
+patterns_of (arm pattern body rest) = pattern ∷ patterns_of rest
 
 -- a step of a block by itself
 pub data Piece : Type 0 where
@@ -76,7 +83,7 @@ abbrev pub last_step : Last-F Code Piece ArmCode Code → Code
 last_step (Return x) = give x
 last_step (TailCall f arguments) = tail_call f arguments.items
 last_step (If x positive negative) = branch x positive.value negative.value
-last_step (Case x arms) = case x (arms_of arms.items)
+last_step (Case x decisions arms) = case x (map node_tree decisions.nodes.items) (arms_of arms.items)
 
 abbrev pub step_step : Step-F Code Piece ArmCode Code → Piece
 step_step (Let x form arguments) = computes x form arguments.items

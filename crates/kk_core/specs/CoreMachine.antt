@@ -1,19 +1,20 @@
 -- The steps of the core machine. It tells the same notes as the store machine: each event, the live places at each
 -- construction with fields, and the call frames at each call that is no tail call.
-use Rattle.std.specs.Prelude.{ℕ, suc, List, [], ◌∷◌, ◌++◌, map, length, Option, Some, None, if◌then◌else◌, slice_get}
+use Rattle.std.specs.Prelude.{ℕ, zero, suc, List, [], ◌∷◌, ◌++◌, map, length, Option, Some, None, if◌then◌else◌, slice_get}
 use Rattle.kk_base.specs.Trace.{Event}
 use Rattle.kk_base.specs.Machines.{Machine, weighing, mapped}
 use Rattle.kk_syntax.specs.declared.program.Form.{Form}
 use Rattle.kk_syntax.specs.Shapes.{without}
 use Rattle.kk_syntax.specs.PositionsOf.{is_lent}
 use Rattle.kk_source.specs.State.{Value, place, Store, Environment, End, ended, heap_full, stack_full}
-use Rattle.kk_source.specs.Live.{value_of, fields_of, live}
-use Rattle.kk_source.specs.Matching.{matched}
+use Rattle.kk_source.specs.Live.{value_of, live}
+use Rattle.kk_source.specs.Matching.{fields_made_by, and_then}
 use Rattle.kk_source.specs.Notes.{Note, events_of}
 use Rattle.kk_source.specs.Actions.{Action, goes, build_step, enter_step, performed}
 use Rattle.kk_source.specs.FormEffects.{is_true, form_effect, effect_step}
 use Rattle.kk_source.specs.Step.{bind_parameters, lent_places}
 use Rattle.kk_core.specs.Codes.{Code, give, tail_call, branch, case, compute, use_of, unpack, inside, Arms, no_arm, arm, FunctionCode}
+use Rattle.kk_core.specs.Decisions.{chosen}
 use Rattle.kk_core.specs.Needed.{needed}
 use Rattle.kk_core.specs.CoreStates.{CoreSetting, Join, CallFrame, CoreControl, running, stopped, CoreConfiguration, CoreState, core_end_at}
 
@@ -53,16 +54,23 @@ bind_fields [] vs environment = environment
 bind_fields (x ∷ xs) [] environment = environment
 bind_fields (x ∷ xs) (v ∷ vs) environment = bind_fields xs vs (record { variable = x; value = v } ∷ environment)
 
--- the body of the first arm whose pattern matches a value, if there is one
-abbrev pub arm_if : Code → Option Environment → Option Code → Option Code
-arm_if body None later = later
-arm_if body (Some bound) later = Some body
+-- the fields of the cell that a value names, if that constructor made it
+abbrev pub fields_opened : Store → ℕ → Value → Option (List Value)
+fields_opened store c (place at) = fields_made_by c (slice_get store at)
+fields_opened store c _ = None
 
-abbrev pub first_arm : Store → Arms → Value → Option Code
-first_arm store no_arm v = None
-first_arm store (arm pattern body rest) v = arm_if body (matched store pattern v []) (first_arm store rest v)
+-- at the rest, the fields bound; where the value names no cell of that constructor the machine stays
+abbrev pub unpack_step : Option (List Value) → List ℕ → Code → Environment → List Join → CoreConfiguration → Action CoreConfiguration
+unpack_step None fields rest environment joins from = goes from
+unpack_step (Some vs) fields rest environment joins from = goes (at_code rest (bind_fields fields vs environment) joins from)
 
--- at the arm that is taken; where none matches the machine stays
+-- the arm of a row
+abbrev pub arm_at : Arms → ℕ → Option Code
+arm_at no_arm row = None
+arm_at (arm pattern body rest) zero = Some body
+arm_at (arm pattern body rest) (suc row) = arm_at rest row
+
+-- at the arm that is taken; where no row is chosen the machine stays
 abbrev pub case_step : Option Code → Environment → List Join → CoreConfiguration → Action CoreConfiguration
 case_step None environment joins from = goes from
 case_step (Some body) environment joins from = goes (at_code body environment joins from)
@@ -116,13 +124,13 @@ module _ (setting : CoreSetting) where
       tail_step (slice_get setting.code.functions f) (map (value_of environment) arguments) from
   code_step (branch x positive negative) environment joins from =
       goes (at_code (if is_true (value_of environment x) then positive else negative) environment joins from)
-  code_step (case x arms) environment joins from =
-      case_step (first_arm from.store arms (value_of environment x)) environment joins from
+  code_step (case x decisions arms) environment joins from =
+      case_step (and_then (chosen (slice_get from.store) (value_of environment x) decisions) (arm_at arms)) environment joins from
   code_step (compute x form arguments rest) environment joins from =
       form_step form (map (value_of environment) arguments) x rest environment joins from
   code_step (use_of x rest) environment joins from = goes (at_code rest environment joins from)
   code_step (unpack x c fields rest) environment joins from =
-      goes (at_code rest (bind_fields fields (fields_of from.store (value_of environment x)) environment) joins from)
+      unpack_step (fields_opened from.store c (value_of environment x)) fields rest environment joins from
   code_step (inside x block rest) environment joins from =
       goes (at_code block environment (record { variable = x; rest = rest } ∷ joins) from)
 

@@ -1,7 +1,10 @@
+pub mod Choosing
 pub mod Codes
 pub mod CoreMachine
 pub mod CoreStates
 pub mod CoreTyping
 pub mod Decisions
 pub mod Needed
+pub mod NeverStuck
+pub mod PlainCoreTyping
 pub mod Sizes

@@ -9,7 +9,7 @@ abbrev mutual
   needed later (give x) = x ∷ later
   needed later (tail_call f arguments) = arguments ++ later
   needed later (branch x positive negative) = x ∷ (needed later positive ++ needed later negative)
-  needed later (case x arms) = x ∷ needed_by_arms later arms
+  needed later (case x decisions arms) = x ∷ needed_by_arms later arms
   needed later (compute x form arguments rest) = arguments ++ without (x ∷ []) (needed later rest)
   needed later (use_of x rest) = x ∷ needed later rest
   needed later (unpack x c fields rest) = x ∷ without fields (needed later rest)

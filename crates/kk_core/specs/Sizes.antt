@@ -35,7 +35,7 @@ abbrev mutual
   forms (give x) = 1
   forms (tail_call f arguments) = 1
   forms (branch x positive negative) = forms positive + forms negative + 1
-  forms (case x arms) = forms_of_arms arms + 1
+  forms (case x decisions arms) = forms_of_arms arms + 1
   forms (compute x form arguments rest) = forms rest + 1
   forms (use_of x rest) = forms rest + 1
   forms (unpack x c fields rest) = forms rest + 1
@@ -62,7 +62,7 @@ abbrev mutual
   Ordered bound low (give x) high = (is_among bound x ≡ true) × (low ≤ high)
   Ordered bound low (tail_call f arguments) high = AreBound bound arguments × (low ≤ high)
   Ordered bound low (branch x positive negative) high = (middle : ℕ) × (is_among bound x ≡ true) × Ordered bound low positive middle × Ordered bound middle negative high
-  Ordered bound low (case x arms) high = (is_among bound x ≡ true) × OrderedArms bound low arms high
+  Ordered bound low (case x decisions arms) high = (is_among bound x ≡ true) × OrderedArms bound low arms high
   Ordered bound low (compute x form arguments rest) high = AreBound bound arguments × (low ≤ x) × Ordered (x ∷ bound) (x + 1) rest high
   Ordered bound low (use_of x rest) high = (is_among bound x ≡ true) × Ordered bound low rest high
   Ordered bound low (unpack x c fields rest) high = (middle : ℕ) × (is_among bound x ≡ true) × Rise low fields middle × Ordered (fields ++ bound) middle rest high

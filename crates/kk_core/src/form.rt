@@ -1,5 +1,6 @@
 ghost use Rattle.std.specs.Prelude.{◌<◌, vec_len};
 
+use crate::decisions::Decisions;
 use kk_syntax::{Form, Pat, StringLiteral};
 
 /// A program in core form.
@@ -43,7 +44,7 @@ pub enum Step {
     /// The variable is still of use here. Nothing is done.
     Use(u32),
     /// The variables behind the constructor's number take the fields of the cell that the first one names, in their
-    /// order. The constructor has made that cell.
+    /// order, if that constructor made it. Else the machine stays, as it does where a function is missing.
     Open(u32, u32, Vec<u32>),
     /// The variable takes the value of the block, which is run first.
     Inside(u32, Block),
@@ -60,11 +61,14 @@ pub enum Last {
     TailCall(u32, Vec<u32>),
     /// As the first block where the variable is `True`, and else as the second.
     If(u32, Box<Block>, Box<Block>),
-    /// As the block of the first arm whose pattern matches the variable's value.
-    Case(u32, Vec<Arm>),
+    /// As the arm of the row that the decisions choose for the variable's value: arm `i`, from 0, is that of row `i`. Where
+    /// they choose none, or a row without an arm, the machine stays; in a typed program they choose the first row whose
+    /// pattern matches, and there is one.
+    Case(u32, Decisions, Vec<Arm>),
 }
 
-/// An arm of a case. The variables of its pattern count as `_`: the arm's block opens what it needs.
+/// An arm of a case: the pattern of its row, by which its block is typed, and the block, which opens what it needs. The
+/// machine does not look at the pattern.
 #[cycle(block)]
 #[derive(Debug, Drop)]
 pub struct Arm {

@@ -3,6 +3,8 @@
 
 mod decisions;
 mod form;
+mod law;
 
 pub use decisions::{Answer, Decisions, Edge, Node};
 pub use form::{Arm, Block, Core, CoreFunction, Last, Step};
+pub use law::typed_code_is_never_stuck;

@@ -1,12 +1,13 @@
 -- What the declarations of a program say of its constructors.
 use Rattle.std.proofs.Common.{◌≡◌, ◌<◌, ℕ, ◌==◌, Bool, true, false, cond, List, length, map, Option, None, Some, get_or, refl, sym, ap, ◌∙◌}
-use Rattle.std.proofs.lemmas.Bool.{eqb-true, eq-eqb}
+use Rattle.std.proofs.lemmas.Bool.{eqb-true}
 use Rattle.std.proofs.lemmas.List.{length-map}
 use Rattle.std.proofs.lemmas.Option.{slice_get_within, slice_get-get_or, get_or_from_slice_get}
 use Rattle.std.specs.List.{slice_get}
 use Rattle.kk_syntax.specs.Types.{TypeTree, int32, unit_type, type_variable, named, TypeTrees}
 use Rattle.kk_syntax.specs.Programs.{ConstructorTree, ProgramTree}
 use Rattle.kk_syntax.specs.OfType.{values_of, fields_of, field_types, with_arguments, is_int32}
+use Rattle.kk_syntax.proofs.PatternTypes.{fields_made}
 use Rattle.kk_cover.specs.Problems.{no_constructor, owner, arity}
 use Rattle.kk_cover.proofs.Deciding.{Knows}
 
@@ -26,11 +27,6 @@ declared (Some constructor) by arguments us is = pick (constructor.of_type == by
 
 owner_is : (program : ProgramTree) (c : ℕ) (constructor : ConstructorTree) → slice_get program.constructors c ≡ Some constructor → owner program c ≡ constructor.of_type
 owner_is program c constructor there = ap (λ (x : ConstructorTree). x.of_type) (get_or_from_slice_get program.constructors c constructor no_constructor there)
-
-pub fields_made : (o : Option ConstructorTree) (constructor : ConstructorTree) (by : ℕ) (arguments : TypeTrees) → o ≡ Some constructor → constructor.of_type ≡ by → fields_of o by arguments ≡ Some (map (with_arguments arguments) constructor.fields)
-fields_made o constructor by arguments there owned =
-    ap (λ x. fields_of x by arguments) there
-    ∙ ap (λ b. cond b (Some (map (with_arguments arguments) constructor.fields)) None) (eq-eqb constructor.of_type by owned)
 
 within : (program : ProgramTree) (t : TypeTree) (c d : ℕ) (us vs : List TypeTree) → field_types program.constructors t c ≡ Some us → field_types program.constructors t d ≡ Some vs → (d < length program.constructors) × (owner program d ≡ owner program c)
 within program int32 c d us vs at_c at_d = absurd (cc)

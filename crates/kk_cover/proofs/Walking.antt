@@ -12,9 +12,11 @@ use Rattle.kk_syntax.specs.Programs.{ProgramTree, function_tree, program_tree}
 use Rattle.kk_syntax.specs.Shapes.{gathered_rows}
 use Rattle.kk_syntax.specs.Trees.{RowTree, rows_of, expr_tree, row_tree}
 use Rattle.kk_syntax.proofs.Views.{match_tree, row_tree_is}
+use Rattle.kk_syntax.specs.Covered.{asked_by}
+use Rattle.kk_syntax.specs.Matches.{of_matches, matches}
 use Rattle.kk_cover.specs.Covered.{Each, row_outlines}
 use Rattle.kk_syntax.specs.Outlines.{Outline, outline_of, pattern_outline}
-use Rattle.kk_cover.specs.Matches.{asked_by, of_matches, matches, match_rows, IsMatchCovered, IsMatchExample, IsFirstExample, IsFunctionCovered, IsFirstFunction}
+use Rattle.kk_cover.specs.Matches.{match_rows, IsMatchCovered, IsMatchExample, IsFirstExample, IsFunctionCovered, IsFirstFunction}
 use Rattle.kk_cover.proofs.Keeping.{each-append}
 
 rows_outlines : (rows : List Row) → row_outlines rows ≡ asked_by (rows_of (map row_tree rows))

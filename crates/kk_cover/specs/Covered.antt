@@ -1,5 +1,6 @@
 -- When a match is covered, and what an example is where it is not.
-use Rattle.std.specs.Prelude.{List, [], ◌∷◌, map, Option, MatchOption}
+use Rattle.std.specs.Prelude.{List, map, Option, MatchOption}
+pub use Rattle.kk_syntax.specs.Covered.{Each}
 use Rattle.kk_syntax.specs.declared.program.Pat.{Pat}
 use Rattle.kk_syntax.specs.declared.program.Program.{Program}
 use Rattle.kk_syntax.specs.declared.program.Row.{Row}
@@ -7,11 +8,6 @@ use Rattle.kk_syntax.specs.Programs.{program_tree}
 use Rattle.kk_syntax.specs.Types.{TypeTree}
 use Rattle.kk_syntax.specs.Outlines.{Outline, HasSmallNumbers, Clash, pattern_outline}
 use Rattle.kk_syntax.specs.OfType.{Values, IsPatternOf, values_of}
-
--- each element of a list has a property
-abbrev pub Each : {X : Type 0} → (X → Type 0) → List X → Type 0
-Each P [] = Unit {0}
-Each P (x ∷ xs) = P x × Each P xs
 
 -- an example for rows at a type: a pattern of that type that clashes with each row, and whose numbers fit into 32 bits
 pub record IsExample {T : Type 0} (values : Values T) (t : T) (rows : List Outline) (e : Outline) : Type 0 where

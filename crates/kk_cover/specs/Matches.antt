@@ -1,31 +1,17 @@
--- The matches of a program in the order of the text, and what an answer for all of them says.
-use Rattle.std.specs.Prelude.{◌≡◌, ℕ, List, [], ◌∷◌, ◌++◌, map, take, Option, Some, MatchOption, Result, Ok, Err, slice_get}
+-- What an answer for the matches of a program says, in the order of the text.
+use Rattle.std.specs.Prelude.{◌≡◌, ℕ, List, ◌∷◌, ◌++◌, map, take, Option, Some, MatchOption, Result, Ok, Err, slice_get}
 use Rattle.std.specs.Borrow.{Bor}
 use Rattle.kk_syntax.specs.declared.program.Pat.{Pat}
 use Rattle.kk_syntax.specs.declared.program.Program.{Program}
 use Rattle.kk_syntax.specs.declared.program.Row.{Row}
+use Rattle.kk_syntax.specs.Matches.{matches}
 use Rattle.kk_syntax.specs.Programs.{FunctionTree, ProgramTree, program_tree}
-use Rattle.kk_syntax.specs.Shapes.{Gathers, gathered}
-use Rattle.kk_syntax.specs.Trees.{Tree, Rows, no_row, row}
 use Rattle.kk_syntax.specs.Types.{TypeTree}
 use Rattle.kk_cover.specs.declared.covering.CoverError.{CoverError}
 use Rattle.kk_cover.specs.declared.covering.CoverError.TheVariants.{NotCovered, NoMemory}
 use Rattle.kk_cover.specs.Covered.{Each, IsExample, IsCovered, row_outlines}
-use Rattle.kk_syntax.specs.Outlines.{Outline, outline_of, pattern_outline}
+use Rattle.kk_syntax.specs.Outlines.{Outline, pattern_outline}
 use Rattle.kk_syntax.specs.OfType.{IsPatternOf, values_of}
-
--- the rows of a match: what their patterns ask
-abbrev pub asked_by : Rows → List Outline
-asked_by no_row = []
-asked_by (row pattern body rest) = outline_of pattern ∷ asked_by rest
-
--- The matches of an expression, each as its rows, in the order of the text: a match before those in its scrutinee, and
--- these before those in its rows.
-abbrev pub of_matches : Gathers (List Outline)
-of_matches = record { at_form = λ form. []; at_rows = λ rows. asked_by rows ∷ [] }
-
-abbrev pub matches : Tree → List (List Outline)
-matches e = gathered of_matches e
 
 -- matches in memory, each as its rows
 abbrev pub match_rows : List (Bor (List Row)) → List (List Outline)

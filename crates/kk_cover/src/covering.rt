@@ -1,9 +1,10 @@
 ghost use Rattle.std.specs.Prelude.{◌≡◌, ◌++◌, IfOk, OnOk, map};
 ghost use Rattle.std.specs.List.{flat_map};
+ghost use Rattle.kk_syntax.specs.Matches.{of_matches, matches};
 ghost use Rattle.kk_syntax.specs.Programs.{program_tree};
 ghost use Rattle.kk_syntax.specs.Shapes.{gathered_all, gathered_rows};
 ghost use Rattle.kk_syntax.specs.Trees.{expr_tree, trees_of, row_tree, rows_of, statement_tree};
-ghost use Rattle.kk_cover.specs.Matches.{of_matches, matches, match_rows, AnswersAll, AnswersProgram};
+ghost use Rattle.kk_cover.specs.Matches.{match_rows, AnswersAll, AnswersProgram};
 
 use crate::finding;
 use kk_base::NoMemory;

@@ -1,10 +1,10 @@
 ghost use Rattle.std.specs.Prelude.{List};
+ghost use Rattle.kk_syntax.specs.Covered.{Each, asked_by};
+ghost use Rattle.kk_syntax.specs.Matches.{matches};
 ghost use Rattle.kk_syntax.specs.Programs.{FunctionTree, ProgramTree};
 ghost use Rattle.kk_syntax.specs.Trees.{Rows};
 ghost use Rattle.kk_syntax.specs.Types.{TypeTree};
 ghost use Rattle.kk_syntax.specs.Typing.{Choice, Scope, AreRowsTypedBy, IsTyping};
-ghost use Rattle.kk_cover.specs.Covered.{Each};
-ghost use Rattle.kk_cover.specs.Matches.{asked_by, matches};
 ghost use Rattle.kk_syntax.specs.OfType.{IsPatternOf, values_of};
 ghost use Rattle.kk_cover.specs.TypedRows.{AreOfChosenType};
 

@@ -1,5 +1,6 @@
 pub mod Accepting
 pub mod Bounds
 pub mod Chains
+pub mod Checking
 pub mod Judging
 pub mod Plain

@@ -1,11 +1,7 @@
 -- The calls of an instance's body: each is of an instance.
-use Rattle.std.proofs.Common.{◌≡◌, ℕ, zero, suc, List, [], ◌∷◌, ◌++◌, Some, map, length, refl, arith}
+use Rattle.std.proofs.Common.{◌≡◌, ℕ, zero, suc, List, [], ◌∷◌, Some, map, length, refl, arith}
 use Rattle.std.specs.Prelude.{slice_get}
-
--- each number has the property
-abbrev pub Every : (ℕ → Type 0) → List ℕ → Type 0
-Every P [] = Unit {0}
-Every P (n ∷ ns) = P n × Every P ns
+use Rattle.kk_syntax.specs.Covered.{Each}
 
 -- there is something of this number
 abbrev pub IsThere : {X : Type 0} → List X → ℕ → Type 0
@@ -19,12 +15,7 @@ there_too (x ∷ xs) (y ∷ ys) zero z long is = (y, refl)
 there_too (x ∷ xs) (y ∷ ys) (suc k) z long is = there_too xs ys k z (omega arith) is
 
 -- numbers by which others are found are there
-pub each_found : {X : Type 0} (xs : List X) (ns : List ℕ) (found : List X) → map (slice_get xs) ns ≡ map Some found → Every (IsThere xs) ns
+pub each_found : {X : Type 0} (xs : List X) (ns : List ℕ) (found : List X) → map (slice_get xs) ns ≡ map Some found → Each (IsThere xs) ns
 each_found xs [] found is = tt
 each_found xs (n ∷ ns) [] is = absurd (cc)
 each_found xs (n ∷ ns) (x ∷ found) is = ((x, (cc)), each_found xs ns found (cc))
-
--- numbers in two parts
-pub every_both : (P : ℕ → Type 0) (ms ns : List ℕ) → Every P (ms ++ ns) → Every P ms × Every P ns
-every_both P [] ns every = (tt, every)
-every_both P (m ∷ ms) ns every = let both = every_both P ms ns every.1 in ((every.0, both.0), both.1)

@@ -1,4 +1,9 @@
 pub mod Called
+pub mod Found
+pub mod Instanced
 pub mod Meaning
+pub mod Plain
 pub mod Renamed
 pub mod Runs
+pub mod Scopes
+pub mod Typed

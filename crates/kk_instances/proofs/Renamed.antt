@@ -1,14 +1,14 @@
--- Expressions whose calls are by other numbers: their free variables, and their types.
-use Rattle.std.proofs.Common.{◌≡◌, ℕ, List, ◌++◌, Some, refl}
-use Rattle.std.specs.Prelude.{slice_get}
+-- Expressions whose calls are by other numbers: their free variables, their matches and the literals that they print stay.
+use Rattle.std.proofs.Common.{◌≡◌, ℕ, List, [], ◌∷◌, ◌++◌, refl, ap}
 use Rattle.kk_syntax.specs.declared.program.Form.{Form}
 use Rattle.kk_syntax.specs.declared.program.Form.TheVariants.{Call}
+use Rattle.kk_syntax.specs.Checked.{printed_by, of_texts, printed}
+use Rattle.kk_syntax.specs.Covered.{asked_by}
+use Rattle.kk_syntax.specs.Matches.{of_matches, matches}
+use Rattle.kk_syntax.specs.Outlines.{Outline, outline_of}
+use Rattle.kk_syntax.specs.Shapes.{free, free_all, free_rows, Gathers, gathered, gathered_all, gathered_rows}
 use Rattle.kk_syntax.specs.Trees.{Tree, variable, apply, branch, match, sequence, Trees, no_tree, tree, Rows, no_row, row}
-use Rattle.kk_syntax.specs.Shapes.{free, free_all, free_rows}
-use Rattle.kk_syntax.specs.Types.{TypeTree}
-use Rattle.kk_syntax.specs.PlainTyping.{bool, Signature, Scope, with_binder, IsFormTyped, HasType, HaveTypes}
-use Rattle.kk_mono.specs.Instances.{called_by, calls, calls_of_all, renamed, renamed_all, renamed_rows, renamed_form}
-use Rattle.kk_instances.proofs.Called.{Every, every_both}
+use Rattle.kk_mono.specs.Instances.{renamed, renamed_all, renamed_rows, renamed_form}
 
 -- the free variables stay
 mutual
@@ -28,33 +28,35 @@ mutual
   same_free_rows new no_row = refl
   same_free_rows new (row pattern body rest) = rw (same_free new body, same_free_rows new rest) refl
 
--- The functions that an expression calls have the same signatures under their other numbers. So where it has a type with
--- those, it has the type itself.
-module _ (signatures others : List Signature) (new : ℕ → ℕ) (P : ℕ → Type 0) (same : (f : ℕ) (s : Signature) → P f → slice_get signatures (new f) ≡ Some s → slice_get others f ≡ Some s) where
-  form_typed : (form : Form) (ts : List TypeTree) (t : TypeTree) → Every P (called_by form) → IsFormTyped signatures (renamed_form new form) ts t → IsFormTyped others form ts t
-  form_typed (Call f) ts t only is = same f _ only.0 is
-  form_typed _ ts t only is = is
-
+-- what is gathered from an expression stays, where it is the same of forms and of rows
+module _ {A : Type 0} (from : Gathers A) (new : ℕ → ℕ) (same_form : (form : Form) → from.at_form (renamed_form new form) ≡ from.at_form form) (same_rows : (rows : Rows) → from.at_rows (renamed_rows new rows) ≡ from.at_rows rows) where
   mutual
-    pub tree_typed : (e : Tree) (scope : Scope) (t : TypeTree) → Every P (calls e) → HasType signatures scope (renamed new e) t → HasType others scope e t
-    tree_typed (variable x) scope t only has = has
-    tree_typed (apply form es) scope t only has =
-        let parts = every_both P (called_by form) (calls_of_all es) only in
-        (has.0, trees_typed es scope has.0 parts.1 has.1, form_typed form has.0 t parts.0 has.2)
-    tree_typed (branch e positive negative) scope t only has =
-        let parts = every_both P (calls e) (calls positive ++ calls negative) only in
-        let either = every_both P (calls positive) (calls negative) parts.1 in (
-          tree_typed e scope bool parts.0 has.0,
-          tree_typed positive scope t either.0 has.1,
-          tree_typed negative scope t either.1 has.2,
-        )
-    tree_typed (match e rows) scope t only has = absurd has
-    tree_typed (sequence binder first rest) scope t only has =
-        let parts = every_both P (calls first) (calls rest) only in
-        (has.0, tree_typed first scope has.0 parts.0 has.1, tree_typed rest (with_binder binder has.0 scope) t parts.1 has.2)
+    same_gathered : (e : Tree) → gathered from (renamed new e) ≡ gathered from e
+    same_gathered (variable of) = refl
+    same_gathered (apply form arguments) = rw (same_form form, same_gathered_all arguments) refl
+    same_gathered (branch condition positive negative) =
+        rw (same_gathered condition, same_gathered positive, same_gathered negative) refl
+    same_gathered (match scrutinee rows) = rw (same_rows rows, same_gathered scrutinee, same_gathered_rows rows) refl
+    same_gathered (sequence binder first rest) = rw (same_gathered first, same_gathered rest) refl
 
-    pub trees_typed : (es : Trees) (scope : Scope) (ts : List TypeTree) → Every P (calls_of_all es) → HaveTypes signatures scope (renamed_all new es) ts → HaveTypes others scope es ts
-    trees_typed no_tree scope ts only have = have
-    trees_typed (tree first rest) scope ts only have =
-        let parts = every_both P (calls first) (calls_of_all rest) only in
-        (have.0, have.1, have.2, tree_typed first scope have.0 parts.0 have.3, trees_typed rest scope have.1 parts.1 have.4)
+    same_gathered_all : (es : Trees) → gathered_all from (renamed_all new es) ≡ gathered_all from es
+    same_gathered_all no_tree = refl
+    same_gathered_all (tree first rest) = rw (same_gathered first, same_gathered_all rest) refl
+
+    same_gathered_rows : (rows : Rows) → gathered_rows from (renamed_rows new rows) ≡ gathered_rows from rows
+    same_gathered_rows no_row = refl
+    same_gathered_rows (row pattern body rest) = rw (same_gathered body, same_gathered_rows rest) refl
+
+pub same_asked : (new : ℕ → ℕ) (rows : Rows) → asked_by (renamed_rows new rows) ≡ asked_by rows
+same_asked new no_row = refl
+same_asked new (row pattern body rest) = ap (λ (os : List Outline). outline_of pattern ∷ os) (same_asked new rest)
+
+pub same_matches : (new : ℕ → ℕ) (e : Tree) → matches (renamed new e) ≡ matches e
+same_matches new e = same_gathered of_matches new (λ form. refl) (λ rows. ap (λ (os : List Outline). os ∷ []) (same_asked new rows)) e
+
+same_printed_by : (new : ℕ → ℕ) (form : Form) → printed_by (renamed_form new form) ≡ printed_by form
+same_printed_by new (Call f) = refl
+same_printed_by new _ = refl
+
+pub same_printed : (new : ℕ → ℕ) (e : Tree) → printed (renamed new e) ≡ printed e
+same_printed new e = same_gathered of_texts new (same_printed_by new) (λ rows. refl) e

@@ -8,9 +8,11 @@ use Rattle.kk_syntax.specs.declared.program.Form.{Form}
 use Rattle.kk_syntax.specs.declared.program.Form.TheVariants.{Construct, Call}
 use Rattle.kk_syntax.specs.declared.positions.Ownership.{Ownership}
 use Rattle.kk_syntax.specs.declared.positions.Ownership.TheVariants.{Owned}
+use Rattle.kk_syntax.specs.Covered.{Each}
 use Rattle.kk_syntax.specs.PositionsOf.{PositionTable, lends}
 use Rattle.kk_syntax.specs.Trees.{Tree, variable, apply, branch, match, sequence, no_tree, tree, Rows, no_row, row}
 use Rattle.kk_syntax.specs.Programs.{FunctionTree, ProgramTree}
+use Rattle.kk_syntax.proofs.Elements.{each_parts}
 use Rattle.kk_source.specs.State.{Setting, Value, unit, Store, Environment, Frame, arguments, branches, rows, statement, call, End, heap_full, stack_full, Control, expression, value, stopped, end_at, Configuration}
 use Rattle.kk_source.specs.Notes.{Note}
 use Rattle.kk_source.specs.Live.{value_of, held, held_by_all, live}
@@ -22,7 +24,6 @@ use Rattle.kk_source.specs.SourceAfter.{step, ending_of, store_machine, State}
 use Rattle.kk_source.proofs.Sound.{LeadsTo}
 use Rattle.kk_mono.specs.Instances.{called_by, calls, calls_of_all, calls_of_rows, renamed, renamed_all, renamed_rows, renamed_form}
 use Rattle.kk_instances.specs.Meaning.{setting_of}
-use Rattle.kk_instances.proofs.Called.{Every, every_both}
 use Rattle.kk_instances.proofs.Renamed.{same_free, same_free_all, same_free_rows}
 
 -- ---- states whose calls are by new numbers
@@ -112,10 +113,10 @@ module _ (new : ℕ → ℕ) where
 
 module _ (P : ℕ → Type 0) where
   abbrev pub FrameCalls : Frame → Type 0
-  FrameCalls (arguments form values left environment) = Every P (called_by form) × Every P (calls_of_all left)
-  FrameCalls (branches positive negative environment) = Every P (calls positive) × Every P (calls negative)
-  FrameCalls (rows of environment) = Every P (calls_of_rows of)
-  FrameCalls (statement awaited rest environment) = Every P (calls rest)
+  FrameCalls (arguments form values left environment) = Each P (called_by form) × Each P (calls_of_all left)
+  FrameCalls (branches positive negative environment) = Each P (calls positive) × Each P (calls negative)
+  FrameCalls (rows of environment) = Each P (calls_of_rows of)
+  FrameCalls (statement awaited rest environment) = Each P (calls rest)
   FrameCalls (call lent) = Unit {0}
 
   abbrev pub FramesCall : List Frame → Type 0
@@ -123,7 +124,7 @@ module _ (P : ℕ → Type 0) where
   FramesCall (frame ∷ older) = FrameCalls frame × FramesCall older
 
   abbrev pub ControlCalls : Control → Type 0
-  ControlCalls (expression e environment) = Every P (calls e)
+  ControlCalls (expression e environment) = Each P (calls e)
   ControlCalls (value v) = Unit {0}
   ControlCalls (stopped by) = Unit {0}
 
@@ -133,15 +134,15 @@ module _ (P : ℕ → Type 0) where
 
   abbrev ChoiceCalls : Option Chosen → Type 0
   ChoiceCalls None = Unit {0}
-  ChoiceCalls (Some chosen) = Every P (calls chosen.body)
+  ChoiceCalls (Some chosen) = Each P (calls chosen.body)
 
-  choice_calls : (store : Store) (of : Rows) (v : Value) (environment : Environment) → Every P (calls_of_rows of) → ChoiceCalls (first_match store of v environment)
+  choice_calls : (store : Store) (of : Rows) (v : Value) (environment : Environment) → Each P (calls_of_rows of) → ChoiceCalls (first_match store of v environment)
   choice_calls store no_row v environment only = tt
   choice_calls store (row pattern body rest) v environment only =
-      let parts = every_both P (calls body) (calls_of_rows rest) only in
+      let parts = each_parts P (calls body) (calls_of_rows rest) only in
       by_match (matched store pattern v environment) parts.0 (choice_calls store rest v environment parts.1)
     where
-      by_match : (bound : Option Environment) → Every P (calls body) → ChoiceCalls (first_match store rest v environment) → ChoiceCalls (chosen_or body bound (first_match store rest v environment))
+      by_match : (bound : Option Environment) → Each P (calls body) → ChoiceCalls (first_match store rest v environment) → ChoiceCalls (chosen_or body bound (first_match store rest v environment))
       by_match None here later = later
       by_match (Some bound) here later = here
 
@@ -150,7 +151,7 @@ module _ (P : ℕ → Type 0) where
   EffectCalls (enters f values) = P f
   EffectCalls _ = Unit {0}
 
-  effect_calls : (texts : List (List ℕ)) (form : Form) (values : List Value) → Every P (called_by form) → EffectCalls (form_effect texts form values)
+  effect_calls : (texts : List (List ℕ)) (form : Form) (values : List Value) → Each P (called_by form) → EffectCalls (form_effect texts form values)
   effect_calls texts (Call f) values only = only.0
   effect_calls texts (Construct c) [] only = tt
   effect_calls texts (Construct c) (v ∷ vs) only = tt
@@ -160,7 +161,7 @@ module _ (P : ℕ → Type 0) where
   test_calls true a b first second = first
   test_calls false a b first second = second
 
-  branch_calls : (test : Bool) (a b : Tree) → Every P (calls a) → Every P (calls b) → Every P (calls (if test then a else b))
+  branch_calls : (test : Bool) (a b : Tree) → Each P (calls a) → Each P (calls b) → Each P (calls (if test then a else b))
   branch_calls true a b first second = first
   branch_calls false a b first second = second
 
@@ -193,7 +194,7 @@ pub record IsAlike (program instances : ProgramTree) (new : ℕ → ℕ) (f : �
 
 -- The programs print the same string literals. The functions with the property are there under both numbers, their bodies
 -- call only functions with the property, and their positions are lent alike.
-module _ (program instances : ProgramTree) (texts : program.texts ≡ instances.texts) (table other : PositionTable) (cells depth : ℕ) (new : ℕ → ℕ) (P : ℕ → Type 0) (there : (f : ℕ) → P f → IsAlike program instances new f) (bodies : (f : ℕ) (function : FunctionTree) → P f → slice_get instances.functions f ≡ Some function → Every P (calls function.body)) (lent : (f : ℕ) → P f → slice_index_or other (new f) [] ≡ slice_index_or table f []) where
+module _ (program instances : ProgramTree) (texts : program.texts ≡ instances.texts) (table other : PositionTable) (cells depth : ℕ) (new : ℕ → ℕ) (P : ℕ → Type 0) (there : (f : ℕ) → P f → IsAlike program instances new f) (bodies : (f : ℕ) (function : FunctionTree) → P f → slice_get instances.functions f ≡ Some function → Each P (calls function.body)) (lent : (f : ℕ) → P f → slice_index_or other (new f) [] ≡ slice_index_or table f []) where
   abbrev old_setting : Setting
   old_setting = setting_of instances table cells depth
 
@@ -221,7 +222,7 @@ module _ (program instances : ProgramTree) (texts : program.texts ≡ instances.
   abbrev pushed : Tree → List Value → List Frame → Configuration → List Ownership → Configuration
   pushed body vs older from lending = at_expression body (bind_parameters 0 vs []) (record from { frames = call (lent_places (λ i. lends (slice_index_or lending i Owned)) 0 vs) ∷ older })
 
-  push_follows : (f : ℕ) (function made : FunctionTree) (vs : List Value) (older : List Frame) (from : Configuration) → P f → made.body ≡ renamed new function.body → Every P (calls function.body) → FramesCall P older → MachineCalls P from → Follows (push_step new_setting (new f) made vs (renamed_frames new older) (renamed_machine new from)) (push_step old_setting f function vs older from)
+  push_follows : (f : ℕ) (function made : FunctionTree) (vs : List Value) (older : List Frame) (from : Configuration) → P f → made.body ≡ renamed new function.body → Each P (calls function.body) → FramesCall P older → MachineCalls P from → Follows (push_step new_setting (new f) made vs (renamed_frames new older) (renamed_machine new from)) (push_step old_setting f function vs older from)
   push_follows f function made vs older from instance same body frames machine =
       let found = call_frames older in
       let lending = slice_index_or table f [] in
@@ -236,7 +237,7 @@ module _ (program instances : ProgramTree) (texts : program.texts ≡ instances.
             (record { control = tt; frames = machine.frames }) (record { control = body; frames = (tt, frames) });
       }
 
-  entry_follows : (f : ℕ) (function made : FunctionTree) (vs : List Value) (older : List Frame) (from : Configuration) → P f → made.body ≡ renamed new function.body → Every P (calls function.body) → FramesCall P older → MachineCalls P from → Follows (call_step new_setting (new f) (Some made) vs (renamed_frames new older) (renamed_machine new from)) (call_step old_setting f (Some function) vs older from)
+  entry_follows : (f : ℕ) (function made : FunctionTree) (vs : List Value) (older : List Frame) (from : Configuration) → P f → made.body ≡ renamed new function.body → Each P (calls function.body) → FramesCall P older → MachineCalls P from → Follows (call_step new_setting (new f) (Some made) vs (renamed_frames new older) (renamed_machine new from)) (call_step old_setting f (Some function) vs older from)
   entry_follows f function made vs (call lent ∷ older) from instance same body frames machine = record {
     is = ap (λ (b : Tree). goes (at_expression b (bind_parameters 0 vs []) (renamed_machine new (record from { frames = call lent ∷ older })))) same;
     only = record { control = body; frames = frames };
@@ -268,28 +269,28 @@ module _ (program instances : ProgramTree) (texts : program.texts ≡ instances.
   effect_follows (makes c fields) older from only frames machine = construct_follows c fields older from frames machine
   effect_follows (enters f values) older from only frames machine = call_follows f values older from only frames machine
 
-  form_follows : (form : Form) (vs : List Value) (older : List Frame) (from : Configuration) → Every P (called_by form) → FramesCall P older → MachineCalls P from → Follows (form_step new_setting (renamed_form new form) vs (renamed_frames new older) (renamed_machine new from)) (form_step old_setting form vs older from)
+  form_follows : (form : Form) (vs : List Value) (older : List Frame) (from : Configuration) → Each P (called_by form) → FramesCall P older → MachineCalls P from → Follows (form_step new_setting (renamed_form new form) vs (renamed_frames new older) (renamed_machine new from)) (form_step old_setting form vs older from)
   form_follows form vs older from only frames machine =
       let follows = effect_follows (form_effect instances.texts form vs) older from (effect_calls P instances.texts form vs only) frames machine in
       let same : form_effect program.texts (renamed_form new form) vs ≡ renamed_effect new (form_effect instances.texts form vs) =
       ap (λ (all : List (List ℕ)). form_effect all (renamed_form new form) vs) texts ∙ same_effect new instances.texts form vs in
       record { is = ap (λ (effect : FormEffect). effect_at new_setting effect (renamed_frames new older) (renamed_machine new from)) same ∙ follows.is; only = follows.only }
 
-  expression_follows : (e : Tree) (environment : Environment) (c : Configuration) → Every P (calls e) → MachineCalls P c → Follows (expression_step new_setting (renamed new e) environment (renamed_machine new c)) (expression_step old_setting e environment c)
+  expression_follows : (e : Tree) (environment : Environment) (c : Configuration) → Each P (calls e) → MachineCalls P c → Follows (expression_step new_setting (renamed new e) environment (renamed_machine new c)) (expression_step old_setting e environment c)
   expression_follows (variable x) environment c only machine = record { is = refl; only = record { control = tt; frames = machine.frames } }
-  expression_follows (apply form no_tree) environment c only machine = form_follows form [] c.frames c (every_both P (called_by form) [] only).0 machine.frames machine
+  expression_follows (apply form no_tree) environment c only machine = form_follows form [] c.frames c (each_parts P (called_by form) [] only).0 machine.frames machine
   expression_follows (apply form (tree first rest)) environment c only machine =
-      let parts = every_both P (called_by form) (calls first ++ calls_of_all rest) only in
-      let those = every_both P (calls first) (calls_of_all rest) parts.1 in
+      let parts = each_parts P (called_by form) (calls first ++ calls_of_all rest) only in
+      let those = each_parts P (calls first) (calls_of_all rest) parts.1 in
       record { is = refl; only = record { control = those.0; frames = ((parts.0, those.1), machine.frames) } }
   expression_follows (branch condition positive negative) environment c only machine =
-      let parts = every_both P (calls condition) (calls positive ++ calls negative) only in
-      record { is = refl; only = record { control = parts.0; frames = (every_both P (calls positive) (calls negative) parts.1, machine.frames) } }
+      let parts = each_parts P (calls condition) (calls positive ++ calls negative) only in
+      record { is = refl; only = record { control = parts.0; frames = (each_parts P (calls positive) (calls negative) parts.1, machine.frames) } }
   expression_follows (match scrutinee of) environment c only machine =
-      let parts = every_both P (calls scrutinee) (calls_of_rows of) only in
+      let parts = each_parts P (calls scrutinee) (calls_of_rows of) only in
       record { is = refl; only = record { control = parts.0; frames = (parts.1, machine.frames) } }
   expression_follows (sequence binder first rest) environment c only machine =
-      let parts = every_both P (calls first) (calls rest) only in
+      let parts = each_parts P (calls first) (calls rest) only in
       record { is = refl; only = record { control = parts.0; frames = (parts.1, machine.frames) } }
 
   choice_follows : (chosen : Option Chosen) (older : List Frame) (from : Configuration) → ChoiceCalls P chosen → FramesCall P older → MachineCalls P from → Follows (choice_step new_setting (option_map (renamed_choice new) chosen) (renamed_frames new older) (renamed_machine new from)) (choice_step old_setting chosen older from)
@@ -298,7 +299,7 @@ module _ (program instances : ProgramTree) (texts : program.texts ≡ instances.
 
   value_follows : (v : Value) (fs : List Frame) (c : Configuration) → FramesCall P fs → MachineCalls P c → Follows (value_step new_setting v (renamed_frames new fs) (renamed_machine new c)) (value_step old_setting v fs c)
   value_follows v (arguments form values (tree next left) environment ∷ older) c frames machine =
-      let those = every_both P (calls next) (calls_of_all left) frames.0.1 in
+      let those = each_parts P (calls next) (calls_of_all left) frames.0.1 in
       record { is = refl; only = record { control = those.0; frames = ((frames.0.0, those.1), frames.1) } }
   value_follows v (arguments form values no_tree environment ∷ older) c frames machine = form_follows form (values ++ v ∷ []) older c frames.0.0 frames.1 machine
   value_follows v (branches positive negative environment ∷ older) c frames machine = record {

@@ -3,9 +3,9 @@ use Rattle.std.specs.Prelude.{◌≡◌, ℕ, List, [], map, slice_index_or}
 use Rattle.kk_base.specs.Machines.{trace, ending_after}
 use Rattle.kk_syntax.specs.Programs.{ProgramTree}
 use Rattle.kk_syntax.specs.PositionsOf.{PositionTable}
-use Rattle.kk_syntax.specs.PlainTyping.{IsTyped}
+use Rattle.kk_syntax.specs.GroundTyping.{IsGroundTyped}
 use Rattle.kk_syntax.specs.Typing.{Choice}
-use Rattle.kk_source.specs.State.{Setting}
+pub use Rattle.kk_source.specs.Settings.{setting_of}
 use Rattle.kk_source.specs.SourceAfter.{store_machine, first_state}
 use Rattle.kk_mono.specs.Instances.{InstanceTree, IsInstanceProgram}
 
@@ -13,16 +13,12 @@ use Rattle.kk_mono.specs.Instances.{InstanceTree, IsInstanceProgram}
 abbrev pub positions_in : List InstanceTree → PositionTable → PositionTable
 positions_in instances table = map (λ instance. slice_index_or table instance.function []) instances
 
--- a program as it is run, with these positions lent, on so many cells and with such a depth
-abbrev pub setting_of : ProgramTree → PositionTable → ℕ → ℕ → Setting
-setting_of program table cells depth = record { program = program; positions = table; cells = cells; depth = depth }
-
--- The instances of a program are typed. Where positions of the program are lent, `positions` are those of the instances:
--- each instance has those of the function that it is. Then the instances do what the program does, on every input, with
--- every number of cells and every depth: after each number of steps they have told the same, also of live places and of
--- call frames, and have ended alike.
+-- The instances of a program are typed, and their matches are covered. Where positions of the program are lent, `positions`
+-- are those of the instances: each instance has those of the function that it is. Then the instances do what the program
+-- does, on every input, with every number of cells and every depth: after each number of steps they have told the same, also
+-- of live places and of call frames, and have ended alike.
 pub record MeansTheSame (program made : ProgramTree) : Type 0 where
-  pub typed : IsTyped made
+  pub typed : IsGroundTyped made
   pub typings : List (List Choice)
   pub instances : List InstanceTree
   pub are : IsInstanceProgram program typings instances made

@@ -33,7 +33,7 @@ control_view links (OfControl.Stopped stop) = source.stopped (stop_view stop)
 abbrev pub setting_of : Machine → source.Setting
 setting_of machine = record {
   program = program_tree machine.program.now;
-  positions = positions_of machine.positions.now;
+  positions = positions_of machine.positions;
   cells = machine.cells;
   depth = machine.depth;
 }

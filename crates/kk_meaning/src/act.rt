@@ -213,7 +213,7 @@ impl<'a> Machine<'a> {
             self.control = Control::Stopped(Stop::StackFull);
             return Ok(Turn::StackFull);
         }
-        let lent = lent(self.alloc, self.positions, function, values)?;
+        let lent = lent(self.alloc, &self.positions, function, values)?;
         let bound = parameters(self.alloc, values)?;
         self.frames.reserve(1)?;
         let before = self.bindings.len();

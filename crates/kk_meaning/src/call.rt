@@ -7,7 +7,7 @@ ghost use Rattle.kk_meaning.specs.View.{value_view, bound_view, pushed};
 use crate::binding::Bound;
 use crate::value::Value;
 use kk_base::NoMemory;
-use kk_syntax::Positions;
+use kk_syntax::{Position, Positions};
 use std::alloc::Global;
 
 /// The parameters of a function, from the first on, bound to arguments.
@@ -40,7 +40,11 @@ pub fn lent(
     let mut lent = Vec::new(alloc);
     for (parameter, value) in arguments.iter().enumerate() {
         if let Value::Place(_) = value {
-            if positions.is_lent(function, parameter) {
+            let position = Position {
+                function: function as usize,
+                parameter,
+            };
+            if positions.is_lent(position) {
                 lent.push(*value)?;
             }
         }

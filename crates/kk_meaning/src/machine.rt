@@ -41,7 +41,7 @@ pub enum Control<'a> {
 pub struct Machine<'a> {
     pub alloc: Global,
     pub program: &'a Program,
-    pub positions: &'a Positions,
+    pub positions: Positions,
     pub cells: u32,
     pub depth: u32,
     pub control: Control<'a>,

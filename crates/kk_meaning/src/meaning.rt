@@ -1,9 +1,9 @@
 ghost use Rattle.std.specs.Prelude.{◌≡◌, IfOk, OnErr};
 ghost use Rattle.kk_syntax.specs.Programs.{program_tree};
-ghost use Rattle.kk_syntax.specs.PositionsOf.{positions_of};
 ghost use Rattle.kk_source.specs.State.{start};
 ghost use Rattle.kk_source.specs.Sound.{Sound, AllWithin-prop, ControlWithin-prop, FramesWithin-prop};
 ghost use Rattle.std.proofs.Props.{props};
+ghost use Rattle.kk_source.specs.Settings.{IsRun};
 ghost use Rattle.kk_source.specs.Step.{step_of};
 ghost use Rattle.kk_meaning.specs.Machines.{setting_of, configuration_of, Fits, ControlFits-prop, FramesFit-prop};
 ghost use Rattle.kk_meaning.specs.Turns.{turn_of, TakesByte, Reads};
@@ -12,10 +12,11 @@ ghost use Rattle.kk_meaning.specs.declared.turn.Turn.TheVariants.{WantsInput};
 use crate::binding::Bindings;
 use crate::frame::Frame;
 use crate::machine::{Control, Machine};
+use crate::owned::owned_positions;
 use crate::turn::Turn;
 use crate::value::Value;
 use kk_base::NoMemory;
-use kk_syntax::{Positions, Program};
+use kk_syntax::Accepted;
 use std::alloc::Global;
 
 /// The store machine of a program, somewhere in a run.
@@ -27,25 +28,21 @@ pub struct Meaning<'a> {
 }
 
 impl<'a> Meaning<'a> {
-    /// The machine at its start, with so many cells in its heap and call frames in its stack.
+    /// The machine at its start, with so many cells in its heap and call frames in its stack. It runs the program with
+    /// its owned positions, which are found here.
     pub fn start(
         alloc: Global,
-        program: &'a Program,
-        positions: &'a Positions,
+        accepted: &'a Accepted,
         cells: u32,
         depth: u32,
     ) -> Result<Self, NoMemory>
         ensures setting { IfOk result (λ meaning.
-            setting_of meaning.machine
-            ≡ record {
-              program = program_tree program.now;
-              positions = positions_of positions.now;
-              cells = cells;
-              depth = depth;
-            }) }
+            IsRun (program_tree accepted.now.typed.program) cells depth (setting_of meaning.machine)) }
         ensures start { IfOk result (λ meaning.
             configuration_of meaning.machine ≡ start (setting_of meaning.machine)) }
     {
+        let program = &accepted.typed.program;
+        let positions = owned_positions(alloc, program)?;
         let mut frames = Vec::new(alloc);
         frames.push(Frame::Call {
             lent: Vec::new(alloc),

@@ -78,20 +78,22 @@ principal_calls program function some others ts one two few =
 abbrev pub Fits : ProgramTree → InstanceTree → Type 0
 Fits program x = (function : FunctionTree) → slice_get program.functions x.function ≡ Some function → length x.at ≤ function.variables
 
+-- an instance has as many types as its function has type variables
+abbrev pub IsWhole : ProgramTree → InstanceTree → Type 0
+IsWhole program x = (function : FunctionTree) → slice_get program.functions x.function ≡ Some function → length x.at ≡ function.variables
+
 module _ (program : ProgramTree) where
-  called_fits : (ts : List TypeTree) (choices : List Choice) (fs : List ℕ) → CallsAre program choices fs → (x : InstanceTree) → Contains (called_at ts choices) x → Fits program x
-  called_fits ts [] fs are x there = absurd (let lt = there.1 in omega (arith, lt))
-  called_fits ts (constructing by at ∷ choices) fs are x there = called_fits ts choices fs are x there
-  called_fits ts (calling f at ∷ choices) fs (rest, is, call, are) x there = elim (Contains-append_cases (record { function = f; at = map (put (type_at ts)) at } ∷ []) (called_at ts choices) x there) [
-    | inl here ↦ subst (Fits program) (only_one _ x here) (λ function found.
+  -- an instance that is called has as many types as its function has type variables
+  pub called_whole : (ts : List TypeTree) (choices : List Choice) (fs : List ℕ) → CallsAre program choices fs → (x : InstanceTree) → Contains (called_at ts choices) x → IsWhole program x
+  called_whole ts [] fs are x there = absurd (let lt = there.1 in omega (arith, lt))
+  called_whole ts (constructing by at ∷ choices) fs are x there = called_whole ts choices fs are x there
+  called_whole ts (calling f at ∷ choices) fs (rest, is, call, are) x there = elim (Contains-append_cases (record { function = f; at = map (put (type_at ts)) at } ∷ []) (called_at ts choices) x there) [
+    | inl here ↦ subst (IsWhole program) (only_one _ x here) (λ function found.
         let same : call.function ≡ function = same_Some call.function function (sym call.is ∙ found) in
-        let long = call.long in
-        let count = length-map at (put (type_at ts)) in
-        let variables = ap (λ (g : FunctionTree). g.variables) same in
-        omega (arith, long, count, variables))
-    | inr behind ↦ called_fits ts choices rest are x behind
+        length-map at (put (type_at ts)) ∙ (call.long ∙ ap (λ (g : FunctionTree). g.variables) same))
+    | inr behind ↦ called_whole ts choices rest are x behind
   ]
-  called_fits ts (holding of ∷ choices) fs are x there = called_fits ts choices fs are x there
+  called_whole ts (holding of ∷ choices) fs are x there = called_whole ts choices fs are x there
 
   -- a function that is one of the program's, and its typing; or there is no typing
   pub typing_at : (typings : List (List Choice)) → ArePrincipal program typings → (f : ℕ) → f < length program.functions →
@@ -110,7 +112,8 @@ module _ (program : ProgramTree) where
   instance_fits typings are x (called_is {caller = caller} instance called) = elim (cases_lt caller.function (length program.functions)) [
     | inl below ↦
         let at = typing_at typings are caller.function below in
-        called_fits caller.at (slice_index_or typings caller.function []) (calls (at.0).body) (typing_calls program at.0 (slice_index_or typings caller.function []) at.2.typing) x called
+        let whole = called_whole caller.at (slice_index_or typings caller.function []) (calls (at.0).body) (typing_calls program at.0 (slice_index_or typings caller.function []) at.2.typing) x called in
+        λ function found. let same = whole function found in omega (arith, same)
     | inr past ↦ let none = subst (λ ys. Contains ys x) (no_calls typings are caller past) called in absurd (let lt = none.1 in omega (arith, lt))
   ]
 

@@ -8,4 +8,5 @@ pub mod Plain
 pub mod Resolving
 pub mod Statements
 pub mod Tables
+pub mod Texts
 pub mod Written

@@ -7,6 +7,9 @@ use Rattle.kk_syntax.specs.declared.program.Program.{Program}
 use Rattle.kk_syntax.specs.declared.program.TypeDecl.{TypeDecl}
 use Rattle.kk_syntax.specs.declared.tree.Identifier.{Identifier}
 use Rattle.kk_syntax.specs.declared.tree.Tree.{Tree}
+use Rattle.kk_syntax.specs.Checked.{PrintsTexts}
+use Rattle.kk_syntax.specs.Covered.{Each}
+use Rattle.kk_syntax.specs.GroundTyping.{HasTruths}
 use Rattle.kk_syntax.specs.PlainTyping.{IsPlainProgram}
 use Rattle.kk_syntax.specs.Programs.{ConstructorTree, FunctionTree, ProgramTree, program_tree}
 use Rattle.kk_syntax.specs.Shapes.{nodes_of}
@@ -152,3 +155,11 @@ ResolvedProgramsHaveMain = (tree : WrittenTree) (program : ProgramTree) → Reso
 -- a program of today's grammar has no type variables, no matches and no cells
 abbrev pub ResolvedProgramsArePlain : Type 0
 ResolvedProgramsArePlain = (tree : WrittenTree) (program : ProgramTree) → ResolvesAs tree (Ok program) → IsPlainProgram program
+
+-- `bool` is as it must be, and each string literal that a function prints is one of the program's
+pub record HasTruthsAndTexts (program : ProgramTree) : Type 0 where
+  pub truths : HasTruths program.constructors
+  pub texts : Each (PrintsTexts program) program.functions
+
+abbrev pub ResolvedProgramsHaveTruthsAndTexts : Type 0
+ResolvedProgramsHaveTruthsAndTexts = (tree : WrittenTree) (program : ProgramTree) → ResolvesAs tree (Ok program) → HasTruthsAndTexts program

@@ -13,4 +13,5 @@ mod table;
 
 pub use program::{
     each_tree_is_resolved, resolve, resolved_programs_are_plain, resolved_programs_have_main,
+    resolved_programs_have_truths_and_texts,
 };

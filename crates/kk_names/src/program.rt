@@ -3,7 +3,7 @@ ghost use Rattle.kk_syntax.specs.Programs.{function_tree, program_tree};
 ghost use Rattle.kk_syntax.specs.Surface.{written_declaration, written_tree};
 ghost use Rattle.kk_names.specs.Faults.{faults_of};
 ghost use Rattle.kk_names.specs.Methods.{main_among, first_with, AnswersMain, IsNoMain, IsOtherMain};
-ghost use Rattle.kk_names.specs.Names.{functions_meant, texts_meant, program_of, IsMainShaped, AnswersNames, KeepsNodes, EachTreeIsResolved, ResolvedProgramsHaveMain, ResolvedProgramsArePlain};
+ghost use Rattle.kk_names.specs.Names.{functions_meant, texts_meant, program_of, IsMainShaped, AnswersNames, KeepsNodes, EachTreeIsResolved, ResolvedProgramsHaveMain, ResolvedProgramsArePlain, ResolvedProgramsHaveTruthsAndTexts};
 
 use crate::builtin;
 use crate::fault::Fault;
@@ -49,6 +49,12 @@ pub fn resolved_programs_have_main()
 /// A program that a tree means has no type variables, no matches and no cells. It is a law, and does nothing.
 pub fn resolved_programs_are_plain()
     ensures { ResolvedProgramsArePlain }
+{}
+
+/// In a program that a tree means, `bool` has the constructors `False` and `True` alone, which have no fields, and each
+/// string literal that a function prints is one of the program's. It is a law, and does nothing.
+pub fn resolved_programs_have_truths_and_texts()
+    ensures { ResolvedProgramsHaveTruthsAndTexts }
 {}
 
 // What declarations come to: their functions, the string literals that those print, and the first fault.

@@ -1,31 +1,47 @@
--- The core form is small: an expression takes at most as many numbers as it has nodes, and at most twice as many forms.
-use Rattle.std.proofs.Common.{◌≡◌, ℕ, ◌+◌, ◌*◌, ◌≤◌, true, zero, suc, List, [], ◌∷◌, length, map, refl, arith}
-use Rattle.std.proofs.lemmas.List.{length-map}
+-- A core form is small: an expression takes at most as many numbers as it has nodes, and at most twice as many forms.
+use Rattle.std.proofs.Common.{◌≡◌, ℕ, ◌+◌, ◌*◌, ◌≤◌, true, List, [], ◌∷◌, length, refl, sym, ap, subst, ◌∙◌, arith}
 use Rattle.kk_syntax.specs.declared.program.Form.{Form}
 use Rattle.kk_syntax.specs.declared.program.Form.TheVariants.{Call}
-use Rattle.kk_syntax.specs.Shapes.{nodes_of, nodes_of_all, variable_of}
-use Rattle.kk_syntax.specs.Trees.{Tree, variable, apply, branch, match, sequence, Trees, no_tree, tree}
-use Rattle.kk_syntax.specs.Programs.{FunctionTree, ProgramTree}
+use Rattle.kk_syntax.specs.Patterns.{Pattern, anything, variable as pattern_variable, exactly, constructor, Patterns, no_part, part}
+use Rattle.kk_syntax.specs.Shapes.{nodes_of, nodes_of_all, nodes_of_rows, nodes_of_pattern, nodes_of_patterns, variable_of}
+use Rattle.kk_syntax.specs.Trees.{Tree, variable, apply, branch, match, sequence, Trees, no_tree, tree, Rows, no_row, row}
+use Rattle.kk_syntax.specs.Programs.{ConstructorTree, FunctionTree, ProgramTree}
 use Rattle.kk_core.specs.Codes as Core
-use Rattle.kk_core.specs.Codes.{Code}
-use Rattle.kk_core.specs.CoreTyping.{AreSmall, all_forms, IsSmall}
-use Rattle.kk_core.specs.Sizes.{forms}
+use Rattle.kk_core.specs.Codes.{Code, case, Arms, FunctionCode, ProgramCode}
+use Rattle.kk_core.specs.CoreTyping.{IsFunctionSmall, AreSmall, all_forms, IsSmall}
+use Rattle.kk_core.specs.Sizes.{forms, forms_of_arms}
 use Rattle.kk_norm.specs.Names.{Names, name_of, named}
-use Rattle.kk_norm.specs.NoCells.{NoCells, NoCellsAll, ArePlain}
-use Rattle.kk_norm.specs.Normal.{AreWithin, all_nodes, IsWithin}
-use Rattle.kk_norm.specs.Normalized.{Then, final, next, size, size_all, atom, atoms, after, after_use, within, joined, finish, finish_call, code, code_all, normal_function, normal_program}
+use Rattle.kk_norm.specs.Normal.{IsFunctionWithin, AreWithin, all_nodes, IsWithin}
+use Rattle.kk_norm.specs.Normalized.{part_count, pattern_size, parts_size, Then, final, next, size, size_all, size_rows, atom, atoms, after, after_use, within, joined, finish, finish_call, opened, opened_all, pattern_names, IsCode, AreCodes, AreArms, IsCoreOf, AreCoresOf, IsCoreForm}
+
+-- ---- numbers
 
 mutual
-  pub size_small : (e : Tree) → NoCells e → size e ≤ nodes_of e
-  size_small (variable x) plain = omega arith
-  size_small (apply form es) plain = omega (arith, size_all_small es plain.1)
-  size_small (branch e positive negative) plain = omega (arith, size_small e plain.0, size_small positive plain.1, size_small negative plain.2)
-  size_small (match e rows) plain = absurd plain
-  size_small (sequence binder first rest) plain = omega (arith, size_small first plain.0, size_small rest plain.1)
+  pattern_small : (p : Pattern) → pattern_size p + 1 ≤ nodes_of_pattern p
+  pattern_small anything = omega arith
+  pattern_small (pattern_variable x) = omega arith
+  pattern_small (exactly n) = omega arith
+  pattern_small (constructor c ps) = omega (arith, parts_small ps)
 
-  pub size_all_small : (es : Trees) → NoCellsAll es → size_all es ≤ nodes_of_all es
-  size_all_small no_tree plain = omega arith
-  size_all_small (tree first rest) plain = omega (arith, size_small first plain.0, size_all_small rest plain.1)
+  parts_small : (ps : Patterns) → part_count ps + parts_size ps ≤ nodes_of_patterns ps
+  parts_small no_part = omega arith
+  parts_small (part first rest) = omega (arith, pattern_small first, parts_small rest)
+
+mutual
+  pub size_small : (e : Tree) → size e ≤ nodes_of e
+  size_small (variable x) = omega arith
+  size_small (apply form es) = omega (arith, size_all_small es)
+  size_small (branch e positive negative) = omega (arith, size_small e, size_small positive, size_small negative)
+  size_small (match e rows) = omega (arith, size_small e, size_rows_small rows)
+  size_small (sequence binder first rest) = omega (arith, size_small first, size_small rest)
+
+  pub size_all_small : (es : Trees) → size_all es ≤ nodes_of_all es
+  size_all_small no_tree = omega arith
+  size_all_small (tree first rest) = omega (arith, size_small first, size_all_small rest)
+
+  size_rows_small : (rows : Rows) → size_rows rows ≤ nodes_of_rows rows
+  size_rows_small no_row = omega arith
+  size_rows_small (row pattern body rest) = omega (arith, pattern_small pattern, size_small body, size_rows_small rest)
 
 -- ---- forms
 
@@ -58,65 +74,98 @@ forms_within : (k : Then) → forms_then (within k) ≡ 0
 forms_within (final tail) = refl
 forms_within (next rest) = refl
 
+-- an opening is one form for a cell, which is a node of the pattern
+opened_cell : (a n c : ℕ) (ps : Patterns) (rest : Code) → forms (opened_all n (n + part_count ps) ps rest) ≤ nodes_of_patterns ps + forms rest → forms (opened a n (constructor c ps) rest) ≤ nodes_of_patterns ps + 1 + forms rest
+opened_cell a n c no_part rest le = omega arith
+opened_cell a n c (part first others) rest le = omega (arith, le)
+
+mutual
+  opened_small : (a n : ℕ) (p : Pattern) (rest : Code) → forms (opened a n p rest) ≤ nodes_of_pattern p + forms rest
+  opened_small a n anything rest = omega arith
+  opened_small a n (pattern_variable x) rest = omega arith
+  opened_small a n (exactly m) rest = omega arith
+  opened_small a n (constructor c ps) rest = opened_cell a n c ps rest (opened_all_small n (n + part_count ps) ps rest)
+
+  opened_all_small : (a n : ℕ) (ps : Patterns) (rest : Code) → forms (opened_all a n ps rest) ≤ nodes_of_patterns ps + forms rest
+  opened_all_small a n no_part rest = omega arith
+  opened_all_small a n (part first others) rest =
+      omega (arith, opened_small a n first (opened_all (a + 1) (n + pattern_size first) others rest), opened_all_small (a + 1) (n + pattern_size first) others rest)
+
 branch_sum : (e p q first second own inner outer whole : ℕ) → whole ≤ 2 * e + own → own ≤ (first + second + 1) + (outer + 1) → first ≤ 2 * p + inner → second ≤ 2 * q + inner → inner ≡ 0
     → whole ≤ 2 * (e + p + q + 1) + outer
 branch_sum e p q first second own inner outer whole one two three four none = omega arith
 
 mutual
-  pub forms_small : (k : Then) (names : Names) (n : ℕ) (e : Tree) → NoCells e → forms (code k names n e) ≤ 2 * nodes_of e + forms_then k
-  forms_small k names n (variable x) plain = omega (arith, forms_after_use k (name_of names x))
-  forms_small k names n (apply form es) plain =
-      omega (arith, forms_all_small names n es (finish k (n + size_all es) form (atoms names n es)) plain.1, forms_finish k (n + size_all es) form (atoms names n es))
-  forms_small k names n (branch e positive negative) plain =
-      let first : Code = code (within k) names (n + size e) positive in
-      let second : Code = code (within k) names (n + size e + size positive) negative in
-      let own : Code = Core.branch (atom names n e) first second in
+  forms_small : (constructors : List ConstructorTree) (k : Then) (names : Names) (n : ℕ) (e : Tree) (c : Code) → IsCode constructors k names n e c → forms c ≤ 2 * nodes_of e + forms_then k
+  forms_small constructors k names n (variable x) c coded = omega (arith, forms_after_use k (name_of names x), ap forms coded)
+  forms_small constructors k names n (apply form es) c coded =
+      omega (arith, forms_all_small constructors names n es (finish k (n + size_all es) form (atoms names n es)) c coded, forms_finish k (n + size_all es) form (atoms names n es))
+  forms_small constructors k names n (branch e positive negative) c coded =
+      let own : Code = Core.branch (atom names n e) coded.0 coded.1 in
       let m : ℕ = n + size e + size positive + size negative in
-      let one : forms (code (next (joined k m own)) names n e) ≤ 2 * nodes_of e + forms (joined k m own) = forms_small (next (joined k m own)) names n e plain.0 in
-      let two : forms (joined k m own) ≤ (forms first + forms second + 1) + (forms_then k + 1) = forms_joined k m own in
-      let three : forms first ≤ 2 * nodes_of positive + forms_then (within k) = forms_small (within k) names (n + size e) positive plain.1 in
-      let four : forms second ≤ 2 * nodes_of negative + forms_then (within k) = forms_small (within k) names (n + size e + size positive) negative plain.2 in
-      let none : forms_then (within k) ≡ 0 = forms_within k in
-      branch_sum (nodes_of e) (nodes_of positive) (nodes_of negative) (forms first) (forms second) (forms (joined k m own)) (forms_then (within k)) (forms_then k) (forms (code (next (joined k m own)) names n e)) one two three four none
-  forms_small k names n (match e rows) plain = absurd plain
-  forms_small k names n (sequence binder first rest) plain =
-      let later : Code = code k (named (variable_of binder) (atom names n first) names) (n + size first) rest in
-      let one : forms (code (next later) names n first) ≤ 2 * nodes_of first + forms later = forms_small (next later) names n first plain.0 in
-      let two : forms later ≤ 2 * nodes_of rest + forms_then k = forms_small k (named (variable_of binder) (atom names n first) names) (n + size first) rest plain.1 in
+      branch_sum (nodes_of e) (nodes_of positive) (nodes_of negative) (forms coded.0) (forms coded.1) (forms (joined k m own)) (forms_then (within k)) (forms_then k) (forms c)
+      (forms_small constructors (next (joined k m own)) names n e c coded.4) (forms_joined k m own)
+      (forms_small constructors (within k) names (n + size e) positive coded.0 coded.2) (forms_small constructors (within k) names (n + size e + size positive) negative coded.1 coded.3) (forms_within k)
+  forms_small constructors k names n (match e rows) c coded =
+      let own : Code = case (atom names n e) coded.0 coded.1 in
+      let m : ℕ = n + size e + size_rows rows in
+      let whole : forms c ≤ 2 * nodes_of e + forms (joined k m own) = forms_small constructors (next (joined k m own)) names n e c coded.4 in
+      let arms_few : forms_of_arms coded.1 ≤ 2 * nodes_of_rows rows = arms_small constructors (within k) names (atom names n e) (n + size e) rows coded.1 coded.3 (forms_within k) in
+      omega (arith, whole, arms_few, forms_joined k m own)
+  forms_small constructors k names n (sequence binder first rest) c coded =
+      let one : forms c ≤ 2 * nodes_of first + forms coded.0 = forms_small constructors (next coded.0) names n first c coded.2 in
+      let two : forms coded.0 ≤ 2 * nodes_of rest + forms_then k = forms_small constructors k (named (variable_of binder) (atom names n first) names) (n + size first) rest coded.0 coded.1 in
       omega arith
 
-  pub forms_all_small : (names : Names) (n : ℕ) (es : Trees) (last : Code) → NoCellsAll es → forms (code_all names n es last) ≤ 2 * nodes_of_all es + forms last
-  forms_all_small names n no_tree last plain = omega arith
-  forms_all_small names n (tree first rest) last plain =
-      let later : Code = code_all names (n + size first) rest last in
-      let one : forms (code (next later) names n first) ≤ 2 * nodes_of first + forms later = forms_small (next later) names n first plain.0 in
-      let two : forms later ≤ 2 * nodes_of_all rest + forms last = forms_all_small names (n + size first) rest last plain.1 in
+  forms_all_small : (constructors : List ConstructorTree) (names : Names) (n : ℕ) (es : Trees) (last c : Code) → AreCodes constructors names n es last c → forms c ≤ 2 * nodes_of_all es + forms last
+  forms_all_small constructors names n no_tree last c coded = omega (arith, ap forms coded)
+  forms_all_small constructors names n (tree first rest) last c coded =
+      let one : forms c ≤ 2 * nodes_of first + forms coded.0 = forms_small constructors (next coded.0) names n first c coded.2 in
+      let two : forms coded.0 ≤ 2 * nodes_of_all rest + forms last = forms_all_small constructors names (n + size first) rest last coded.0 coded.1 in
+      omega arith
+
+  arms_small : (constructors : List ConstructorTree) (k : Then) (names : Names) (a n : ℕ) (rows : Rows) (arms : Arms) → AreArms constructors k names a n rows arms → forms_then k ≡ 0 → forms_of_arms arms ≤ 2 * nodes_of_rows rows
+  arms_small constructors k names a n no_row arms are none = omega (arith, ap forms_of_arms are)
+  arms_small constructors k names a n (row pattern body rest) arms are none =
+      let from : ℕ = n + pattern_size pattern in
+      let one : forms (opened a n pattern are.0) ≤ nodes_of_pattern pattern + forms are.0 = opened_small a n pattern are.0 in
+      let two : forms are.0 ≤ 2 * nodes_of body + forms_then k = forms_small constructors k (pattern_names a n pattern names) from body are.0 are.3 in
+      let three : forms_of_arms are.1 ≤ 2 * nodes_of_rows rest = arms_small constructors k names a (from + size body) rest are.1 are.4 none in
+      let all : forms_of_arms arms ≡ forms (opened a n pattern are.0) + forms_of_arms are.1 = ap forms_of_arms are.2 in
       omega arith
 
 -- ---- functions and programs
 
-are_small : (functions : List FunctionTree) → ArePlain functions → AreWithin functions → AreSmall (map normal_function functions)
-are_small [] plain limits = tt
-are_small (function ∷ functions) plain limits =
-    let none = (plain zero function refl).no_cells in (
-      record {
-        parameters = limits.0.parameters;
-        variables = omega (arith, limits.0.parameters, limits.0.nodes, size_small function.body none);
-        forms = omega (arith, limits.0.nodes, forms_small (final true) [] (length function.parameters) function.body none);
-      },
-      are_small functions (λ f other is. plain (suc f) other is) limits.1,
-    )
-
-all_small : (functions : List FunctionTree) → ArePlain functions → all_forms (map normal_function functions) ≤ 2 * all_nodes functions
-all_small [] plain = omega arith
-all_small (function ∷ functions) plain =
-    omega (arith, forms_small (final true) [] (length function.parameters) function.body (plain zero function refl).no_cells, all_small functions (λ f other is. plain (suc f) other is))
-
-pub is_small : (program : ProgramTree) → ArePlain program.functions → IsWithin program → IsSmall (normal_program program)
-is_small program plain limits =
+function_small : (constructors : List ConstructorTree) (function : FunctionTree) (core : FunctionCode) → IsCoreOf constructors function core → IsFunctionWithin function → IsFunctionSmall core
+function_small constructors function core is limits =
     record {
-      main = limits.main;
-      functions = are_small program.functions plain limits.functions;
-      few = omega (arith, length-map program.functions normal_function, limits.few);
-      all = omega (arith, all_small program.functions plain, limits.all);
+      parameters = omega (arith, is.parameters, limits.parameters);
+      variables = omega (arith, is.variables, limits.parameters, limits.nodes, size_small function.body);
+      forms = omega (arith, limits.nodes, forms_small constructors (final true) [] (length function.parameters) function.body core.body is.body);
+    }
+
+are_small : (constructors : List ConstructorTree) (functions : List FunctionTree) (cores : List FunctionCode) → AreCoresOf constructors functions cores → AreWithin functions → AreSmall cores
+are_small constructors [] cores are limits = subst (λ (all : List FunctionCode). AreSmall all) (sym are) tt
+are_small constructors (function ∷ functions) [] are limits = absurd are
+are_small constructors (function ∷ functions) (core ∷ cores) are limits =
+    (function_small constructors function core are.0 limits.0, are_small constructors functions cores are.1 limits.1)
+
+all_small : (constructors : List ConstructorTree) (functions : List FunctionTree) (cores : List FunctionCode) → AreCoresOf constructors functions cores → all_forms cores ≤ 2 * all_nodes functions
+all_small constructors [] cores are = omega (arith, ap all_forms are)
+all_small constructors (function ∷ functions) [] are = absurd are
+all_small constructors (function ∷ functions) (core ∷ cores) are =
+    omega (arith, forms_small constructors (final true) [] (length function.parameters) function.body core.body are.0.body, all_small constructors functions cores are.1)
+
+as_many : (constructors : List ConstructorTree) (functions : List FunctionTree) (cores : List FunctionCode) → AreCoresOf constructors functions cores → length cores ≡ length functions
+as_many constructors [] cores are = ap length are
+as_many constructors (function ∷ functions) [] are = absurd are
+as_many constructors (function ∷ functions) (core ∷ cores) are = omega (arith, as_many constructors functions cores are.1)
+
+pub is_small : (program : ProgramTree) (code : ProgramCode) → IsCoreForm program code → IsWithin program → IsSmall code
+is_small program code form limits =
+    record {
+      main = form.main ∙ limits.main;
+      functions = are_small program.constructors program.functions code.functions form.functions limits.functions;
+      few = omega (arith, as_many program.constructors program.functions code.functions form.functions, limits.few);
+      all = omega (arith, all_small program.constructors program.functions code.functions form.functions, limits.all);
     }

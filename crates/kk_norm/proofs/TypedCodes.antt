@@ -9,8 +9,8 @@ use Rattle.kk_syntax.specs.PlainTyping.{Signature, Scope, type_in, with_binder, 
 use Rattle.kk_syntax.specs.Trees.{Tree, variable, apply, branch, match, sequence, Trees, no_tree, tree}
 use Rattle.kk_core.specs.Codes as Core
 use Rattle.kk_core.specs.Codes.{Code, give, compute, use_of, inside}
-use Rattle.kk_core.specs.CoreTyping as Typed
-use Rattle.kk_core.specs.CoreTyping.{HasCodeType}
+use Rattle.kk_core.specs.PlainCoreTyping as Typed
+use Rattle.kk_core.specs.PlainCoreTyping.{HasCodeType}
 use Rattle.kk_core.specs.Sizes.{AreBound, Ordered}
 use Rattle.kk_norm.specs.Names.{Names, name_of, named}
 use Rattle.kk_norm.specs.Normalized.{Then, final, next, size, size_all, atom, atoms, after, after_use, within, joined, finish, finish_call, code, code_all}

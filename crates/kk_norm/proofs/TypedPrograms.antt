@@ -3,7 +3,7 @@ use Rattle.std.proofs.Common.{◌≡◌, ℕ, ◌+◌, ◌<◌, true, zero, suc,
 use Rattle.std.specs.Prelude.{slice_get}
 use Rattle.kk_syntax.specs.PlainTyping.{Signature, signature_of, Scope, with_parameters, IsFunctionTyped, IsTyped}
 use Rattle.kk_syntax.specs.Programs.{FunctionTree, ProgramTree}
-use Rattle.kk_core.specs.CoreTyping.{IsCodeTyped, AreCodesTyped, IsCoreTyped}
+use Rattle.kk_core.specs.PlainCoreTyping.{IsCodeTyped, AreCodesTyped, IsPlainCoreTyped}
 use Rattle.kk_core.specs.Sizes.{below, Ordered}
 use Rattle.kk_norm.specs.Normal.{IsWithin, IsNormalForm}
 use Rattle.kk_norm.specs.Normalized.{final, size, code, normal_function, normal_program}
@@ -11,7 +11,8 @@ use Rattle.kk_norm.proofs.Scopes.{parameters_are, parameters_named}
 use Rattle.kk_norm.proofs.TypedCodes.{Fits, code_fits}
 use Rattle.kk_norm.proofs.Plain.{are_plain}
 use Rattle.kk_norm.proofs.Forms.{is_small}
-use Rattle.kk_norm.proofs.Keeping.{keeps_meaning}
+use Rattle.kk_norm.proofs.PlainForms.{plain_form}
+use Rattle.kk_norm.proofs.KeepingPlain.{keeps_meaning}
 
 function_typed : (signatures : List Signature) (function : FunctionTree) → IsFunctionTyped signatures function → IsCodeTyped signatures (normal_function function) (signature_of function)
 function_typed signatures function typed =
@@ -30,7 +31,7 @@ functions_typed signatures [] each = refl
 functions_typed signatures (function ∷ functions) each =
     (function_typed signatures function (each zero function refl), functions_typed signatures functions (λ f other is. each (suc f) other is))
 
-pub core_typed : (program : ProgramTree) → IsTyped program → IsCoreTyped (normal_program program)
+pub core_typed : (program : ProgramTree) → IsTyped program → IsPlainCoreTyped (normal_program program)
 core_typed program typed =
     record {
       signatures = map signature_of program.functions;
@@ -45,5 +46,5 @@ is_normal_form program typed within in_range =
     record {
       keeps_meaning = keeps_meaning program (are_plain program typed) in_range;
       typed = core_typed program typed;
-      small = is_small program (are_plain program typed) within;
+      small = is_small program (normal_program program) (plain_form program (are_plain program typed)) within;
     }

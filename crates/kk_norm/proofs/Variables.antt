@@ -1,5 +1,5 @@
 -- What variables stand for, in an environment of the source and in one of the core form.
-use Rattle.std.proofs.Common.{◌≡◌, ℕ, ◌<◌, ◌≤◌, ◌==◌, ◌||◌, Bool, true, false, not, List, [], ◌∷◌, ◌++◌, Option, Some, None, map, cond, refl, sym, ap, ◌∙◌, arith}
+use Rattle.std.proofs.Common.{◌≡◌, ◌⊎◌, inl, inr, ℕ, ◌<◌, ◌≤◌, ◌==◌, ◌||◌, Bool, true, false, not, List, [], ◌∷◌, ◌++◌, Option, Some, None, map, cond, refl, sym, ap, subst, ◌∙◌, arith}
 use Rattle.std.specs.Prelude.{if◌then◌else◌}
 use Rattle.std.proofs.lemmas.List.{map-append}
 use Rattle.std.proofs.lemmas.Bool.{eq-eqb, eqb-true}
@@ -48,6 +48,65 @@ among_right xs ys x is = list_any-append (λ y. y == x) xs ys ∙ ap (λ b. is_a
     or_true : (b : Bool) → (b || true) ≡ true
     or_true true = refl
     or_true false = refl
+
+-- what follows where a variable is among the first ones and where it is among the others
+pub among_each : (xs ys : List ℕ) (x : ℕ) (P : Type 0) → (is_among xs x ≡ true → P) → (is_among ys x ≡ true → P) → is_among (xs ++ ys) x ≡ true → P
+among_each [] ys x P left right is = right is
+among_each (z ∷ xs) ys x P left right is = by_test (z == x) refl (λ first later. among_each xs ys x P first right later)
+  where
+    by_test : (same : Bool) → (z == x) ≡ same → ((is_among xs x ≡ true → P) → is_among (xs ++ ys) x ≡ true → P) → P
+    by_test true same_is rest = left (rw same_is refl)
+    by_test false same_is rest = rest (λ later. left (rw same_is later)) (rw same_is at is)
+
+-- a variable that is left was there, and is none of those that were taken away
+pub left_over : (ys xs : List ℕ) (x : ℕ) → is_among (without ys xs) x ≡ true → (is_among ys x ≡ false) × (is_among xs x ≡ true)
+left_over ys [] x is = absurd (cc)
+left_over ys (z ∷ xs) x is = by_tests (z == x) (is_among ys z) refl refl (λ later. left_over ys xs x later)
+  where
+    by_tests : (same : Bool) (taken : Bool) → (z == x) ≡ same → is_among ys z ≡ taken → (is_among (without ys xs) x ≡ true → (is_among ys x ≡ false) × (is_among xs x ≡ true))
+        → (is_among ys x ≡ false) × (is_among (z ∷ xs) x ≡ true)
+    by_tests true true same_is taken_is rest = ((rest (rw taken_is at is)).0, rw same_is refl)
+    by_tests true false same_is taken_is rest = (sym (ap (is_among ys) (eqb-true z x same_is)) ∙ taken_is, rw same_is refl)
+    by_tests false true same_is taken_is rest = let one = rest (rw taken_is at is) in (one.0, rw same_is one.1)
+    by_tests false false same_is taken_is rest = let one = rest (rw same_is at (rw taken_is at is)) in (one.0, rw same_is one.1)
+
+-- what follows from each of two
+pub or_else : {A B C : Type 0} → A ⊎ B → (A → C) → (B → C) → C
+or_else (inl a) left right = left a
+or_else (inr b) left right = right b
+
+-- a variable is among the first ones or among the others
+pub among_split : (xs ys : List ℕ) (x : ℕ) → is_among (xs ++ ys) x ≡ true → (is_among xs x ≡ true) ⊎ (is_among ys x ≡ true)
+among_split xs ys x is =
+    among_each xs ys x ((is_among xs x ≡ true) ⊎ (is_among ys x ≡ true)) (λ here. inl here) (λ there. inr there) is
+
+-- a variable is the first one, or another one among those behind it
+pub among_head : (z : ℕ) (xs : List ℕ) (x : ℕ) → is_among (z ∷ xs) x ≡ true → (z ≡ x) ⊎ ((x ≡ z → ⊥) × (is_among xs x ≡ true))
+among_head z xs x is = by_test (z == x) refl
+  where
+    by_test : (same : Bool) → (z == x) ≡ same → (z ≡ x) ⊎ ((x ≡ z → ⊥) × (is_among xs x ≡ true))
+    by_test true same_is = inl (eqb-true z x same_is)
+    by_test false same_is = inr (λ same. absurd (let one : true ≡ false = sym (eq-eqb z x (sym same)) ∙ same_is in cc), rw same_is at is)
+
+pub alone_among : (x : ℕ) → is_among (x ∷ []) x ≡ true
+alone_among x = rw (same_number x) refl
+
+pub first_among : (x : ℕ) (xs : List ℕ) → is_among (x ∷ xs) x ≡ true
+first_among x xs = rw (same_number x) refl
+
+pub later_among : (z : ℕ) (xs : List ℕ) (x : ℕ) → is_among xs x ≡ true → is_among (z ∷ xs) x ≡ true
+later_among z xs x is = among_right (z ∷ []) xs x is
+
+pub not_alone : (m x : ℕ) → (x ≡ m → ⊥) → is_among (m ∷ []) x ≡ false
+not_alone m x other = rw (other_number m x (λ same. other (sym same))) refl
+
+-- one that is not the only one is another
+pub another : (m x : ℕ) → is_among (m ∷ []) x ≡ false → x ≡ m → ⊥
+another m x out same = let one : true ≡ false = sym (subst (λ (y : ℕ). is_among (m ∷ []) y ≡ true) (sym same) (alone_among m)) ∙ out in absurd (cc)
+
+-- what is among others without some of them
+pub without_among : (ys xs : List ℕ) (x : ℕ) → is_among (without ys xs) x ≡ true → is_among xs x ≡ true
+without_among ys xs x is = (left_over ys xs x is).1
 
 -- what stands for several variables stands for some of them, and later
 pub stands_left : (names : Names) (environment core : Environment) (bound : ℕ) (xs ys : List ℕ) → Stands names environment core bound (xs ++ ys) → Stands names environment core bound xs

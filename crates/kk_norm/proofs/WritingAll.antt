@@ -9,7 +9,7 @@ use Rattle.kk_core.specs.Codes.{Code, compute, use_of, computes, uses, plug, ste
 use Rattle.kk_norm.specs.declared.naming.Named.{Named}
 use Rattle.kk_norm.specs.declared.writer.Writer.{Writer}
 use Rattle.kk_norm.specs.Names.{Names, name_of, named}
-use Rattle.kk_norm.specs.NoCells.{NoCells, NoCellsAll}
+use Rattle.kk_norm.specs.NoMatches.{NoMatches, NoMatchesAll}
 use Rattle.kk_norm.specs.Normalized.{Then, final, next, size, size_all, atom, atoms, finish, code, code_all}
 use Rattle.kk_norm.specs.Written.{names_of, behind, WritesPiece, WritesStep, WritesValue, WritesValues, WritesStatements, KeepsNames, WritesEnd}
 
@@ -21,9 +21,9 @@ pub record ValuesSoFar (old now : Writer) (left all : Trees) (xs : List ℕ) : T
   pub names : now.names.items ≡ old.names.items
   pub values : xs ++ atoms (names_of old.names.items) now.next left ≡ atoms (names_of old.names.items) old.next all
   pub steps : (rest : Code) → behind now (code_all (names_of old.names.items) now.next left rest) ≡ behind old (code_all (names_of old.names.items) old.next all rest)
-  pub plain : NoCellsAll left
+  pub plain : NoMatchesAll left
 
-pub values_start : (writer : Writer) (all : Trees) → NoCellsAll all → ValuesSoFar writer writer all all []
+pub values_start : (writer : Writer) (all : Trees) → NoMatchesAll all → ValuesSoFar writer writer all all []
 values_start writer all plain = record { number = refl; names = refl; values = refl; steps = λ rest. refl; plain = plain }
 
 pub values_more : (old now new : Writer) (e : Tree) (left all : Trees) (xs : List ℕ) (x : ℕ) → ValuesSoFar old now (tree e left) all xs → WritesValue e now new x → ValuesSoFar old new left all (xs ++ x ∷ [])
@@ -67,7 +67,7 @@ pub record StatementsSoFar (old now : Writer) (left all : List StatementTree) : 
   pub number : (last : Tree) → now.next + size (block_of left last) ≡ old.next + size (block_of all last)
   pub value : (last : Tree) → atom (names_of now.names.items) now.next (block_of left last) ≡ atom (names_of old.names.items) old.next (block_of all last)
   pub steps : (last : Tree) (k : Then) → behind now (code k (names_of now.names.items) now.next (block_of left last)) ≡ behind old (code k (names_of old.names.items) old.next (block_of all last))
-  pub plain : (last : Tree) → NoCells (block_of all last) → NoCells (block_of left last)
+  pub plain : (last : Tree) → NoMatches (block_of all last) → NoMatches (block_of left last)
   pub longer : length old.names.items ≤ length now.names.items
   pub kept : KeepsNames old now
 
@@ -110,32 +110,32 @@ statements_done old now all so_far last = record { number = so_far.number last; 
 -- ---- what is asked of the calls in the loops, and of those around them
 
 pub value_asked : (old now : Writer) (left all : Trees) (xs : List ℕ) (e : Tree) (rest : Trees) → ValuesSoFar old now left all xs → left ≡ tree e rest → old.next + size_all all < 4294967296
-    → NoCells e × (now.next + size e < 4294967296)
+    → NoMatches e × (now.next + size e < 4294967296)
 value_asked old now left all xs e rest so_far is room =
     let here : ValuesSoFar old now (tree e rest) all xs = subst (λ (es : Trees). ValuesSoFar old now es all xs) is so_far in
     (here.plain.0, omega (arith, here.number))
 
 abbrev pub StatementsAsked : List StatementTree → ℕ → Type 0
-StatementsAsked all n = (last : Tree) × NoCells (block_of all last) × (n + size (block_of all last) < 4294967296)
+StatementsAsked all n = (last : Tree) × NoMatches (block_of all last) × (n + size (block_of all last) < 4294967296)
 
 pub statement_asked : (old now : Writer) (left all : List StatementTree) (s : StatementTree) (rest : List StatementTree) → StatementsSoFar old now left all → left ≡ s ∷ rest → StatementsAsked all old.next
-    → NoCells s.value × (now.next + size s.value < 4294967296)
+    → NoMatches s.value × (now.next + size s.value < 4294967296)
 statement_asked old now left all s rest so_far is asked =
     let here : StatementsSoFar old now (s ∷ rest) all = subst (λ (ss : List StatementTree). StatementsSoFar old now ss all) is so_far in
     ((here.plain asked.0 asked.1).0, omega (arith, here.number asked.0, asked.2))
 
-pub statements_asked : (e last : Tree) (all : List StatementTree) (n : ℕ) → e ≡ block_of all last → NoCells e → n + size e < 4294967296 → StatementsAsked all n
+pub statements_asked : (e last : Tree) (all : List StatementTree) (n : ℕ) → e ≡ block_of all last → NoMatches e → n + size e < 4294967296 → StatementsAsked all n
 statements_asked e last all n is plain room =
-    (last, subst (λ (one : Tree). NoCells one) is plain, subst (λ (one : Tree). n + size one < 4294967296) is room)
+    (last, subst (λ (one : Tree). NoMatches one) is plain, subst (λ (one : Tree). n + size one < 4294967296) is room)
 
-plain_last : (all : List StatementTree) (last : Tree) → NoCells (block_of all last) → NoCells last
+plain_last : (all : List StatementTree) (last : Tree) → NoMatches (block_of all last) → NoMatches last
 plain_last [] last plain = plain
 plain_last (s ∷ all) last plain = plain_last all last plain.1
 
-pub last_asked : (e last : Tree) (all : List StatementTree) (old now : Writer) → e ≡ block_of all last → NoCells e → old.next + size e < 4294967296 → WritesStatements all last old now
-    → NoCells last × (now.next + size last < 4294967296)
+pub last_asked : (e last : Tree) (all : List StatementTree) (old now : Writer) → e ≡ block_of all last → NoMatches e → old.next + size e < 4294967296 → WritesStatements all last old now
+    → NoMatches last × (now.next + size last < 4294967296)
 last_asked e last all old now is plain room writes =
-    (plain_last all last (subst (λ (one : Tree). NoCells one) is plain), omega (arith, writes.number, ap size is))
+    (plain_last all last (subst (λ (one : Tree). NoMatches one) is plain), omega (arith, writes.number, ap size is))
 
 -- ---- blocks
 

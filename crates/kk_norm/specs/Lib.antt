@@ -1,6 +1,7 @@
 pub mod Meaning
 pub mod Names
-pub mod NoCells
+pub mod NoMatches
 pub mod Normal
 pub mod Normalized
+pub mod OpenedCells
 pub mod Written

@@ -3,7 +3,8 @@ use Rattle.std.specs.Prelude.{◌≡◌, ◌+◌, ◌≤◌, ℕ, List, [], ◌�
 use Rattle.kk_syntax.specs.Shapes.{nodes_of}
 use Rattle.kk_syntax.specs.Programs.{FunctionTree, ProgramTree}
 use Rattle.kk_core.specs.Codes.{ProgramCode}
-use Rattle.kk_core.specs.CoreTyping.{IsCoreTyped, IsSmall}
+use Rattle.kk_core.specs.CoreTyping.{IsSmall}
+use Rattle.kk_core.specs.PlainCoreTyping.{IsPlainCoreTyped}
 use Rattle.kk_core.specs.Sizes.{most_parameters, most_nodes, most_instances, most_program_nodes}
 use Rattle.kk_norm.specs.Meaning.{KeepsMeaning}
 
@@ -32,5 +33,5 @@ pub record IsWithin (program : ProgramTree) : Type 0 where
 -- A code is a core form of a program: it keeps the program's meaning, it is typed, its variables in order, and it is small.
 pub record IsNormalForm (program : ProgramTree) (code : ProgramCode) : Type 0 where
   pub keeps_meaning : KeepsMeaning program code
-  pub typed : IsCoreTyped code
+  pub typed : IsPlainCoreTyped code
   pub small : IsSmall code

@@ -1,15 +1,18 @@
 -- The core form of a program. The variables of a core body are numbered from the number of its parameters on, in the
 -- order of the text, those of an expression's parts before its own: an expression takes as many numbers as its size, the
--- own one last, so what is computed later has the greater number.
-use Rattle.std.specs.Prelude.{ℕ, ◌+◌, List, [], ◌∷◌, map, Bool, true, false, length}
+-- own one last, so what is computed later has the greater number. Which decisions a match has is left open here: `[]` stands in
+-- their place, and the promise on a core form is still made for programs without matches alone.
+use Rattle.std.specs.Prelude.{ℕ, ◌≡◌, ◌+◌, List, [], ◌∷◌, map, Bool, true, false, length}
 use Rattle.kk_syntax.specs.declared.program.Form.{Form}
 use Rattle.kk_syntax.specs.declared.program.Form.TheVariants.{Call}
 use Rattle.kk_syntax.specs.Trees.{Tree, variable, apply, branch, match, sequence, Trees, no_tree, tree, Rows, no_row, row}
-use Rattle.kk_syntax.specs.Programs.{FunctionTree, ProgramTree}
+use Rattle.kk_syntax.specs.Programs.{ConstructorTree, FunctionTree, ProgramTree}
 use Rattle.kk_syntax.specs.Patterns.{Pattern, anything, variable as pattern_variable, exactly, constructor, Patterns, no_part, part}
 use Rattle.kk_syntax.specs.Shapes.{variable_of}
 use Rattle.kk_core.specs.Codes.{Code, give, tail_call, case, compute, use_of, unpack, inside, Arms, no_arm, arm, FunctionCode, ProgramCode}
 use Rattle.kk_core.specs.Codes as Core
+use Rattle.kk_core.specs.Choosing.{Decides}
+use Rattle.kk_core.specs.Decisions.{NodeTree}
 use Rattle.kk_norm.specs.Names.{Names, name_of, named}
 
 -- ---- how many numbers are taken
@@ -138,7 +141,7 @@ abbrev mutual
   code k names n (branch e positive negative) =
       code (next (joined k (n + size e + size positive + size negative) (Core.branch (atom names n e) (code (within k) names (n + size e) positive) (code (within k) names (n + size e + size positive) negative)))) names n e
   code k names n (match e rows) =
-      code (next (joined k (n + size e + size_rows rows) (case (atom names n e) (arms (within k) names (atom names n e) (n + size e) rows)))) names n e
+      code (next (joined k (n + size e + size_rows rows) (case (atom names n e) [] (arms (within k) names (atom names n e) (n + size e) rows)))) names n e
   code k names n (sequence binder first rest) =
       code (next (code k (named (variable_of binder) (atom names n first) names) (n + size first) rest)) names n first
 
@@ -168,3 +171,62 @@ normal_function function = record {
 abbrev pub normal_program : ProgramTree → ProgramCode
 normal_program program =
     record { functions = map normal_function program.functions; texts = program.texts; main = program.main }
+
+-- ---- the core form of any program
+
+-- the patterns of rows
+abbrev pub patterns_in : Rows → List Pattern
+patterns_in no_row = []
+patterns_in (row pattern body rest) = pattern ∷ patterns_in rest
+
+-- A code is that of an expression whose numbers begin at n, and of what comes after it. The value is in `atom names n e`. It
+-- is determined but for the decisions of the matches, which are any that choose among the rows.
+abbrev mutual
+  pub IsCode : List ConstructorTree → Then → Names → ℕ → Tree → Code → Type 0
+  IsCode constructors k names n (variable x) c = c ≡ after_use k (name_of names x)
+  IsCode constructors k names n (apply form es) c =
+      AreCodes constructors names n es (finish k (n + size_all es) form (atoms names n es)) c
+  IsCode constructors k names n (branch e positive negative) c =
+      (first : Code) × (second : Code)
+      × IsCode constructors (within k) names (n + size e) positive first
+      × IsCode constructors (within k) names (n + size e + size positive) negative second
+      × IsCode constructors (next (joined k (n + size e + size positive + size negative) (Core.branch (atom names n e) first second))) names n e c
+  IsCode constructors k names n (match e rows) c =
+      (decisions : List NodeTree) × (arms : Arms) × Decides constructors (patterns_in rows) decisions
+      × AreArms constructors (within k) names (atom names n e) (n + size e) rows arms
+      × IsCode constructors (next (joined k (n + size e + size_rows rows) (case (atom names n e) decisions arms))) names n e c
+  IsCode constructors k names n (sequence binder first rest) c =
+      (later : Code) × IsCode constructors k (named (variable_of binder) (atom names n first) names) (n + size first) rest later
+      × IsCode constructors (next later) names n first c
+
+  -- the same of several expressions, behind which comes `last`
+  pub AreCodes : List ConstructorTree → Names → ℕ → Trees → Code → Code → Type 0
+  AreCodes constructors names n no_tree last c = c ≡ last
+  AreCodes constructors names n (tree first rest) last c =
+      (later : Code) × AreCodes constructors names (n + size first) rest last later × IsCode constructors (next later) names n first c
+
+  -- The arms of a match on variable a. An arm opens the cells of its pattern first. A row that is never chosen has its arm too.
+  pub AreArms : List ConstructorTree → Then → Names → ℕ → ℕ → Rows → Arms → Type 0
+  AreArms constructors k names a n no_row arms = arms ≡ no_arm
+  AreArms constructors k names a n (row pattern body rest) arms =
+      (c : Code) × (others : Arms) × (arms ≡ arm pattern (opened a n pattern c) others)
+      × IsCode constructors k (pattern_names a n pattern names) (n + pattern_size pattern) body c
+      × AreArms constructors k names a (n + pattern_size pattern + size body) rest others
+
+-- A function is the core form of another: its variables have the numbers behind the parameters, in their order.
+pub record IsCoreOf (constructors : List ConstructorTree) (function : FunctionTree) (core : FunctionCode) : Type 0 where
+  pub parameters : core.parameters ≡ length function.parameters
+  pub variables : core.variables ≡ length function.parameters + size function.body
+  pub body : IsCode constructors (final true) [] (length function.parameters) function.body core.body
+
+abbrev pub AreCoresOf : List ConstructorTree → List FunctionTree → List FunctionCode → Type 0
+AreCoresOf constructors [] cores = cores ≡ []
+AreCoresOf constructors (function ∷ functions) [] = ⊥
+AreCoresOf constructors (function ∷ functions) (core ∷ cores) =
+    IsCoreOf constructors function core × AreCoresOf constructors functions cores
+
+-- a program is the core form of another
+pub record IsCoreForm (program : ProgramTree) (core : ProgramCode) : Type 0 where
+  pub functions : AreCoresOf program.constructors program.functions core.functions
+  pub texts : core.texts ≡ program.texts
+  pub main : core.main ≡ program.main

@@ -1,7 +1,7 @@
 ghost use Rattle.std.specs.Prelude.{◌≡◌, ◌+◌, ◌<◌, ◌^◌, map, IfOk};
 ghost use Rattle.kk_syntax.specs.Trees.{Tree, expr_tree, trees_of, statement_tree, block_of};
 ghost use Rattle.kk_core.specs.Codes.{block_code, last_code};
-ghost use Rattle.kk_norm.specs.NoCells.{NoCells, NoCellsAll};
+ghost use Rattle.kk_norm.specs.NoMatches.{NoMatches, NoMatchesAll};
 ghost use Rattle.kk_norm.specs.Normalized.{size, size_all};
 ghost use Rattle.kk_norm.specs.Written.{WritesValue, WritesValues, WritesStatements, KeepsNames, WritesEnd, WritesChoice, WritesBlock};
 
@@ -15,7 +15,7 @@ impl Writer {
     /// Writes the steps of an expression, and gives the variable that has its value. There is no match in it.
     #[cycle(code)]
     pub fn value(&mut self, expr: &Expr) -> Result<u32, NoMemory>
-        requires plain { NoCells (expr_tree expr.now) }
+        requires plain { NoMatches (expr_tree expr.now) }
         requires room { self.old.next + size (expr_tree expr.now) < 2 ^ 32 }
         ensures { IfOk result (λ x. WritesValue (expr_tree expr.now) self.old self.new x) }
     {
@@ -48,7 +48,7 @@ impl Writer {
     /// Writes the steps of expressions from left to right, and gives the variables that have their values.
     #[cycle(code)]
     fn values(&mut self, exprs: &[Expr]) -> Result<Vec<u32>, NoMemory>
-        requires plain { NoCellsAll (trees_of (map expr_tree exprs.now)) }
+        requires plain { NoMatchesAll (trees_of (map expr_tree exprs.now)) }
         requires room { self.old.next + size_all (trees_of (map expr_tree exprs.now)) < 2 ^ 32 }
         ensures { IfOk result (λ xs. WritesValues (trees_of (map expr_tree exprs.now)) self.old self.new xs.items) }
     {
@@ -63,7 +63,7 @@ impl Writer {
     /// Writes statements. What they bind is named.
     #[cycle(code)]
     fn statements(&mut self, statements: &[Statement]) -> Result<(), NoMemory>
-        requires { (last : Tree) × NoCells (block_of (map statement_tree statements.now) last) × (self.old.next + size (block_of (map statement_tree statements.now) last) < 2 ^ 32) }
+        requires { (last : Tree) × NoMatches (block_of (map statement_tree statements.now) last) × (self.old.next + size (block_of (map statement_tree statements.now) last) < 2 ^ 32) }
         ensures statements { IfOk result (λ _. (last : Tree) → WritesStatements (map statement_tree statements.now) last self.old self.new) }
         ensures names { IfOk result (λ _. KeepsNames self.old self.new) }
     {
@@ -77,7 +77,7 @@ impl Writer {
     /// Writes an expression that ends a block, in tail position or not, and gives the block's end.
     #[cycle(code)]
     fn end(&mut self, tail: bool, expr: &Expr) -> Result<Last, NoMemory>
-        requires plain { NoCells (expr_tree expr.now) }
+        requires plain { NoMatches (expr_tree expr.now) }
         requires room { self.old.next + size (expr_tree expr.now) < 2 ^ 32 }
         ensures { IfOk result (λ last. WritesEnd tail (expr_tree expr.now) self.old self.new (last_code last)) }
     {
@@ -112,9 +112,9 @@ impl Writer {
         positive: &Expr,
         negative: &Expr,
     ) -> Result<Last, NoMemory>
-        requires condition { NoCells (expr_tree condition.now) }
-        requires positive { NoCells (expr_tree positive.now) }
-        requires negative { NoCells (expr_tree negative.now) }
+        requires condition { NoMatches (expr_tree condition.now) }
+        requires positive { NoMatches (expr_tree positive.now) }
+        requires negative { NoMatches (expr_tree negative.now) }
         requires room { self.old.next + size (expr_tree condition.now) + size (expr_tree positive.now) + size (expr_tree negative.now) < 2 ^ 32 }
         ensures { IfOk result (λ last. WritesChoice tail (expr_tree condition.now) (expr_tree positive.now) (expr_tree negative.now) self.old self.new (last_code last)) }
     {
@@ -129,7 +129,7 @@ impl Writer {
     /// Writes an expression as a block of its own, in tail position or not.
     #[cycle(code)]
     pub fn block(&mut self, tail: bool, expr: &Expr) -> Result<Block, NoMemory>
-        requires plain { NoCells (expr_tree expr.now) }
+        requires plain { NoMatches (expr_tree expr.now) }
         requires room { self.old.next + size (expr_tree expr.now) < 2 ^ 32 }
         ensures { IfOk result (λ block. WritesBlock tail (expr_tree expr.now) self.old self.new (block_code block)) }
     {

@@ -8,5 +8,8 @@ mod naming;
 mod program;
 mod writer;
 
-pub use law::core_forms_keep_meaning;
+pub use law::{
+    core_forms_are_small, core_forms_keep_meaning, core_forms_of_typed_programs_are_typed,
+    core_forms_of_typed_programs_keep_meaning,
+};
 pub use program::normal;

@@ -6,7 +6,7 @@ ghost use Rattle.kk_syntax.specs.Trees.{expr_tree};
 ghost use Rattle.kk_syntax.specs.Types.{TypeTree};
 ghost use Rattle.kk_core.specs.Codes.{function_code, core_code};
 ghost use Rattle.kk_core.specs.Sizes.{most_parameters, most_nodes};
-ghost use Rattle.kk_norm.specs.NoCells.{NoCells, ArePlain};
+ghost use Rattle.kk_norm.specs.NoMatches.{NoMatches, ArePlain};
 ghost use Rattle.kk_norm.specs.Normal.{AreWithin, IsWithin, IsNormalForm};
 ghost use Rattle.kk_norm.specs.Normalized.{normal_function, normal_program};
 
@@ -50,7 +50,7 @@ fn all_functions(alloc: Global, given: &Ground) -> Result<Vec<CoreFunction>, NoM
 
 // The types of an instance make no difference.
 fn core_function(alloc: Global, instance: &Instance) -> Result<CoreFunction, NoMemory>
-    requires plain { NoCells (expr_tree instance.now.body) }
+    requires plain { NoMatches (expr_tree instance.now.body) }
     requires few { vec_len instance.now.parameters ≤ most_parameters }
     requires small { nodes_of (expr_tree instance.now.body) ≤ most_nodes }
     ensures { IfOk result (λ core. (types : List TypeTree) → function_code core ≡ normal_function (instance_tree types instance.now)) }

@@ -1,48 +1,31 @@
 -- Laws of whole runs, from those of the store machine.
-use Rattle.std.proofs.Common.{◌≡◌, ℕ, zero, suc, ◌≤◌, true, List, [], ◌∷◌, ◌++◌, Option, Some, None, refl, sym, ap, ◌∙◌, subst, option_map}
+use Rattle.std.proofs.Common.{◌≡◌, ℕ, zero, suc, ◌≤◌, true, List, ◌++◌, Option, Some, None, refl, sym, ap, ◌∙◌, subst, option_map}
 use Rattle.std.specs.Prelude.{◌↔◌}
 use Rattle.std.specs.List.{flat_map}
 use Rattle.std.proofs.lemmas.Grind.{flat_map-append}
 use Rattle.kk_base.specs.Trace.{Event, TakesFrom, IsPrefix}
-use Rattle.kk_base.specs.Machines.{Machine, step_unless, trace, state, ending_after, mapped}
+use Rattle.kk_base.specs.Machines.{Machine, trace, state, ending_after, mapped}
 use Rattle.kk_base.proofs.Machines.{trace-mapped}
-use Rattle.kk_source.specs.State.{Setting, End, Value, Configuration}
+use Rattle.kk_source.specs.State.{Setting, End, Value}
 use Rattle.kk_source.specs.Notes.{events_of}
 use Rattle.kk_source.specs.Live.{is_live, Reached}
 use Rattle.kk_source.specs.Step.{step_of}
-use Rattle.kk_source.specs.SourceAfter.{step, ending_of, store_machine, source_machine, first_state, After, source_after, HasRoom, State}
+use Rattle.kk_source.specs.SourceAfter.{ending_of, store_machine, source_machine, first_state, After, source_after, HasRoom}
 use Rattle.kk_source.specs.Sound.{Sound}
 use Rattle.kk_source.proofs.Live.{live_reached, reached_live}
-use Rattle.kk_source.proofs.Sound.{LeadsTo, step_sound, start_sound}
+use Rattle.kk_source.proofs.Kept.{run_keeps}
+use Rattle.kk_source.proofs.Sound.{step_sound, start_sound}
 use Rattle.kk_source.proofs.Roomier.{goes_further}
 use Rattle.kk_source.proofs.TakenInput.{same_taken}
-use Rattle.kk_source.specs.Actions.{Action, goes, puts, takes, builds, calls, performed}
 
 -- a machine of which less is seen comes to the same states
 state-mapped : {S E F W V : Type 0} (events : E → List F) (seen : W → V) (machine : Machine S E W) (n : ℕ) (s : S) → state (mapped events seen machine) n s ≡ state machine n s
 state-mapped events seen machine zero s = refl
 state-mapped events seen machine (suc n) s = state-mapped events seen machine n (machine.step s).1
 
--- sound states lead to sound ones
-performed_sound : (action : Action Configuration) (input : List ℕ) → LeadsTo Sound action → Sound (performed action input).1.machine
-performed_sound (goes to) input s = s
-performed_sound (puts piece to) input s = s
-performed_sound (takes to) [] s = s None
-performed_sound (takes to) (byte ∷ input) s = s (Some byte)
-performed_sound (builds found to) input s = s
-performed_sound (calls found to) input s = s
-
 module _ (setting : Setting) where
-  next_sound : (s : State) (how : Option End) → Sound s.machine → Sound (step_unless how s (step setting s)).1.machine
-  next_sound s None sound = performed_sound (step_of setting s.machine) s.input (step_sound setting s.machine sound)
-  next_sound s (Some w) sound = sound
-
-  run_sound : (n : ℕ) (s : State) → Sound s.machine → Sound (state (store_machine setting) n s).machine
-  run_sound zero s sound = sound
-  run_sound (suc n) s sound = run_sound n ((store_machine setting).step s).1 (next_sound s (ending_of s) sound)
-
   pub runs_are_sound : (input : List ℕ) (n : ℕ) → Sound (state (store_machine setting) n (first_state setting input)).machine
-  runs_are_sound input n = run_sound n (first_state setting input) (start_sound setting)
+  runs_are_sound input n = run_keeps Sound (λ s. 1) ending_of (step_of setting) (step_sound setting) n (first_state setting input) (start_sound setting)
 
   pub live_is_reached : (input : List ℕ) (n : ℕ) (values : List Value) (at : ℕ) → (is_live (state (store_machine setting) n (first_state setting input)).machine.store values at ≡ true) ↔ Reached (state (store_machine setting) n (first_state setting input)).machine.store values at
   live_is_reached input n values at =

@@ -1,7 +1,15 @@
+pub mod Bindings
 pub mod Builder
 mod Examples
+pub mod Kept
 pub mod Laws
 pub mod Live
+pub mod Matching
+pub mod Operators
 pub mod Roomier
+pub mod Safe
+pub mod SafeRuns
 pub mod Sound
 pub mod TakenInput
+mod TypedExamples
+pub mod Values

@@ -1,8 +1,9 @@
--- The walk finds exactly the places that can be reached.
-use Rattle.std.proofs.Common.{◌≡◌, ◌⊎◌, inl, inr, ℕ, zero, suc, ◌<◌, ◌≤◌, Bool, true, false, ◌||◌, List, [], ◌∷◌, ◌++◌, length, arith, refl, sym, ap, ◌∙◌, subst, ◌==◌}
+-- The walk finds exactly the places that can be reached; and from values with the same places it finds as many.
+use Rattle.std.proofs.Common.{◌≡◌, ◌⊎◌, inl, inr, ℕ, zero, suc, ◌+◌, ◌<◌, ◌≤◌, Bool, true, false, ◌||◌, List, [], ◌∷◌, ◌++◌, length, arith, refl, sym, ap, ◌∙◌, subst, ◌==◌}
+use Rattle.std.specs.Prelude.{if◌then◌else◌}
 use Rattle.std.specs.List.{list_any}
 use Rattle.kk_source.specs.State.{Value, integer, unit, constant, place, Store}
-use Rattle.kk_source.specs.Live.{fields_at, Among, Leads, Reached, is_place, fields_of, fields_of_all, is_found, is_live}
+use Rattle.kk_source.specs.Live.{fields_at, Among, Leads, Reached, is_place, fields_of, fields_of_all, is_found, is_live, counted, live}
 use Rattle.kk_source.specs.Sound.{Within, AllWithin, IsOlder}
 
 -- a place among values, as a test
@@ -59,7 +60,7 @@ among_within n (v ∷ vs) at w (inl here) = subst (Within n) here w.0
 among_within n (v ∷ vs) at w (inr there) = among_within n vs at w.1 there
 
 -- the fields of the cells that values name
-among_fields : (store : Store) (vs : List Value) (goal : ℕ) → Among (fields_of_all store vs) goal → (at : ℕ) × (Among vs at × Among (fields_at store at) goal)
+pub among_fields : (store : Store) (vs : List Value) (goal : ℕ) → Among (fields_of_all store vs) goal → (at : ℕ) × (Among vs at × Among (fields_at store at) goal)
 among_fields store [] goal a = absurd a
 among_fields store (v ∷ vs) goal a = by_value v refl (among_split (fields_of store v) (fields_of_all store vs) goal a) (among_fields store vs goal)
   where
@@ -70,7 +71,7 @@ among_fields store (v ∷ vs) goal a = by_value v refl (among_split (fields_of s
     by_value (place at) e (inl here) later = (at, (inl (sym e), subst (λ u. Among (fields_of store u) goal) (sym e) here))
     by_value w e (inr there) later = let r = later there in (r.0, (inr r.1.0, r.1.1))
 
-fields_among : (store : Store) (vs : List Value) (at goal : ℕ) → Among vs at → Among (fields_at store at) goal → Among (fields_of_all store vs) goal
+pub fields_among : (store : Store) (vs : List Value) (at goal : ℕ) → Among vs at → Among (fields_at store at) goal → Among (fields_of_all store vs) goal
 fields_among store [] at goal a b = absurd a
 fields_among store (v ∷ vs) at goal (inl here) b =
     among_front (fields_of store v) (fields_of_all store vs) goal (subst (λ u. Among (fields_of store u) goal) (sym here) b)
@@ -153,3 +154,32 @@ module _ (store : Store) (older : IsOlder store) where
 
   pub reached_live : (vs : List Value) (goal : ℕ) → is_live store vs goal ≡ true → Reached store vs goal
   reached_live vs goal e = found_reached (length store) store vs goal e
+
+-- ---- from the same places as many are live
+
+-- what is found from values is found where their places are among others
+found_from : (rounds : ℕ) (store : Store) (vs ws : List Value) (goal : ℕ) → ((at : ℕ) → Among vs at → Among ws at) → is_found rounds store vs goal ≡ true → is_found rounds store ws goal ≡ true
+found_from zero store vs ws goal more e = among_any ws goal (more goal (any_among vs goal e))
+found_from (suc rounds) store vs ws goal more e =
+    elim (or_cases (list_any (is_place goal) vs) (is_found rounds store (fields_of_all store vs) goal) e) [
+      | inl here ↦ or_left _ _ (among_any ws goal (more goal (any_among vs goal here)))
+      | inr there ↦ or_right _ _
+          (found_from rounds store (fields_of_all store vs) (fields_of_all store ws) goal
+          (λ at a. let r = among_fields store vs at a in fields_among store ws r.0 at (more r.0 r.1.0) r.1.1) there)
+    ]
+
+same_test : (a b : Bool) → (a ≡ true → b ≡ true) → (b ≡ true → a ≡ true) → a ≡ b
+same_test true b there back = sym (there refl)
+same_test false true there back = back refl
+same_test false false there back = refl
+
+counted_alike : (p q : ℕ → Bool) (n : ℕ) → ((at : ℕ) → p at ≡ q at) → counted p n ≡ counted q n
+counted_alike p q zero same = refl
+counted_alike p q (suc n) same =
+    ap (λ m. m + (if p n then 1 else 0)) (counted_alike p q n same) ∙ ap (λ b. counted q n + (if b then 1 else 0)) (same n)
+
+-- as many places are live from values with the same places
+pub live_alike : (store : Store) (vs ws : List Value) → ((at : ℕ) → Among vs at → Among ws at) → ((at : ℕ) → Among ws at → Among vs at) → live store vs ≡ live store ws
+live_alike store vs ws there back =
+    counted_alike (is_live store vs) (is_live store ws) (length store)
+    (λ at. same_test (is_live store vs at) (is_live store ws at) (found_from (length store) store vs ws at there) (found_from (length store) store ws vs at back))

@@ -16,8 +16,9 @@ use Rattle.kk_source.specs.Live.{value_of, fields_in, fields_at}
 use Rattle.kk_source.specs.Matching.{is_integer, fields_made_by, fields_under, and_then, matched, matched_all, Chosen, chosen_or, first_match}
 use Rattle.kk_source.specs.Step.{at_expression, at_value, at_end, bind, bind_parameters, lent_places, at_new_place, in_body, construct_step, push_step, call_step, form_step, expression_step, choice_step, value_step, step_at, step_of}
 use Rattle.kk_source.specs.Sound.{Within, AllWithin, BoundWithin, FrameWithin, FramesWithin, ControlWithin, IsOlder, Sound}
-use Rattle.kk_source.specs.Actions.{Action, goes, puts, takes, builds, calls, print_step}
 use Rattle.kk_source.specs.FormEffects.{FormEffect, gives, prints, reads, makes, enters, truth, unary_result, number_result, argument, byte_value, form_effect, effect_step}
+use Rattle.kk_source.proofs.Kept.{print_leads}
+pub use Rattle.kk_source.proofs.Kept.{LeadsTo}
 
 -- of a longer store
 pub within_more : (n m : ℕ) (v : Value) → n ≤ m → Within n v → Within m v
@@ -156,14 +157,6 @@ lent_within n lent next (place at ∷ vs) w =
     elim (lent next) as (λ t. AllWithin n (if t then place at ∷ lent_places lent (suc next) vs else lent_places lent (suc next) vs))
     [ true ↦ (w.0, lent_within n lent (suc next) vs w.1) | false ↦ lent_within n lent (suc next) vs w.1 ]
 
--- what a step leads to
-abbrev pub LeadsTo : (Configuration → Type 0) → Action Configuration → Type 0
-LeadsTo P (goes to) = P to
-LeadsTo P (puts piece to) = P to
-LeadsTo P (takes to) = (byte : Option ℕ) → P (to byte)
-LeadsTo P (builds found to) = P to
-LeadsTo P (calls found to) = P to
-
 truth_within : (n : ℕ) (t : Bool) → Within n (truth t)
 truth_within n true = tt
 truth_within n false = tt
@@ -190,10 +183,6 @@ at_value_sound c v o w f = record { older = o; control = w; frames = f }
 
 at_expression_sound : (c : Configuration) (e : Tree) (env : Environment) → IsOlder c.store → BoundWithin (length c.store) env → FramesWithin (length c.store) c.frames → Sound (at_expression e env c)
 at_expression_sound c e env o w f = record { older = o; control = w; frames = f }
-
-print_sound : (piece : List ℕ) (to : Configuration) → Sound to → LeadsTo Sound (print_step piece to)
-print_sound [] to s = s
-print_sound (b ∷ bs) to s = s
 
 byte_within : (n : ℕ) (byte : Option ℕ) → Within n (byte_value byte)
 byte_within n None = tt
@@ -264,7 +253,7 @@ module _ (setting : Setting) where
     where
       by_effect : (effect : FormEffect) → EffectWithin (length from.store) effect → LeadsTo Sound (effect_step (λ v. at_value v (record from { frames = older })) (λ c fields. construct_step setting c fields older from) (λ f arguments. call_step setting f (slice_get setting.program.functions f) arguments older from) effect)
       by_effect (gives v) e = record { older = s.older; control = e; frames = g }
-      by_effect (prints piece) e = print_sound piece _ (record { older = s.older; control = tt; frames = g })
+      by_effect (prints piece) e = print_leads Sound piece _ (record { older = s.older; control = tt; frames = g })
       by_effect reads e = λ byte. record { older = s.older; control = byte_within _ byte; frames = g }
       by_effect (makes c fields) e = construct_sound c fields older from s.older e g s.frames
       by_effect (enters f values) e = call_sound f _ values older from s e g

@@ -4,7 +4,9 @@ pub mod Ends
 pub mod FormEffects
 pub mod Live
 pub mod Matching
+pub mod NeverStuck
 pub mod Notes
+pub mod Settings
 pub mod Sound
 pub mod SourceAfter
 pub mod State

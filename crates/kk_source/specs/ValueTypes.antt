@@ -4,7 +4,7 @@ use Rattle.std.specs.Prelude.{◌≡◌, ℕ, ℤ, List, [], ◌∷◌, Some, sl
 use Rattle.kk_syntax.specs.OfType.{field_types}
 use Rattle.kk_syntax.specs.Programs.{ConstructorTree}
 use Rattle.kk_syntax.specs.Types.{TypeTree, int32, unit_type}
-use Rattle.kk_source.specs.State.{Value, integer, unit, constant, place, Cell, Store}
+use Rattle.kk_source.specs.State.{Value, integer, unit, constant, place, Store}
 
 -- The content of a value: a number; `()`; or a constructor, and the contents of its fields.
 mutual

@@ -1,8 +1,10 @@
 ghost use Rattle.std.specs.Prelude.{◌≡◌, ◌≤◌, ◌↔◌, ℕ, List, true};
 ghost use Rattle.kk_base.specs.Trace.{IsPrefix, TakesFrom};
 ghost use Rattle.kk_base.specs.Machines.{state};
+ghost use Rattle.kk_syntax.specs.GroundTyping.{IsGroundTyped};
 ghost use Rattle.kk_source.specs.State.{Setting, Value};
 ghost use Rattle.kk_source.specs.Live.{is_live, Reached};
+ghost use Rattle.kk_source.specs.NeverStuck.{NeverStuck};
 ghost use Rattle.kk_source.specs.Sound.{Sound};
 ghost use Rattle.kk_source.specs.SourceAfter.{store_machine, first_state, source_after, HasRoom};
 
@@ -35,4 +37,11 @@ pub fn only_taken_input_counts()
     ensures { (setting : Setting) (input other rest : List ℕ) (n : ℕ)
         → TakesFrom (source_after setting input n).trace other rest
         → source_after setting other n ≡ source_after setting input n }
+{}
+
+/// A program that is typed, and whose matches are covered, is never stuck: in each state of each of its runs the step finds
+/// what it asks for. A row of a match is chosen, a variable is bound, a form has arguments of its types, and what it names is
+/// there. It is a law, and does nothing.
+pub fn typed_programs_are_never_stuck()
+    ensures { (setting : Setting) (input : List ℕ) → IsGroundTyped setting.program → NeverStuck setting input }
 {}

@@ -3,4 +3,6 @@
 
 mod law;
 
-pub use law::{more_room_goes_further, only_taken_input_counts, runs_are_sound};
+pub use law::{
+    more_room_goes_further, only_taken_input_counts, runs_are_sound, typed_programs_are_never_stuck,
+};

@@ -1,6 +1,16 @@
 pub mod Blocks
 pub mod Closed
+pub mod Elements
 pub mod Gathered
+pub mod LeastTables
+pub mod Lists
+pub mod MoreOwned
+pub mod OwnedPlaces
+pub mod OwnedSearch
+pub mod PatternTypes
 pub mod PatternViews
+pub mod PositionTables
+pub mod Putting
+pub mod TailCalls
 pub mod TypeViews
 pub mod Views

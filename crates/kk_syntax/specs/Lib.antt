@@ -1,8 +1,12 @@
+pub mod Checked
 pub mod Covered
 pub mod GroundPrograms
 pub mod GroundTyping
 pub mod OfType
+pub mod Matches
 pub mod Outlines
+pub mod OwnedPositions
+pub mod OwnedSearch
 pub mod Patterns
 pub mod Places
 pub mod PlainTyping

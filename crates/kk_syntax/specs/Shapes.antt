@@ -108,20 +108,34 @@ greatest_of (f ∷ fs) = max (nodes_of f.body) (greatest_of fs)
 abbrev pub greatest_nodes : ProgramTree → ℕ
 greatest_nodes program = greatest_of program.functions
 
+-- A row of a match on the way to a part of a body: the match's scrutinee, and the row's pattern.
+pub record Opening : Type 0 where
+  pub scrutinee : Tree
+  pub pattern : Pattern
+
+-- a part of a body in tail position, and the rows that it stands in, the outer first
+pub record Tail : Type 0 where
+  pub inside : List Opening
+  pub part : Tree
+
 -- The parts of a body that are in tail position and are no `if`, match or block themselves: the value of each is the
 -- value of the body. In an `if` they are those of its branches, in a match those of its rows, and in a block those of its
--- last expression.
+-- last expression. Here of a part of the body that stands in some rows itself.
 abbrev mutual
-  pub tails : Tree → List Tree
-  tails (branch condition positive negative) = tails positive ++ tails negative
-  tails (match scrutinee rows) = tails_of_rows rows
-  tails (sequence binder first rest) = tails rest
-  tails (variable of) = variable of ∷ []
-  tails (apply form arguments) = apply form arguments ∷ []
+  pub tails_inside : List Opening → Tree → List Tail
+  tails_inside inside (variable of) = record { inside = inside; part = variable of } ∷ []
+  tails_inside inside (apply form arguments) = record { inside = inside; part = apply form arguments } ∷ []
+  tails_inside inside (branch condition positive negative) = tails_inside inside positive ++ tails_inside inside negative
+  tails_inside inside (match scrutinee rows) = tails_of_rows inside scrutinee rows
+  tails_inside inside (sequence binder first rest) = tails_inside inside rest
 
-  pub tails_of_rows : Rows → List Tree
-  tails_of_rows no_row = []
-  tails_of_rows (row pattern body rest) = tails body ++ tails_of_rows rest
+  pub tails_of_rows : List Opening → Tree → Rows → List Tail
+  tails_of_rows inside scrutinee no_row = []
+  tails_of_rows inside scrutinee (row pattern body rest) =
+      tails_inside (inside ++ record { scrutinee = scrutinee; pattern = pattern } ∷ []) body ++ tails_of_rows inside scrutinee rest
+
+abbrev pub tails : Tree → List Tail
+tails body = tails_inside [] body
 
 -- What is gathered from an expression in the order of the text: at a form from the form, before its arguments; at a match
 -- from its rows, before its parts. Calls and matches are gathered so.

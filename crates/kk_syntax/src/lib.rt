@@ -21,7 +21,7 @@ pub use copy::{
 pub use ground::{Ground, GroundType, Instance};
 pub use literal::StringLiteral;
 pub use operator::{BinaryOperator, PrintForm, UnaryOperator};
-pub use positions::{Ownership, Positions};
+pub use positions::{Ownership, Position, Positions};
 pub use program::{
     Binder, Constructor, Expr, Form, Fun, Pat, Program, Row, Statement, Ty, TypeDecl,
 };

@@ -1,4 +1,5 @@
 ghost use Rattle.std.specs.Prelude.{◌≡◌};
+ghost use Rattle.kk_syntax.specs.OwnedPositions.{owned_in};
 ghost use Rattle.kk_syntax.specs.PositionsOf.{is_lent, lends, positions_of};
 
 /// How an argument is passed at a parameter.
@@ -8,6 +9,13 @@ pub enum Ownership {
     Owned,
     /// The caller keeps it until the call returns.
     Lent,
+}
+
+/// A function and one of its parameters, both by their numbers, from 0.
+#[derive(Clone, Copy, Debug, PartialEq, Eq)]
+pub struct Position {
+    pub function: usize,
+    pub parameter: usize,
 }
 
 /// For each function and each parameter, whether it is owned or lent; one that is not told of is owned.
@@ -30,13 +38,26 @@ impl Ownership {
 }
 
 impl Positions {
-    /// Whether an argument is lent at a parameter of a function, both by their numbers.
-    pub fn is_lent(&self, function: u32, parameter: usize) -> bool
-        ensures { result ≡ is_lent (positions_of self.now) function parameter }
+    /// Whether a position is lent.
+    pub fn is_lent(&self, position: Position) -> bool
+        ensures { result ≡ is_lent (positions_of self.now) position.function position.parameter }
     {
-        match self.functions.get(function as usize) {
-            Some(parameters) => match parameters.get(parameter) {
+        match self.functions.get(position.function) {
+            Some(parameters) => match parameters.get(position.parameter) {
                 Some(ownership) => ownership.is_lent(),
+                None => false,
+            },
+            None => false,
+        }
+    }
+
+    /// Whether a position is told of as owned.
+    pub fn is_owned(&self, position: Position) -> bool
+        ensures { result ≡ owned_in (positions_of self.now) position.function position.parameter }
+    {
+        match self.functions.get(position.function) {
+            Some(parameters) => match parameters.get(position.parameter) {
+                Some(ownership) => !ownership.is_lent(),
                 None => false,
             },
             None => false,

@@ -9,7 +9,8 @@ use Rattle.kk_syntax.specs.PlainTyping.{Signature, Scope}
 use Rattle.kk_source.specs.State.{Store, Environment}
 use Rattle.kk_core.specs.Codes.{Code, ProgramCode}
 use Rattle.kk_core.specs.CoreStates.{CoreSetting, Join, CallFrame, CoreState}
-use Rattle.kk_core.specs.CoreTyping.{AreCodesTyped, AreSmall}
+use Rattle.kk_core.specs.CoreTyping.{AreSmall}
+use Rattle.kk_core.specs.PlainCoreTyping.{AreCodesTyped}
 use Rattle.kk_core.specs.Sizes.{most_forms}
 use Rattle.rv_isa.specs.declared.asm.Action.TheVariants.{Label}
 use Rattle.rv_isa.specs.Processor.{Ending}

@@ -9,7 +9,8 @@ use Rattle.kk_source.specs.State.{Value, Environment}
 use Rattle.kk_source.specs.Live.{value_of}
 use Rattle.kk_source.specs.Step.{bind_parameters}
 use Rattle.kk_core.specs.Codes.{FunctionCode}
-use Rattle.kk_core.specs.CoreTyping.{HaveTypes, IsCodeTyped, AreCodesTyped, IsFunctionSmall, AreSmall}
+use Rattle.kk_core.specs.CoreTyping.{IsFunctionSmall, AreSmall}
+use Rattle.kk_core.specs.PlainCoreTyping.{HaveTypes, IsCodeTyped, AreCodesTyped}
 use Rattle.kk_core.specs.Sizes.{below}
 use Rattle.rv_isa.specs.declared.asm.Operation.TheVariants as Op
 use Rattle.rv_isa.specs.AsmCode.{Lines}

@@ -6,7 +6,7 @@ use Rattle.kk_syntax.specs.Shapes.{is_among as is_bound}
 use Rattle.kk_syntax.specs.Types.{TypeTree}
 use Rattle.kk_syntax.specs.PlainTyping.{Signature, Scope}
 use Rattle.kk_core.specs.Codes.{Code, give, tail_call, branch, case, compute, use_of, unpack, inside}
-use Rattle.kk_core.specs.CoreTyping.{HasCodeType}
+use Rattle.kk_core.specs.PlainCoreTyping.{HasCodeType}
 use Rattle.kk_core.specs.Sizes.{forms, AreBound, Ordered}
 use Rattle.rv_isa.specs.declared.asm.Action.{Action}
 use Rattle.rv_isa.specs.declared.asm.Action.TheVariants.{Label, Jump, Branch, TailCall, Return}
@@ -272,7 +272,7 @@ order_rises signatures tail scope (give x) t bound low high typed ordered = orde
 order_rises signatures tail scope (tail_call f arguments) t bound low high typed ordered = ordered.1
 order_rises signatures tail scope (branch x positive negative) t bound low high typed ordered =
     omega (arith, order_rises signatures tail scope positive t bound low ordered.0 typed.1 ordered.2, order_rises signatures tail scope negative t bound ordered.0 high typed.2 ordered.3)
-order_rises signatures tail scope (case x arms) t bound low high typed ordered = absurd typed
+order_rises signatures tail scope (case x decisions arms) t bound low high typed ordered = absurd typed
 order_rises signatures tail scope (compute x form arguments rest) t bound low high typed ordered =
     omega (arith, ordered.1, order_rises signatures tail _ rest t (x ∷ bound) (x + 1) high typed.4 ordered.2)
 order_rises signatures tail scope (use_of x rest) t bound low high typed ordered = order_rises signatures tail scope rest t bound low high typed.2 ordered.1
@@ -295,7 +295,7 @@ module _ (signatures : List Signature) (few_parameters : AreFew signatures) (bas
       (fits_branch base bound has x ordered.1 goal low is.2 high (forms positive) (forms negative) is.0 is.1
       (code_fits place scope positive t bound from ordered.0 goal (low + 1) is.2 is.0 has (omega (arith, le, up)) typed.1 ordered.2 is.3)
       (code_fits place scope negative t bound ordered.0 to goal is.2 high is.1 has le typed.2 ordered.3 is.4))
-  code_fits place scope (case x arms) t bound from to goal low high lines has le typed ordered is = absurd typed
+  code_fits place scope (case x decisions arms) t bound from to goal low high lines has le typed ordered is = absurd typed
   code_fits place scope (compute x form arguments rest) t bound from to goal low high lines has le typed ordered is =
       let up = order_rises signatures place _ rest t (x ∷ bound) (x + 1) to typed.4 ordered.2 in
       let less : x < base = omega (arith, up, le) in

@@ -8,7 +8,7 @@ use Rattle.kk_source.specs.Ends.{exit_of}
 use Rattle.kk_source.specs.FormEffects.{truth}
 use Rattle.kk_core.specs.Codes.{Code, use_of, inside}
 use Rattle.kk_core.specs.CoreStates.{Join, CallFrame, CoreControl, running, stopped, CoreState}
-use Rattle.kk_core.specs.CoreTyping.{HasCodeType}
+use Rattle.kk_core.specs.PlainCoreTyping.{HasCodeType}
 use Rattle.kk_core.specs.Sizes.{forms, most_forms, Ordered}
 use Rattle.rv_isa.specs.declared.asm.Action.TheVariants.{Label}
 use Rattle.rv_isa.specs.Arithmetic.{signed}

@@ -8,7 +8,8 @@ use Rattle.kk_syntax.specs.Types.{unit_type}
 use Rattle.kk_syntax.specs.PlainTyping.{Signature}
 use Rattle.kk_core.specs.Codes.{FunctionCode, ProgramCode}
 use Rattle.kk_core.specs.CoreStates.{core_first_state, no_code}
-use Rattle.kk_core.specs.CoreTyping.{IsCoreTyped, IsSmall}
+use Rattle.kk_core.specs.CoreTyping.{IsSmall}
+use Rattle.kk_core.specs.PlainCoreTyping.{IsPlainCoreTyped}
 use Rattle.rv_isa.specs.AsmCode.{Lines}
 use Rattle.rv_isa.specs.AsmMachine.{asm_start, bound}
 use Rattle.rv_isa.specs.Frames.{empty}
@@ -28,7 +29,7 @@ starts_empty names n cells are none is =
     cc (is, ap (λ some. bound some []) nothing)
 
 -- the machines start in states that stand for each other
-starts : (code : ProgramCode) (functions : List Lines) (texts : List (List ℕ)) (main : Lines) (typed : IsCoreTyped code) → IsSmall code → AreFunctionsLowered (texts_of code.texts texts) code.functions functions → AreWellFormed functions → slice_get functions 0 ≡ Some main
+starts : (code : ProgramCode) (functions : List Lines) (texts : List (List ℕ)) (main : Lines) (typed : IsPlainCoreTyped code) → IsSmall code → AreFunctionsLowered (texts_of code.texts texts) code.functions functions → AreWellFormed functions → slice_get functions 0 ≡ Some main
     → (positions : PositionTable) (cells depth : ℕ) (input : List ℕ) → All (λ byte. byte < 256) input
     → (idle : ℕ) × Related (texts_of code.texts texts) typed.signatures 0 idle (core_first_state (setting_of_core code positions cells depth) input) (asm_start main (first_world input))
 starts code functions texts main typed small lowered formed main_is positions cells depth input bytes =
@@ -48,7 +49,7 @@ starts code functions texts main typed small lowered formed main_is positions ce
     )
 
 -- all of it, for the machines
-abbrev lowered_program : (code : ProgramCode) (functions : List Lines) (texts : List (List ℕ)) (typed : IsCoreTyped code) → IsSmall code → AreFunctionsLowered (texts_of code.texts texts) code.functions functions → AreWellFormed functions → (positions : PositionTable) (cells depth first moves : ℕ) → LoweredProgram
+abbrev lowered_program : (code : ProgramCode) (functions : List Lines) (texts : List (List ℕ)) (typed : IsPlainCoreTyped code) → IsSmall code → AreFunctionsLowered (texts_of code.texts texts) code.functions functions → AreWellFormed functions → (positions : PositionTable) (cells depth first moves : ℕ) → LoweredProgram
 lowered_program code functions texts typed small lowered formed positions cells depth first moves =
     record {
       code = code;
@@ -67,7 +68,7 @@ lowered_program code functions texts typed small lowered formed positions cells 
     }
 
 -- Assembler code that was made of a program in core form does what that does.
-pub lowered_code_does_as_core : (code : ProgramCode) (functions : List Lines) (texts : List (List ℕ)) (main : Lines) → IsCoreTyped code → IsSmall code → AreFunctionsLowered (texts_of code.texts texts) code.functions functions → AreWellFormed functions → slice_get functions 0 ≡ Some main
+pub lowered_code_does_as_core : (code : ProgramCode) (functions : List Lines) (texts : List (List ℕ)) (main : Lines) → IsPlainCoreTyped code → IsSmall code → AreFunctionsLowered (texts_of code.texts texts) code.functions functions → AreWellFormed functions → slice_get functions 0 ≡ Some main
     → DoesAsCore code functions texts main
 lowered_code_does_as_core code functions texts main typed small lowered formed main_is =
     record {

@@ -5,7 +5,8 @@ use Rattle.std.proofs.lemmas.Bool.{or_cases, or_left, or_right, false≢true, eq
 use Rattle.kk_syntax.specs.Shapes.{is_among as is_bound}
 use Rattle.kk_syntax.specs.PlainTyping.{Signature, with_parameters}
 use Rattle.kk_core.specs.Codes.{FunctionCode, ProgramCode}
-use Rattle.kk_core.specs.CoreTyping.{IsCodeTyped, AreCodesTyped, IsCoreTyped, IsFunctionSmall, AreSmall, IsSmall, all_forms}
+use Rattle.kk_core.specs.CoreTyping.{IsFunctionSmall, AreSmall, IsSmall, all_forms}
+use Rattle.kk_core.specs.PlainCoreTyping.{IsCodeTyped, AreCodesTyped, IsPlainCoreTyped}
 use Rattle.kk_core.specs.Sizes.{forms, below, most_parameters}
 use Rattle.rv_isa.specs.AsmCode.{Lines}
 use Rattle.rv_isa.specs.Frames.{is_among}
@@ -119,7 +120,7 @@ few_of signatures (function ∷ functions) (first ∷ own) typed small zero sign
 few_of signatures (function ∷ functions) (first ∷ own) typed small (suc f) signature is = few_of signatures functions own typed.1 small.1 f signature is
 
 -- the functions of a typed and small program, however they are lowered
-pub lowered_formed : (code : ProgramCode) (texts : Texts) (each : List Lines) → IsCoreTyped code → IsSmall code → AreFunctionsLowered texts code.functions each
+pub lowered_formed : (code : ProgramCode) (texts : Texts) (each : List Lines) → IsPlainCoreTyped code → IsSmall code → AreFunctionsLowered texts code.functions each
     → AreWellFormed each × (all_lines each ≤ 12 * all_forms code.functions) × (length each ≡ length code.functions)
 lowered_formed code texts each typed small lowered =
     let all = functions_formed typed.signatures (few_of typed.signatures code.functions typed.signatures typed.functions small.functions) texts code.functions typed.signatures each typed.functions small.functions lowered in

@@ -3,6 +3,8 @@ use Rattle.std.proofs.Common.{◌≡◌, ℕ, ◌+◌, ◌<◌, ◌≤◌, get_o
 use Rattle.kk_syntax.specs.declared.program.Form.{Form}
 use Rattle.kk_core.specs.Codes.{Code, give, tail_call, branch, case, inside, Arms, Piece, computes, uses, unpacks, runs, put, plug}
 use Rattle.std.proofs.lemmas.List.{map-append, take_more}
+use Rattle.kk_core.specs.Decisions.{NodeTree, node_tree}
+use Rattle.kk_core.specs.declared.decisions.Decisions.{Decisions}
 use Rattle.kk_core.specs.declared.form.Block.{Block}
 use Rattle.kk_core.specs.declared.form.Last.{Last}
 use Rattle.kk_core.specs.declared.form.Last.TheVariants.{If, Case, rolls-If, rolls-Case}
@@ -161,7 +163,7 @@ code_tail_calls {literals} {goal} {f} {arguments} {a} {b} wrote = record {
   are = λ later. (refl, sym wrote.label);
 }
 
-pub code_case : {literals : List (List ℕ)} {goal : Goal} {x : ℕ} {arms : Arms} {a : Lowering} → WroteCode literals goal (case x arms) a a
+pub code_case : {literals : List (List ℕ)} {goal : Goal} {x : ℕ} {decisions : List NodeTree} {arms : Arms} {a : Lowering} → WroteCode literals goal (case x decisions arms) a a
 code_case {literals} {goal} {x} {arms} {a} = record { lines = []; grows = grows_more (omega arith) (grows_none a); are = λ later. tt }
 
 -- a branch: its label is taken first, and stands between the code of both ways
@@ -188,8 +190,8 @@ code_branches {literals} {goal} {x} {label} {positive} {negative} {a} {b} {c} {d
 last_if : (x : ℕ) (p n : _) → last_code (If x p n) ≡ branch x (block_code p.value) (block_code n.value)
 last_if x p n = ap last_code (sym (rolls-If x p n)) ∙ fold-roll-Last Code Piece ArmCode Code last_step step_step arm_step block_step _
 
-pub last_case : (x : ℕ) (arms : _) → last_code (Case x arms) ≡ case x (arms_of (map arm_code arms.items))
-last_case x arms = ap last_code (sym (rolls-Case x arms)) ∙ fold-roll-Last Code Piece ArmCode Code last_step step_step arm_step block_step _
+pub last_case : (x : ℕ) (decisions : Decisions) (arms : _) → last_code (Case x decisions arms) ≡ case x (map node_tree decisions.nodes.items) (arms_of (map arm_code arms.items))
+last_case x decisions arms = ap last_code (sym (rolls-Case x decisions arms)) ∙ fold-roll-Last Code Piece ArmCode Code last_step step_step arm_step block_step _
 
 pub step_use : (x : ℕ) → step_piece (Use x) ≡ uses x
 step_use x = ap step_piece (sym (rolls-Use x)) ∙ fold-roll-Step Code Piece ArmCode Code last_step step_step arm_step block_step _

@@ -17,7 +17,7 @@ use Rattle.kk_source.specs.FormEffects.{truth, is_true, integer_of, unary_result
 use Rattle.kk_core.specs.Codes.{Code, compute}
 use Rattle.kk_core.specs.CoreStates.{CoreSetting, Join, CallFrame, running, CoreConfiguration, CoreState}
 use Rattle.kk_core.specs.CoreMachine.{core_step}
-use Rattle.kk_core.specs.CoreTyping.{HaveTypes}
+use Rattle.kk_core.specs.PlainCoreTyping.{HaveTypes}
 use Rattle.rv_isa.specs.Arithmetic.{signed}
 use Rattle.rv_isa.specs.AsmCode.{Line}
 use Rattle.cell_runtime.specs.Prints.{put_of}

@@ -12,7 +12,7 @@ use Rattle.kk_syntax.specs.Shapes.{is_among as is_bound}
 use Rattle.kk_syntax.specs.Types.{TypeTree}
 use Rattle.kk_syntax.specs.PlainTyping.{Signature, Scope, IsFormTyped}
 use Rattle.kk_source.specs.FormEffects.{piece_of}
-use Rattle.kk_core.specs.CoreTyping.{HaveTypes}
+use Rattle.kk_core.specs.PlainCoreTyping.{HaveTypes}
 use Rattle.kk_core.specs.Sizes.{AreBound, most_parameters}
 use Rattle.rv_isa.specs.declared.asm.Action.{Action}
 use Rattle.rv_isa.specs.declared.asm.Action.TheVariants as OfAction

@@ -5,7 +5,7 @@ use Rattle.kk_syntax.specs.PlainTyping.{Signature, Scope}
 use Rattle.kk_source.specs.State.{Environment}
 use Rattle.kk_core.specs.Codes.{Code, use_of, inside}
 use Rattle.kk_core.specs.CoreStates.{Join, CallFrame}
-use Rattle.kk_core.specs.CoreTyping.{HasCodeType}
+use Rattle.kk_core.specs.PlainCoreTyping.{HasCodeType}
 use Rattle.kk_core.specs.Sizes.{forms, most_forms, Ordered}
 use Rattle.rv_isa.specs.declared.asm.Action.TheVariants.{Label}
 use Rattle.rv_isa.specs.AsmCode.{Line}

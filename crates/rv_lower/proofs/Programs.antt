@@ -3,7 +3,8 @@ use Rattle.std.proofs.Common.{◌≡◌, ℕ, zero, suc, ◌+◌, ◌<◌, ◌�
 use Rattle.std.proofs.lemmas.List.{map-append, take_more, take_all}
 use Rattle.kk_core.specs.declared.form.CoreFunction.{CoreFunction}
 use Rattle.kk_core.specs.Codes.{FunctionCode, ProgramCode, function_code}
-use Rattle.kk_core.specs.CoreTyping.{IsCoreTyped, AreCodesTyped, IsSmall, all_forms}
+use Rattle.kk_core.specs.CoreTyping.{IsSmall, all_forms}
+use Rattle.kk_core.specs.PlainCoreTyping.{IsPlainCoreTyped, AreCodesTyped}
 use Rattle.kk_syntax.specs.PlainTyping.{Signature}
 use Rattle.std.specs.Prelude.{slice_get}
 use Rattle.rv_lower.specs.Meaning.{IsAsmOf}
@@ -89,7 +90,7 @@ codes_all functions slice i same le =
     ap (λ (fs : List CoreFunction). map function_code (take i fs)) (sym same) ∙ ap (map function_code) (take_all i slice le) ∙ ap (map function_code) same
 
 -- a whole program
-pub form_of : (code : ProgramCode) (each : List Lines) (texts : List (List ℕ)) → IsCoreTyped code → IsSmall code → LoweredFunctions code.texts code.functions each texts → IsLoweredForm code each texts
+pub form_of : (code : ProgramCode) (each : List Lines) (texts : List (List ℕ)) → IsPlainCoreTyped code → IsSmall code → LoweredFunctions code.texts code.functions each texts → IsLoweredForm code each texts
 form_of code each texts typed small all =
     let lowered = subst (λ (of : List (List ℕ)). AreFunctionsLowered (texts_of code.texts of) code.functions each) (append-nil texts) (all.are []) in
     let formed = lowered_formed code (texts_of code.texts texts) each typed small lowered in
@@ -109,7 +110,7 @@ first_signature signatures (first ∷ own) (function ∷ functions) (lines ∷ e
     let empty : function.parameters ≡ 0 = sym typed.0.parameters ∙ ap (λ (of : Signature). length of.parameters) same ∙ none in
     (lines, refl, lowered.0.params ∙ ap (from_to 0) empty)
 
-pub asm_of : (code : ProgramCode) (each : List Lines) (texts : List (List ℕ)) → IsCoreTyped code → IsSmall code → IsLoweredForm code each texts → IsAsmOf code each texts
+pub asm_of : (code : ProgramCode) (each : List Lines) (texts : List (List ℕ)) → IsPlainCoreTyped code → IsSmall code → IsLoweredForm code each texts → IsAsmOf code each texts
 asm_of code each texts typed small form =
     let first = first_signature typed.signatures typed.signatures code.functions each (texts_of code.texts texts) _ typed.functions form.lowered (ap (slice_get typed.signatures) (sym small.main) ∙ typed.main) refl in
     record {

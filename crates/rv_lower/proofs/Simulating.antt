@@ -222,7 +222,7 @@ module _ (program : LoweredProgram) where
       at_tail_call f arguments environment inner frames store input credit idle base low result whole left cells into fs world formed here waits input_is bytes
   at_code (branch x positive negative) environment inner frames store input credit idle base low result whole left cells into fs world idle_is formed here waits input_is bytes =
       at_branch program x positive negative environment inner frames store input credit idle base low result whole left cells into fs world formed here waits input_is bytes
-  at_code (case x arms) environment inner frames store input credit idle base low result whole left cells into fs world idle_is formed here waits input_is bytes = absurd here.placed.typed
+  at_code (case x decisions arms) environment inner frames store input credit idle base low result whole left cells into fs world idle_is formed here waits input_is bytes = absurd here.placed.typed
   at_code (compute x form arguments rest) environment inner frames store input credit idle base low result whole left cells into fs world idle_is formed here waits input_is bytes =
       at_compute x form arguments rest (kind_of form) environment inner frames store input credit idle base low result whole left cells into fs world formed here waits input_is bytes
   at_code (use_of x rest) environment inner frames store input credit idle base low result whole left cells into fs world idle_is formed here waits input_is bytes =

@@ -28,7 +28,7 @@ CodeLines base texts goal low (tail_call f arguments) lines high =
 CodeLines base texts goal low (branch x positive negative) lines high =
     (yes : List Line) × (no : List Line) × (middle : ℕ) × CodeLines base texts goal (low + 1) positive yes middle × CodeLines base texts goal middle negative no high
     × (lines ≡ test_lines base x low ++ (yes ++ (acts (Label low) [] ∷ no)))
-CodeLines base texts goal low (case x arms) lines high = Unit {0}
+CodeLines base texts goal low (case x decisions arms) lines high = Unit {0}
 CodeLines base texts goal low (compute x form arguments rest) lines high =
     (own : List Line) × (more : List Line) × FormLines base texts x form arguments own × CodeLines base texts goal low rest more high × (lines ≡ own ++ more)
 CodeLines base texts goal low (use_of x rest) lines high = CodeLines base texts goal low rest lines high

@@ -98,7 +98,7 @@ fn write_last(
             write_label(lowering, label)?;
             write_block(lowering, literals, negative, goal)
         }
-        Last::Case(_, _) => Ok(()),
+        Last::Case(_, _, _) => Ok(()),
     }
 }
 

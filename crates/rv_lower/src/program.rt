@@ -2,7 +2,8 @@
 
 ghost use Rattle.std.specs.Prelude.{◌≡◌, IfOk};
 ghost use Rattle.kk_core.specs.Codes.{core_code, function_code};
-ghost use Rattle.kk_core.specs.CoreTyping.{IsCoreTyped, IsSmall};
+ghost use Rattle.kk_core.specs.CoreTyping.{IsSmall};
+ghost use Rattle.kk_core.specs.PlainCoreTyping.{IsPlainCoreTyped};
 ghost use Rattle.rv_isa.specs.AsmCode.{lines_of, asm_functions, asm_constants};
 ghost use Rattle.rv_lower.specs.Form.{IsLoweredForm};
 ghost use Rattle.rv_lower.specs.Lowered.{from_to};
@@ -53,7 +54,7 @@ pub fn lower_function(
 
 /// The assembler code of a program in core form.
 fn lower_core(alloc: Global, core: &Core) -> Result<Asm, NoMemory>
-    requires typed { IsCoreTyped (core_code core.now) }
+    requires typed { IsPlainCoreTyped (core_code core.now) }
     requires small { IsSmall (core_code core.now) }
     ensures { IfOk result (λ asm. IsLoweredForm (core_code core.now) (asm_functions asm) (asm_constants asm)) }
 {
@@ -73,7 +74,7 @@ fn lower_core(alloc: Global, core: &Core) -> Result<Asm, NoMemory>
 /// The assembler code of a program in core form. It is well formed and small, and does what the program does, on every input,
 /// wherever its constants stand in memory.
 pub fn lower(alloc: Global, core: &Core) -> Result<Asm, NoMemory>
-    requires typed { IsCoreTyped (core_code core.now) }
+    requires typed { IsPlainCoreTyped (core_code core.now) }
     requires small { IsSmall (core_code core.now) }
     ensures { IfOk result (λ asm. IsAsmOf (core_code core.now) (asm_functions asm) (asm_constants asm)) }
 {

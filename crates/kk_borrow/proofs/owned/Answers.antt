@@ -4,9 +4,10 @@ use Rattle.std.proofs.lemmas.Result.{IfOk-weaker}
 use Rattle.kk_syntax.specs.PositionsOf.{positions_of}
 use Rattle.kk_syntax.specs.Programs.{function_tree, program_tree}
 use Rattle.kk_borrow.specs.Demands.{rules_from}
-use Rattle.kk_borrow.specs.Least.{IsLeast}
+use Rattle.kk_syntax.specs.OwnedPositions.{IsLeast}
+use Rattle.kk_syntax.specs.OwnedSearch.{each_lent}
 use Rattle.kk_borrow.specs.Rules.{rule_tree, rule_trees}
-use Rattle.kk_borrow.specs.Standings.{ownerships, waitings, each_lent, none_waiting}
+use Rattle.kk_borrow.specs.Standings.{ownerships, waitings, none_waiting}
 use Rattle.kk_borrow.proofs.Rows.{idle}
 use Rattle.kk_borrow.proofs.Search.{Searches, start, next, end}
 use Rattle.kk_borrow.proofs.Waiting.{nothing_left}

@@ -7,7 +7,7 @@ use Rattle.kk_build.proofs.build.Goals as goal
 pub file_of-requires-clause-typed : goal.file_of-requires-clause-typed
 file_of-requires-clause-typed c =
     let typed = c.accepted_programs_are_typed.ensures.typed _ _ c.in_ok-accepted.ensures.program in
-    (c.instances_mean_the_program.ensures _ _ _ _ typed c.in_ok-accepted.ensures.instances.instances).typed
+    c.instances_of_plain_programs_are_plain.ensures _ _ _ _ typed c.in_ok-accepted.ensures.instances.instances
 
 pub file_of-requires-clause-small : goal.file_of-requires-clause-small
 file_of-requires-clause-small c =
@@ -19,6 +19,7 @@ returns-in-Ok-clause-ok c =
     let program = program_tree c.in_ok-accepted.accepted.typed.program in
     let made = ground_program c.in_ok-accepted.accepted.instances in
     let typed = c.accepted_programs_are_typed.ensures.typed c.args.text.now program c.in_ok-accepted.ensures.program in
-    let means = c.instances_mean_the_program.ensures program made _ _ typed c.in_ok-accepted.ensures.instances.instances in
+    let checked = c.accepted_programs_are_typed.ensures.checked c.args.text.now program _ c.in_ok-accepted.ensures.program c.in_ok-accepted.ensures.principal in
+    let means = c.instances_mean_the_program.ensures program made _ _ checked c.in_ok-accepted.ensures.instances.instances in
     built_by_instances c.args.text.now c.args.cells c.args.depth program made c.in-Ok.bytes
     (record { is_program = c.in_ok-accepted.ensures.program; typed = typed; means = means }) c.in-Ok.ensures.image c.in-Ok.ensures.agrees c.in-Ok.ensures.bounded

@@ -7,19 +7,37 @@
 use super::programs::FUNCTIONS;
 use kk_base::Name;
 use kk_syntax::{
-    BinaryOperator, Binder, Expr, Form, Fun, Pat, Positions, PrintForm, Program, Row, Statement, Ty,
+    Accepted, BinaryOperator, Binder, Expr, Form, Fun, Ground, Pat, PrintForm, Program, Row,
+    Statement, Ty, Typed,
 };
 use std::alloc::Global;
 use std::test::Fail;
 
-/// The program of all functions, and `main` with this body.
-pub fn program(alloc: Global, body: &str) -> Result<Program, Fail> {
+/// The program of all functions, and `main` with this body, as one that is accepted. Its types and its instances do not
+/// count for the machine, and are left out.
+pub fn accepted(alloc: Global, body: &str) -> Result<Accepted, Fail> {
+    Ok(Accepted {
+        typed: Typed {
+            program: program(alloc, body)?,
+            bodies: Vec::new(alloc),
+        },
+        instances: Ground {
+            declarations: Vec::new(alloc),
+            constructors: Vec::new(alloc),
+            texts: Vec::new(alloc),
+            types: Vec::new(alloc),
+            instances: Vec::new(alloc),
+        },
+    })
+}
+
+fn program(alloc: Global, body: &str) -> Result<Program, Fail> {
     let mut functions = Vec::new(alloc);
     for function in &FUNCTIONS {
-        functions.push(function_of(alloc, function.body)?)?;
+        functions.push(function_of(alloc, function.parameters, function.body)?)?;
     }
     let main = functions.len();
-    functions.push(function_of(alloc, body)?)?;
+    functions.push(function_of(alloc, 0, body)?)?;
     Ok(Program {
         types: Vec::new(alloc),
         constructors: Vec::new(alloc),
@@ -29,22 +47,17 @@ pub fn program(alloc: Global, body: &str) -> Result<Program, Fail> {
     })
 }
 
-/// How the arguments of all functions are passed.
-pub fn positions(alloc: Global) -> Result<Positions, Fail> {
-    let mut functions = Vec::new(alloc);
-    for function in &FUNCTIONS {
-        functions.push(Vec::from_slice(alloc, function.parameters)?)?;
+/// A function of which only the number of its parameters and the body count.
+fn function_of(alloc: Global, count: usize, body: &str) -> Result<Fun, Fail> {
+    let mut parameters = Vec::new(alloc);
+    for _ in 0..count {
+        parameters.push(Ty::Int32)?;
     }
-    Ok(Positions { functions })
-}
-
-/// A function of which only the body counts.
-fn function_of(alloc: Global, body: &str) -> Result<Fun, Fail> {
     Ok(Fun {
         name: Name::new(String::new(alloc)),
         at: 0,
         variables: 0,
-        parameters: Vec::new(alloc),
+        parameters,
         result: Ty::Unit,
         body: expression(alloc, body)?,
     })
@@ -88,7 +101,7 @@ fn form(word: &str) -> Option<(Form, usize)> {
 /// The call of a function by its name, and the number of its arguments.
 fn call(name: &str) -> Option<(Form, usize)> {
     let number = FUNCTIONS.iter().position(|function| function.name == name)?;
-    let count = FUNCTIONS[number].parameters.len();
+    let count = FUNCTIONS[number].parameters;
     let number = u32::try_from(number).ok()?;
     Some((Form::Call(number), count))
 }

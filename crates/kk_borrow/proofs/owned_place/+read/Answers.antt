@@ -1,6 +1,6 @@
 use Rattle.std.proofs.Common.{◌||◌, ap, sym, ◌∙◌}
 use Rattle.kk_syntax.specs.Trees.{expr_tree}
-use Rattle.kk_borrow.specs.OwnedPlaces.{builds}
+use Rattle.kk_syntax.specs.OwnedPositions.{builds}
 use Rattle.kk_borrow.specs.Rules.{rule_trees}
 use Rattle.kk_borrow.proofs.Blocks.{block_rules, block_builds}
 use Rattle.kk_borrow.proofs.owned_place.+read.Goals as goal

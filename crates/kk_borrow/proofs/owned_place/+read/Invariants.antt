@@ -1,6 +1,6 @@
 use Rattle.std.proofs.Common.{◌≡◌, ◌++◌, ◌||◌, map, drop}
 use Rattle.kk_syntax.specs.Trees.{expr_tree, trees_of, row_tree, rows_of, statement_tree}
-use Rattle.kk_borrow.specs.OwnedPlaces.{builds_any, builds_rows, reuses}
+use Rattle.kk_syntax.specs.OwnedPositions.{builds_any, builds_rows, reuses}
 use Rattle.kk_borrow.specs.Statements.{builds_statements, placed_statements}
 use Rattle.kk_borrow.specs.Rules.{rule_trees}
 use Rattle.kk_borrow.specs.Demands.{placed_all, placed_rows}

@@ -1,7 +1,7 @@
 use Rattle.std.proofs.Common.{not, map, length, refl, ap, sym, ◌∙◌}
 use Rattle.kk_syntax.specs.Trees.{expr_tree, trees_of}
-use Rattle.kk_borrow.specs.OwnedPlaces.{makes}
-use Rattle.kk_borrow.proofs.Blocks.{makes_by, none_map, none_by}
+use Rattle.kk_syntax.specs.OwnedPositions.{makes}
+use Rattle.kk_syntax.proofs.OwnedPlaces.{makes_by, none_map, none_by}
 use Rattle.kk_borrow.proofs.owned_place.makes.Goals as goal
 
 pub returns-in-Construct : goal.returns-in-Construct

@@ -1,8 +1,8 @@
 use Rattle.std.proofs.Common.{not, map, ap, sym, ◌∙◌}
 use Rattle.kk_syntax.specs.Patterns.{pattern_tree}
 use Rattle.kk_syntax.proofs.PatternViews.{constructor_tree}
-use Rattle.kk_borrow.specs.OwnedPlaces.{opens}
-use Rattle.kk_borrow.proofs.Blocks.{opens_by, none_map, none_by}
+use Rattle.kk_syntax.specs.OwnedPositions.{opens}
+use Rattle.kk_syntax.proofs.OwnedPlaces.{opens_by, none_map, none_by}
 use Rattle.kk_borrow.proofs.owned_place.opens.Goals as goal
 
 pub returns-in-Constructor : goal.returns-in-Constructor

@@ -2,7 +2,8 @@ use Rattle.std.proofs.Common.{[], cond, map, ap, sym, ◌∙◌}
 use Rattle.kk_syntax.specs.Trees.{expr_tree, statement_tree}
 use Rattle.kk_syntax.proofs.Views.{block_tree}
 use Rattle.kk_borrow.specs.Demands.{origins_in}
-use Rattle.kk_borrow.proofs.Blocks.{origins_block, none_map, none_by}
+use Rattle.kk_syntax.proofs.OwnedPlaces.{none_map, none_by}
+use Rattle.kk_borrow.proofs.Blocks.{origins_block}
 use Rattle.kk_borrow.proofs.tail_call.+origins_in.Goals as goal
 
 pub returns-else-is_empty : goal.returns-else-is_empty

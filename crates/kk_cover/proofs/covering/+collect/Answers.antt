@@ -7,7 +7,8 @@ use Rattle.kk_syntax.proofs.Gathered.{gathered_block}
 use Rattle.kk_syntax.proofs.Views.{block_tree}
 use Rattle.kk_cover.specs.Covered.{row_outlines}
 use Rattle.kk_syntax.specs.Outlines.{Outline}
-use Rattle.kk_cover.specs.Matches.{of_matches, matches, match_rows}
+use Rattle.kk_cover.specs.Matches.{match_rows}
+use Rattle.kk_syntax.specs.Matches.{of_matches, matches}
 use Rattle.kk_cover.proofs.Pushing.{on_ok}
 use Rattle.kk_cover.proofs.Walking.{matches_match, found_match, found_block, pushed_rows}
 use Rattle.kk_cover.proofs.covering.+collect.Goals as goal

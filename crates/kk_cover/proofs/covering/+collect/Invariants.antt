@@ -2,7 +2,8 @@ use Rattle.std.proofs.Common.{◌≡◌, ◌++◌, map, drop}
 use Rattle.std.specs.List.{flat_map}
 use Rattle.kk_syntax.specs.Shapes.{gathered_all, gathered_rows}
 use Rattle.kk_syntax.specs.Trees.{expr_tree, trees_of, row_tree, rows_of, statement_tree}
-use Rattle.kk_cover.specs.Matches.{of_matches, matches, match_rows}
+use Rattle.kk_cover.specs.Matches.{match_rows}
+use Rattle.kk_syntax.specs.Matches.{of_matches, matches}
 use Rattle.kk_cover.proofs.covering.+collect.Given as goal
 
 abbrev pub invariant-collect_each-loop-expr : goal.invariant-collect_each-loop-expr

@@ -1,11 +1,12 @@
 use Rattle.std.proofs.Common.{◌++◌, List, ap, ◌∙◌, subst}
 use Rattle.std.specs.Borrow.{Bor}
 use Rattle.kk_syntax.specs.declared.program.Row.{Row}
+use Rattle.kk_syntax.specs.Matches.{matches}
 use Rattle.kk_syntax.specs.Programs.{program_tree}
 use Rattle.kk_syntax.specs.Trees.{expr_tree}
 use Rattle.kk_cover.specs.Covered.{Answers}
 use Rattle.kk_syntax.specs.Outlines.{pattern_outline}
-use Rattle.kk_cover.specs.Matches.{matches, match_rows, IsFirstExample}
+use Rattle.kk_cover.specs.Matches.{match_rows, IsFirstExample}
 use Rattle.kk_cover.proofs.Walking.{first_at, covered_more}
 use Rattle.kk_cover.proofs.covering.first.Goals as goal
 

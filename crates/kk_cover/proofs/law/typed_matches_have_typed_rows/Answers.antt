@@ -1,4 +1,5 @@
-use Rattle.kk_cover.proofs.TypedRows.{rows_of_type, function_rows}
+use Rattle.kk_syntax.proofs.PatternTypes.{rows_of_type}
+use Rattle.kk_cover.proofs.TypedRows.{function_rows}
 use Rattle.kk_cover.proofs.law.typed_matches_have_typed_rows.Goals as goal
 
 pub returns : goal.returns

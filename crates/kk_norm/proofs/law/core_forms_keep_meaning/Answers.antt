@@ -1,4 +1,4 @@
-use Rattle.kk_norm.proofs.Keeping.{keeps_meaning}
+use Rattle.kk_norm.proofs.KeepingPlain.{keeps_meaning}
 use Rattle.kk_norm.proofs.law.core_forms_keep_meaning.Goals as goal
 
 pub returns : goal.returns

@@ -12,7 +12,7 @@ use Rattle.kk_norm.proofs.program.all_functions.Goals as goal
 pub core_function-requires-clause-plain : goal.core_function-requires-clause-plain
 core_function-requires-clause-plain c =
     (c.requires.plain c.loop-instance.instance-index (instance_tree (ground_types c.args.given.now.types.items) c.instance-item.result)
-    (function_at c.args.given.now c.deref-instance-items.result.now c.loop-instance.instance-index c.instance-item.result c.deref-instance-items.ensures.value c.instance-item.is c.loop-instance-test.true)).no_cells
+    (function_at c.args.given.now c.deref-instance-items.result.now c.loop-instance.instance-index c.instance-item.result c.deref-instance-items.ensures.value c.instance-item.is c.loop-instance-test.true)).no_matches
 
 pub core_function-requires-clause-few : goal.core_function-requires-clause-few
 core_function-requires-clause-few c =

@@ -15,7 +15,7 @@ write_last-returns-in_ok-write_label-in-If t c =
 
 pub write_last-returns-in-Case : goal.write_last-returns-in-Case
 write_last-returns-in-Case t c =
-    subst (λ (code : Code). WroteCode c.args.literals.now (goal_of c.args.goal) code c.args.lowering.now c.args.lowering.now) (sym (last_case c.in-Case.field-0 c.in-Case.field-1) ∙ ap last_code (sym c.in-Case.is)) code_case
+    subst (λ (code : Code). WroteCode c.args.literals.now (goal_of c.args.goal) code c.args.lowering.now c.args.lowering.now) (sym (last_case c.in-Case.field-0 c.in-Case.field-1 c.in-Case.field-2) ∙ ap last_code (sym c.in-Case.is)) code_case
 
 pub write_step-returns-in-Use : goal.write_step-returns-in-Use
 write_step-returns-in-Use t c =

@@ -1,6 +1,7 @@
 use Rattle.std.proofs.Common.{◌≡◌, ◌++◌, map, drop}
 use Rattle.kk_syntax.specs.Programs.{function_tree}
-use Rattle.kk_borrow.specs.Standings.{ownership_of, waiting_of, each_lent, none_waiting}
+use Rattle.kk_syntax.specs.OwnedSearch.{each_lent}
+use Rattle.kk_borrow.specs.Standings.{ownership_of, waiting_of, none_waiting}
 use Rattle.kk_borrow.proofs.standing.Standings.new.Given as goal
 
 abbrev pub invariant-loop-function : goal.invariant-loop-function

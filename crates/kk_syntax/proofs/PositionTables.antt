@@ -1,15 +1,14 @@
 -- A table of owned positions, and one that has one position more: it keeps its shape, and has what it had.
-use Rattle.std.proofs.Common.{◌≡◌, ◌<◌, ℕ, zero, suc, ◌⊎◌, inl, inr, true, false, not, List, [], ◌∷◌, length, replicate, set, get_or, refl, sym, ap, ◌∙◌, subst, arith, IsTrue, get_or-set_same, get_or-set_other}
+use Rattle.std.proofs.Common.{◌≡◌, ◌<◌, ℕ, zero, suc, ◌⊎◌, inl, inr, ◌+◌, Bool, true, false, not, List, [], ◌∷◌, length, map, drop, replicate, set, get_or, refl, sym, ap, ◌∙◌, arith, IsTrue, get_or-set_same, get_or-set_other}
 use Rattle.std.proofs.lemmas.Bool.{both_ways, not_from_false, cases_lt, cases_eq}
-use Rattle.std.proofs.lemmas.List.{get_or_past, length-set, length-replicate, set_past}
+use Rattle.std.proofs.lemmas.List.{get_or_past, length-set, length-replicate, set_past, map-set, set-get_or}
 use Rattle.kk_syntax.specs.declared.positions.Ownership.{Ownership}
 use Rattle.kk_syntax.specs.declared.positions.Ownership.TheVariants.{Owned, Lent}
+use Rattle.kk_syntax.specs.declared.positions.Position.{Position}
+use Rattle.kk_syntax.specs.OwnedPositions.{PositionSet, arity_of, Within, owned_in, Told, IsLeast}
+use Rattle.kk_syntax.specs.OwnedSearch.{each_lent, with_owned}
 use Rattle.kk_syntax.specs.PositionsOf.{PositionTable, lends, is_lent}
 use Rattle.kk_syntax.specs.Programs.{FunctionTree, ProgramTree, no_function}
-use Rattle.kk_borrow.specs.declared.position.Position.{Position}
-use Rattle.kk_borrow.specs.Sets.{PositionSet, owned_in}
-use Rattle.kk_borrow.specs.Least.{Within}
-use Rattle.kk_borrow.specs.Standings.{each_lent, with_owned, InProgram, Told}
 
 same_in : {X : Type 0} (xs : List X) (i : ℕ) (d e : X) → i < length xs → get_or xs i d ≡ get_or xs i e
 same_in [] i d e lt = absurd (omega arith)
@@ -40,13 +39,24 @@ lent_row table f i is = elim (cases_lt f (length table)) [
 row_is : (table : PositionTable) (p : Position) → p.function < length table → get_or (with_owned table p) p.function [] ≡ set (get_or table p.function []) p.parameter Owned
 row_is table p lt = get_or-set_same table p.function (set (get_or table p.function []) p.parameter Owned) [] lt
 
-pub grown_told : (table : PositionTable) (p : Position) → is_lent table p.function p.parameter ≡ true → (f : ℕ) → length (get_or (with_owned table p) f []) ≡ length (get_or table f [])
-grown_told table p is f = elim (cases_eq f p.function) [
-  | inl same ↦
-      subst (λ g. length (get_or (with_owned table p) g []) ≡ length (get_or table g [])) (sym same)
-      (ap length (row_is table p (lent_row table p.function p.parameter is)) ∙ length-set (get_or table p.function []) p.parameter Owned)
-  | inr other ↦ ap length (get_or-set_other table p.function f (set (get_or table p.function []) p.parameter Owned) [] other)
-]
+-- an element of a list that is seen through a function, past the last too
+map_at : {X Y : Type 0} (g : X → Y) (xs : List X) (i : ℕ) (d : X) → get_or (map g xs) i (g d) ≡ g (get_or xs i d)
+map_at g [] i d = get_or_past [] i (g d) (omega arith) ∙ ap g (sym (get_or_past [] i d (omega arith)))
+map_at g (x ∷ xs) zero d = refl
+map_at g (x ∷ xs) (suc i) d = map_at g xs i d
+
+-- a table of a program has as many positions in a row as the function has parameters
+pub told_row : (program : ProgramTree) (table : PositionTable) → Told program table → (f : ℕ) → length (get_or table f []) ≡ arity_of program f
+told_row program table told f =
+    sym (map_at (λ (row : List Ownership). length row) table f [])
+    ∙ (ap (λ (ns : List ℕ). get_or ns f 0) told ∙ map_at (λ (g : FunctionTree). length g.parameters) program.functions f no_function)
+
+pub grown_told : (program : ProgramTree) (table : PositionTable) (p : Position) → Told program table → Told program (with_owned table p)
+grown_told program table p told =
+    let row = get_or table p.function [] in
+    map-set (λ (row : List Ownership). length row) table p.function (set row p.parameter Owned)
+    ∙ (ap (λ (n : ℕ). set (map (λ (row : List Ownership). length row) table) p.function n) (length-set row p.parameter Owned ∙ sym (map_at (λ (row : List Ownership). length row) table p.function []))
+    ∙ (set-get_or (map (λ (row : List Ownership). length row) table) p.function 0 ∙ told))
 
 in_row : (row : List Ownership) (i j : ℕ) → IsTrue (not (lends (get_or (set row i Owned) j Lent))) → (j ≡ i) ⊎ IsTrue (not (lends (get_or row j Lent)))
 in_row row i j is = elim (cases_eq j i) [
@@ -73,10 +83,12 @@ lent_all zero i = get_or_past [] i Lent (omega arith)
 lent_all (suc n) zero = refl
 lent_all (suc n) (suc i) = lent_all n i
 
-pub start_told : (fs : List FunctionTree) (f : ℕ) → length (get_or (each_lent fs) f []) ≡ length (get_or fs f no_function).parameters
-start_told [] f = ap (λ (row : List Ownership). length row) (get_or_past [] f [] (omega arith)) ∙ sym (ap (λ (g : FunctionTree). length g.parameters) (get_or_past [] f no_function (omega arith)))
-start_told (x ∷ fs) zero = length-replicate (length x.parameters) Lent
-start_told (x ∷ fs) (suc f) = start_told fs f
+each_told : (fs : List FunctionTree) → map (λ (row : List Ownership). length row) (each_lent fs) ≡ map (λ (g : FunctionTree). length g.parameters) fs
+each_told [] = refl
+each_told (g ∷ fs) = rw (length-replicate (length g.parameters) Lent, each_told fs) refl
+
+pub start_told : (program : ProgramTree) → Told program (each_lent program.functions)
+start_told program = each_told program.functions
 
 start_none : (fs : List FunctionTree) (f i : ℕ) → owned_in (each_lent fs) f i ≡ false
 start_none [] f i = ap (λ (row : List Ownership). not (lends (get_or row i Lent))) (get_or_past [] f [] (omega arith)) ∙ ap (λ o. not (lends o)) (get_or_past [] i Lent (omega arith))
@@ -93,8 +105,8 @@ told_owned table f i is = elim (cases_lt i (length (get_or table f []))) [
   | inr ge ↦ absurd (both_ways (owned_in table f i) (ap (λ o. not (lends o)) (get_or_past (get_or table f []) i Lent ge)) is)
 ]
 
-pub in_program : (program : ProgramTree) (table : PositionTable) → Told program table → InProgram program (owned_in table)
-in_program program table told f i is = let lt = told_owned table f i is in let n = told f in omega (arith, lt, n)
+pub owned_in_program : (program : ProgramTree) (table : PositionTable) → Told program table → (f i : ℕ) → IsTrue (owned_in table f i) → i < arity_of program f
+owned_in_program program table told f i is = let lt = told_owned table f i is in let n = told_row program table told f in omega (arith, lt, n)
 
 still_in_row : (row : List Ownership) (i j : ℕ) → IsTrue (not (lends (get_or row j Lent))) → IsTrue (not (lends (get_or (set row i Owned) j Lent)))
 still_in_row [] i j is = is
@@ -122,3 +134,36 @@ pub grown_has : (table : PositionTable) (p : Position) → is_lent table p.funct
 grown_has table p is =
     ap (λ (row : List Ownership). not (lends (get_or row p.parameter Lent))) (row_is table p (lent_row table p.function p.parameter is))
     ∙ ap (λ o. not (lends o)) (get_or-set_same (get_or table p.function []) p.parameter Owned Lent (lent_told table p.function p.parameter is))
+
+-- ---- a program has one table of its owned positions
+
+same_ownership : (a b : Ownership) → not (lends a) ≡ not (lends b) → a ≡ b
+same_ownership Owned Owned is = refl
+same_ownership Owned Lent is = absurd (both_ways true is refl)
+same_ownership Lent Owned is = absurd (both_ways false refl is)
+same_ownership Lent Lent is = refl
+
+same_row : (xs ys : List Ownership) → length xs ≡ length ys → ((i : ℕ) → not (lends (get_or xs i Lent)) ≡ not (lends (get_or ys i Lent))) → xs ≡ ys
+same_row [] [] len same = refl
+same_row [] (y ∷ ys) len same = absurd (omega (arith, len))
+same_row (x ∷ xs) [] len same = absurd (omega (arith, len))
+same_row (x ∷ xs) (y ∷ ys) len same =
+    ap (λ (o : Ownership). o ∷ xs) (same_ownership x y (same 0)) ∙ ap (λ (os : List Ownership). y ∷ os) (same_row xs ys (omega (arith, len)) (λ i. same (suc i)))
+
+same_rows : (xs ys : PositionTable) → map (λ (row : List Ownership). length row) xs ≡ map (λ (row : List Ownership). length row) ys → ((f i : ℕ) → owned_in xs f i ≡ owned_in ys f i) → xs ≡ ys
+same_rows [] [] len same = refl
+same_rows [] (y ∷ ys) len same = let e : 0 ≡ length (map (λ (row : List Ownership). length row) ys) + 1 = omega (arith, ap length len) in absurd (omega (arith, e))
+same_rows (x ∷ xs) [] len same = let e : length (map (λ (row : List Ownership). length row) xs) + 1 ≡ 0 = omega (arith, ap length len) in absurd (omega (arith, e))
+same_rows (x ∷ xs) (y ∷ ys) len same =
+    ap (λ (row : List Ownership). row ∷ xs) (same_row x y (ap (λ (ns : List ℕ). get_or ns 0 0) len) (same 0))
+    ∙ ap (λ (rows : PositionTable). y ∷ rows) (same_rows xs ys (ap (drop 1) len) (λ f i. same (suc f) i))
+
+both_imply : (a b : Bool) → (IsTrue a → IsTrue b) → (IsTrue b → IsTrue a) → a ≡ b
+both_imply true b forth back = sym (forth refl)
+both_imply false true forth back = back refl
+both_imply false false forth back = refl
+
+pub one_table : (program : ProgramTree) (one other : PositionTable) → IsLeast program one → IsLeast program other → one ≡ other
+one_table program one other a b =
+    same_rows one other (a.told ∙ sym b.told)
+    (λ f i. both_imply (owned_in one f i) (owned_in other f i) (a.least (owned_in other) b.closed f i) (b.least (owned_in one) a.closed f i))

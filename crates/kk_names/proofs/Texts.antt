@@ -1,0 +1,204 @@
+-- Each string literal that a resolved program prints is one of its own; and its first type is `bool`, as it must be.
+use Rattle.std.proofs.Common.{◌≡◌, ◌≤◌, ◌<◌, ◌+◌, ℕ, zero, suc, List, [], ◌∷◌, ◌++◌, length, length-append, Bool, true, false, Option, Some, None, bytes_eq, codes, refl, sym, subst, arith}
+use Rattle.std.specs.Prelude.{if◌then◌else◌}
+use Rattle.kk_syntax.specs.declared.tree.SurfaceBinder.{SurfaceBinder}
+use Rattle.kk_syntax.specs.declared.tree.SurfaceBinder.TheVariants as OfSurface
+use Rattle.kk_syntax.specs.Checked.{printed_by, of_texts, printed, PrintsTexts}
+use Rattle.kk_syntax.specs.Covered.{Each}
+use Rattle.kk_syntax.specs.GroundTyping.{HasTruths}
+use Rattle.kk_syntax.specs.OfType.{field_types}
+use Rattle.kk_syntax.specs.Programs.{FunctionTree}
+use Rattle.kk_syntax.specs.Shapes.{gathered_all}
+use Rattle.kk_syntax.specs.Surface.{Written, number, unit, variable, call, dot_call, construct, unary, binary, both, either, print_text, branch, branch_alone, match, sequence, Writtens, no_written, written, WrittenDeclaration, type_declaration, function_declaration}
+use Rattle.kk_syntax.specs.Trees.{Trees}
+use Rattle.kk_syntax.specs.Types.{TypeTree}
+use Rattle.kk_syntax.specs.Typing.{bool}
+use Rattle.kk_syntax.proofs.Elements.{each_both}
+use Rattle.kk_names.specs.declared.table.Callee.{Callee}
+use Rattle.kk_names.specs.declared.table.Declared.{Declared}
+use Rattle.kk_names.specs.Expressions.{applied, variable_or_unit, meant, meant_all}
+use Rattle.kk_names.specs.Names.{bool_constructor, before_body, with_texts, with_all_texts, function_of, functions_of, functions_meant, texts_meant, program_of, HasTruthsAndTexts, ResolvedProgramsHaveTruthsAndTexts}
+use Rattle.kk_names.specs.Scopes.{Scope, number_in, with_parameters, with_binder, Before, past_binder, past, past_all}
+use Rattle.kk_names.specs.Tables.{constructors, numbered, functions_in, meaning_in}
+
+-- ---- names
+
+-- what a name means prints no string literal
+abbrev ArePrintless : List Declared → Type 0
+ArePrintless [] = Unit {0}
+ArePrintless (declared ∷ more) = (printed_by declared.callee.form ≡ []) × ArePrintless more
+
+abbrev IsPrintless : Option Callee → Type 0
+IsPrintless None = Unit {0}
+IsPrintless (Some callee) = printed_by callee.form ≡ []
+
+numbered_printless : (n : ℕ) (ds : List WrittenDeclaration) → ArePrintless (numbered n ds)
+numbered_printless n [] = tt
+numbered_printless n (type_declaration name parameters cases ∷ more) = numbered_printless n more
+numbered_printless n (function_declaration name parameters effects result body ∷ more) = (refl, numbered_printless (n + 1) more)
+
+functions_printless : (ds : List WrittenDeclaration) → ArePrintless (functions_in ds)
+functions_printless ds = (refl, (refl, numbered_printless 0 ds))
+
+constructors_printless : ArePrintless constructors
+constructors_printless = (refl, (refl, tt))
+
+meaning_printless : (names : List Declared) (name : List ℕ) → ArePrintless names → IsPrintless (meaning_in names name)
+meaning_printless [] name printless = tt
+meaning_printless (declared ∷ more) name printless = by (bytes_eq declared.name name) (meaning_printless more name printless.1)
+  where
+    by : (same : Bool) → IsPrintless (meaning_in more name) → IsPrintless (if same then Some declared.callee else meaning_in more name)
+    by true later = printless.0
+    by false later = later
+
+-- ---- what stands before an expression
+
+binder_texts : (binder : SurfaceBinder) (before : Before) → (past_binder binder before).texts ≡ before.texts
+binder_texts OfSurface.Nothing before = refl
+binder_texts OfSurface.Wildcard before = refl
+binder_texts (OfSurface.Variable name) before = refl
+
+abbrev count : Before → ℕ
+count before = length before.texts
+
+binder_count : (binder : SurfaceBinder) (before : Before) → count (past_binder binder before) ≡ count before
+binder_count binder before = let same = binder_texts binder before in cc
+
+mutual
+  longer : (w : Written) (before : Before) → count before ≤ count (past w before)
+  longer (number value) before = omega arith
+  longer unit before = omega arith
+  longer (variable name) before = omega arith
+  longer (call name arguments) before = all_longer arguments before
+  longer (dot_call first name others) before =
+      let one = longer first before in
+      let more = all_longer others (past first before) in
+      omega (arith, one, more)
+  longer (construct name arguments) before = all_longer arguments before
+  longer (unary operator operand) before = longer operand before
+  longer (binary operator left right) before =
+      let one = longer left before in
+      let more = longer right (past left before) in
+      omega (arith, one, more)
+  longer (both left right) before =
+      let one = longer left before in
+      let more = longer right (past left before) in
+      omega (arith, one, more)
+  longer (either left right) before =
+      let one = longer left before in
+      let more = longer right (past left before) in
+      omega (arith, one, more)
+  longer (print_text form text) before = let more = length-append before.texts (text ∷ []) in omega (arith, more)
+  longer (branch condition positive negative) before =
+      let one = longer condition before in
+      let two = longer positive (past condition before) in
+      let three = longer negative (past positive (past condition before)) in
+      omega (arith, one, two, three)
+  longer (branch_alone condition positive) before =
+      let one = longer condition before in
+      let two = longer positive (past condition before) in
+      omega (arith, one, two)
+  longer (match scrutinee rows) before = omega arith
+  longer (sequence binder first rest) before =
+      let same = binder_count binder before in
+      let one = longer first (past_binder binder before) in
+      let two = longer rest (past first (past_binder binder before)) in
+      omega (arith, same, one, two)
+
+  all_longer : (ws : Writtens) (before : Before) → count before ≤ count (past_all ws before)
+  all_longer no_written before = omega arith
+  all_longer (written first rest) before =
+      let one = longer first before in
+      let more = all_longer rest (past first before) in
+      omega (arith, one, more)
+
+-- ---- expressions
+
+-- each number is below a bound
+abbrev AreBelow : ℕ → List ℕ → Type 0
+AreBelow n = Each (λ text. text < n)
+
+applied_prints : (n : ℕ) (meaning : Option Callee) (arguments : Trees) → IsPrintless meaning → AreBelow n (gathered_all of_texts arguments) → AreBelow n (printed (applied meaning arguments))
+applied_prints n None arguments printless below = tt
+applied_prints n (Some callee) arguments printless below = subst (λ (texts : List ℕ). AreBelow n (texts ++ gathered_all of_texts arguments)) (sym printless) below
+
+variable_prints : (n : ℕ) (by : Option ℕ) → AreBelow n (printed (variable_or_unit by))
+variable_prints n None = tt
+variable_prints n (Some by) = tt
+
+in_turn : (n : ℕ) (xs ys : List ℕ) → AreBelow n xs → AreBelow n ys → AreBelow n (xs ++ ys)
+in_turn n = each_both (λ text. text < n)
+
+module _ (functions : List Declared) (names : ArePrintless functions) (n : ℕ) where
+  mutual
+    tree_prints : (scope : Scope) (before : Before) (w : Written) → count (past w before) ≤ n → AreBelow n (printed (meant functions scope before w))
+    tree_prints scope before (number value) few = tt
+    tree_prints scope before unit few = tt
+    tree_prints scope before (variable name) few = variable_prints n (number_in scope name.name)
+    tree_prints scope before (call name arguments) few =
+        applied_prints n (meaning_in functions name.name) (meant_all functions scope before arguments) (meaning_printless functions name.name names) (trees_print scope before arguments few)
+    tree_prints scope before (dot_call first name others) few =
+        applied_prints n (meaning_in functions name.name) (meant_all functions scope before (written first others)) (meaning_printless functions name.name names)
+        (in_turn n _ _ (tree_prints scope before first (let more = all_longer others (past first before) in omega (arith, few, more))) (trees_print scope (past first before) others few))
+    tree_prints scope before (construct name arguments) few =
+        applied_prints n (meaning_in constructors name.name) (meant_all functions scope before arguments) (meaning_printless constructors name.name constructors_printless) (trees_print scope before arguments few)
+    tree_prints scope before (unary operator operand) few = in_turn n _ [] (tree_prints scope before operand few) tt
+    tree_prints scope before (binary operator left right) few =
+        in_turn n _ _ (tree_prints scope before left (let more = longer right (past left before) in omega (arith, few, more))) (in_turn n _ [] (tree_prints scope (past left before) right few) tt)
+    tree_prints scope before (both left right) few =
+        in_turn n _ _ (tree_prints scope before left (let more = longer right (past left before) in omega (arith, few, more))) (in_turn n _ [] (tree_prints scope (past left before) right few) tt)
+    tree_prints scope before (either left right) few =
+        in_turn n _ _ (tree_prints scope before left (let more = longer right (past left before) in omega (arith, few, more))) (tree_prints scope (past left before) right few)
+    tree_prints scope before (print_text form text) few = ((let more = length-append before.texts (text ∷ []) in omega (arith, few, more)), tt)
+    tree_prints scope before (branch condition positive negative) few =
+        let two = longer positive (past condition before) in
+        let three = longer negative (past positive (past condition before)) in
+        in_turn n _ _ (tree_prints scope before condition (omega (arith, few, two, three)))
+        (in_turn n _ _ (tree_prints scope (past condition before) positive (omega (arith, few, three))) (tree_prints scope (past positive (past condition before)) negative few))
+    tree_prints scope before (branch_alone condition positive) few =
+        let two = longer positive (past condition before) in
+        in_turn n _ _ (tree_prints scope before condition (omega (arith, few, two))) (in_turn n _ [] (tree_prints scope (past condition before) positive few) tt)
+    tree_prints scope before (match scrutinee rows) few = tt
+    tree_prints scope before (sequence binder first rest) few =
+        let two = longer rest (past first (past_binder binder before)) in
+        in_turn n _ _ (tree_prints scope (past_binder binder before) first (omega (arith, few, two))) (tree_prints (with_binder binder before.variables scope) (past first (past_binder binder before)) rest few)
+
+    trees_print : (scope : Scope) (before : Before) (ws : Writtens) → count (past_all ws before) ≤ n → AreBelow n (gathered_all of_texts (meant_all functions scope before ws))
+    trees_print scope before no_written few = tt
+    trees_print scope before (written first rest) few =
+        in_turn n _ _ (tree_prints scope before first (let more = all_longer rest (past first before) in omega (arith, few, more))) (trees_print scope (past first before) rest few)
+
+  -- ---- programs
+
+  texts_longer : (ds : List WrittenDeclaration) (texts : List (List ℕ)) → length texts ≤ length (with_all_texts texts ds)
+  texts_longer [] texts = omega arith
+  texts_longer (type_declaration name parameters cases ∷ ds) texts = texts_longer ds texts
+  texts_longer (function_declaration name parameters effects result body ∷ ds) texts =
+      let one = longer body (before_body texts parameters) in
+      let more = texts_longer ds (with_texts texts (function_declaration name parameters effects result body)) in
+      omega (arith, one, more)
+
+  functions_print : (ds : List WrittenDeclaration) (texts : List (List ℕ)) → length (with_all_texts texts ds) ≤ n → Each (λ (function : FunctionTree). AreBelow n (printed function.body)) (functions_of functions texts ds)
+  functions_print [] texts few = tt
+  functions_print (type_declaration name parameters cases ∷ ds) texts few = functions_print ds texts few
+  functions_print (function_declaration name parameters effects result body ∷ ds) texts few =
+      let behind = with_texts texts (function_declaration name parameters effects result body) in
+      let more = texts_longer ds behind in
+      (tree_prints (with_parameters 0 parameters []) (before_body texts parameters) body (omega (arith, few, more)), functions_print ds behind few)
+
+truth : (c : ℕ) → c ≤ 1 → field_types (bool_constructor (codes "False") 0 ∷ bool_constructor (codes "True") 1 ∷ []) bool c ≡ Some []
+truth zero small = refl
+truth (suc zero) small = refl
+truth (suc (suc c)) small = absurd (omega arith)
+
+no_other : (c : ℕ) (ts : List TypeTree) → field_types (bool_constructor (codes "False") 0 ∷ bool_constructor (codes "True") 1 ∷ []) bool c ≡ Some ts → c ≤ 1
+no_other zero ts is = omega arith
+no_other (suc zero) ts is = omega arith
+no_other (suc (suc c)) ts is = absurd (cc)
+
+pub resolved_programs_have_truths_and_texts : ResolvedProgramsHaveTruthsAndTexts
+resolved_programs_have_truths_and_texts tree program resolved =
+    subst HasTruthsAndTexts (sym resolved.makes.is) (record {
+      truths = record { truths = truth; no_others = no_other };
+      texts = functions_print (functions_in tree.declarations) (functions_printless tree.declarations) (length (texts_meant tree.declarations)) tree.declarations [] (omega arith);
+    })

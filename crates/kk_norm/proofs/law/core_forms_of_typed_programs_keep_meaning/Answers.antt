@@ -1,0 +1,5 @@
+use Rattle.kk_norm.proofs.KeepingTyped.{typed_keeps_meaning}
+use Rattle.kk_norm.proofs.law.core_forms_of_typed_programs_keep_meaning.Goals as goal
+
+pub returns : goal.returns
+returns c = typed_keeps_meaning
