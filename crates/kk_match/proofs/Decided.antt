@@ -4,12 +4,12 @@ use Rattle.std.specs.Prelude.{count_by, IfOk}
 use Rattle.kk_syntax.specs.declared.program.Constructor.{Constructor as Declared}
 use Rattle.kk_syntax.specs.Patterns.{Pattern}
 use Rattle.kk_syntax.specs.Programs.{ConstructorTree, constructor_tree}
-use Rattle.kk_syntax.specs.Types.{TypeTree}
+use Rattle.kk_core.specs.Choosing.{Decides}
 use Rattle.kk_core.specs.Decisions.{NodeTree, AreOrderly}
 use Rattle.kk_match.specs.Parts.{types_of, parts_of}
 use Rattle.kk_match.specs.Graphs.{StateTree, lines_of, lines_from, HasTests, HasMoreTests, testing}
 use Rattle.kk_match.specs.Built.{InRow, no_state}
-use Rattle.kk_match.specs.Decided.{AreOfType, Decides, is_test, most_tests, IsFormed}
+use Rattle.kk_match.specs.Decided.{is_test, most_tests, IsFormed}
 use Rattle.kk_match.specs.Growing.{IsBuilt, IsOver, IsGraphOf}
 use Rattle.kk_match.specs.InTurn.{with_rows}
 use Rattle.kk_match.specs.Turned.{turn_node, turned}
@@ -50,8 +50,8 @@ lines_below types rows k (p ∷ ps) some within = (omega (arith, within), lines_
 -- ---- what is decided
 
 sound_decides : (constructors : List ConstructorTree) (types : List ℕ) (ps : List Pattern) (states : List StateTree) (nodes : List NodeTree) (last : ℕ) → types ≡ types_in constructors
-    → InRow (IsSound types) states nodes → suc last ≡ length nodes → Stands states 0 (lines_from types 0 ps) → (t : TypeTree) → AreOfType constructors t ps → Decides constructors t ps (turned last nodes)
-sound_decides constructors types ps states nodes last same sound count stands t typed = λ store v row of matches.
+    → InRow (IsSound types) states nodes → suc last ≡ length nodes → Stands states 0 (lines_from types 0 ps) → Decides constructors ps (turned last nodes)
+sound_decides constructors types ps states nodes last same sound count stands = λ t store v row typed of matches.
     let ready = rows_hold constructors store t v 0 ps of typed in
     let turns = length_turned last nodes in
     first_chosen (types_in constructors) states nodes last store v (subst (λ ts. InRow (IsSound ts) states nodes) same sound) count (length (turned last nodes)) 0 (lines_from (types_in constructors) 0 ps) row
@@ -63,7 +63,7 @@ module _ (types : List ℕ) (most : ℕ) (ps : List Pattern) (nodes : List NodeT
       are_orderly types (length ps) graph.states nodes last (are_sound types graph.states nodes graph.right) count
       (λ k state named. reached_below types (length ps) (lines_from types 0 ps) state (lines_below types (length ps) 0 ps some (omega arith)) (reached_at types (lines_from types 0 ps) graph.states k state graph.reached named))
 
-  pub graph_decides : (constructors : List ConstructorTree) → types ≡ types_in constructors → (t : TypeTree) → AreOfType constructors t ps → Decides constructors t ps (turned last nodes)
+  pub graph_decides : (constructors : List ConstructorTree) → types ≡ types_in constructors → Decides constructors ps (turned last nodes)
   graph_decides constructors same =
       sound_decides constructors types ps graph.states nodes last same (are_sound types graph.states nodes graph.right) count
       (record { place = graph.number; sum = (let is = starts_last types most (lines_from types 0 ps) nodes graph in omega (arith, is)); named = graph.starts })
@@ -97,8 +97,7 @@ module _ (types : List ℕ) (p : Pattern) (ps : List Pattern) where
         are_orderly types (length (p ∷ ps)) (states_of_rows (lines_from types 0 (p ∷ ps))) (with_rows (lines_from types 0 (p ∷ ps)) []) last in_turn.sound count
         (rows_below (length (p ∷ ps)) (lines_from types 0 (p ∷ ps)) (lines_below types (length (p ∷ ps)) 0 (p ∷ ps) (omega arith) (omega arith)))
 
-    pub in_turn_decides : (constructors : List ConstructorTree) → types ≡ types_in constructors → (t : TypeTree) → AreOfType constructors t (p ∷ ps)
-        → Decides constructors t (p ∷ ps) (turned last (with_rows (lines_from types 0 (p ∷ ps)) []))
+    pub in_turn_decides : (constructors : List ConstructorTree) → types ≡ types_in constructors → Decides constructors (p ∷ ps) (turned last (with_rows (lines_from types 0 (p ∷ ps)) []))
     in_turn_decides constructors same =
         let long = as_long (IsSound types) (states_of_rows (lines_from types 0 (p ∷ ps))) (with_rows (lines_from types 0 (p ∷ ps)) []) in_turn.sound in
         let some = in_turn.some in
@@ -117,10 +116,10 @@ module _ (types : List ℕ) (nodes : List NodeTree) where
     turn_orderly (p ∷ ps) some is = subst (λ ns. AreOrderly (turned last ns) (length (p ∷ ps))) (sym is) (in_turn_orderly types p ps last (count ∙ ap length is))
 
     pub turn_decides : (ps : List Pattern) → 0 < length ps → nodes ≡ with_rows (lines_from types 0 ps) [] → (constructors : List ConstructorTree) → types ≡ types_in constructors
-        → (t : TypeTree) → AreOfType constructors t ps → Decides constructors t ps (turned last nodes)
+        → Decides constructors ps (turned last nodes)
     turn_decides [] some is constructors same = absurd (omega (arith, some))
     turn_decides (p ∷ ps) some is constructors same =
-        subst (λ ns. (t : TypeTree) → AreOfType constructors t (p ∷ ps) → Decides constructors t (p ∷ ps) (turned last ns)) (sym is) (in_turn_decides types p ps last (count ∙ ap length is) constructors same)
+        subst (λ ns. Decides constructors (p ∷ ps) (turned last ns)) (sym is) (in_turn_decides types p ps last (count ∙ ap length is) constructors same)
 
 pub turn_formed : (types : List ℕ) (ps : List Pattern) (nodes : List NodeTree) (last : ℕ) → nodes ≡ with_rows (lines_from types 0 ps) [] → HasMoreTests types (lines_from types 0 ps) (most_tests ps)
     → IsFormed types ps (turned last nodes) (count_by is_test (turned last nodes)) true

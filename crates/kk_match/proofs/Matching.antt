@@ -1,9 +1,10 @@
 -- A pattern matches a value of its type exactly where the value is as each part of the pattern asks; and what a part looks at
 -- is there.
-use Rattle.std.proofs.Common.{◌≡◌, ℕ, ℤ, suc, ◌+◌, Bool, true, false, ◌&&◌, Option, None, Some, List, [], ◌∷◌, ◌++◌, refl, sym, ap, ◌∙◌, subst, arith, add-zero}
+use Rattle.std.proofs.Common.{◌≡◌, ℕ, ℤ, suc, ◌+◌, Bool, true, false, ◌&&◌, Option, None, Some, List, [], ◌∷◌, ◌++◌, refl, sym, ap, ◌∙◌, subst, arith, add-zero, map}
 use Rattle.std.specs.Prelude.{slice_get, is_some, if◌then◌else◌, ◌==◌, IsTrue}
 use Rattle.std.proofs.lemmas.Bool.{both_ways, eqb-true, eq-eqb}
 use Rattle.std.proofs.lemmas.Option.{none-some, same_Some}
+use Rattle.kk_syntax.specs.Covered.{Each}
 use Rattle.kk_syntax.specs.OfType.{IsPatternOf, ArePatternsOf, values_of, field_types, is_int32}
 use Rattle.kk_syntax.specs.Outlines.{outline_of, outlines_of}
 use Rattle.kk_syntax.specs.Patterns.{Pattern, anything, variable, exactly, constructor, Patterns, no_part, part}
@@ -13,10 +14,10 @@ use Rattle.kk_source.specs.Matching.{matched, matched_all, and_then, fields_unde
 use Rattle.kk_source.specs.State.{Value, Cell, Store, Environment}
 use Rattle.kk_source.specs.ValueTypes.{Content, amount, nothing, built, HasContent, IsContentOf, IsOf, AreOf}
 use Rattle.kk_core.specs.declared.decisions.Answer.TheVariants.{Number, Constructor}
+use Rattle.kk_core.specs.Choosing.{first_row}
 use Rattle.kk_core.specs.Decisions.{fields_shown, value_at, answer_of, found_at, is_answer}
 use Rattle.kk_match.specs.Parts.{Part, has_several, parts_of, parts_of_all, IsKind}
 use Rattle.kk_match.specs.Graphs.{agrees, lines_from}
-use Rattle.kk_match.specs.Decided.{first_row, AreOfType}
 use Rattle.kk_match.proofs.Fitting.{fits, first_fit, IsReady, AreReady}
 use Rattle.kk_match.proofs.Made.{types_in, WasMade, was_made, made_shows, made_answers, made_under, are_of_one, one_kind, alone}
 
@@ -191,6 +192,10 @@ mutual
       (holds_all constructors store w ps at (field + 1) ts vs
       (λ i x got. let next : field + suc i ≡ (field + 1) + i = omega arith in subst (λ n. value_at (slice_get store) (at ++ n ∷ []) w ≡ Some x) next (there (suc i) x got))
       are.1 typed.1)
+
+-- patterns are of a type
+abbrev pub AreOfType : List ConstructorTree → TypeTree → List Pattern → Type 0
+AreOfType constructors t patterns = Each (IsPatternOf (values_of constructors) t) (map outline_of patterns)
 
 -- the first row that fits is the first that matches
 pub rows_hold : (constructors : List ConstructorTree) (store : Store) (t : TypeTree) (v : Value) (k : ℕ) (ps : List Pattern) → IsOf constructors store t v → AreOfType constructors t ps

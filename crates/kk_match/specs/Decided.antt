@@ -1,36 +1,10 @@
--- What decisions decide: the first row that matches. And which tests they make.
-use Rattle.std.specs.Prelude.{◌≡◌, ◌≤◌, ◌+◌, ◌*◌, ℕ, Bool, true, false, List, [], ◌∷◌, Option, None, Some, is_some, sum_by, if◌then◌else◌, slice_get}
-use Rattle.kk_syntax.specs.Covered.{Each}
-use Rattle.kk_syntax.specs.OfType.{IsPatternOf, values_of}
-use Rattle.kk_syntax.specs.Outlines.{outline_of}
+-- Which tests decisions make.
+use Rattle.std.specs.Prelude.{◌≡◌, ◌≤◌, ◌*◌, ℕ, Bool, true, false, List, Option, Some, sum_by, slice_get}
 use Rattle.kk_syntax.specs.Patterns.{Pattern}
-use Rattle.kk_syntax.specs.Programs.{ConstructorTree}
 use Rattle.kk_syntax.specs.Shapes.{is_among, nodes_of_pattern}
-use Rattle.kk_syntax.specs.Types.{TypeTree}
-use Rattle.kk_source.specs.Matching.{matched}
-use Rattle.kk_source.specs.State.{Value, Store}
-use Rattle.kk_source.specs.ValueTypes.{IsOf}
 use Rattle.kk_core.specs.declared.decisions.Edge.{Edge}
-use Rattle.kk_core.specs.Decisions.{NodeTree, chooses, tests, targets, chosen}
+use Rattle.kk_core.specs.Decisions.{NodeTree, chooses, tests, targets}
 use Rattle.kk_match.specs.Graphs.{weight, lines_from, HasTests, HasMoreTests}
-
--- the first row, from one of a number on, whose pattern matches a value
-abbrev pub first_row : Store → ℕ → List Pattern → Value → Option ℕ
-first_row store k [] v = None
-first_row store k (p ∷ ps) v = if is_some (matched store p v []) then Some k else first_row store (k + 1) ps v
-
--- patterns are of a type
-abbrev pub AreOfType : List ConstructorTree → TypeTree → List Pattern → Type 0
-AreOfType constructors t patterns = Each (λ p. IsPatternOf (values_of constructors) t (outline_of p)) patterns
-
--- Of each value of a type, in each store, the nodes choose the first row whose pattern matches, if there is one. So what a
--- test looks at is there.
-abbrev pub Decides : List ConstructorTree → TypeTree → List Pattern → List NodeTree → Type 0
-Decides constructors t patterns nodes =
-    (store : Store) (v : Value) (row : ℕ) → IsOf constructors store t v → first_row store 0 patterns v ≡ Some row
-    → chosen (slice_get store) v nodes ≡ Some row
-
--- ---- which tests
 
 -- a node tests a position
 abbrev pub TestsAt : List NodeTree → ℕ → List ℕ → Type 0

@@ -1,13 +1,13 @@
 ghost use Rattle.std.specs.Prelude.{◌≡◌, ◌<◌, ◌-◌, [], length, map, option_map, count_by, IfOk};
+ghost use Rattle.kk_core.specs.Choosing.{Decides};
 ghost use Rattle.kk_core.specs.Decisions.{node_tree, AreOrderly};
-ghost use Rattle.kk_match.specs.Decided.{AreOfType, Decides, IsFormed, is_test};
+ghost use Rattle.kk_match.specs.Decided.{IsFormed, is_test};
 ghost use Rattle.kk_match.specs.Graphs.{lines_of};
 ghost use Rattle.kk_match.specs.Growing.{IsGraph};
 ghost use Rattle.kk_match.specs.Parts.{types_of, parts_of};
 ghost use Rattle.kk_match.specs.Turned.{turned};
 ghost use Rattle.kk_match.specs.Views.{part_of, line_tree, state_tree, constructors_in, types_in, patterns_in, nodes_in};
 ghost use Rattle.kk_syntax.specs.Patterns.{pattern_tree};
-ghost use Rattle.kk_syntax.specs.Types.{TypeTree};
 
 use crate::graph::{Given, Graph, number_of, tests_in};
 use crate::in_turn::in_turn;
@@ -34,8 +34,7 @@ pub struct Rows<'a> {
 /// there is one.
 pub fn decide(alloc: Global, rows: &Rows<'_>) -> Result<Decisions, NoMemory>
     requires { 0 < length rows.now.patterns.items }
-    ensures decides { IfOk result (λ found. (t : TypeTree) → AreOfType (constructors_in rows.now) t (patterns_in rows.now)
-        → Decides (constructors_in rows.now) t (patterns_in rows.now) (nodes_in found)) }
+    ensures decides { IfOk result (λ found. Decides (constructors_in rows.now) (patterns_in rows.now) (nodes_in found)) }
     ensures formed { IfOk result (λ found.
         IsFormed (types_in rows.now) (patterns_in rows.now) (nodes_in found) found.tests found.by_rows) }
     ensures tests { IfOk result (λ found. found.tests ≡ count_by is_test (nodes_in found)) }

@@ -2,9 +2,9 @@ use Rattle.std.proofs.Common.{◌≡◌, ◌<◌, ◌-◌, suc, [], length, map,
 use Rattle.std.proofs.lemmas.List.{length-map}
 use Rattle.kk_syntax.specs.Patterns.{pattern_tree}
 use Rattle.kk_syntax.specs.Programs.{constructor_tree}
-use Rattle.kk_syntax.specs.Types.{TypeTree}
+use Rattle.kk_core.specs.Choosing.{Decides}
 use Rattle.kk_core.specs.Decisions.{node_tree, AreOrderly}
-use Rattle.kk_match.specs.Decided.{AreOfType, Decides, most_tests}
+use Rattle.kk_match.specs.Decided.{most_tests}
 use Rattle.kk_match.specs.Graphs.{lines_of, lines_from, HasMoreTests}
 use Rattle.kk_match.specs.Growing.{IsGraph, IsGraphOf}
 use Rattle.kk_match.specs.InTurn.{with_rows}
@@ -50,7 +50,7 @@ returns-in-Some-clause-decides c =
     let count : suc (length c.in-Some.nodes.items - 1) ≡ length nodes = omega (arith, long, some) in
     let constructors = map constructor_tree rows.constructors.now in
     also c.finished.result c.finished.ensures.nodes
-    (λ found is. subst (λ ns. (t : TypeTree) → AreOfType constructors t ps → Decides constructors t ps ns) (sym is)
+    (λ found is. subst (Decides constructors ps) (sym is)
     (graph_decides types c.in_ok-most.most ps nodes (length c.in-Some.nodes.items - 1) graph count constructors (types_same rows.constructors.now)))
 
 pub returns-in-Some-clause-formed : goal.returns-in-Some-clause-formed
@@ -107,7 +107,7 @@ returns-clause-decides c =
     let count : suc (length c.in_ok-nodes-in-None.nodes.items - 1) ≡ length nodes = omega (arith, long, some) in
     let constructors = map constructor_tree rows.constructors.now in
     also c.finished-in-None.result c.finished-in-None.ensures.nodes
-    (λ found same. subst (λ ns. (t : TypeTree) → AreOfType constructors t ps → Decides constructors t ps ns) (sym same)
+    (λ found same. subst (Decides constructors ps) (sym same)
     (turn_decides types nodes (length c.in_ok-nodes-in-None.nodes.items - 1) count ps there is constructors (types_same rows.constructors.now)))
 
 pub returns-clause-formed : goal.returns-clause-formed
