@@ -1,15 +1,18 @@
 ghost use Rattle.std.specs.Prelude.{ℕ, List};
+ghost use Rattle.kk_syntax.specs.Covered.{Each};
 ghost use Rattle.kk_syntax.specs.Programs.{ProgramTree};
 ghost use Rattle.kk_syntax.specs.PlainTyping.{IsTyped};
+ghost use Rattle.kk_cover.specs.Matches.{IsFunctionCovered};
 ghost use Rattle.kk_mono.specs.Counts.{ParametersAs, KeepsCounts};
 ghost use Rattle.kk_front.specs.Judgement.{IsProgramOf};
 
 use kk_names::{resolved_programs_are_plain, resolved_programs_have_main};
 
-/// An accepted program is typed, and keeps each limit: on the parameters and on the nodes of a function, on the number of
+/// An accepted program is typed, its matches are covered, and it keeps each limit: on the parameters and on the nodes of a function, on the number of
 /// its instances, and on their nodes in all. It is a law, and does nothing.
 pub fn accepted_programs_are_typed()
     ensures typed { (text : List ℕ) (program : ProgramTree) → IsProgramOf text program → IsTyped program }
+    ensures covered { (text : List ℕ) (program : ProgramTree) → IsProgramOf text program → Each (IsFunctionCovered program) program.functions }
     ensures parameters { (text : List ℕ) (program : ProgramTree) → IsProgramOf text program → ParametersAs program (Ok tt) }
     ensures small { (text : List ℕ) (program : ProgramTree) → IsProgramOf text program → KeepsCounts program }
 {
