@@ -1,6 +1,10 @@
+ghost use Rattle.std.specs.Prelude.{◌<◌, ◌^◌, All, IsTrue};
+ghost use Rattle.kk_syntax.specs.Programs.{program_tree};
+ghost use Rattle.kk_syntax.specs.Shapes.{nodes_of};
+
 use kk_base::Name;
 use kk_cover::{CoverError, cover, example_text, uncovered};
-use kk_syntax::{Constructor, Expr, Form, Fun, Pat, Program, Row, Ty, Typed};
+use kk_syntax::{Constructor, Expr, Form, Fun, Pat, Program, Row, Ty, Typed, nodes};
 use std::alloc::{AllocError, Global};
 use std::test::Fail;
 
@@ -136,6 +140,18 @@ fn typed(alloc: Global, body: Expr) -> Result<Typed, AllocError> {
     })
 }
 
+/// Whether each function of a program has few nodes.
+fn are_small(program: &Program) -> bool
+    ensures { IsTrue result → All (λ function. nodes_of function.body < 2 ^ 31) (program_tree program.now).functions }
+{
+    for function in &program.functions {
+        if nodes(&function.body) >= 1 << 31 {
+            return false;
+        }
+    }
+    true
+}
+
 /// The rows of a match, and the example for it; no text where it is covered.
 const CASES: [(Rows, &[u8]); 8] = [
     (&[&[NIL], &[CONS, ANY, NIL]], b"Cons(_, Cons(_, _))"),
@@ -159,6 +175,7 @@ fn a_match_that_is_not_covered_has_an_example(rt: HostRuntime) -> Result<(), Fai
     for (patterns, expected) in CASES {
         let scrutinee = Box::new(alloc, unit(alloc))?;
         let typed = typed(alloc, Expr::Match(scrutinee, rows(alloc, patterns)?))?;
+        assert!(rt; are_small(&typed.program));
         match cover(alloc, &typed) {
             Ok(()) => assert!(rt; expected.is_empty()),
             Err(
@@ -206,6 +223,7 @@ fn twenty_pairs_of_positions_far_apart_are_decided_at_once(rt: HostRuntime) -> R
         }
     }
     let typed = typed(alloc, unit(alloc))?;
+    assert!(rt; rows.len() < 1 << 31);
     assert!(rt; uncovered(alloc, &typed.program, &rows)?.is_none());
     Ok(())
 }

@@ -9,11 +9,12 @@ use Rattle.kk_syntax.specs.Types.{unit_type}
 use Rattle.kk_syntax.specs.PlainTyping.{signature_of, IsTyped}
 use Rattle.kk_syntax.specs.Typing.{TypesAs}
 use Rattle.kk_names.specs.Names.{ResolvesAs, HasMain, ResolvedProgramsHaveMain, ResolvedProgramsArePlain}
+use Rattle.kk_cover.specs.Matches.{CoversAs}
 use Rattle.kk_mono.specs.Counts.{ParametersAs, CountsAs}
-use Rattle.kk_front.specs.Judgement.{ChecksTypes, ChecksProgram, IsProgramOf}
+use Rattle.kk_front.specs.Judgement.{ChecksTypes, ChecksCover, ChecksProgram, IsProgramOf}
 use Rattle.kk_front.proofs.Chains.{came_through, through_check, through_told_check}
 use Rattle.kk_front.proofs.Plain.{plainly_typed}
-use Rattle.kk_front.proofs.Judging.{OfLength, OfLexemes, OfGrammar, OfNames, OfCounts, FromLexemes, FromGrammar, FromNames, FromTypes}
+use Rattle.kk_front.proofs.Judging.{OfLength, OfLexemes, OfGrammar, OfNames, OfCounts, FromLexemes, FromGrammar, FromNames, FromTypes, FromCover}
 
 -- what each judgement found of an accepted program
 pub record IsFound (program : ProgramTree) : Type 0 where
@@ -21,6 +22,7 @@ pub record IsFound (program : ProgramTree) : Type 0 where
   pub resolved : ResolvesAs tree (Ok program)
   pub parameters : ParametersAs program (Ok tt)
   pub types : TypesAs program (Ok tt)
+  pub covered : CoversAs program (Ok tt)
   pub counts : CountsAs program (Ok tt)
 
 pub found : (text : List ℕ) (program : ProgramTree) → IsProgramOf text program → IsFound program
@@ -30,9 +32,10 @@ found text program h =
     let names = came_through OfGrammar FromNames grammar.0 program grammar.2 in
     let checks = came_through OfNames ChecksProgram names.0 program names.2 in
     let parameters = through_told_check FromTypes checks.0 program OfText.Over ParametersAs checks.2 in
-    let types = through_check OfCounts checks.0 program ChecksTypes parameters.1 in
-    let counts = types.1 in
-    let passed : IsFound checks.0 = record { tree = names.0; resolved = checks.1; parameters = parameters.0; types = types.0; counts = counts.1 } in
+    let types = through_check FromCover checks.0 program ChecksTypes parameters.1 in
+    let cover = through_check OfCounts checks.0 program ChecksCover types.1 in
+    let counts = cover.1 in
+    let passed : IsFound checks.0 = record { tree = names.0; resolved = checks.1; parameters = parameters.0; types = types.0; covered = cover.0; counts = counts.1 } in
     subst IsFound (sym counts.0) passed
 
 main_typed : (program : ProgramTree) → HasMain program → slice_get (map signature_of program.functions) program.main ≡ Some (record { parameters = []; result = unit_type })

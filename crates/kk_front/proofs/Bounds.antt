@@ -31,18 +31,18 @@ parse_told tokens NoMemory few h = refl
 
 -- ---- nodes
 
-pub fewer : (most : ℕ) (functions : List FunctionTree) → most < 2 ^ 64 → All (λ f. nodes_of f.body ≤ most) functions → All (λ f. nodes_of f.body < 2 ^ 64) functions
+pub fewer : (most : ℕ) (functions : List FunctionTree) → most < 2 ^ 31 → All (λ f. nodes_of f.body ≤ most) functions → All (λ f. nodes_of f.body < 2 ^ 31) functions
 fewer most functions small few = λ k d lt. let within = few k d lt in omega arith
 
-behind_first : (f : FunctionTree) (fs : List FunctionTree) → All (λ g. nodes_of g.body < 2 ^ 64) (f ∷ fs) → All (λ g. nodes_of g.body < 2 ^ 64) fs
+behind_first : (f : FunctionTree) (fs : List FunctionTree) → All (λ g. nodes_of g.body < 2 ^ 31) (f ∷ fs) → All (λ g. nodes_of g.body < 2 ^ 31) fs
 behind_first f fs few = λ k d lt. few (suc k) d (omega arith)
 
 -- what is found is among what is looked at
-found_few : (functions : List FunctionTree) (count : ℕ) → All (λ f. nodes_of f.body < 2 ^ 64) functions → too_many_nodes functions ≡ Some count → count < 2 ^ 64
+found_few : (functions : List FunctionTree) (count : ℕ) → All (λ f. nodes_of f.body < 2 ^ 31) functions → too_many_nodes functions ≡ Some count → count < 2 ^ 64
 found_few [] count few e = cc
-found_few (f ∷ fs) count few e = by (nat_lt 480 (nodes_of f.body)) (All-head (λ g. nodes_of g.body < 2 ^ 64) f fs few) (λ d. found_few fs count (behind_first f fs few) d) e
+found_few (f ∷ fs) count few e = by (nat_lt 480 (nodes_of f.body)) (All-head (λ g. nodes_of g.body < 2 ^ 31) f fs few) (λ d. found_few fs count (behind_first f fs few) d) e
   where
-    by : (b : Bool) → nodes_of f.body < 2 ^ 64 → (too_many_nodes fs ≡ Some count → count < 2 ^ 64) → cond b (Some (nodes_of f.body)) (too_many_nodes fs) ≡ Some count → count < 2 ^ 64
+    by : (b : Bool) → nodes_of f.body < 2 ^ 31 → (too_many_nodes fs ≡ Some count → count < 2 ^ 64) → cond b (Some (nodes_of f.body)) (too_many_nodes fs) ≡ Some count → count < 2 ^ 64
     by true here rest e = let same : nodes_of f.body ≡ count = cc in omega arith
     by false here rest e = rest e
 
@@ -76,7 +76,7 @@ same_limit limit passed is small =
     ap in_u64 is ∙ (ap (λ (n : ℕ). record { kind = passed.kind; count = n }) same ∙ sym is)
 
 -- a limit that is passed is told as it is
-pub limit_told : (program : ProgramTree) (limit : Limit) → All (λ f. nodes_of f.body < 2 ^ 64) program.functions → CountsAs program (Err limit) → in_u64 limit ≡ limit
+pub limit_told : (program : ProgramTree) (limit : Limit) → All (λ f. nodes_of f.body < 2 ^ 31) program.functions → CountsAs program (Err limit) → in_u64 limit ≡ limit
 limit_told program limit few h = by h
   where
     by : PassesFirst program limit → in_u64 limit ≡ limit

@@ -4,6 +4,7 @@ use Rattle.std.specs.Prelude.{Result, Ok, Err}
 use Rattle.kk_base.specs.Exactly.{IsOnly, ExactlyOne}
 use Rattle.kk_base.specs.declared.refusal.Refusal.{Refusal}
 use Rattle.kk_front.specs.Chain.{Then, stops, goes_on, ToldAs, Checking}
+use Rattle.kk_front.specs.Outcome.{without_example, up_to_example, IsOutcome, HasOneOutcome}
 
 abbrev Same : (A E : Type 0) → Result A E → Result A E → Type 0
 Same A E x y = x ≡ y
@@ -17,20 +18,24 @@ err_same e = cc e
 pub apart : {A E : Type 0} {a : A} {e : E} → Same A E (Ok a) (Err e) → ⊥
 apart h = cc h
 
-module _ {A B C E : Type 0} (J : A → Result B E → Type 0) (K : B → Result C E → Type 0) (a : A) where
+-- what comes to one thing does so up to the example
+pub of_only : {A : Type 0} {J : Result A Refusal → Type 0} {outcome : Result A Refusal} → IsOnly J outcome → IsOutcome J outcome
+of_only h = record { holds = h.holds; only = λ other x. ap up_to_example (h.only other x) }
+
+module _ {A B C : Type 0} (J : A → Result B Refusal → Type 0) (K : B → Result C Refusal → Type 0) (a : A) where
   -- the first one fails
-  pub only_stops : (error : E) → IsOnly (J a) (Err error) → IsOnly (Then J K a) (Err error)
-  only_stops error h = record { holds = stops error h.holds; only = λ other k. one k }
+  pub only_stops : (refusal : Refusal) → IsOutcome (J a) (Err refusal) → IsOutcome (Then J K a) (Err refusal)
+  only_stops refusal h = record { holds = stops refusal h.holds; only = λ other k. one k }
     where
-      one : {other : Result C E} → Then J K a other → other ≡ Err error
+      one : {other : Result C Refusal} → Then J K a other → up_to_example other ≡ Err (without_example refusal)
       one (stops e x) = ap Err (err_same (h.only (Err e) x))
       one (goes_on b outcome x y) = absurd (apart (h.only (Ok b) x))
 
   -- the first one passes something on
-  pub only_goes_on : (b : B) (outcome : Result C E) → IsOnly (J a) (Ok b) → IsOnly (K b) outcome → IsOnly (Then J K a) outcome
+  pub only_goes_on : (b : B) (outcome : Result C Refusal) → IsOutcome (J a) (Ok b) → IsOutcome (K b) outcome → IsOutcome (Then J K a) outcome
   only_goes_on b outcome h k = record { holds = goes_on b outcome h.holds k.holds; only = λ other x. one x }
     where
-      one : {other : Result C E} → Then J K a other → other ≡ outcome
+      one : {other : Result C Refusal} → Then J K a other → up_to_example other ≡ up_to_example outcome
       one (stops e x) = absurd (apart (sym (h.only (Err e) x)))
       one (goes_on c other x y) = k.only other (subst (λ z. K z other) (ok_same (h.only (Ok c) x)) y)
 
@@ -38,13 +43,13 @@ module _ {A B C E : Type 0} (J : A → Result B E → Type 0) (K : B → Result 
   pub came_through : (c : C) → Then J K a (Ok c) → (b : B) × J a (Ok b) × K b (Ok c)
   came_through c h = by h refl
     where
-      by : {other : Result C E} → Then J K a other → other ≡ Ok c → (b : B) × J a (Ok b) × K b (Ok c)
+      by : {other : Result C Refusal} → Then J K a other → other ≡ Ok c → (b : B) × J a (Ok b) × K b (Ok c)
       by (stops e x) same = absurd (apart (sym same))
       by (goes_on b outcome x y) same = (b, x, subst (K b) same y)
 
-  pub exactly_then : ExactlyOne (J a) → ((b : B) → J a (Ok b) → ExactlyOne (K b)) → ExactlyOne (Then J K a)
-  exactly_then (Ok b, h) each = let k = each b h.holds in (k.0, only_goes_on b k.0 h k.1)
-  exactly_then (Err e, h) each = (Err e, only_stops e h)
+  pub one_then : HasOneOutcome (J a) → ((b : B) → J a (Ok b) → HasOneOutcome (K b)) → HasOneOutcome (Then J K a)
+  one_then (Ok b, h) each = let k = each b h.holds in (k.0, only_goes_on b k.0 h k.1)
+  one_then (Err e, h) each = (Err e, only_stops e h)
 
 module _ {A B E : Type 0} (refusal_of : E → Refusal) (J : A → Result B E → Type 0) (a : A) where
   pub only_told_ok : (b : B) → IsOnly (J a) (Ok b) → IsOnly (ToldAs refusal_of J a) (Ok b)
@@ -84,6 +89,26 @@ module _ {A E : Type 0} (J : A → Result (Unit {0}) E → Type 0) (a : A) where
   exactly_checking (Ok _, h) = (Ok a, only_checking_ok h)
   exactly_checking (Err e, h) = (Err e, only_checking_err e h)
 
+-- the same, up to the example
+module _ {A : Type 0} (J : A → Result (Unit {0}) Refusal → Type 0) (a : A) where
+  pub outcome_checking_ok : IsOutcome (J a) (Ok tt) → IsOutcome (Checking J a) (Ok a)
+  outcome_checking_ok h = record { holds = (refl, h.holds); only = one }
+    where
+      one : (other : Result A Refusal) → Checking J a other → up_to_example other ≡ Ok a
+      one (Ok b) x = ap Ok x.0
+      one (Err e) x = absurd (apart (sym (h.only (Err e) x)))
+
+  pub outcome_checking_err : (refusal : Refusal) → IsOutcome (J a) (Err refusal) → IsOutcome (Checking J a) (Err refusal)
+  outcome_checking_err refusal h = record { holds = h.holds; only = one }
+    where
+      one : (other : Result A Refusal) → Checking J a other → up_to_example other ≡ Err (without_example refusal)
+      one (Ok b) x = absurd (apart (h.only (Ok tt) x.1))
+      one (Err e) x = ap Err (err_same (h.only (Err e) x))
+
+  pub one_checking : HasOneOutcome (J a) → HasOneOutcome (Checking J a)
+  one_checking (Ok _, h) = (Ok a, outcome_checking_ok h)
+  one_checking (Err e, h) = (Err e, outcome_checking_err e h)
+
 -- what came through a check is what was checked
 module _ {A C : Type 0} (K : A → Result C Refusal → Type 0) (a : A) (c : C) where
   pub through_check : (J : A → Result (Unit {0}) Refusal → Type 0) → Then (Checking J) K a (Ok c) → J a (Ok tt) × K a (Ok c)
@@ -97,35 +122,43 @@ module _ {A C : Type 0} (K : A → Result C Refusal → Type 0) (a : A) (c : C) 
 module _ (wants : Refusal → Bool) where
   -- `a` comes to one thing
   pub record IsSound {A B : Type 0} (J : A → Result B Refusal → Type 0) (a : A) : Type 0 where
-    pub exactly : ExactlyOne (J a)
+    pub one : HasOneOutcome (J a)
     pub caused : (refusal : Refusal) → J a (Err refusal) → wants refusal ≡ false
 
   -- the second one needs to come to one thing where the first one passes something on
   pub sound_then : {A B C : Type 0} (J : A → Result B Refusal → Type 0) (K : B → Result C Refusal → Type 0) (a : A) → IsSound J a → ((b : B) → J a (Ok b) → IsSound K b) → IsSound (Then J K) a
   sound_then {A} {B} {C} J K a first second =
-      record { exactly = exactly_then J K a first.exactly (λ b h. (second b h).exactly); caused = λ refusal h. by h refl }
+      record { one = one_then J K a first.one (λ b h. (second b h).one); caused = λ refusal h. by h refl }
     where
       by : {outcome : Result C Refusal} {refusal : Refusal} → Then J K a outcome → outcome ≡ Err refusal → wants refusal ≡ false
       by {refusal = refusal} (stops e h) same = ap wants (err_same (sym same)) ∙ first.caused e h
       by {refusal = refusal} (goes_on b outcome x y) same = (second b x).caused refusal (subst (K b) same y)
 
   pub sound_told : {A B E : Type 0} (refusal_of : E → Refusal) (J : A → Result B E → Type 0) (a : A) → ExactlyOne (J a) → ((error : E) → J a (Err error) → wants (refusal_of error) ≡ false) → IsSound (ToldAs refusal_of J) a
-  sound_told refusal_of J a exactly caused = record { exactly = exactly_told refusal_of J a exactly; caused = λ refusal h. ap wants h.1 ∙ caused h.0 h.2 }
+  sound_told refusal_of J a exactly caused =
+      let told = exactly_told refusal_of J a exactly in
+      record { one = (told.0, of_only told.1); caused = λ refusal h. ap wants h.1 ∙ caused h.0 h.2 }
 
-  pub sound_checking : {A : Type 0} (J : A → Result (Unit {0}) Refusal → Type 0) (a : A) → ExactlyOne (J a) → ((refusal : Refusal) → J a (Err refusal) → wants refusal ≡ false) → IsSound (Checking J) a
-  sound_checking J a exactly caused = record { exactly = exactly_checking J a exactly; caused = caused }
+  pub sound_checking : {A : Type 0} (J : A → Result (Unit {0}) Refusal → Type 0) (a : A) → HasOneOutcome (J a) → ((refusal : Refusal) → J a (Err refusal) → wants refusal ≡ false) → IsSound (Checking J) a
+  sound_checking J a exactly caused = record { one = one_checking J a exactly; caused = caused }
 
 -- ---- how far the judgements of a whole have come
 
 -- what `b` comes to by the judgement that is left, the whole comes to
 pub record LeadsTo {B C : Type 0} (whole : Result C Refusal → Type 0) (K : B → Result C Refusal → Type 0) (b : B) : Type 0 where
-  pub comes : (outcome : Result C Refusal) → IsOnly (K b) outcome → IsOnly whole outcome
+  pub comes : (outcome : Result C Refusal) → IsOutcome (K b) outcome → IsOutcome whole outcome
 
 module _ {C : Type 0} {whole : Result C Refusal → Type 0} {A B : Type 0} {J : A → Result B Refusal → Type 0} {K : B → Result C Refusal → Type 0} {a : A} (come : LeadsTo whole (Then J K) a) where
-  -- the next judgement fails
-  pub fails_at : (refusal : Refusal) → IsOnly (J a) (Err refusal) → IsOnly whole (Err refusal)
-  fails_at refusal h = come.comes (Err refusal) (only_stops J K a refusal h)
+  -- the next judgement fails, with one refusal up to the example or with one alone
+  pub fails_with : (refusal : Refusal) → IsOutcome (J a) (Err refusal) → IsOutcome whole (Err refusal)
+  fails_with refusal h = come.comes (Err refusal) (only_stops J K a refusal h)
+
+  pub fails_at : (refusal : Refusal) → IsOnly (J a) (Err refusal) → IsOutcome whole (Err refusal)
+  fails_at refusal h = fails_with refusal (of_only h)
 
   -- it passes something on
+  pub passes_with : (b : B) → IsOutcome (J a) (Ok b) → LeadsTo whole K b
+  passes_with b h = record { comes = λ outcome k. come.comes outcome (only_goes_on J K a b outcome h k) }
+
   pub passes_to : (b : B) → IsOnly (J a) (Ok b) → LeadsTo whole K b
-  passes_to b h = record { comes = λ outcome k. come.comes outcome (only_goes_on J K a b outcome h k) }
+  passes_to b h = passes_with b (of_only h)

@@ -1,7 +1,9 @@
 -- What a text comes to, judgement by judgement.
-use Rattle.std.proofs.Common.{◌≡◌, ℕ, ◌*◌, ◌<◌, ◌≤◌, ◌^◌, List, length, map, Some, false, refl, sym, ap, ◌∙◌, subst, inl, inr, arith}
+use Rattle.std.proofs.Common.{◌≡◌, ℕ, ◌*◌, ◌<◌, ◌≤◌, ◌^◌, List, [], length, map, get_or, None, Some, false, refl, sym, ap, ◌∙◌, subst, inl, inr, arith}
 use Rattle.std.specs.Prelude.{All, IfOk, IfErr, OnOk, Result, Ok, Err, slice_get}
 use Rattle.std.proofs.lemmas.Bool.{cases_lt}
+use Rattle.std.proofs.lemmas.List.{length-map, get_or-map}
+use Rattle.std.proofs.lemmas.Option.{slice_get_within, get_or_from_slice_get}
 use Rattle.kk_base.specs.Exactly.{IsOnly, ExactlyOne}
 use Rattle.kk_base.specs.declared.error.LexError.{LexError}
 use Rattle.kk_base.specs.declared.error.LexError.TheVariants as OfLex
@@ -16,7 +18,9 @@ use Rattle.kk_base.specs.declared.refusal.Refusal.TheVariants as OfText
 use Rattle.kk_syntax.specs.declared.accepted.Accepted.{Accepted}
 use Rattle.kk_syntax.specs.declared.program.Program.{Program}
 use Rattle.kk_syntax.specs.declared.tree.Tree.{Tree}
-use Rattle.kk_syntax.specs.Programs.{FunctionTree, ProgramTree, program_tree}
+use Rattle.kk_syntax.specs.Outlines.{Outline}
+use Rattle.kk_syntax.specs.declared.program.Fun.{Fun}
+use Rattle.kk_syntax.specs.Programs.{FunctionTree, ProgramTree, function_tree, program_tree}
 use Rattle.kk_syntax.specs.Shapes.{nodes_of}
 use Rattle.kk_syntax.specs.Surface.{WrittenTree, written_declaration, written_tree}
 use Rattle.kk_syntax.specs.Typing.{TypesAs}
@@ -31,10 +35,13 @@ use Rattle.kk_names.specs.Faults.{error_for}
 use Rattle.kk_names.specs.Names.{ResolvesAs, IsRefusedFor, first_fault, no_main, main_shape, AnswersNames, KeepsNodes, EachTreeIsResolved}
 use Rattle.kk_types.specs.Checks.{EachProgramIsChecked, EachTypedProgramHasPrincipalTypes}
 use Rattle.kk_mono.specs.Counts.{ParametersAs, CountsAs, AnswersCounts, EachProgramIsCounted}
+use Rattle.kk_cover.specs.Matches.{Miss, CoversAs, missed_in, IsDecided, EachTypedProgramIsDecided}
+use Rattle.kk_cover.specs.Spelled.{spelled}
 use Rattle.kk_front.specs.Chain.{Then, ToldAs, Checking}
-use Rattle.kk_front.specs.Judgement.{ChecksLength, ChecksTypes, ChecksProgram, JudgedAs, IsProgramOf, Refuses, IsRefusalOf, RefusesProgram, wants_memory, EachTextIsJudged}
+use Rattle.kk_front.specs.Outcome.{without_example, up_to_example, IsOutcome, HasOneOutcome}
+use Rattle.kk_front.specs.Judgement.{ChecksLength, ChecksTypes, TellsUncovered, ChecksCover, ChecksProgram, JudgedAs, IsProgramOf, Refuses, IsRefusalOf, RefusesProgram, wants_memory, EachTextIsJudged}
 use Rattle.kk_front.proofs.Bounds.{fewer, parse_told, limit_told}
-use Rattle.kk_front.proofs.Chains.{err_same, apart, only_told_ok, only_told_err, only_checking_ok, only_checking_err, exactly_checking, IsSound, sound_then, sound_told, sound_checking, LeadsTo, fails_at, passes_to}
+use Rattle.kk_front.proofs.Chains.{err_same, apart, only_told_ok, only_told_err, only_checking_ok, only_checking_err, exactly_checking, of_only, outcome_checking_ok, outcome_checking_err, IsSound, sound_then, sound_told, sound_checking, LeadsTo, fails_at, fails_with, passes_to, passes_with}
 
 -- the links of the chain, and what stands behind each
 abbrev pub OfLength : List ℕ → Result (List ℕ) Refusal → Type 0
@@ -58,11 +65,17 @@ OfParameters = ToldAs OfText.Over (Checking ParametersAs)
 abbrev pub OfTypes : ProgramTree → Result ProgramTree Refusal → Type 0
 OfTypes = Checking ChecksTypes
 
+abbrev pub OfCover : ProgramTree → Result ProgramTree Refusal → Type 0
+OfCover = Checking ChecksCover
+
 abbrev pub OfCounts : ProgramTree → Result ProgramTree Refusal → Type 0
 OfCounts = ToldAs OfText.Over (Checking CountsAs)
 
+abbrev pub FromCover : ProgramTree → Result ProgramTree Refusal → Type 0
+FromCover = Then OfCover OfCounts
+
 abbrev pub FromTypes : ProgramTree → Result ProgramTree Refusal → Type 0
-FromTypes = Then OfTypes OfCounts
+FromTypes = Then OfTypes FromCover
 
 abbrev pub FromNames : WrittenTree → Result ProgramTree Refusal → Type 0
 FromNames = Then OfNames ChecksProgram
@@ -119,6 +132,69 @@ module _ (program : ProgramTree) where
   exactly_typed (Ok _, h) = (Ok tt, only_typed h)
   exactly_typed (Err number, h) = (Err (OfText.NotTyped h.holds.function.name), only_untyped number h.holds.function h.holds.is h)
 
+-- the matches of a program that comes to one thing by them
+module _ (program : ProgramTree) where
+  some_equal : {m n : ℕ} → Some m ≡ Some n → m ≡ n
+  some_equal e = cc e
+
+  some_apart : {n : ℕ} → Some n ≡ None → ⊥
+  some_apart e = cc e
+
+  abbrev OnlyMiss : Result (Unit {0}) Miss → Type 0
+  OnlyMiss outcome = (other : Result (Unit {0}) Miss) → CoversAs program other → missed_in other ≡ missed_in outcome
+
+  covered_outcome : CoversAs program (Ok tt) → OnlyMiss (Ok tt) → IsOutcome (ChecksCover program) (Ok tt)
+  covered_outcome holds only = record { holds = holds; only = one }
+    where
+      one : (other : Result (Unit {0}) Refusal) → ChecksCover program other → up_to_example other ≡ Ok tt
+      one (Ok _) x = refl
+      one (Err r) x = absurd (some_apart (only (Err x.miss) x.first))
+
+  uncovered_outcome : (refusal : Refusal) → (told : TellsUncovered program refusal) → OnlyMiss (Err told.miss) → IsOutcome (ChecksCover program) (Err refusal)
+  uncovered_outcome refusal told only = record { holds = told; only = one }
+    where
+      one : (other : Result (Unit {0}) Refusal) → ChecksCover program other → up_to_example other ≡ Err (without_example refusal)
+      one (Ok _) x = absurd (some_apart (sym (only (Ok tt) x)))
+      one (Err r) x =
+          let number_is : x.miss.function ≡ told.miss.function = some_equal (only (Err x.miss) x.first) in
+          let same : x.function ≡ told.function = some_same program (sym x.is ∙ (ap (slice_get program.functions) number_is ∙ told.is)) in
+          ap Err (ap without_example x.refusal_is ∙ (ap (λ (f : FunctionTree). OfText.NotCovered f.name []) same ∙ sym (ap without_example told.refusal_is)))
+
+  -- each outcome of a program that is typed is the only one
+  all_alike : IsDecided program → (outcome : Result (Unit {0}) Miss) → CoversAs program outcome → OnlyMiss outcome
+  all_alike decided outcome holds other x = decided.only other x ∙ sym (decided.only outcome holds)
+
+  pub only_covered : IsDecided program → CoversAs program (Ok tt) → IsOutcome (ChecksCover program) (Ok tt)
+  only_covered decided holds = covered_outcome holds (all_alike decided (Ok tt) holds)
+
+  pub only_uncovered : IsDecided program → (refusal : Refusal) → TellsUncovered program refusal → IsOutcome (ChecksCover program) (Err refusal)
+  only_uncovered decided refusal told = uncovered_outcome refusal told (all_alike decided (Err told.miss) told.first)
+
+  pub one_covered : IsDecided program → HasOneOutcome (ChecksCover program)
+  one_covered decided = by decided.outcome decided.holds
+    where
+      by : (outcome : Result (Unit {0}) Miss) → CoversAs program outcome → HasOneOutcome (ChecksCover program)
+      by (Ok _) holds = (Ok tt, only_covered decided holds)
+      by (Err miss) holds =
+          let refusal : Refusal = OfText.NotCovered holds.function.name (spelled program miss.example) in
+          (Err refusal, only_uncovered decided refusal (record { miss = miss; function = holds.function; first = holds; is = holds.there; refusal_is = refl }))
+
+-- the function of a program that is told, with an example
+pub only_missed_at : (program : Program) → IsDecided (program_tree program) → (number : ℕ) (e : Outline) (function other : Fun) → CoversAs (program_tree program) (Err (record { function = number; example = e }))
+    → function ≡ get_or program.functions.items number other → IsOutcome (ChecksCover (program_tree program)) (Err (OfText.NotCovered function.name (spelled (program_tree program) e)))
+only_missed_at program decided number e function other holds is =
+    let functions = program.functions.items in
+    let lt : number < length functions = (let within = slice_get_within (map function_tree functions) number holds.function holds.there in let long = length-map functions function_tree in omega (arith, within, long)) in
+    let same : function_tree function ≡ holds.function =
+    ap function_tree is ∙ (sym (get_or-map function_tree functions number other holds.function lt) ∙ get_or_from_slice_get (map function_tree functions) number holds.function holds.function holds.there) in
+    only_uncovered (program_tree program) decided (OfText.NotCovered function.name (spelled (program_tree program) e)) (record {
+      miss = record { function = number; example = e };
+      function = holds.function;
+      first = holds;
+      is = holds.there;
+      refusal_is = ap (λ (f : FunctionTree). OfText.NotCovered f.name (spelled (program_tree program) e)) same;
+    })
+
 -- no name's error is want of memory
 no_fault_wants : (kind : FaultKind) (name : List ℕ) (at : ℕ) → wants_memory (OfText.Name (error_for kind name at)) ≡ false
 no_fault_wants Twice name at = refl
@@ -147,17 +223,24 @@ no_lexer_wants lexemes t (OfLex.NumberTooLarge at) h = refl
 no_lexer_wants lexemes t (OfLex.StringTooLong at) h = refl
 
 -- a program whose names are resolved comes to one thing: where it is typed, it has principal types, so its instances count
-module _ (types : EachProgramIsChecked) (principal : EachTypedProgramHasPrincipalTypes) (counts : EachProgramIsCounted) (program : ProgramTree) where
+module _ (types : EachProgramIsChecked) (principal : EachTypedProgramHasPrincipalTypes) (decided : EachTypedProgramIsDecided) (counts : EachProgramIsCounted) (program : ProgramTree) where
   sound_counts : TypesAs program (Ok tt) → IsSound wants_memory OfCounts program
   sound_counts typed =
       let typings = principal program typed in
       sound_told wants_memory OfText.Over (Checking CountsAs) program (exactly_checking CountsAs program ((counts program).1 typings.0 typings.1)) (λ limit h. refl)
 
+  sound_cover : TypesAs program (Ok tt) → IsSound wants_memory FromCover program
+  sound_cover typed =
+      sound_then wants_memory OfCover OfCounts program
+      (sound_checking wants_memory ChecksCover program (one_covered program (decided program typed)) (λ refusal h. ap wants_memory h.refusal_is))
+      (λ passed h. subst (IsSound wants_memory OfCounts) (sym h.0) (sound_counts typed))
+
   sound_types : IsSound wants_memory FromTypes program
   sound_types =
-      sound_then wants_memory OfTypes OfCounts program
-      (sound_checking wants_memory ChecksTypes program (exactly_typed program (types program)) (λ refusal h. ap wants_memory h.refusal_is))
-      (λ passed h. subst (IsSound wants_memory OfCounts) (sym h.0) (sound_counts h.1))
+      let one = exactly_typed program (types program) in
+      sound_then wants_memory OfTypes FromCover program
+      (sound_checking wants_memory ChecksTypes program (one.0, of_only one.1) (λ refusal h. ap wants_memory h.refusal_is))
+      (λ passed h. subst (IsSound wants_memory FromCover) (sym h.0) (sound_cover h.1))
 
   sound_program : IsSound wants_memory ChecksProgram program
   sound_program =
@@ -166,12 +249,12 @@ module _ (types : EachProgramIsChecked) (principal : EachTypedProgramHasPrincipa
       (λ passed h. subst (IsSound wants_memory FromTypes) (sym h.0) sound_types)
 
 -- each text comes to one thing
-pub each_text_is_judged : EachTextIsRead → EachListIsParsed → EachTreeIsResolved → EachProgramIsChecked → EachTypedProgramHasPrincipalTypes → EachProgramIsCounted → EachTextIsJudged
-each_text_is_judged lexemes grammar names types principal counts text = (whole.exactly, whole.caused)
+pub each_text_is_judged : EachTextIsRead → EachListIsParsed → EachTreeIsResolved → EachProgramIsChecked → EachTypedProgramHasPrincipalTypes → EachTypedProgramIsDecided → EachProgramIsCounted → EachTextIsJudged
+each_text_is_judged lexemes grammar names types principal decided counts text = (whole.one, whole.caused)
   where
     named : (tree : WrittenTree) → IsSound wants_memory FromNames tree
     named tree =
-        sound_then wants_memory OfNames ChecksProgram tree (sound_told wants_memory OfText.Name ResolvesAs tree (names tree) (no_name_wants tree)) (λ program h. sound_program types principal counts program)
+        sound_then wants_memory OfNames ChecksProgram tree (sound_told wants_memory OfText.Name ResolvesAs tree (names tree) (no_name_wants tree)) (λ program h. sound_program types principal decided counts program)
 
     parsed : (tokens : TokenList) → IsSound wants_memory FromGrammar tokens
     parsed tokens =
@@ -198,34 +281,41 @@ module _ (program : ProgramTree) where
   at_program : LeadsTo (ChecksProgram program) ChecksProgram program
   at_program = record { comes = λ outcome h. h }
 
-  pub parameters_judged : (limit : Limit) → IsOnly (ParametersAs program) (Err limit) → IsOnly (ChecksProgram program) (Err (OfText.Over limit))
+  pub parameters_judged : (limit : Limit) → IsOnly (ParametersAs program) (Err limit) → IsOutcome (ChecksProgram program) (Err (OfText.Over limit))
   parameters_judged limit h = fails_at at_program (OfText.Over limit) (passes ParametersAs program limit h)
 
   module _ (parameters : IsOnly (ParametersAs program) (Ok tt)) where
     at_types : LeadsTo (ChecksProgram program) FromTypes program
     at_types = passes_to at_program program (keeps ParametersAs program parameters)
 
-    pub types_judged : (refusal : Refusal) → IsOnly (ChecksTypes program) (Err refusal) → IsOnly (ChecksProgram program) (Err refusal)
+    pub types_judged : (refusal : Refusal) → IsOnly (ChecksTypes program) (Err refusal) → IsOutcome (ChecksProgram program) (Err refusal)
     types_judged refusal h = fails_at at_types refusal (only_checking_err ChecksTypes program refusal h)
 
     module _ (typed : IsOnly (ChecksTypes program) (Ok tt)) where
-      at_counts : LeadsTo (ChecksProgram program) OfCounts program
-      at_counts = passes_to at_types program (only_checking_ok ChecksTypes program typed)
+      at_cover : LeadsTo (ChecksProgram program) FromCover program
+      at_cover = passes_to at_types program (only_checking_ok ChecksTypes program typed)
 
-      pub counts_judged : IsOnly (CountsAs program) (Ok tt) → IsOnly (ChecksProgram program) (Ok program)
-      counts_judged h = at_counts.comes (Ok program) (keeps CountsAs program h)
+      pub cover_judged : (refusal : Refusal) → IsOutcome (ChecksCover program) (Err refusal) → IsOutcome (ChecksProgram program) (Err refusal)
+      cover_judged refusal h = fails_with at_cover refusal (outcome_checking_err ChecksCover program refusal h)
 
-      pub limit_judged : (limit : Limit) → IsOnly (CountsAs program) (Err limit) → IsOnly (ChecksProgram program) (Err (OfText.Over limit))
-      limit_judged limit h = at_counts.comes (Err (OfText.Over limit)) (passes CountsAs program limit h)
+      module _ (covered : IsOutcome (ChecksCover program) (Ok tt)) where
+        at_counts : LeadsTo (ChecksProgram program) OfCounts program
+        at_counts = passes_with at_cover program (outcome_checking_ok ChecksCover program covered)
+
+        pub counts_judged : IsOnly (CountsAs program) (Ok tt) → IsOutcome (ChecksProgram program) (Ok program)
+        counts_judged h = at_counts.comes (Ok program) (of_only (keeps CountsAs program h))
+
+        pub limit_judged : (limit : Limit) → IsOnly (CountsAs program) (Err limit) → IsOutcome (ChecksProgram program) (Err (OfText.Over limit))
+        limit_judged limit h = at_counts.comes (Err (OfText.Over limit)) (of_only (passes CountsAs program limit h))
 
 -- a limit as it is answered is the one that the program passes
-pub count_judged : (program : ProgramTree) → All (λ function. nodes_of function.body < 2 ^ 64) program.functions
-    → IsOnly (ParametersAs program) (Ok tt) → IsOnly (ChecksTypes program) (Ok tt) → (limit : Limit) → AnswersCounts program (Err limit)
-    → IsOnly (ChecksProgram program) (Err (OfText.Over limit))
-count_judged program few parameters typed limit h =
-    let P : Limit → Type 0 = λ x. IsOnly (ChecksProgram program) (Err (OfText.Over x)) in
+pub count_judged : (program : ProgramTree) → All (λ function. nodes_of function.body < 2 ^ 31) program.functions
+    → IsOnly (ParametersAs program) (Ok tt) → IsOnly (ChecksTypes program) (Ok tt) → IsOutcome (ChecksCover program) (Ok tt) → (limit : Limit) → AnswersCounts program (Err limit)
+    → IsOutcome (ChecksProgram program) (Err (OfText.Over limit))
+count_judged program few parameters typed covered limit h =
+    let P : Limit → Type 0 = λ x. IsOutcome (ChecksProgram program) (Err (OfText.Over x)) in
     let told : h.0 ≡ limit = sym (h.2 ∙ limit_told program h.0 few h.1.holds) in
-    subst P told (limit_judged program parameters typed h.0 h.1)
+    subst P told (limit_judged program parameters typed covered h.0 h.1)
 
 -- ---- a text
 
@@ -291,7 +381,7 @@ module _ (text : List ℕ) where
           at_checks : LeadsTo (JudgedAs text) ChecksProgram (program_tree program)
           at_checks = passes_to at_names (program_tree program) (only_told_ok OfText.Name ResolvesAs (written_tree tree) (program_tree program) resolved)
 
-          pub accepted_judged : (answer : Result Accepted Refusal) → IfOk answer (λ accepted. program_tree accepted.typed.program ≡ program_tree program) → OnOk answer (IsOnly (ChecksProgram (program_tree program)) (Ok (program_tree program)))
+          pub accepted_judged : (answer : Result Accepted Refusal) → IfOk answer (λ accepted. program_tree accepted.typed.program ≡ program_tree program) → OnOk answer (IsOutcome (ChecksProgram (program_tree program)) (Ok (program_tree program)))
               → IfOk answer (λ accepted. IsProgramOf text (program_tree accepted.typed.program))
           accepted_judged (Ok accepted) same h =
               subst (IsProgramOf text) (sym same) (at_checks.comes (Ok (program_tree program)) h)
@@ -303,5 +393,5 @@ module _ (text : List ℕ) where
 
           -- no function has too many nodes to be counted
           pub nodes_counted : All (λ d. nodes_in d ≤ 2 * length laid.items) (map written_declaration tree.declarations.items) → KeepsNodes (written_tree tree).declarations (program_tree program).functions
-              → All (λ function. nodes_of function.body < 2 ^ 64) (program_tree program).functions
+              → All (λ function. nodes_of function.body < 2 ^ 31) (program_tree program).functions
           nodes_counted small keeps_nodes = fewer (2 * length laid.items) (program_tree program).functions (omega (arith, short, few)) (keeps_nodes (2 * length laid.items) small)

@@ -1,26 +1,34 @@
 ghost use Rattle.std.specs.Prelude.{◌≡◌, ◌<◌, ◌^◌, false, All, IfOk, IfErr, OnOk};
 ghost use Rattle.kk_base.specs.Exactly.{IsOnly};
-ghost use Rattle.kk_syntax.specs.GroundPrograms.{ground_program};
+ghost use Rattle.kk_syntax.specs.Covered.{Each};
+ghost use Rattle.kk_syntax.specs.Outlines.{pattern_outline};
 ghost use Rattle.kk_syntax.specs.Programs.{program_tree};
 ghost use Rattle.kk_syntax.specs.Shapes.{nodes_of};
-ghost use Rattle.kk_syntax.specs.Typing.{ArePrincipal};
+ghost use Rattle.kk_syntax.specs.Typing.{ArePrincipal, TypesAs};
 ghost use Rattle.kk_syntax.specs.TypedPrograms.{typings_of};
+ghost use Rattle.kk_syntax.specs.Matches.{IsFunctionCovered};
+ghost use Rattle.kk_cover.specs.Spelled.{spelled};
 ghost use Rattle.kk_mono.specs.Grounds.{AreGiven};
-ghost use Rattle.kk_front.specs.Judgement.{ChecksTypes, ChecksProgram, RefusesProgram, wants_memory};
+ghost use Rattle.kk_front.specs.Judgement.{ChecksTypes, ChecksCover, ChecksProgram, RefusesProgram, wants_memory};
+ghost use Rattle.kk_front.specs.Outcome.{IsOutcome};
 
-use kk_base::Refusal;
+use kk_base::{NoMemory, Refusal};
+use kk_cover::{CoverError, cover, each_typed_program_is_decided, example_text};
 use kk_mono::{MonoError, check_parameters, instances};
-use kk_syntax::{Accepted, Fun, Program, Typed};
+use kk_syntax::{Accepted, Fun, Pat, Program, Typed};
 use kk_types::{TypeError, check};
 use std::alloc::Global;
 
-/// The program with its types and its instances, if it keeps the limits and is typed; or its first failure.
+/// The program with its types and its instances, if it keeps the limits, is typed and its matches are covered; or its first
+/// failure.
 pub fn accept(alloc: Global, program: Program) -> Result<Accepted, Refusal>
-    requires { All (λ function. nodes_of function.body < 2 ^ 64) (program_tree program).functions }
+    requires { All (λ function. nodes_of function.body < 2 ^ 31) (program_tree program).functions }
     ensures program { IfOk result (λ accepted. program_tree accepted.typed.program ≡ program_tree program) }
-    ensures ok { OnOk result (IsOnly (ChecksProgram (program_tree program)) (Ok (program_tree program))) }
+    ensures ok { OnOk result (IsOutcome (ChecksProgram (program_tree program)) (Ok (program_tree program))) }
     ensures principal { IfOk result (λ accepted.
         ArePrincipal (program_tree accepted.typed.program) (typings_of accepted.typed)) }
+    ensures covered { IfOk result (λ accepted.
+        let program = program_tree accepted.typed.program in Each (IsFunctionCovered program) program.functions) }
     ensures instances { IfOk result (λ accepted. AreGiven accepted.typed accepted.instances) }
     ensures err { IfErr result (RefusesProgram (program_tree program)) }
 {
@@ -28,6 +36,7 @@ pub fn accept(alloc: Global, program: Program) -> Result<Accepted, Refusal>
         return Err(Refusal::Over(limit));
     }
     let typed = typed(alloc, &program)?;
+    covered(alloc, &typed)?;
     match instances(alloc, &typed) {
         Ok(instances) => Ok(Accepted { typed, instances }),
         Err(MonoError::Over(limit)) => Err(Refusal::Over(limit)),
@@ -49,6 +58,40 @@ fn typed(alloc: Global, program: &Program) -> Result<Typed, Refusal>
             Err(not_typed(alloc, &program.functions[function as usize]))
         }
         Err(TypeError::NoMemory) => Err(Refusal::NoMemory),
+    }
+}
+
+// Checks that each match of a typed program is covered; the first function with another is told by its name, with an
+// example.
+fn covered(alloc: Global, typed: &Typed) -> Result<(), Refusal>
+    requires few { All (λ function. nodes_of function.body < 2 ^ 31) (program_tree typed.now.program).functions }
+    requires typed { TypesAs (program_tree typed.now.program) (Ok tt) }
+    ensures ok { OnOk result (IsOutcome (ChecksCover (program_tree typed.now.program)) (Ok tt)) }
+    ensures err { IfErr result (λ refusal. wants_memory refusal ≡ false
+        → IsOutcome (ChecksCover (program_tree typed.now.program)) (Err refusal)) }
+{
+    each_typed_program_is_decided();
+    match cover(alloc, typed) {
+        Ok(()) => Ok(()),
+        Err(CoverError::NotCovered { function, example }) => {
+            let function = &typed.program.functions[function as usize];
+            Err(not_covered(alloc, &typed.program, function, &example))
+        }
+        Err(CoverError::NoMemory) => Err(Refusal::NoMemory),
+    }
+}
+
+// The refusal of a function with a match that is not covered, for which this is an example.
+fn not_covered(alloc: Global, program: &Program, function: &Fun, example: &Pat) -> Refusal
+    ensures { wants_memory result ≡ false
+        → result ≡ Refusal.NotCovered function.now.name (spelled (program_tree program.now) (pattern_outline example.now)) }
+{
+    let Ok(function) = function.name.copied(alloc) else {
+        return Refusal::NoMemory;
+    };
+    match example_text(alloc, program, example) {
+        Ok(example) => Refusal::NotCovered { function, example },
+        Err(NoMemory) => Refusal::NoMemory,
     }
 }
 

@@ -1,12 +1,15 @@
 ghost use Rattle.std.specs.Prelude.{IfOk, IfErr};
+ghost use Rattle.kk_syntax.specs.Covered.{Each};
 ghost use Rattle.kk_syntax.specs.Programs.{program_tree};
 ghost use Rattle.kk_syntax.specs.Typing.{ArePrincipal};
 ghost use Rattle.kk_syntax.specs.TypedPrograms.{typings_of};
+ghost use Rattle.kk_syntax.specs.Matches.{IsFunctionCovered};
 ghost use Rattle.kk_mono.specs.Grounds.{AreGiven};
 ghost use Rattle.kk_front.specs.Judgement.{ChecksLength, IsProgramOf, Refuses, EachTextIsJudged};
 
 use crate::accept::accept;
 use kk_base::{Limit, LimitKind, NoMemory, Refusal};
+use kk_cover::each_typed_program_is_decided;
 use kk_layout::laid_out;
 use kk_lexer::{each_text_is_read, tokens};
 use kk_mono::each_program_is_counted;
@@ -21,6 +24,8 @@ pub fn read(alloc: Global, text: &[u8]) -> Result<Accepted, Refusal>
     ensures program { IfOk result (λ accepted. IsProgramOf text.now (program_tree accepted.typed.program)) }
     ensures principal { IfOk result (λ accepted.
         ArePrincipal (program_tree accepted.typed.program) (typings_of accepted.typed)) }
+    ensures covered { IfOk result (λ accepted.
+        let program = program_tree accepted.typed.program in Each (IsFunctionCovered program) program.functions) }
     ensures instances { IfOk result (λ accepted. AreGiven accepted.typed accepted.instances) }
     ensures err { IfErr result (Refuses text.now) }
 {
@@ -45,8 +50,8 @@ pub fn read(alloc: Global, text: &[u8]) -> Result<Accepted, Refusal>
     }
 }
 
-/// Each text is accepted as exactly one program, or refused for exactly one cause, which is no want of memory. It is a
-/// law, and does nothing.
+/// Each text is accepted as exactly one program, or refused for exactly one cause, which is no want of memory. Of a match that
+/// is not covered, the cause is told by any pattern that no row matches. It is a law, and does nothing.
 pub fn each_text_is_judged()
     ensures { EachTextIsJudged }
 {
@@ -54,6 +59,7 @@ pub fn each_text_is_judged()
     each_list_is_parsed();
     each_tree_is_resolved();
     each_program_is_checked();
+    each_typed_program_is_decided();
     each_program_is_counted();
 }
 

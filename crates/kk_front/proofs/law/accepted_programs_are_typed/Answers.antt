@@ -5,6 +5,9 @@ use Rattle.kk_front.proofs.law.accepted_programs_are_typed.Goals as goal
 pub returns-clause-typed : goal.returns-clause-typed
 returns-clause-typed c = typed c.resolved_programs_have_main.ensures c.resolved_programs_are_plain.ensures
 
+pub returns-clause-covered : goal.returns-clause-covered
+returns-clause-covered c = λ text program h. (found text program h).covered
+
 pub returns-clause-checked : goal.returns-clause-checked
 returns-clause-checked c =
     checked c.resolved_programs_have_main.ensures c.resolved_programs_are_plain.ensures c.resolved_programs_have_truths_and_texts.ensures
