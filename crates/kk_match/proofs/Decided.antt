@@ -76,6 +76,7 @@ module _ (types : List ℕ) (most : ℕ) (ps : List Pattern) (nodes : List NodeT
     subst (HasTests types (lines_from types 0 ps)) (sym tests_are) (has_tests types most (lines_from types 0 ps) nodes graph),
     (let within = graph.within in omega (arith, tests_are, within, same)),
     test_once types graph.states nodes last graph.right count,
+    (nodes, subst (λ (m : ℕ). IsGraphOf types m (lines_from types 0 ps) nodes) same graph, ap (λ (n : ℕ). turned n nodes) (omega (arith, count))),
   )
 
 pub graph_some : (types : List ℕ) (most : ℕ) (start : StateTree) (nodes : List NodeTree) → IsGraphOf types most start nodes → suc (length nodes - 1) ≡ length nodes
@@ -121,9 +122,13 @@ module _ (types : List ℕ) (nodes : List NodeTree) where
     turn_decides (p ∷ ps) some is constructors same =
         subst (λ ns. Decides constructors (p ∷ ps) (turned last ns)) (sym is) (in_turn_decides types p ps last (count ∙ ap length is) constructors same)
 
-pub turn_formed : (types : List ℕ) (ps : List Pattern) (nodes : List NodeTree) (last : ℕ) → nodes ≡ with_rows (lines_from types 0 ps) [] → HasMoreTests types (lines_from types 0 ps) (most_tests ps)
+pub turn_formed : (types : List ℕ) (ps : List Pattern) (nodes : List NodeTree) (last : ℕ) → last ≡ length nodes - 1 → nodes ≡ with_rows (lines_from types 0 ps) [] → HasMoreTests types (lines_from types 0 ps) (most_tests ps)
     → IsFormed types ps (turned last nodes) (count_by is_test (turned last nodes)) true
-turn_formed types ps nodes last is more = (more, tests_turned last nodes ∙ (ap (count_by is_test) is ∙ rows_test (lines_from types 0 ps)))
+turn_formed types ps nodes last at is more = (
+  more,
+  tests_turned last nodes ∙ (ap (count_by is_test) is ∙ rows_test (lines_from types 0 ps)),
+  ap (λ (n : ℕ). turned n nodes) at ∙ ap (λ (ns : List NodeTree). turned (length ns - 1) ns) is,
+)
 
 pub formed_as : (types : List ℕ) (ps : List Pattern) (nodes found : List NodeTree) (tests : ℕ) (by_rows form : Bool) → IsFormed types ps nodes (count_by is_test nodes) form → found ≡ nodes
     → tests ≡ count_by is_test found → by_rows ≡ form → IsFormed types ps found tests by_rows

@@ -1,10 +1,13 @@
 -- Which tests decisions make.
-use Rattle.std.specs.Prelude.{◌≡◌, ◌≤◌, ◌*◌, ℕ, Bool, true, false, List, Option, Some, sum_by, slice_get}
+use Rattle.std.specs.Prelude.{◌≡◌, ◌≤◌, ◌*◌, ◌-◌, ℕ, Bool, true, false, List, [], length, Option, Some, sum_by, slice_get}
 use Rattle.kk_syntax.specs.Patterns.{Pattern}
 use Rattle.kk_syntax.specs.Shapes.{is_among, nodes_of_pattern}
 use Rattle.kk_core.specs.declared.decisions.Edge.{Edge}
 use Rattle.kk_core.specs.Decisions.{NodeTree, chooses, tests, targets}
 use Rattle.kk_match.specs.Graphs.{weight, lines_from, HasTests, HasMoreTests}
+use Rattle.kk_match.specs.Growing.{IsGraphOf}
+use Rattle.kk_match.specs.InTurn.{with_rows}
+use Rattle.kk_match.specs.Turned.{turned}
 
 -- a node tests a position
 abbrev pub TestsAt : List NodeTree → ℕ → List ℕ → Type 0
@@ -27,10 +30,24 @@ is_test (tests at edges otherwise) = true
 abbrev pub most_tests : List Pattern → ℕ
 most_tests patterns = 8 * sum_by nodes_of_pattern patterns
 
--- The graph of the states has so many tests, and none of a position twice on a path. Or it would have more tests than may be;
--- then the rows are tried one after the other, with a test for each of their parts.
+-- Nodes are the graph of the states: one for each state that tests lead to, with the test and the edges of that state, and
+-- the start is the first.
+abbrev pub IsStateGraph : List ℕ → List Pattern → List NodeTree → Type 0
+IsStateGraph types patterns nodes =
+    (others : List NodeTree) × IsGraphOf types (most_tests patterns) (lines_from types 0 patterns) others
+    × (nodes ≡ turned (length others - 1) others)
+
+-- nodes try the rows one after the other
+abbrev pub rows_in_turn : List ℕ → List Pattern → List NodeTree
+rows_in_turn types patterns =
+    let others = with_rows (lines_from types 0 patterns) [] in
+    turned (length others - 1) others
+
+-- The nodes are the graph of the states. It has so many tests, and none of a position twice on a path. Or it would have more
+-- tests than may be; then the rows are tried one after the other, with a test for each of their parts.
 abbrev pub IsFormed : List ℕ → List Pattern → List NodeTree → ℕ → Bool → Type 0
 IsFormed types patterns nodes count false =
-    HasTests types (lines_from types 0 patterns) count × (count ≤ most_tests patterns) × TestOnce nodes
+    HasTests types (lines_from types 0 patterns) count × (count ≤ most_tests patterns) × TestOnce nodes × IsStateGraph types patterns nodes
 IsFormed types patterns nodes count true =
     HasMoreTests types (lines_from types 0 patterns) (most_tests patterns) × (count ≡ weight (lines_from types 0 patterns))
+    × (nodes ≡ rows_in_turn types patterns)

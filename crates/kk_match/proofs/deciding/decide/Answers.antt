@@ -126,4 +126,4 @@ returns-clause-formed c =
     let again = c.in_ok-state-in-None.ensures ∙ (ap (λ qs. lines_of 0 (map (λ q. map part_of q.items) qs)) c.deref-in-None.ensures.value ∙ (ap (lines_of 0) c.in_ok-questions.ensures ∙ lines_same types (λ p. pattern_tree p.now) 0 rows.patterns.items)) in
     let is : nodes ≡ with_rows (lines_from types 0 ps) [] = c.in_ok-nodes-in-None.ensures ∙ ap (λ s. with_rows s []) again in
     also_all c.finished-in-None.result c.finished-in-None.ensures.nodes c.finished-in-None.ensures.tests c.finished-in-None.ensures.by_rows
-    (λ found same tests by. formed_as types ps (turned last nodes) (map node_tree found.nodes.items) found.tests found.by_rows true (turn_formed types ps nodes last is more) same tests by)
+    (λ found same tests by. formed_as types ps (turned last nodes) (map node_tree found.nodes.items) found.tests found.by_rows true (turn_formed types ps nodes last (ap (λ n. n - 1) (sym (length-map c.in_ok-nodes-in-None.nodes.items node_tree))) is more) same tests by)
