@@ -21,3 +21,4 @@ pub mod FormViews
 pub mod Listing
 pub mod Drafted
 pub mod Working
+pub mod Seeing

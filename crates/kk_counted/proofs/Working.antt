@@ -18,7 +18,7 @@ use Rattle.kk_counted.specs.CountedForms.{Move}
 use Rattle.kk_counted.specs.Spending.{total, AreEven, AllAmong, at_positions, numbers_from, used_by, lent_by, FitsForm, HasAsMany}
 use Rattle.kk_counted.specs.Drafts.{minus, minus_all, HasAll, Split, Draft, outside, all_owed, parameters_where, begun, fallen, given, duplicated, dropped, opened, unpacked, computed, forked, entered, entered_in, entered_by, end_code, is_tail, ended_in, ended_by_value, ended_by_call, joined, joined_in, Writes, Awaits, Reaches, IsLentTo, Owns, OwnsAll, HoldsAll, IsPlain, Takes, used_in, lent_in, LendsAll, IsOnly, IsInArm, EndsByCall}
 use Rattle.kk_counted.specs.Emitting.{HaveParameters, AreLow, Leads, first, owned_parameters, IsSoundDraft, Works}
-use Rattle.kk_counted.specs.Works.{passes}
+use Rattle.kk_counted.specs.Works.{used_at, lends_at, passes}
 use Rattle.kk_counted.proofs.Evenness.{among_front, among_behind, minus_all_even, low_numbers, total_append}
 use Rattle.kk_counted.proofs.Drafting.{sound_dup, sound_drop, sound_opened, sound_computed, sound_forked, sound_entered, sound_given}
 use Rattle.kk_counted.proofs.Joining.{sound_by_value, sound_by_call, sound_joined}
@@ -56,6 +56,19 @@ dropped_works d e emitter x going writes owns is works =
 pub unpacked_works : (d e : Draft) (emitter x c count mask : ℕ) → d.failed ≡ false → Writes d → Owns d emitter x → e ≡ opened d x c count mask → Works d → Works e
 unpacked_works d e emitter x c count mask going writes owns is works =
     works_by d e (opened d x c count mask) going (λ sound. sound_opened d x c count mask sound (writes going).0 (writes going).1 (owns going).1) is works
+
+-- without parameters that are told of, each position is owned
+no_lent : (i : ℕ) → lends_at [] i ≡ false
+no_lent zero = refl
+no_lent (suc i) = refl
+
+all_at_no : (next : ℕ) (xs : List ℕ) → at_positions (λ i. not (lends_at [] i)) next xs ≡ xs
+all_at_no next [] = refl
+all_at_no next (x ∷ xs) =
+    ap (λ b. if not b then x ∷ at_positions (λ i. not (lends_at [] i)) (suc next) xs else at_positions (λ i. not (lends_at [] i)) (suc next) xs) (no_lent next) ∙ ap (λ ys. x ∷ ys) (all_at_no (suc next) xs)
+
+pub all_used : (arguments : List ℕ) → used_at [] arguments ≡ arguments
+all_used arguments = all_at_no 0 arguments
 
 -- a form that is no call uses up all of its arguments
 pub constructed_works : (d e : Draft) (emitter c : ℕ) (arguments : List ℕ) → d.failed ≡ false → Writes d → OwnsAll d emitter arguments → e ≡ computed d (OfForm.Construct c) arguments arguments → Works d → Works e

@@ -81,14 +81,21 @@ impl<'a> Emitter<'a> {
         ensures owed { IfOk result (λ owed. (owed.emitter ≡ (state self.old).instance) × (owed.variable ≡ variable)) }
         ensures err { OnErr result (state self.new ≡ fallen (state self.old)) }
     {
-        if self.work.failed || self.work.give(variable).is_err() {
-            self.work.failed = true;
+        if self.work.failed {
             return Err(NoMemory);
         }
-        Ok(Owed {
-            emitter: self.work.instance,
-            variable,
-        })
+        match self.work.give(variable) {
+            Err(_) => {
+                self.work.failed = true;
+                return Err(NoMemory);
+            }
+            Ok(()) => {
+                return Ok(Owed {
+                    emitter: self.work.instance,
+                    variable,
+                });
+            }
+        }
     }
 
     /// One reference more of a variable.
@@ -101,14 +108,21 @@ impl<'a> Emitter<'a> {
         ensures err { OnErr result (state self.new ≡ fallen (state self.old)) }
     {
         let variable = owed.variable;
-        if self.work.failed || self.work.dup(variable).is_err() {
-            self.work.failed = true;
+        if self.work.failed {
             return Err(NoMemory);
         }
-        Ok(Owed {
-            emitter: self.work.instance,
-            variable,
-        })
+        match self.work.dup(variable) {
+            Err(_) => {
+                self.work.failed = true;
+                return Err(NoMemory);
+            }
+            Ok(()) => {
+                return Ok(Owed {
+                    emitter: self.work.instance,
+                    variable,
+                });
+            }
+        }
     }
 
     /// A reference of its own of a lent parameter.
@@ -120,14 +134,21 @@ impl<'a> Emitter<'a> {
         ensures owed { IfOk result (λ one. (one.emitter ≡ (state self.old).instance) × (one.variable ≡ variable)) }
         ensures err { OnErr result (state self.new ≡ fallen (state self.old)) }
     {
-        if self.work.failed || self.work.dup(variable).is_err() {
-            self.work.failed = true;
+        if self.work.failed {
             return Err(NoMemory);
         }
-        Ok(Owed {
-            emitter: self.work.instance,
-            variable,
-        })
+        match self.work.dup(variable) {
+            Err(_) => {
+                self.work.failed = true;
+                return Err(NoMemory);
+            }
+            Ok(()) => {
+                return Ok(Owed {
+                    emitter: self.work.instance,
+                    variable,
+                });
+            }
+        }
     }
 
     /// Hands a reference over as an argument of a call to come.
@@ -158,14 +179,21 @@ impl<'a> Emitter<'a> {
         ensures err { OnErr result (state self.new ≡ state self.old) }
         ensures kept { IfErr result (λ kept. kept.held ≡ Held.One owed) }
     {
-        if self.work.failed || self.work.give_up(owed.variable).is_err() {
+        if self.work.failed {
             return Err(Kept::of_one(owed));
         }
-        let Owed {
-            emitter: _,
-            variable: _,
-        } = owed;
-        Ok(())
+        match self.work.give_up(owed.variable) {
+            Err(_) => {
+                return Err(Kept::of_one(owed));
+            }
+            Ok(()) => {
+                let Owed {
+                    emitter: _,
+                    variable: _,
+                } = owed;
+                return Ok(());
+            }
+        }
     }
 
     /// Opens a cell of that constructor, and gives the fields that the mask names, in their order. Its lowest bit tells
@@ -186,16 +214,18 @@ impl<'a> Emitter<'a> {
         }
         let count = self.shape.constructors()[constructor as usize].fields.len();
         match self.work.open(owed.variable, constructor, count, used) {
-            Err(_) => Err(Kept::of_one(owed)),
+            Err(_) => {
+                return Err(Kept::of_one(owed));
+            }
             Ok(variables) => {
                 let Owed {
                     emitter: _,
                     variable: _,
                 } = owed;
-                Ok(Debts {
+                return Ok(Debts {
                     emitter: self.work.instance,
                     variables,
-                })
+                });
             }
         }
     }
@@ -219,11 +249,15 @@ impl<'a> Emitter<'a> {
             .work
             .compute(Form::Construct(constructor), variables, &[])
         {
-            Ok(variable) => Ok(Owed {
-                emitter: self.work.instance,
-                variable,
-            }),
-            Err(variables) => Err(Kept::of_many(Debts { emitter, variables })),
+            Ok(variable) => {
+                return Ok(Owed {
+                    emitter: self.work.instance,
+                    variable,
+                });
+            }
+            Err(variables) => {
+                return Err(Kept::of_many(Debts { emitter, variables }));
+            }
         }
     }
 
@@ -243,11 +277,15 @@ impl<'a> Emitter<'a> {
             return Err(Kept::of_nothing());
         }
         match self.work.compute(form, arguments, &[]) {
-            Ok(variable) => Ok(Owed {
-                emitter: self.work.instance,
-                variable,
-            }),
-            Err(_) => Err(Kept::of_nothing()),
+            Ok(variable) => {
+                return Ok(Owed {
+                    emitter: self.work.instance,
+                    variable,
+                });
+            }
+            Err(_) => {
+                return Err(Kept::of_nothing());
+            }
         }
     }
 
@@ -269,11 +307,15 @@ impl<'a> Emitter<'a> {
         }
         let parameters = &self.shape.instances()[instance as usize].parameters;
         match self.work.compute(Form::Call(instance), arguments, parameters) {
-            Ok(variable) => Ok(Owed {
-                emitter: self.work.instance,
-                variable,
-            }),
-            Err(_) => Err(Kept::of_nothing()),
+            Ok(variable) => {
+                return Ok(Owed {
+                    emitter: self.work.instance,
+                    variable,
+                });
+            }
+            Err(_) => {
+                return Err(Kept::of_nothing());
+            }
         }
     }
 
