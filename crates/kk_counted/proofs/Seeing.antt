@@ -1,15 +1,16 @@
 -- A change of what an emitter holds, as its callers see it.
-use Rattle.std.proofs.Common.{◌≡◌, ℕ, true, false, not, List, [], refl, sym, ap, ◌∙◌, subst}
+use Rattle.std.proofs.Common.{◌≡◌, ℕ, ◌+◌, true, false, not, List, [], ◌∷◌, length, arith, refl, sym, ap, ◌∙◌, subst}
 use Rattle.std.specs.Prelude.{slice_index_or}
 use Rattle.kk_syntax.specs.declared.positions.Ownership.{Ownership}
 use Rattle.kk_syntax.specs.declared.positions.Ownership.TheVariants.{Owned}
 use Rattle.kk_syntax.specs.PositionsOf.{PositionTable, lends}
+use Rattle.kk_counted.specs.declared.work.Fork.{Fork}
 use Rattle.kk_counted.specs.declared.work.Work.{Work}
-use Rattle.kk_counted.specs.Drafts.{Draft, fallen}
+use Rattle.kk_counted.specs.Drafts.{Split, Draft, AreNewest, fallen}
 use Rattle.kk_counted.specs.Emissions.{Emission, state}
 use Rattle.kk_counted.specs.Emitting.{Works}
 use Rattle.kk_counted.specs.Spending.{at_positions}
-use Rattle.kk_counted.specs.Works.{draft}
+use Rattle.kk_counted.specs.Works.{back_to_front, split_of, draft}
 
 module _ (positions : PositionTable) (counts : List ℕ) (work : Work) (now : Emission) (is : record { positions = positions; field_counts = counts; work = work } ≡ now) where
   pub seen : (change : Draft → Draft) (new : Work) → draft positions counts new ≡ change (draft positions counts work) → draft positions counts new ≡ change (state now)
@@ -37,3 +38,14 @@ module _ (positions : PositionTable) (counts : List ℕ) (work : Work) (now : Em
 pub used_same : (positions : PositionTable) (f : ℕ) (arguments : List ℕ) (passed : List Ownership) → slice_index_or positions f [] ≡ passed
     → at_positions (λ i. not (lends (slice_index_or passed i Owned))) 0 arguments ≡ at_positions (λ i. not (lends (slice_index_or (slice_index_or positions f []) i Owned))) 0 arguments
 used_same positions f arguments passed is = ap (λ all. at_positions (λ i. not (lends (slice_index_or all i Owned))) 0 arguments) (sym is)
+
+back_length : {A B : Type 0} (f : A → B) (xs : List A) (done : List B) → length (back_to_front f xs done) ≡ length xs + length done
+back_length f [] done = omega arith
+back_length f (x ∷ xs) done = omega (arith, back_length f xs (f x ∷ done))
+
+-- the branch that has just begun is the newest one
+pub newest : (forks : List Fork) (split : Split) (older : List Split) (depth : ℕ) (left : List (List ℕ)) → back_to_front split_of forks [] ≡ split ∷ older → depth ≡ length forks → split.left ≡ left → AreNewest (back_to_front split_of forks []) depth left
+newest forks split older depth left is many same =
+    let long : length (back_to_front split_of forks []) ≡ length forks + 0 = back_length split_of forks [] in
+    let deep : depth ≡ length (split ∷ older) = omega (arith, many, long, ap length is) in
+    subst (λ (all : List Split). AreNewest all depth left) (sym is) (deep, same)

@@ -9,6 +9,7 @@ use Rattle.kk_syntax.specs.Shapes.{is_among}
 use Rattle.kk_syntax.specs.PositionsOf.{PositionTable, is_lent, lends}
 use Rattle.kk_core.specs.Decisions.{NodeTree}
 use Rattle.kk_counted.specs.declared.shape.Parameter.{Parameter}
+use Rattle.kk_counted.specs.declared.work.Work.{Work}
 use Rattle.kk_counted.specs.declared.shape.InstanceShape.{InstanceShape}
 use Rattle.kk_counted.specs.declared.shape.ConstructorShape.{ConstructorShape}
 use Rattle.std.proofs.lemmas.List.{length-map}
@@ -16,9 +17,9 @@ use Rattle.kk_counted.specs.Shaping.{passed_to, positions_in, fields_in}
 use Rattle.kk_counted.specs.CountedCodes.{Counted, CountedFunction, tail_call}
 use Rattle.kk_counted.specs.CountedForms.{Move}
 use Rattle.kk_counted.specs.Spending.{total, AreEven, AllAmong, at_positions, numbers_from, used_by, lent_by, FitsForm, HasAsMany}
-use Rattle.kk_counted.specs.Drafts.{minus, minus_all, HasAll, Split, Draft, outside, all_owed, parameters_where, begun, fallen, given, duplicated, dropped, opened, unpacked, computed, forked, entered, entered_in, entered_by, end_code, is_tail, ended_in, ended_by_value, ended_by_call, joined, joined_in, Writes, Awaits, Reaches, IsLentTo, Owns, OwnsAll, HoldsAll, IsPlain, Takes, used_in, lent_in, LendsAll, IsOnly, IsInArm, EndsByCall}
+use Rattle.kk_counted.specs.Drafts.{minus, minus_all, HasAll, Split, Draft, outside, all_owed, parameters_where, begun, fallen, given, duplicated, dropped, opened, unpacked, computed, forked, entered, entered_in, entered_by, end_code, is_tail, ended_in, ended_by_value, ended_by_call, resumed_as, joined, joined_in, Writes, Awaits, Reaches, IsLentTo, Owns, OwnsAll, HoldsAll, IsPlain, Takes, used_in, lent_in, LendsAll, IsOnly, IsInArm, EndsByCall}
 use Rattle.kk_counted.specs.Emitting.{HaveParameters, AreLow, Leads, first, owned_parameters, IsSoundDraft, Works}
-use Rattle.kk_counted.specs.Works.{used_at, lends_at, passes}
+use Rattle.kk_counted.specs.Works.{used_at, lends_at, passes, back_to_front, split_of, draft}
 use Rattle.kk_counted.proofs.Evenness.{among_front, among_behind, minus_all_even, low_numbers, total_append}
 use Rattle.kk_counted.proofs.Drafting.{sound_dup, sound_drop, sound_opened, sound_computed, sound_forked, sound_entered, sound_given}
 use Rattle.kk_counted.proofs.Joining.{sound_by_value, sound_by_call, sound_joined}
@@ -238,3 +239,16 @@ joined_sound d out sound = by_splits d.splits refl
 
 pub joined_works : (d e : Draft) → d.failed ≡ false → (d.failed ≡ false → d.inside ≡ false) → e ≡ joined d → Works d → Works e
 joined_works d e going between is works = works_by d e (joined d) going (joined_sound d (between going)) is works
+
+-- a join leaves the instance
+resumed_instance : (d : Draft) (split : Split) (x : ℕ) (tails : Bool) → (resumed_as d split x tails).instance ≡ d.instance
+resumed_instance d split x true = refl
+resumed_instance d split x false = refl
+
+joined_same : (d : Draft) (splits : List Split) → (joined_in d splits).instance ≡ d.instance
+joined_same d [] = refl
+joined_same d (split ∷ splits) = resumed_instance (record d { next = d.next + 1; splits = splits }) split d.next split.tails
+
+pub joined_instance : (instance : ℕ) (new : Work) (positions : PositionTable) (counts : List ℕ) (work : Work) → draft positions counts new ≡ joined (draft positions counts work) → work.instance ≡ instance → new.instance ≡ instance
+joined_instance instance new positions counts work becomes is =
+    ap (λ (d : Draft). d.instance) becomes ∙ (joined_same (draft positions counts work) (back_to_front split_of work.forks.items []) ∙ is)

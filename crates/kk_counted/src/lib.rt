@@ -2,6 +2,7 @@
 //! in specs/, with laws of its runs. An emitter writes it: what it gives spends each reference once on each path.
 #![tactic(auto)]
 
+mod branches;
 mod counted;
 mod debts;
 mod emitter;

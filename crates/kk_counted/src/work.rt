@@ -1,7 +1,7 @@
 ghost use Rattle.std.specs.Prelude.{◌≡◌, ◌+◌, ◌<◌, ◌≤◌, ◌^◌, [], ◌∷◌, ◌++◌, map, length, vec_len, vec_capacity, option_map, IfOk, IfErr, OnOk, OnErr};
 ghost use Rattle.kk_counted.specs.CountedForms.{runs, plug, arms_of, step_move, decisions_of, last_code, block_code, dups, drops};
 ghost use Rattle.kk_counted.specs.CountedCodes.{tail_call, case};
-ghost use Rattle.kk_counted.specs.Drafts.{minus, chosen_of, copies, given, wrote, computed, opened, looked, forked, entered, ended_in, ended_by_value, joined, resumed, more_arms, end_code, finished};
+ghost use Rattle.kk_counted.specs.Drafts.{minus, chosen_of, copies, given, wrote, computed, opened, looked, forked, entered, ended_in, ended_by_value, ended_by_call, joined, resumed, more_arms, end_code, finished};
 ghost use Rattle.kk_counted.specs.Spending.{numbers_from};
 ghost use Rattle.kk_counted.specs.Works.{Becomes, draft, used_at, items_of, split_of};
 
@@ -243,6 +243,21 @@ impl Work {
                     Err(NoMemory)
                 }
             },
+        }
+    }
+
+    /// Ends the arm that is written by a tail call.
+    pub fn end_arm_by_call(&mut self, instance: u32, arguments: Vec<u32>) -> Result<(), NoMemory>
+        requires { self.old.ending ≡ None }
+        ensures ok { OnOk result (Becomes self.old self.new (λ d. ended_by_call d instance arguments.items)) }
+        ensures err { OnErr result (Becomes self.old self.new (λ d. d)) }
+    {
+        match self.end_arm(Last::TailCall(instance, arguments), true) {
+            Ok(()) => Ok(()),
+            Err(last) => {
+                let_go(last);
+                Err(NoMemory)
+            }
         }
     }
 
