@@ -89,8 +89,8 @@ pub none_entered : (positions : PositionTable) (counts : List ℕ) (old : Work) 
 none_entered positions counts old forks rest fork other was is same none =
     put_back positions counts old forks rest fork other was is same
     ∙ sym
-      (ap (entered_in (draft positions counts old)) (splits_are old.forks.items rest fork (split_of fork) was refl)
-      ∙ ap (λ left. entered_by (draft positions counts old) (split_of fork) (back_to_front split_of rest []) (back_to_front items_of left [])) none)
+    (ap (entered_in (draft positions counts old)) (splits_are old.forks.items rest fork (split_of fork) was refl)
+    ∙ ap (λ left. entered_by (draft positions counts old) (split_of fork) (back_to_front split_of rest []) (back_to_front items_of left [])) none)
 
 -- an arm is entered
 pub arm_entered : (positions : PositionTable) (counts : List ℕ) (old : Work) (forks : Vec Fork) (owed : Vec ℕ) (rest : List Fork) (fork other : Fork) (left : List (Vec ℕ)) → old.forks.items ≡ rest ++ fork ∷ [] → forks.items ≡ rest ++ other ∷ []
@@ -99,8 +99,8 @@ pub arm_entered : (positions : PositionTable) (counts : List ℕ) (old : Work) (
 arm_entered positions counts old forks owed rest fork other left was is same some =
     ap (λ (splits : List Split). record (draft positions counts old) { inside = true; owed = owed.items; splits = splits }) (splits_are forks.items rest other (record (split_of fork) { left = back_to_front items_of left [] }) is same)
     ∙ sym
-      (ap (entered_in (draft positions counts old)) (splits_are old.forks.items rest fork (split_of fork) was refl)
-      ∙ ap (λ lists. entered_by (draft positions counts old) (split_of fork) (back_to_front split_of rest []) lists) (ap (λ vs. back_to_front items_of vs []) some ∙ back_more items_of left owed []))
+    (ap (entered_in (draft positions counts old)) (splits_are old.forks.items rest fork (split_of fork) was refl)
+    ∙ ap (λ lists. entered_by (draft positions counts old) (split_of fork) (back_to_front split_of rest []) lists) (ap (λ vs. back_to_front items_of vs []) some ∙ back_more items_of left owed []))
 
 -- copies, from their end on
 first_is : {A : Type 0} (x y : A) (xs ys : List A) → x ∷ xs ≡ y ∷ ys → x ≡ y

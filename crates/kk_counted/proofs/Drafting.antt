@@ -50,6 +50,7 @@ sound_more d moves owed next sound inside ending less leads low =
       closed = λ code is. some_is_not_none (Spent d.positions d.lent None (first_of d) (plug (d.steps ++ moves) code) × (outside d.uncalled d.splits ≡ [])) d.ending code ending is;
       low = low;
       lent = sound.lent;
+      parameters = sound.parameters;
       lent_low = low_up d.next next d.lent less sound.lent_low;
       quiet = λ is. true_is_not_false ((d.steps ++ moves ≡ []) × ((owed ≡ []) × (d.ending ≡ None))) d.inside inside is;
     }
@@ -116,7 +117,7 @@ pub sound_given : (d : Draft) (x : ℕ) → IsSoundDraft d → d.inside ≡ true
 sound_given d x sound inside ending none among =
     let even : AreEven ((d.owed ++ x ∷ []) ++ minus x d.uncalled) (d.owed ++ d.uncalled) = given_even d.owed d.uncalled x among in
     let steps : Leads d.positions d.lent (owned_parameters d) (d.owed ++ d.uncalled) d.steps =
-        subst (λ (all : List Split). Leads d.positions d.lent (first (owned_parameters d) d.uncalled all) (d.owed ++ outside d.uncalled all) d.steps) none (sound.steps inside ending) in
+    subst (λ (all : List Split). Leads d.positions d.lent (first (owned_parameters d) d.uncalled all) (d.owed ++ outside d.uncalled all) d.steps) none (sound.steps inside ending) in
     record {
       splits = subst (λ (all : List Split). AreFine d.positions d.lent d.next (owned_parameters d) (minus x d.uncalled) all) (sym none) tt;
       steps = λ is known. subst (λ (all : List Split). Leads d.positions d.lent (first (owned_parameters d) (minus x d.uncalled) all) ((d.owed ++ x ∷ []) ++ outside (minus x d.uncalled) all) d.steps) (sym none)
@@ -125,6 +126,7 @@ sound_given d x sound inside ending none among =
       low = subst (λ (all : List Split). AreLow d.next ((d.owed ++ x ∷ []) ++ outside (minus x d.uncalled) all)) (sym none)
           (low_even d.next ((d.owed ++ x ∷ []) ++ minus x d.uncalled) (d.owed ++ d.uncalled) even (subst (λ (all : List Split). AreLow d.next (d.owed ++ outside d.uncalled all)) none sound.low));
       lent = sound.lent;
+      parameters = sound.parameters;
       lent_low = sound.lent_low;
       quiet = λ out. true_is_not_false ((d.steps ≡ []) × (((d.owed ++ x ∷ []) ≡ []) × (d.ending ≡ None))) d.inside inside out;
     }
@@ -138,9 +140,11 @@ chosen_among mask (y ∷ xs) x is = by_bit (mask % 2 == 1) is (chosen_among (mas
     under : (t : Bool) → (t || is_among (chosen_of (mask / 2) xs) x) ≡ true → (is_among (chosen_of (mask / 2) xs) x ≡ true → is_among xs x ≡ true) → (t || is_among xs x) ≡ true
     under true is later = refl
     under false is later = later is
+
     behind : (t : Bool) → is_among xs x ≡ true → (t || is_among xs x) ≡ true
     behind true is = refl
     behind false is = is
+
     by_bit : (b : Bool) → is_among (if b then y ∷ chosen_of (mask / 2) xs else chosen_of (mask / 2) xs) x ≡ true → (is_among (chosen_of (mask / 2) xs) x ≡ true → is_among xs x ≡ true) → ((y == x) || is_among xs x) ≡ true
     by_bit true is later = under (y == x) is later
     by_bit false is later = behind (y == x) (later is)
@@ -152,9 +156,11 @@ filter_other x used (y ∷ xs) apart = by_test (y == x) refl apart (filter_other
     turned : (t : Bool) → (x == y) ≡ t → (y == x) ≡ false → t ≡ false
     turned false is apart = refl
     turned true is apart = sym (itself y) ∙ (ap (λ z. y == z) (sym (same x y is)) ∙ apart)
+
     rest : (t : Bool) → t ≡ false → filter (is_among (x ∷ used)) xs ≡ filter (is_among used) xs → (if (t || is_among used y) then y ∷ filter (is_among (x ∷ used)) xs else filter (is_among (x ∷ used)) xs) ≡ (if is_among used y then y ∷ filter (is_among used) xs else filter (is_among used) xs)
     rest false is later = elim (is_among used y) as (λ t. (if t then y ∷ filter (is_among (x ∷ used)) xs else filter (is_among (x ∷ used)) xs) ≡ (if t then y ∷ filter (is_among used) xs else filter (is_among used) xs)) [ true ↦ ap (λ zs. y ∷ zs) later | false ↦ later ]
     rest true is later = absurd (cc)
+
     by_test : (t : Bool) → (y == x) ≡ t → (t || is_among xs x) ≡ false → (is_among xs x ≡ false → filter (is_among (x ∷ used)) xs ≡ filter (is_among used) xs) → filter (is_among (x ∷ used)) (y ∷ xs) ≡ filter (is_among used) (y ∷ xs)
     by_test true is fresh later = absurd (cc)
     by_test false is fresh later = rest (x == y) (turned (x == y) refl is) (later fresh)
@@ -166,15 +172,18 @@ chosen_filter mask (x ∷ xs) apart = by_bit (mask % 2 == 1) (chosen_filter (mas
     here : (t b : Bool) (zs us : List ℕ) → t ≡ true → zs ≡ us → (if (t || b) then x ∷ zs else zs) ≡ x ∷ us
     here true b zs us is same = ap (λ ys. x ∷ ys) same
     here false b zs us is same = absurd (cc)
+
     there : (t : Bool) (zs : List ℕ) → t ≡ false → (if t then x ∷ zs else zs) ≡ zs
     there false zs is = refl
     there true zs is = absurd (cc)
+
     fresh : (t : Bool) → is_among (chosen_of (mask / 2) xs) x ≡ t → t ≡ false
     fresh false is = refl
     fresh true is = absurd (clash (chosen_among (mask / 2) xs x is) apart.0)
       where
         clash : is_among xs x ≡ true → is_among xs x ≡ false → ⊥
         clash one two = cc
+
     by_bit : (b : Bool) → filter (is_among (chosen_of (mask / 2) xs)) xs ≡ chosen_of (mask / 2) xs → filter (is_among (if b then x ∷ chosen_of (mask / 2) xs else chosen_of (mask / 2) xs)) (x ∷ xs) ≡ (if b then x ∷ chosen_of (mask / 2) xs else chosen_of (mask / 2) xs)
     by_bit true later =
         here (x == x) (is_among (chosen_of (mask / 2) xs) x) (filter (is_among (x ∷ chosen_of (mask / 2) xs)) xs) (chosen_of (mask / 2) xs) (itself x)
@@ -211,19 +220,22 @@ sound_forked d on decisions each rows sound inside ending has among =
     let around : List ℕ = minus_all each d.owed ++ out in
     let even : AreEven (all_owed d) (each ++ around) = minus_all_owed each d.owed out has in
     record {
-      splits =
-        (record {
+      splits = (
+        record {
           before = leads_to d.positions d.lent (first_of d) (all_owed d) (each ++ around) d.steps even (sound.steps inside ending);
           on = even_among (d.lent ++ all_owed d) (d.lent ++ (each ++ around)) on (even_behind d.lent (all_owed d) (each ++ around) even) among;
           arms = λ is. tt;
           tails = λ is. absurd (false_is_true is);
           left = copies_are rows each;
           low = low_even d.next (each ++ around) (all_owed d) (even_back (all_owed d) (each ++ around) even) sound.low;
-        }, sound.splits);
+        },
+        sound.splits,
+      );
       steps = λ is none. absurd (false_is_true is);
       closed = λ code is. some_is_not_none (Spent d.positions d.lent None (each ++ around) code × (around ≡ [])) d.ending code ending is;
       low = minus_all_low d.next each d.owed out has sound.low;
       lent = sound.lent;
+      parameters = sound.parameters;
       lent_low = sound.lent_low;
       quiet = λ is. (refl, (refl, ending));
     }
@@ -240,12 +252,13 @@ sound_entered d split splits each left sound outer is left_is =
     let quiet : (d.steps ≡ []) × ((d.owed ≡ []) × (d.ending ≡ None)) = sound.quiet outer in
     record {
       splits =
-        (record { before = fine.0.before; on = fine.0.on; arms = fine.0.arms; tails = fine.0.tails; left = are.1; low = fine.0.low }, fine.1);
+          (record { before = fine.0.before; on = fine.0.on; arms = fine.0.arms; tails = fine.0.tails; left = are.1; low = fine.0.low }, fine.1);
       steps = λ inside none. subst (λ (moves : List Move). Leads d.positions d.lent (split.each ++ around) (each ++ around) moves) (sym quiet.0)
           (subst (λ (xs : List ℕ). Leads d.positions d.lent (split.each ++ around) (xs ++ around) []) (sym are.0) (λ left rest spent. spent));
       closed = λ code known. some_is_not_none (Spent d.positions d.lent None (split.each ++ around) (plug d.steps code) × (around ≡ [])) d.ending code quiet.1.1 known;
       low = subst (λ (xs : List ℕ). AreLow d.next (xs ++ around)) (sym are.0) fine.0.low;
       lent = sound.lent;
+      parameters = sound.parameters;
       lent_low = sound.lent_low;
       quiet = λ out. absurd (true_is_false out);
     }

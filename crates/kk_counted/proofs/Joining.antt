@@ -44,6 +44,7 @@ arm_added positions lent n began around split code tails fine added =
       where
         clash : split.tails ≡ true → (split.tails || tails) ≡ false → ⊥
         clash one two = cc (sym (ap (λ t. t || tails) one))
+
     by_some : (t : Bool) → split.tails ≡ t → (split.tails || tails) ≡ true → AllSpent positions lent None (split.each ++ around) split.arms
     by_some false was is = older_arms positions lent split.each around split.arms (added.ends is).0 (fine.arms was)
     by_some true was is = (fine.tails was).1
@@ -61,12 +62,14 @@ sound_ended d split splits code tails sound is added =
       closed = λ other known. absurd (none_is_some other known);
       low = low_behind d.next d.owed around low;
       lent = sound.lent;
+      parameters = sound.parameters;
       lent_low = sound.lent_low;
       quiet = λ isnt. (refl, (refl, refl));
     }
   where
     false_is_true : false ≡ true → ⊥
     false_is_true same = cc
+
     none_is_some : (other : Counted) → None ≡ Some other → ⊥
     none_is_some other same = cc
 
@@ -110,7 +113,7 @@ closed_ends : (d : Draft) (split : Split) (splits : List Split) (code : Counted)
 closed_ends d split splits code sound ending is =
     let around : List ℕ = outside d.uncalled (split ∷ splits) in
     let closed : Spent d.positions d.lent None (split.each ++ around) (plug d.steps code) × (around ≡ []) =
-        subst (λ (all : List Split). Spent d.positions d.lent None (first (owned_parameters d) d.uncalled all) (plug d.steps code) × (outside d.uncalled all ≡ [])) is (sound.closed code ending) in
+    subst (λ (all : List Split). Spent d.positions d.lent None (first (owned_parameters d) d.uncalled all) (plug d.steps code) × (outside d.uncalled all ≡ [])) is (sound.closed code ending) in
     sound_ended d split splits code true sound is
     (record { leaves = λ isnt. absurd (clash isnt); ends = λ known. (closed.1, closed.0) })
   where
@@ -188,12 +191,14 @@ joins_value d split splits sound outer is none =
       closed = λ code known. absurd (clash code quiet.1.1 known);
       low = joined_low d.next split.each split.kept out fine.0.low;
       lent = sound.lent;
+      parameters = sound.parameters;
       lent_low = low_up d.next (d.next + 1) d.lent (omega arith) sound.lent_low;
       quiet = λ isnt. absurd (true_is_false isnt);
     }
   where
     true_is_false : true ≡ false → ⊥
     true_is_false same = cc
+
     clash : (code : Counted) → d.ending ≡ None → d.ending ≡ Some code → ⊥
     clash code one two = cc
 
@@ -218,14 +223,17 @@ joins_end d split splits sound outer is some =
           (subst (λ (c : Counted). Spent d.positions d.lent None (first (owned_parameters d) d.uncalled splits) (plug split.before c)) (same_code block code known) (fine.0.before None block spent), none_of_both split.kept out tails.0);
       low = joined_low d.next split.each split.kept out fine.0.low;
       lent = sound.lent;
+      parameters = sound.parameters;
       lent_low = low_up d.next (d.next + 1) d.lent (omega arith) sound.lent_low;
       quiet = λ isnt. absurd (true_is_false isnt);
     }
   where
     true_is_false : true ≡ false → ⊥
     true_is_false same = cc
+
     clash : (block : Counted) → Some block ≡ None → ⊥
     clash block same = cc
+
     same_code : (block code : Counted) → Some block ≡ Some code → block ≡ code
     same_code block code same = cc
 
@@ -249,8 +257,10 @@ finished_spent d x sound inside none called only = by_ending d.ending refl
   where
     began : (code : Counted) → Spent d.positions d.lent None (first_of d) code → Spent d.positions d.lent None (owned_parameters d) code
     began code spent = subst (λ (all : List Split). Spent d.positions d.lent None (first (owned_parameters d) d.uncalled all) code) none spent
+
     owed_is : (w : ℕ → ℕ) → total w (all_owed d) ≡ total w (x ∷ [])
     owed_is w = ap (λ all. total w (d.owed ++ outside d.uncalled all)) none ∙ (ap (λ xs. total w (d.owed ++ xs)) called ∙ ap (λ xs. total w (xs ++ [])) only)
+
     by_ending : (e : Option Counted) → d.ending ≡ e → Spent d.positions d.lent None (owned_parameters d) (plug d.steps (end_code e x))
     by_ending None was = began (plug d.steps (give x)) (sound.steps inside was None (give x) (λ functions have. owed_is))
     by_ending (Some code) was = began (plug d.steps code) (sound.closed code was).0

@@ -1,5 +1,5 @@
 -- What calls of an emitter leave of its draft works, by what they ask.
-use Rattle.std.proofs.Common.{◌≡◌, ◌⊎◌, inl, inr, ℕ, zero, suc, ◌+◌, ◌<◌, ◌==◌, ◌||◌, Bool, true, false, not, List, [], ◌∷◌, ◌++◌, length, map, get_or, Option, Some, None, arith, refl, sym, ap, ◌∙◌, subst}
+use Rattle.std.proofs.Common.{◌≡◌, ◌⊎◌, inl, inr, ℕ, zero, suc, ◌+◌, ◌≤◌, ◌<◌, ◌==◌, ◌||◌, Bool, true, false, not, List, [], ◌∷◌, ◌++◌, length, map, get_or, Option, Some, None, arith, refl, sym, ap, ◌∙◌, subst}
 use Rattle.std.specs.Prelude.{if◌then◌else◌, slice_index_or}
 use Rattle.kk_syntax.specs.declared.program.Form.{Form}
 use Rattle.kk_syntax.specs.declared.program.Form.TheVariants as OfForm
@@ -17,12 +17,13 @@ use Rattle.kk_counted.specs.Shaping.{passed_to, positions_in, fields_in}
 use Rattle.kk_counted.specs.CountedCodes.{Counted, CountedFunction, tail_call}
 use Rattle.kk_counted.specs.CountedForms.{Move}
 use Rattle.kk_counted.specs.Spending.{total, AreEven, AllAmong, at_positions, numbers_from, used_by, lent_by, FitsForm, HasAsMany}
-use Rattle.kk_counted.specs.Drafts.{minus, minus_all, HasAll, Split, Draft, outside, all_owed, parameters_where, begun, fallen, given, duplicated, dropped, opened, unpacked, computed, forked, entered, entered_in, entered_by, end_code, is_tail, ended_in, ended_by_value, ended_by_call, resumed_as, joined, joined_in, Writes, Awaits, Reaches, IsLentTo, Owns, OwnsAll, HoldsAll, IsPlain, Takes, used_in, lent_in, LendsAll, IsOnly, IsInArm, EndsByCall}
-use Rattle.kk_counted.specs.Emitting.{HaveParameters, AreLow, Leads, first, owned_parameters, IsSoundDraft, Works}
+use Rattle.kk_counted.specs.Drafts.{minus, minus_all, HasAll, Split, Draft, outside, all_owed, parameters_where, begun, fallen, given, duplicated, dropped, opened, unpacked, computed, forked, entered, entered_in, entered_by, end_code, is_tail, ended_in, ended_by_value, ended_by_call, resumed_as, joined, joined_in, finished, Writes, Awaits, Reaches, IsLentTo, Owns, OwnsAll, HoldsAll, IsPlain, Takes, used_in, lent_in, LendsAll, IsOnly, IsInArm, EndsByCall}
+use Rattle.kk_counted.specs.Emitting.{HaveParameters, IsJudged, AreLow, Spent, owned_parameters, parameter_count, IsSoundDraft, Works}
 use Rattle.kk_counted.specs.Works.{used_at, lends_at, passes, back_to_front, split_of, draft}
+use Rattle.kk_counted.proofs.Counting.{same}
 use Rattle.kk_counted.proofs.Evenness.{among_front, among_behind, minus_all_even, low_numbers, total_append}
 use Rattle.kk_counted.proofs.Drafting.{sound_dup, sound_drop, sound_opened, sound_computed, sound_forked, sound_entered, sound_given}
-use Rattle.kk_counted.proofs.Joining.{sound_by_value, sound_by_call, sound_joined}
+use Rattle.kk_counted.proofs.Joining.{sound_by_value, sound_by_call, sound_joined, judged, finished_spent}
 
 works_by : (d e f : Draft) → d.failed ≡ false → (IsSoundDraft d → IsSoundDraft f) → e ≡ f → Works d → Works e
 works_by d e f going step is works = λ other. subst IsSoundDraft (sym is) (step (works going))
@@ -131,9 +132,11 @@ at_among takes next (y ∷ xs) x is = by_position (takes next) is (at_among take
     behind : (t : Bool) → is_among xs x ≡ true → (t || is_among xs x) ≡ true
     behind true there = refl
     behind false there = there
+
     under : (t : Bool) → (t || is_among (at_positions takes (suc next) xs) x) ≡ true → (is_among (at_positions takes (suc next) xs) x ≡ true → is_among xs x ≡ true) → (t || is_among xs x) ≡ true
     under true there later = refl
     under false there later = later there
+
     by_position : (b : Bool) → is_among (if b then y ∷ at_positions takes (suc next) xs else at_positions takes (suc next) xs) x ≡ true → (is_among (at_positions takes (suc next) xs) x ≡ true → is_among xs x ≡ true) → ((y == x) || is_among xs x) ≡ true
     by_position true there later = under (y == x) there later
     by_position false there later = behind (y == x) (later there)
@@ -149,26 +152,28 @@ begun_sound positions counts instance =
       closed = λ code known. absurd (nothing code known);
       low = parameters_low (λ i. not (is_lent positions instance i)) (length (slice_index_or positions instance []));
       lent = refl;
+      parameters = refl;
       lent_low = parameters_low (is_lent positions instance) (length (slice_index_or positions instance []));
       quiet = λ out. absurd (never out);
     }
   where
     nothing : (code : Counted) → None ≡ Some code → ⊥
     nothing code same = cc
+
     never : true ≡ false → ⊥
     never same = cc
 
 -- what an emitter begins with, by the parameters of its instance
 pub begun_is : (positions : PositionTable) (counts : List ℕ) (instance count : ℕ) (parameters : List Parameter) (uncalled lent : List ℕ) → slice_index_or positions instance [] ≡ map (λ parameter. parameter.ownership) parameters → count ≡ length parameters
     → uncalled ≡ at_positions (passes parameters false) 0 (numbers_from 0 (length parameters)) → lent ≡ at_positions (passes parameters true) 0 (numbers_from 0 (length parameters))
-    → record (begun positions counts instance) { next = count; uncalled = uncalled; lent = lent } ≡ begun positions counts instance
+    → record (begun positions counts instance) { parameters = count; next = count; uncalled = uncalled; lent = lent } ≡ begun positions counts instance
 begun_is positions counts instance count parameters uncalled lent found many owned others =
     let passed : List Ownership = map (λ parameter. parameter.ownership) parameters in
     let long : length parameters ≡ length passed = sym (length-map parameters (λ parameter. parameter.ownership)) in
-    ap (λ n. record (begun positions counts instance) { next = n; uncalled = uncalled; lent = lent }) (many ∙ long)
-    ∙ (ap (λ xs. record (begun positions counts instance) { next = length passed; uncalled = xs; lent = lent }) (owned ∙ ap (λ n. at_positions (passes parameters false) 0 (numbers_from 0 n)) long)
-    ∙ (ap (λ xs. record (begun positions counts instance) { next = length passed; uncalled = at_positions (passes parameters false) 0 (numbers_from 0 (length passed)); lent = xs }) (others ∙ ap (λ n. at_positions (passes parameters true) 0 (numbers_from 0 n)) long)
-    ∙ ap (λ (all : List Ownership). record (begun positions counts instance) { next = length all; uncalled = at_positions (λ i. not (lends (slice_index_or all i Owned))) 0 (numbers_from 0 (length all)); lent = at_positions (λ i. lends (slice_index_or all i Owned)) 0 (numbers_from 0 (length all)) }) (sym found)))
+    ap (λ n. record (begun positions counts instance) { parameters = n; next = n; uncalled = uncalled; lent = lent }) (many ∙ long)
+    ∙ (ap (λ xs. record (begun positions counts instance) { parameters = length passed; next = length passed; uncalled = xs; lent = lent }) (owned ∙ ap (λ n. at_positions (passes parameters false) 0 (numbers_from 0 n)) long)
+    ∙ (ap (λ xs. record (begun positions counts instance) { parameters = length passed; next = length passed; uncalled = at_positions (passes parameters false) 0 (numbers_from 0 (length passed)); lent = xs }) (others ∙ ap (λ n. at_positions (passes parameters true) 0 (numbers_from 0 n)) long)
+    ∙ ap (λ (all : List Ownership). record (begun positions counts instance) { parameters = length all; next = length all; uncalled = at_positions (λ i. not (lends (slice_index_or all i Owned))) 0 (numbers_from 0 (length all)); lent = at_positions (λ i. lends (slice_index_or all i Owned)) 0 (numbers_from 0 (length all)) }) (sym found)))
 
 -- what an instance is passed
 pub passed_at : (instances : List InstanceShape) (i : ℕ) (one : InstanceShape) → i < length instances → one ≡ get_or instances i one → slice_index_or (positions_in instances) i [] ≡ passed_to one
@@ -197,6 +202,7 @@ entered_sound d out sound = by_splits d.splits refl
     by_left : (split : Split) (splits : List Split) → d.splits ≡ split ∷ splits → (left : List (List ℕ)) → split.left ≡ left → IsSoundDraft (entered_by d split splits left)
     by_left split splits is [] known = sound
     by_left split splits is (each ∷ left) known = sound_entered d split splits each left sound out is known
+
     by_splits : (splits : List Split) → d.splits ≡ splits → IsSoundDraft (entered_in d splits)
     by_splits [] is = sound
     by_splits (split ∷ splits) is = by_left split splits is split.left refl
@@ -219,6 +225,7 @@ called_sound d f arguments going writes takes ends arm sound = by_splits d.split
   where
     even : AreEven d.owed (used_in d f arguments)
     even = λ w. minus_all_even (used_in d f arguments) d.owed (ends going).0 w ∙ (ap (λ xs. total w (used_in d f arguments ++ xs)) (ends going).1.0 ∙ (total_append w (used_in d f arguments) [] ∙ omega arith))
+
     by_splits : (splits : List Split) → d.splits ≡ splits → IsInArm splits → IsSoundDraft (ended_in d (tail_call f arguments) true splits)
     by_splits [] is none = absurd none
     by_splits (split ∷ splits) is some =
@@ -252,3 +259,41 @@ joined_same d (split ∷ splits) = resumed_instance (record d { next = d.next + 
 pub joined_instance : (instance : ℕ) (new : Work) (positions : PositionTable) (counts : List ℕ) (work : Work) → draft positions counts new ≡ joined (draft positions counts work) → work.instance ≡ instance → new.instance ≡ instance
 joined_instance instance new positions counts work becomes is =
     ap (λ (d : Draft). d.instance) becomes ∙ (joined_same (draft positions counts work) (back_to_front split_of work.forks.items []) ∙ is)
+
+-- ---- the end of a function
+
+numbered_low : (takes : ℕ → Bool) (n k i : ℕ) → i < n → is_among (at_positions takes n (numbers_from n k)) i ≡ false
+numbered_low takes n zero i less = refl
+numbered_low takes n (suc k) i less = by_position (takes n) (numbered_low takes (suc n) k i (omega (arith, less)))
+  where
+    apart : (n == i) ≡ false
+    apart = grind arith
+
+    by_position : (b : Bool) → is_among (at_positions takes (suc n) (numbers_from (suc n) k)) i ≡ false → is_among (if b then n ∷ at_positions takes (suc n) (numbers_from (suc n) k) else at_positions takes (suc n) (numbers_from (suc n) k)) i ≡ false
+    by_position true later = ap (λ t. t || is_among (at_positions takes (suc n) (numbers_from (suc n) k)) i) apart ∙ later
+    by_position false later = later
+
+numbered_is : (takes : ℕ → Bool) (n k i : ℕ) → n ≤ i → i < n + k → is_among (at_positions takes n (numbers_from n k)) i ≡ takes i
+numbered_is takes n zero i least less = absurd (omega (arith, least, less))
+numbered_is takes n (suc k) i least less = by_test (n == i) refl (takes n) refl (λ more. numbered_is takes (suc n) k i more (omega (arith, less)))
+  where
+    by_test : (t : Bool) → (n == i) ≡ t → (b : Bool) → takes n ≡ b → (suc n ≤ i → is_among (at_positions takes (suc n) (numbers_from (suc n) k)) i ≡ takes i)
+        → is_among (if b then n ∷ at_positions takes (suc n) (numbers_from (suc n) k) else at_positions takes (suc n) (numbers_from (suc n) k)) i ≡ takes i
+    by_test true one true taken later = ap (λ t. t || is_among (at_positions takes (suc n) (numbers_from (suc n) k)) i) one ∙ (sym taken ∙ ap takes (same n i one))
+    by_test true one false taken later = numbered_low takes (suc n) k i (omega (arith, same n i one)) ∙ (sym taken ∙ ap takes (same n i one))
+    by_test false one true taken later = ap (λ t. t || is_among (at_positions takes (suc n) (numbers_from (suc n) k)) i) one ∙ later (above one)
+      where
+        above : (n == i) ≡ false → suc n ≤ i
+        above two = grind arith
+    by_test false one false taken later = later (above one)
+      where
+        above : (n == i) ≡ false → suc n ≤ i
+        above two = grind arith
+
+pub finished_judged : (d : Draft) (emitter x : ℕ) → d.failed ≡ false → (d.failed ≡ false → d.inside ≡ true) → (d.failed ≡ false → d.splits ≡ []) → (d.failed ≡ false → d.uncalled ≡ []) → IsOnly d emitter x → Works d
+    → IsJudged d.positions d.instance (record { parameters = d.parameters; body = finished d x })
+finished_judged d emitter x going inside joins called only works =
+    let sound : IsSoundDraft d = works going in
+    let spent : Spent d.positions d.lent None (owned_parameters d) (finished d x) = finished_spent d x sound (inside going) (joins going) (called going) (only going).1 in
+    subst (λ n. IsJudged d.positions d.instance (record { parameters = n; body = finished d x })) (sym sound.parameters)
+    (judged d (finished d x) sound spent (λ i less. ap (λ xs. is_among xs i) sound.lent ∙ numbered_is (is_lent d.positions d.instance) 0 (parameter_count d) i (omega arith) (omega (arith, less))))

@@ -51,14 +51,15 @@ pub record Split : Type 0 where
   pub arms : List Counted
   pub tails : Bool
 
--- The function of which instance is written, by which positions are lent and how many fields constructors have; the next
--- variable; whether a call found no memory; whether a block is written, the function's body or an arm that is entered; its
+-- The function of which instance is written, by which positions are lent and how many fields constructors have; the number of
+-- its parameters; the next variable; whether a call found no memory; whether a block is written, the function's body or an arm that is entered; its
 -- steps; the variables that it owns; the owned parameters that are not called yet; the lent parameters; the branches that are
 -- not joined, the newest first; and how the block ends, once a branch with tail calls is joined.
 pub record Draft : Type 0 where
   pub positions : PositionTable
   pub field_counts : List ℕ
   pub instance : ℕ
+  pub parameters : ℕ
   pub next : ℕ
   pub failed : Bool
   pub inside : Bool
@@ -90,6 +91,7 @@ begun positions field_counts instance =
       positions = positions;
       field_counts = field_counts;
       instance = instance;
+      parameters = count;
       next = count;
       failed = false;
       inside = true;
@@ -241,16 +243,16 @@ looked d x constructor count used =
 abbrev pub forked : Draft → ℕ → List NodeTree → List ℕ → ℕ → Draft
 forked d on decisions each rows =
     let split : Split =
-        record {
-          on = on;
-          decisions = decisions;
-          before = d.steps;
-          kept = minus_all each d.owed;
-          each = each;
-          left = copies rows each;
-          arms = [];
-          tails = false;
-        } in
+    record {
+      on = on;
+      decisions = decisions;
+      before = d.steps;
+      kept = minus_all each d.owed;
+      each = each;
+      left = copies rows each;
+      arms = [];
+      tails = false;
+    } in
     record d { inside = false; steps = []; owed = []; splits = split ∷ d.splits }
 
 -- an arm is entered

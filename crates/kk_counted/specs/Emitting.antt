@@ -82,6 +82,7 @@ pub record IsSoundDraft (d : Draft) : Type 0 where
   pub low : AreLow d.next (all_owed d)
   pub lent : d.lent ≡ parameters_where (is_lent d.positions d.instance) (parameter_count d)
   pub lent_low : AreLow d.next d.lent
+  pub parameters : d.parameters ≡ parameter_count d
   pub quiet : d.inside ≡ false → (d.steps ≡ []) × ((d.owed ≡ []) × (d.ending ≡ None))
 
 -- a draft is sound, if no call found no memory

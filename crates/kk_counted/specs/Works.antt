@@ -59,6 +59,7 @@ draft positions field_counts work =
       positions = positions;
       field_counts = field_counts;
       instance = work.instance;
+      parameters = work.parameters;
       next = work.next;
       failed = work.failed;
       inside = work.inside;

@@ -1,13 +1,14 @@
-ghost use Rattle.std.specs.Prelude.{◌≡◌, ◌∷◌, ◌++◌, [], false, true, None, IfSome, IfNone, OnSome, IfOk, IfErr, OnOk, OnErr};
+ghost use Rattle.std.specs.Prelude.{◌≡◌, ◌∷◌, ◌++◌, [], false, true, IfSome, IfNone, OnSome, IfOk, IfErr, OnOk, OnErr};
 ghost use Rattle.kk_syntax.specs.Shapes.{is_among};
 ghost use Rattle.kk_counted.specs.CountedForms.{decisions_of, block_code};
 ghost use Rattle.kk_counted.specs.Drafts.{all_owed, forked, entered, ended_by_value, ended_by_call, joined, finished, Writes, Takes, OwnsAll, AreNewest, IsBetween, IsOnly, IsInArm, EndsByCall};
 ghost use Rattle.kk_counted.specs.Emissions.{state};
-ghost use Rattle.kk_counted.specs.Emitting.{Spent, owned_parameters};
+ghost use Rattle.kk_counted.specs.Emitting.{IsJudged};
+ghost use Rattle.kk_counted.specs.Programs.{function_of};
 ghost use Rattle.kk_counted.specs.Works.{left_in};
 
-use crate::debts::{Arms, Debts, Held, Kept, Owed};
 use crate::counted::CountedFun;
+use crate::debts::{Arms, Debts, Held, Kept, Owed};
 use crate::emitter::Emitter;
 use kk_core::Decisions;
 
@@ -150,13 +151,14 @@ impl<'a> Emitter<'a> {
 
     /// Ends the function by giving the value that a reference owns. No other reference of the path is unspent.
     pub fn finish(self, owed: Owed) -> Result<CountedFun, Kept>
-        requires inside { (state self.entry).failed ≡ false → (state self.entry).inside ≡ true }
-        requires joined { (state self.entry).failed ≡ false → (state self.entry).splits ≡ [] }
-        requires called { (state self.entry).failed ≡ false → (state self.entry).uncalled ≡ [] }
-        requires only { IsOnly (state self.entry) owed.emitter owed.variable }
+        requires inside { (state self).failed ≡ false → (state self).inside ≡ true }
+        requires joined { (state self).failed ≡ false → (state self).splits ≡ [] }
+        requires called { (state self).failed ≡ false → (state self).uncalled ≡ [] }
+        requires only { IsOnly (state self) owed.emitter owed.variable }
         ensures going { OnOk result ((state self.entry).failed ≡ false) }
         ensures body { IfOk result (λ function. block_code function.body ≡ finished (state self.entry) owed.variable) }
-        ensures spent { IfOk result (λ function. Spent self.entry.positions (state self.entry).lent None (owned_parameters (state self.entry)) (block_code function.body)) }
+        ensures instance { IfOk result (λ function. function.instance ≡ (state self.entry).instance) }
+        ensures spent { IfOk result (λ function. IsJudged self.entry.positions (state self.entry).instance (function_of function)) }
         ensures kept { IfErr result (λ kept. kept.held ≡ Held.One owed) }
         ensures ended { IfErr result (λ kept. kept.ended ≡ true) }
     {

@@ -41,11 +41,7 @@ impl<'a> Model for Emitter<'a> {
 
 impl<'a> Emitter<'a> {
     /// Begins the function of an instance of the shape.
-    pub fn start(
-        alloc: Global,
-        shape: &'a Shape,
-        instance: u32,
-    ) -> Result<Emitter<'a>, NoMemory>
+    pub fn start(alloc: Global, shape: &'a Shape, instance: u32) -> Result<Emitter<'a>, NoMemory>
         requires { instance < length shape.now.instances.items }
         ensures { IfOk result (λ e. state e ≡ begun (positions_in shape.now.instances.items) (fields_in shape.now.constructors.items) instance) }
     {
@@ -306,7 +302,10 @@ impl<'a> Emitter<'a> {
             return Err(Kept::of_nothing());
         }
         let parameters = &self.shape.instances()[instance as usize].parameters;
-        match self.work.compute(Form::Call(instance), arguments, parameters) {
+        match self
+            .work
+            .compute(Form::Call(instance), arguments, parameters)
+        {
             Ok(variable) => {
                 return Ok(Owed {
                     emitter: self.work.instance,

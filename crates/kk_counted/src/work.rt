@@ -7,7 +7,7 @@ ghost use Rattle.kk_counted.specs.Works.{Becomes, draft, used_at, items_of, spli
 
 use crate::counted::CountedFun;
 use crate::form::{Block, Last, Step};
-use crate::lists::{copies, numbers, chosen, take_all, take_out, take_used};
+use crate::lists::{chosen, copies, numbers, take_all, take_out, take_used};
 use crate::shape::Parameter;
 use kk_base::NoMemory;
 use kk_core::Decisions;

@@ -7,5 +7,5 @@ use Rattle.kk_counted.proofs.lists.take_used.Given as goal
 abbrev pub invariant-loop-at : goal.invariant-loop-at
 invariant-loop-at l =
     (minus_all (at_positions (passes l.parameters false) l.at (drop l.at l.arguments)) l.owed.items
-     ≡ minus_all (used_at l.parameters l.arguments) l.initial.owed.items)
+    ≡ minus_all (used_at l.parameters l.arguments) l.initial.owed.items)
     × ((vec_capacity l.owed ≡ vec_capacity l.initial.owed) × (vec_len l.owed ≤ vec_len l.initial.owed))

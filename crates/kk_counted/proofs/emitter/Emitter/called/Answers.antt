@@ -21,9 +21,9 @@ invariant_of-self c =
     let is : one ≡ get_or instances c.args.instance one = c.index-instances-instance.is ∙ ap (λ xs. get_or xs c.args.instance one) c.instances.ensures in
     let parameters : c.deref.result.now ≡ one.parameters.items = c.deref.ensures.value ∙ ap (λ o. o.parameters.items) (sym c.index-instances-instance.is) in
     let becomes : draft p q c.compute.new.self ≡ computed (draft p q work) (OfForm.Call c.args.instance) c.args.arguments.items (used_in (draft p q work) c.args.instance c.args.arguments.items) =
-        c.in-Ok.ensures.ok p q
-        ∙ ap (λ used. computed (draft p q work) (OfForm.Call c.args.instance) c.args.arguments.items used)
-        (ap (λ ps. used_at ps c.args.arguments.items) parameters ∙ used_same p c.args.instance c.args.arguments.items (passed_to one) (passed_at instances c.args.instance one less is)) in
+    c.in-Ok.ensures.ok p q
+    ∙ ap (λ used. computed (draft p q work) (OfForm.Call c.args.instance) c.args.arguments.items used)
+    (ap (λ ps. used_at ps c.args.arguments.items) parameters ∙ used_same p c.args.instance c.args.arguments.items (passed_to one) (passed_at instances c.args.instance one less is)) in
     called_works (state now) (draft p q c.compute.new.self) c.args.instance c.args.arguments.items (going_now p q work now c.self.view_is c.if-self.false) c.requires.writes c.requires.takes c.requires.owns c.requires.lends
     (seen p q work now c.self.view_is (λ d. computed d (OfForm.Call c.args.instance) c.args.arguments.items (used_in d c.args.instance c.args.arguments.items)) c.compute.new.self becomes) (works_now p q work now c.self.view_is c.self.invariant)
 
@@ -47,9 +47,9 @@ returns-in-Ok-clause-ok c =
     let is : one ≡ get_or instances c.args.instance one = c.index-instances-instance.is ∙ ap (λ xs. get_or xs c.args.instance one) c.instances.ensures in
     let parameters : c.deref.result.now ≡ one.parameters.items = c.deref.ensures.value ∙ ap (λ o. o.parameters.items) (sym c.index-instances-instance.is) in
     let becomes : draft p q c.compute.new.self ≡ computed (draft p q work) (OfForm.Call c.args.instance) c.args.arguments.items (used_in (draft p q work) c.args.instance c.args.arguments.items) =
-        c.in-Ok.ensures.ok p q
-        ∙ ap (λ used. computed (draft p q work) (OfForm.Call c.args.instance) c.args.arguments.items used)
-        (ap (λ ps. used_at ps c.args.arguments.items) parameters ∙ used_same p c.args.instance c.args.arguments.items (passed_to one) (passed_at instances c.args.instance one less is)) in
+    c.in-Ok.ensures.ok p q
+    ∙ ap (λ used. computed (draft p q work) (OfForm.Call c.args.instance) c.args.arguments.items used)
+    (ap (λ ps. used_at ps c.args.arguments.items) parameters ∙ used_same p c.args.instance c.args.arguments.items (passed_to one) (passed_at instances c.args.instance one less is)) in
     seen p q work now c.self.view_is (λ d. computed d (OfForm.Call c.args.instance) c.args.arguments.items (used_in d c.args.instance c.args.arguments.items)) c.compute.new.self becomes
 
 pub returns-in-Err-clause-err : goal.returns-in-Err-clause-err
@@ -72,7 +72,7 @@ returns-in-Ok-clause-owed c =
     let is : one ≡ get_or instances c.args.instance one = c.index-instances-instance.is ∙ ap (λ xs. get_or xs c.args.instance one) c.instances.ensures in
     let parameters : c.deref.result.now ≡ one.parameters.items = c.deref.ensures.value ∙ ap (λ o. o.parameters.items) (sym c.index-instances-instance.is) in
     let becomes : draft p q c.compute.new.self ≡ computed (draft p q work) (OfForm.Call c.args.instance) c.args.arguments.items (used_in (draft p q work) c.args.instance c.args.arguments.items) =
-        c.in-Ok.ensures.ok p q
-        ∙ ap (λ used. computed (draft p q work) (OfForm.Call c.args.instance) c.args.arguments.items used)
-        (ap (λ ps. used_at ps c.args.arguments.items) parameters ∙ used_same p c.args.instance c.args.arguments.items (passed_to one) (passed_at instances c.args.instance one less is)) in
+    c.in-Ok.ensures.ok p q
+    ∙ ap (λ used. computed (draft p q work) (OfForm.Call c.args.instance) c.args.arguments.items used)
+    (ap (λ ps. used_at ps c.args.arguments.items) parameters ∙ used_same p c.args.instance c.args.arguments.items (passed_to one) (passed_at instances c.args.instance one less is)) in
     (instance_now p q work now c.self.view_is c.compute.new.self (computed (draft p q work) (OfForm.Call c.args.instance) c.args.arguments.items (used_in (draft p q work) c.args.instance c.args.arguments.items)) becomes refl, next_now p q work now c.self.view_is c.in-Ok.variable c.in-Ok.ensures.variable)

@@ -50,9 +50,8 @@ returns-in-Ok-clause-arms c =
     let now = c.args.self.now in
     let each = c.args.debts.variables.items in
     let d : Draft = forked (draft p q work) c.args.on (decisions_of c.args.tests) each c.args.tests.rows in
-    let becomes : draft p q c.split.new.self ≡ d = c.in-Ok.ensures.ok p q in
-    (
+    let becomes : draft p q c.split.new.self ≡ d = c.in-Ok.ensures.ok p q in (
       instance_now p q work now c.self.view_is c.split.new.self d becomes refl,
       newest c.split.new.self.forks.items _ _ c.len.result (left_in c.in-Ok.left.items) (ap (λ (e : Draft). e.splits) becomes) (omega (arith, c.len.ensures, c.split.new.self.forks.ok.0))
-      (sym (copies_back c.in-Ok.left.items c.args.tests.rows each c.in-Ok.ensures.left)),
+          (sym (copies_back c.in-Ok.left.items c.args.tests.rows each c.in-Ok.ensures.left)),
     )

@@ -21,7 +21,7 @@ invariant_of-result c =
     let second : c.deref-2.result.now ≡ one.parameters.items = c.deref-2.ensures.value ∙ ap (λ o. o.parameters.items) (sym c.index-instances-instance.is) in
     let long : c.len.result ≡ vec_len one.parameters = c.len.ensures ∙ ap (λ o. vec_len o.parameters) (sym c.index-instances-instance.is) in
     let many : c.in-Ok.count ≡ length one.parameters.items = omega (arith, c.in-Ok.ensures, long, one.parameters.ok.0) in
-    let d : Draft = record (begun p q i) { next = c.in-Ok.count; uncalled = c.in_ok-uncalled.uncalled.items; lent = c.in_ok-lent.lent.items } in
+    let d : Draft = record (begun p q i) { parameters = c.in-Ok.count; next = c.in-Ok.count; uncalled = c.in_ok-uncalled.uncalled.items; lent = c.in_ok-lent.lent.items } in
     begun_works p q i _
     (ap (λ (steps : List Step). record d { steps = map step_move steps; owed = c.new-2.result.items; splits = back_to_front split_of c.new-3.result.items [] }) c.new.ensures.items
     ∙ (ap (λ owed. record d { owed = owed; splits = back_to_front split_of c.new-3.result.items [] }) c.new-2.ensures.items

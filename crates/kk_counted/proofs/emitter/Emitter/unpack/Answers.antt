@@ -22,7 +22,7 @@ invariant_of-self-in-Ok c =
     let long : c.len-count.result ≡ vec_len one.fields = c.len-count.ensures ∙ ap (λ o. vec_len o.fields) (sym c.index-constructors-constructor.is) in
     let many : c.len-count.result ≡ slice_index_or q c.args.constructor 0 = omega (arith, long, one.fields.ok.0, fields_at constructors c.args.constructor one less is) in
     let becomes : draft p q c.open.new.self ≡ unpacked (draft p q work) c.args.owed.variable c.args.constructor c.args.used =
-        c.in-Ok.ensures.ok p q ∙ ap (λ n. opened (draft p q work) c.args.owed.variable c.args.constructor n c.args.used) many in
+    c.in-Ok.ensures.ok p q ∙ ap (λ n. opened (draft p q work) c.args.owed.variable c.args.constructor n c.args.used) many in
     unpacked_works (state now) (draft p q c.open.new.self) c.args.owed.emitter c.args.owed.variable c.args.constructor _ c.args.used (going_now p q work now c.self.view_is c.if-self.false) c.requires.writes c.requires.owns
     (seen p q work now c.self.view_is (λ d. unpacked d c.args.owed.variable c.args.constructor c.args.used) c.open.new.self becomes) (works_now p q work now c.self.view_is c.self.invariant)
 
@@ -47,7 +47,7 @@ returns-in-Ok-clause-ok c =
     let long : c.len-count.result ≡ vec_len one.fields = c.len-count.ensures ∙ ap (λ o. vec_len o.fields) (sym c.index-constructors-constructor.is) in
     let many : c.len-count.result ≡ slice_index_or q c.args.constructor 0 = omega (arith, long, one.fields.ok.0, fields_at constructors c.args.constructor one less is) in
     let becomes : draft p q c.open.new.self ≡ unpacked (draft p q work) c.args.owed.variable c.args.constructor c.args.used =
-        c.in-Ok.ensures.ok p q ∙ ap (λ n. opened (draft p q work) c.args.owed.variable c.args.constructor n c.args.used) many in
+    c.in-Ok.ensures.ok p q ∙ ap (λ n. opened (draft p q work) c.args.owed.variable c.args.constructor n c.args.used) many in
     seen p q work now c.self.view_is (λ d. unpacked d c.args.owed.variable c.args.constructor c.args.used) c.open.new.self becomes
 
 pub returns-in-Err-clause-err : goal.returns-in-Err-clause-err
