@@ -1,19 +1,16 @@
 -- What an emitter holds after a change, as the change of its draft.
-use Rattle.std.proofs.Common.{◌≡◌, ℕ, zero, suc, ◌+◌, ◌-◌, Bool, true, false, ◌||◌, List, [], ◌∷◌, ◌++◌, map, take, Option, Some, None, refl, sym, ap, ◌∙◌, subst, arith}
+use Rattle.std.proofs.Common.{◌≡◌, ℕ, zero, suc, ◌+◌, ◌-◌, Bool, true, false, List, [], ◌∷◌, ◌++◌, map, take, Option, None, refl, sym, ap, ◌∙◌, arith}
 use Rattle.std.specs.Prelude.{option_map}
 use Rattle.std.specs.Global.{Vec}
-use Rattle.std.proofs.lemmas.List.{map-append}
 use Rattle.kk_syntax.specs.PositionsOf.{PositionTable}
-use Rattle.kk_counted.specs.declared.form.Block.{Block}
 use Rattle.kk_counted.specs.declared.form.Last.{Last}
 use Rattle.kk_counted.specs.declared.form.Step.{Step}
 use Rattle.kk_counted.specs.declared.work.Fork.{Fork}
 use Rattle.kk_counted.specs.declared.work.Work.{Work}
-use Rattle.kk_counted.specs.CountedCodes.{Counted, case}
-use Rattle.kk_counted.specs.CountedForms.{Move, runs, plug, arms_of, step_move, block_code, last_code}
-use Rattle.kk_counted.specs.Drafts.{copies, Split, Draft, wrote, entered, entered_in, entered_by, more_arms, end_code, is_tail, ended_in, ended_by_value, resumed, resumed_as, joined, joined_in}
+use Rattle.kk_counted.specs.CountedCodes.{Counted}
+use Rattle.kk_counted.specs.CountedForms.{Move, plug, step_move, last_code}
+use Rattle.kk_counted.specs.Drafts.{copies, Split, Draft, entered, entered_in, entered_by, more_arms, end_code, is_tail, ended_in, ended_by_value, resumed, joined, joined_in}
 use Rattle.kk_counted.specs.Works.{items_of, back_to_front, split_of, draft, Becomes}
-use Rattle.kk_counted.proofs.FormViews.{moves_more}
 
 pub back_more : {A B : Type 0} (f : A → B) (xs : List A) (x : A) (done : List B) → back_to_front f (xs ++ x ∷ []) done ≡ f x ∷ back_to_front f xs done
 back_more f [] x done = refl

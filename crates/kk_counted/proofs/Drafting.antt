@@ -1,18 +1,18 @@
 -- What calls change of a sound draft leaves it sound.
-use Rattle.std.proofs.Common.{◌≡◌, ◌⊎◌, inl, inr, ℕ, zero, suc, ◌+◌, ◌/◌, ◌%◌, ◌≤◌, ◌<◌, ◌==◌, ◌||◌, Bool, true, false, not, List, [], ◌∷◌, ◌++◌, length, Option, Some, None, arith, refl, sym, ap, ◌∙◌, subst}
-use Rattle.std.specs.Prelude.{filter, if◌then◌else◌, slice_index_or}
+use Rattle.std.proofs.Common.{◌≡◌, ℕ, zero, suc, ◌+◌, ◌/◌, ◌%◌, ◌≤◌, ◌<◌, ◌==◌, ◌||◌, Bool, true, false, List, [], ◌∷◌, ◌++◌, Option, Some, None, arith, refl, sym, ap, ◌∙◌, subst}
+use Rattle.std.specs.Prelude.{filter, if◌then◌else◌}
 use Rattle.kk_syntax.specs.declared.program.Form.{Form}
 use Rattle.kk_syntax.specs.Shapes.{is_among}
-use Rattle.kk_syntax.specs.PositionsOf.{PositionTable, is_lent}
+use Rattle.kk_syntax.specs.PositionsOf.{PositionTable}
 use Rattle.kk_core.specs.Decisions.{NodeTree}
-use Rattle.kk_counted.specs.CountedCodes.{Counted, CountedFunction, give, tail_call, case}
-use Rattle.kk_counted.specs.CountedForms.{Move, computes, runs, opens, dups, drops, plug, arms_of}
-use Rattle.kk_counted.specs.Spending.{AreEven, AllAmong, AreFresh, AreApart, used_by, lent_by, FitsForm, HasAsMany, numbers_from}
-use Rattle.kk_counted.specs.Drafts.{minus, minus_all, HasAll, chosen_of, copies, Split, Draft, outside, all_owed, parameters_where, wrote, given, opened, forked, entered_by, end_code, is_tail, ended_in, resumed, resumed_as, finished}
-use Rattle.kk_counted.specs.Emitting.{HaveParameters, AreLow, Spent, AllSpent, Leads, first, AllAre, IsFine, AreFine, parameter_count, owned_parameters, first_of, IsSoundDraft}
+use Rattle.kk_counted.specs.CountedCodes.{CountedFunction}
+use Rattle.kk_counted.specs.CountedForms.{Move, computes, opens, dups, drops, plug}
+use Rattle.kk_counted.specs.Spending.{AreEven, AllAmong, AreApart, used_by, lent_by, FitsForm, numbers_from}
+use Rattle.kk_counted.specs.Drafts.{minus, minus_all, HasAll, chosen_of, copies, Split, Draft, outside, all_owed, wrote, given, opened, forked}
+use Rattle.kk_counted.specs.Emitting.{HaveParameters, AreLow, Spent, Leads, first, AllAre, IsFine, AreFine, owned_parameters, first_of, IsSoundDraft}
 use Rattle.kk_counted.proofs.Counting.{same, itself}
-use Rattle.kk_counted.proofs.Evenness.{total_append, even_same, even_behind, even_among, even_back, even_then, even_front, even_last, even_turned, even_grouped, minus_even, minus_all_even, low_even, low_up, low_both, low_front, low_behind, low_one, low_next, low_numbers, low_fresh, numbers_fresh, numbers_apart}
-use Rattle.kk_counted.proofs.Leading.{spent_even, all_spent_in_tail, all_spent_more, spent_case, leads_from, leads_to, leads_then, leads_dup, leads_drop, leads_compute, leads_open, leads_run}
+use Rattle.kk_counted.proofs.Evenness.{total_append, even_behind, even_among, even_back, even_then, even_front, even_last, even_turned, even_grouped, minus_even, minus_all_even, low_even, low_up, low_both, low_behind, low_one, low_next, low_numbers, low_fresh, numbers_fresh, numbers_apart}
+use Rattle.kk_counted.proofs.Leading.{leads_to, leads_then, leads_dup, leads_drop, leads_compute, leads_open}
 
 -- ---- the branches, as the next variable grows
 

@@ -2,10 +2,10 @@
 use Rattle.std.proofs.Common.{◌≡◌, ◌⊎◌, inl, inr, ℕ, zero, suc, ◌+◌, ◌≤◌, ◌<◌, ◌==◌, ◌||◌, Bool, true, false, List, [], ◌∷◌, ◌++◌, arith, refl, sym, ap, ◌∙◌, subst}
 use Rattle.std.specs.Prelude.{if◌then◌else◌}
 use Rattle.kk_syntax.specs.Shapes.{is_among}
-use Rattle.kk_counted.specs.Spending.{total, AreEven, AllAmong, AreFresh, AreApart, numbers_from}
+use Rattle.kk_counted.specs.Spending.{total, AreEven, AreFresh, AreApart, numbers_from}
 use Rattle.kk_counted.specs.Drafts.{minus, minus_all, HasAll}
 use Rattle.kk_counted.specs.Emitting.{AreLow}
-use Rattle.kk_counted.proofs.Counting.{same, itself}
+use Rattle.kk_counted.proofs.Counting.{same}
 use Rattle.kk_counted.proofs.Variables.{among_cases}
 
 -- ---- sums

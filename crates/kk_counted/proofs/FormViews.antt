@@ -1,5 +1,5 @@
 -- The code of each form of a block.
-use Rattle.std.proofs.Common.{◌≡◌, ℕ, List, [], ◌∷◌, ◌++◌, map, refl, sym, ap, ◌∙◌}
+use Rattle.std.proofs.Common.{◌≡◌, ℕ, List, [], ◌∷◌, ◌++◌, map, sym, ap, ◌∙◌}
 use Rattle.std.proofs.lemmas.List.{map-append}
 use Rattle.kk_syntax.specs.declared.program.Form.{Form}
 use Rattle.kk_counted.specs.declared.form.Block.{Block}

@@ -1,18 +1,16 @@
 -- Arms that are ended, branches that are joined and functions that are finished leave a sound draft, or a function that is
 -- spent.
-use Rattle.std.proofs.Common.{◌≡◌, ◌⊎◌, inl, inr, ℕ, zero, suc, ◌+◌, ◌≤◌, ◌<◌, ◌==◌, ◌||◌, Bool, true, false, not, List, [], ◌∷◌, ◌++◌, length, Option, Some, None, arith, refl, sym, ap, ◌∙◌, subst}
-use Rattle.std.specs.Prelude.{slice_index_or}
+use Rattle.std.proofs.Common.{◌≡◌, ℕ, ◌+◌, ◌<◌, ◌||◌, Bool, true, false, List, [], ◌∷◌, ◌++◌, Option, Some, None, arith, refl, sym, ap, ◌∙◌, subst}
 use Rattle.kk_syntax.specs.declared.program.Form.TheVariants.{Call}
 use Rattle.kk_syntax.specs.Shapes.{is_among}
 use Rattle.kk_syntax.specs.PositionsOf.{PositionTable, is_lent}
-use Rattle.kk_core.specs.Decisions.{NodeTree}
 use Rattle.kk_counted.specs.CountedCodes.{Counted, CountedFunction, give, tail_call, case}
 use Rattle.kk_counted.specs.CountedForms.{Move, runs, plug, arms_of}
 use Rattle.kk_counted.specs.Spending.{total, AreEven, AllAmong, HasAsMany, used_by, lent_by}
-use Rattle.kk_counted.specs.Drafts.{minus_all, HasAll, Split, Draft, outside, all_owed, parameters_where, end_code, is_tail, ended_in, resumed, resumed_as, finished}
+use Rattle.kk_counted.specs.Drafts.{Split, Draft, outside, all_owed, end_code, is_tail, ended_in, resumed, resumed_as, finished}
 use Rattle.kk_counted.specs.Emitting.{HaveParameters, IsJudged, AreLow, Spent, AllSpent, Leads, first, IsFine, AreFine, parameter_count, owned_parameters, first_of, IsSoundDraft}
-use Rattle.kk_counted.proofs.Evenness.{total_append, even_back, even_then, even_last, low_even, low_up, low_both, low_front, low_behind, low_next, low_fresh}
-use Rattle.kk_counted.proofs.Leading.{spent_even, all_spent_in_tail, all_spent_more, spent_case, leads_to, leads_then, leads_run}
+use Rattle.kk_counted.proofs.Evenness.{total_append, even_back, even_last, low_even, low_up, low_behind, low_next, low_fresh}
+use Rattle.kk_counted.proofs.Leading.{all_spent_in_tail, all_spent_more, spent_case, leads_to, leads_then, leads_run}
 use Rattle.kk_counted.proofs.Drafting.{fine_up}
 
 -- ---- an arm is ended

@@ -1,5 +1,5 @@
 -- Steps that lead from what is owned to what is owned.
-use Rattle.std.proofs.Common.{◌≡◌, ◌⊎◌, inl, inr, ℕ, zero, suc, ◌+◌, ◌==◌, ◌||◌, Bool, true, false, List, [], ◌∷◌, ◌++◌, Option, Some, None, arith, refl, sym, ap, ◌∙◌, subst}
+use Rattle.std.proofs.Common.{◌≡◌, ℕ, true, false, List, [], ◌∷◌, ◌++◌, Option, Some, None, refl, sym, ap, ◌∙◌, subst}
 use Rattle.std.specs.Prelude.{filter}
 use Rattle.kk_syntax.specs.declared.program.Form.{Form}
 use Rattle.kk_syntax.specs.Shapes.{is_among}
@@ -9,7 +9,6 @@ use Rattle.kk_counted.specs.CountedCodes.{Counted, give, tail_call, branch, case
 use Rattle.kk_counted.specs.CountedForms.{Move, computes, runs, opens, dups, drops, put, plug, arms_of}
 use Rattle.kk_counted.specs.Spending.{AreEven, AllAmong, AreFresh, AreApart, used_by, lent_by, FitsForm, Spends, SpendsAll}
 use Rattle.kk_counted.specs.Emitting.{HaveParameters, Spent, AllSpent, Leads}
-use Rattle.kk_counted.proofs.Evenness.{even_then}
 
 -- ---- code spends what is owned in any order
 

@@ -1,5 +1,5 @@
 -- A change of what an emitter holds, as its callers see it.
-use Rattle.std.proofs.Common.{◌≡◌, ℕ, ◌+◌, true, false, not, List, [], ◌∷◌, length, arith, refl, sym, ap, ◌∙◌, subst}
+use Rattle.std.proofs.Common.{◌≡◌, ℕ, ◌+◌, true, false, not, List, [], ◌∷◌, length, arith, sym, ap, ◌∙◌, subst}
 use Rattle.std.specs.Prelude.{slice_index_or}
 use Rattle.kk_syntax.specs.declared.positions.Ownership.{Ownership}
 use Rattle.kk_syntax.specs.declared.positions.Ownership.TheVariants.{Owned}

@@ -1,5 +1,5 @@
 -- What calls of an emitter leave of its draft works, by what they ask.
-use Rattle.std.proofs.Common.{◌≡◌, ◌⊎◌, inl, inr, ℕ, zero, suc, ◌+◌, ◌≤◌, ◌<◌, ◌==◌, ◌||◌, Bool, true, false, not, List, [], ◌∷◌, ◌++◌, length, map, get_or, Option, Some, None, arith, refl, sym, ap, ◌∙◌, subst}
+use Rattle.std.proofs.Common.{◌≡◌, ℕ, zero, suc, ◌+◌, ◌≤◌, ◌<◌, ◌==◌, ◌||◌, Bool, true, false, not, List, [], ◌∷◌, ◌++◌, length, map, get_or, Some, None, arith, refl, sym, ap, ◌∙◌, subst}
 use Rattle.std.specs.Prelude.{if◌then◌else◌, slice_index_or}
 use Rattle.kk_syntax.specs.declared.program.Form.{Form}
 use Rattle.kk_syntax.specs.declared.program.Form.TheVariants as OfForm
@@ -15,10 +15,9 @@ use Rattle.kk_counted.specs.declared.shape.ConstructorShape.{ConstructorShape}
 use Rattle.std.proofs.lemmas.List.{length-map}
 use Rattle.kk_counted.specs.Shaping.{passed_to, positions_in, fields_in}
 use Rattle.kk_counted.specs.CountedCodes.{Counted, CountedFunction, tail_call}
-use Rattle.kk_counted.specs.CountedForms.{Move}
-use Rattle.kk_counted.specs.Spending.{total, AreEven, AllAmong, at_positions, numbers_from, used_by, lent_by, FitsForm, HasAsMany}
-use Rattle.kk_counted.specs.Drafts.{minus, minus_all, HasAll, Split, Draft, outside, all_owed, parameters_where, begun, fallen, given, duplicated, dropped, opened, unpacked, computed, forked, entered, entered_in, entered_by, end_code, is_tail, ended_in, ended_by_value, ended_by_call, resumed_as, joined, joined_in, finished, Writes, Awaits, Reaches, IsLentTo, Owns, OwnsAll, HoldsAll, IsPlain, Takes, used_in, lent_in, LendsAll, IsOnly, IsInArm, EndsByCall}
-use Rattle.kk_counted.specs.Emitting.{HaveParameters, IsJudged, AreLow, Spent, owned_parameters, parameter_count, IsSoundDraft, Works}
+use Rattle.kk_counted.specs.Spending.{total, AreEven, AllAmong, at_positions, numbers_from, used_by, lent_by, FitsForm}
+use Rattle.kk_counted.specs.Drafts.{minus_all, Split, Draft, outside, all_owed, parameters_where, begun, fallen, given, duplicated, dropped, opened, computed, forked, entered, entered_in, entered_by, end_code, is_tail, ended_in, ended_by_value, ended_by_call, resumed_as, joined, joined_in, finished, Writes, Awaits, Reaches, IsLentTo, Owns, OwnsAll, HoldsAll, IsPlain, Takes, used_in, LendsAll, IsOnly, IsInArm, EndsByCall}
+use Rattle.kk_counted.specs.Emitting.{IsJudged, AreLow, Spent, owned_parameters, parameter_count, IsSoundDraft, Works}
 use Rattle.kk_counted.specs.Works.{used_at, lends_at, passes, back_to_front, split_of, draft}
 use Rattle.kk_counted.proofs.Counting.{same}
 use Rattle.kk_counted.proofs.Evenness.{among_front, among_behind, minus_all_even, low_numbers, total_append}

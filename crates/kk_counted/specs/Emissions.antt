@@ -1,7 +1,6 @@
 -- What an emitter is seen as: what its shape tells, and what it holds.
 use Rattle.std.specs.Prelude.{ℕ, List, refl}
 use Rattle.std.specs.Coded.{Coded, code_by, coded×, coded_ℕ, coded_list}
-use Rattle.kk_syntax.specs.declared.positions.Ownership.{Ownership}
 use Rattle.kk_syntax.specs.PositionsOf.{PositionTable}
 use Rattle.kk_syntax.specs.contracts.positions.Ownership as OfOwnership
 use Rattle.kk_counted.specs.contracts.work.Work as OfWork

@@ -1,5 +1,5 @@
 -- Programs in counted form, as Rust holds them.
-use Rattle.std.specs.Prelude.{◌≡◌, ℕ, List, [], length, slice_index_or}
+use Rattle.std.specs.Prelude.{◌≡◌, ℕ, [], length, slice_index_or}
 use Rattle.kk_syntax.specs.PositionsOf.{PositionTable}
 use Rattle.kk_counted.specs.declared.counted.Counted.{Counted as CountedForm}
 use Rattle.kk_counted.specs.declared.counted.CountedFun.{CountedFun}

@@ -1,8 +1,7 @@
 -- What an emitter holds, as the draft of a function.
-use Rattle.std.specs.Prelude.{◌≡◌, ℕ, Bool, true, false, not, List, [], ◌∷◌, map, length, Option, option_map, slice_index_or}
+use Rattle.std.specs.Prelude.{◌≡◌, ℕ, Bool, true, false, not, List, [], ◌∷◌, map, option_map, slice_index_or}
 use Rattle.std.specs.Global.{Vec}
-use Rattle.kk_syntax.specs.declared.positions.Ownership.{Ownership}
-use Rattle.kk_syntax.specs.declared.positions.Ownership.TheVariants.{Owned, Lent}
+use Rattle.kk_syntax.specs.declared.positions.Ownership.TheVariants.{Owned}
 use Rattle.kk_syntax.specs.PositionsOf.{PositionTable, lends}
 use Rattle.kk_counted.specs.declared.shape.Parameter.{Parameter}
 use Rattle.kk_counted.specs.declared.work.Fork.{Fork}

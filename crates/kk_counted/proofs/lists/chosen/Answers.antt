@@ -1,4 +1,4 @@
-use Rattle.std.proofs.Common.{◌<◌, length, get_or, drop, ap, sym, ◌∙◌, arith}
+use Rattle.std.proofs.Common.{ap, ◌∙◌}
 use Rattle.kk_counted.specs.Drafts.{chosen_of}
 use Rattle.kk_counted.proofs.Listing.{chosen_taken, chosen_left}
 use Rattle.kk_counted.proofs.lists.chosen.Goals as goal

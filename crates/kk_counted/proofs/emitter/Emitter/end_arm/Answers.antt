@@ -1,10 +1,8 @@
-use Rattle.std.proofs.Common.{refl, sym, ap, ◌∙◌}
 use Rattle.kk_counted.specs.Drafts.{ended_by_value}
 use Rattle.kk_counted.specs.Emissions.{state}
 use Rattle.kk_counted.specs.Shaping.{positions_in, fields_in}
-use Rattle.kk_counted.specs.CountedForms.{decisions_of}
 use Rattle.kk_counted.specs.Works.{draft}
-use Rattle.kk_counted.proofs.Seeing.{seen, going_now, works_now, instance_now, next_now}
+use Rattle.kk_counted.proofs.Seeing.{seen, going_now, works_now}
 use Rattle.kk_counted.proofs.Working.{ended_works, works_same}
 use Rattle.kk_counted.proofs.emitter.Emitter.end_arm.Goals as goal
 

@@ -1,4 +1,4 @@
-use Rattle.std.proofs.Common.{[], refl, sym, ap, ◌∙◌}
+use Rattle.std.proofs.Common.{[], ap, ◌∙◌}
 use Rattle.kk_counted.specs.Drafts.{entered}
 use Rattle.kk_counted.specs.Emissions.{state}
 use Rattle.kk_counted.specs.Shaping.{positions_in, fields_in}

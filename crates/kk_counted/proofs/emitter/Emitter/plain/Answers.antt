@@ -1,4 +1,4 @@
-use Rattle.std.proofs.Common.{refl, sym, ap, ◌∙◌, false, []}
+use Rattle.std.proofs.Common.{refl, ap, ◌∙◌}
 use Rattle.kk_counted.specs.Drafts.{computed}
 use Rattle.kk_counted.specs.Emissions.{state}
 use Rattle.kk_counted.specs.Shaping.{positions_in, fields_in}

@@ -1,4 +1,4 @@
-use Rattle.std.proofs.Common.{◌≡◌, arith, refl, sym, ap, ◌∙◌}
+use Rattle.std.proofs.Common.{◌≡◌, arith, refl, sym, ap}
 use Rattle.kk_counted.specs.Drafts.{Draft, forked}
 use Rattle.kk_counted.specs.Emissions.{state}
 use Rattle.kk_counted.specs.Shaping.{positions_in, fields_in}

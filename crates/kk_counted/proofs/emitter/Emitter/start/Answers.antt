@@ -1,4 +1,4 @@
-use Rattle.std.proofs.Common.{◌≡◌, length, get_or, vec_len, true, false, List, [], map, refl, sym, ap, ◌∙◌, arith}
+use Rattle.std.proofs.Common.{◌≡◌, length, get_or, vec_len, true, false, List, [], map, sym, ap, ◌∙◌, arith}
 use Rattle.kk_counted.specs.declared.form.Step.{Step}
 use Rattle.kk_counted.specs.declared.work.Fork.{Fork}
 use Rattle.kk_counted.specs.CountedForms.{step_move}

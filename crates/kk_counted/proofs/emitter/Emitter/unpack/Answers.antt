@@ -5,7 +5,7 @@ use Rattle.kk_counted.specs.Drafts.{opened, unpacked}
 use Rattle.kk_counted.specs.Emissions.{state}
 use Rattle.kk_counted.specs.Shaping.{positions_in, fields_in}
 use Rattle.kk_counted.specs.Works.{draft}
-use Rattle.kk_counted.proofs.Seeing.{seen, going_now, works_now, instance_now, next_now}
+use Rattle.kk_counted.proofs.Seeing.{seen, going_now, works_now, instance_now}
 use Rattle.kk_counted.proofs.Working.{unpacked_works, works_same, fields_at}
 use Rattle.kk_counted.proofs.emitter.Emitter.unpack.Goals as goal
 

@@ -1,4 +1,4 @@
-use Rattle.std.proofs.Common.{map, sym, ap, ◌∙◌}
+use Rattle.std.proofs.Common.{map, ap, ◌∙◌}
 use Rattle.kk_counted.specs.CountedForms.{plug, step_move, block_code, last_code}
 use Rattle.kk_counted.specs.Drafts.{more_arms}
 use Rattle.kk_counted.specs.Works.{split_of}

@@ -1,4 +1,4 @@
-use Rattle.std.proofs.Common.{map, sym, ap, ◌∙◌, refl}
+use Rattle.std.proofs.Common.{map, ap, ◌∙◌}
 use Rattle.kk_counted.specs.CountedForms.{step_move}
 use Rattle.kk_counted.specs.Works.{split_of}
 use Rattle.kk_counted.proofs.Drafted.{put_back, joined_is}
