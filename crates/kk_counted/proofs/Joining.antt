@@ -128,7 +128,7 @@ sound_by_value d split splits x sound inside is only = by_ending d.ending refl
     by_ending (Some code) was = closed_ends d split splits code sound was is
 
 -- steps lead to what a tail call uses up
-call_spent : (positions : PositionTable) (lent began owed : List ℕ) (moves : List Move) (f : ℕ) (arguments used : List ℕ) → Leads positions lent began owed moves → AreEven owed used
+pub call_spent : (positions : PositionTable) (lent began owed : List ℕ) (moves : List Move) (f : ℕ) (arguments used : List ℕ) → Leads positions lent began owed moves → AreEven owed used
     → ((functions : List CountedFunction) → used_by positions functions (Call f) arguments ≡ used)
     → ((functions : List CountedFunction) → AllAmong (lent_by positions functions (Call f) arguments) lent)
     → ((functions : List CountedFunction) → HaveParameters positions functions → HasAsMany positions functions f arguments)

@@ -15,14 +15,15 @@ use Rattle.kk_counted.specs.declared.shape.ConstructorShape.{ConstructorShape}
 use Rattle.std.proofs.lemmas.List.{length-map}
 use Rattle.kk_counted.specs.Shaping.{passed_to, positions_in, fields_in}
 use Rattle.kk_counted.specs.CountedCodes.{Counted, CountedFunction, tail_call}
+use Rattle.kk_counted.specs.CountedForms.{plug}
 use Rattle.kk_counted.specs.Spending.{total, AreEven, AllAmong, at_positions, numbers_from, used_by, lent_by, FitsForm}
 use Rattle.kk_counted.specs.Drafts.{minus_all, Split, Draft, outside, all_owed, parameters_where, begun, fallen, given, duplicated, dropped, opened, computed, forked, entered, entered_in, entered_by, end_code, is_tail, ended_in, ended_by_value, ended_by_call, resumed_as, joined, joined_in, finished, Writes, Awaits, Reaches, IsLentTo, Owns, OwnsAll, HoldsAll, IsPlain, Takes, used_in, LendsAll, IsOnly, IsInArm, EndsByCall}
-use Rattle.kk_counted.specs.Emitting.{IsJudged, AreLow, Spent, owned_parameters, parameter_count, IsSoundDraft, Works}
+use Rattle.kk_counted.specs.Emitting.{IsJudged, AreLow, Spent, owned_parameters, parameter_count, IsSoundDraft, Works, first, first_of}
 use Rattle.kk_counted.specs.Works.{used_at, lends_at, passes, back_to_front, split_of, draft}
 use Rattle.kk_counted.proofs.Counting.{same}
 use Rattle.kk_counted.proofs.Evenness.{among_front, among_behind, minus_all_even, low_numbers, total_append}
 use Rattle.kk_counted.proofs.Drafting.{sound_dup, sound_drop, sound_opened, sound_computed, sound_forked, sound_entered, sound_given}
-use Rattle.kk_counted.proofs.Joining.{sound_by_value, sound_by_call, sound_joined, judged, finished_spent}
+use Rattle.kk_counted.proofs.Joining.{sound_by_value, sound_by_call, sound_joined, judged, finished_spent, call_spent}
 
 works_by : (d e f : Draft) → d.failed ≡ false → (IsSoundDraft d → IsSoundDraft f) → e ≡ f → Works d → Works e
 works_by d e f going step is works = λ other. subst IsSoundDraft (sym is) (step (works going))
@@ -296,3 +297,21 @@ finished_judged d emitter x going inside joins called only works =
     let spent : Spent d.positions d.lent None (owned_parameters d) (finished d x) = finished_spent d x sound (inside going) (joins going) (called going) (only going).1 in
     subst (λ n. IsJudged d.positions d.instance (record { parameters = n; body = finished d x })) (sym sound.parameters)
     (judged d (finished d x) sound spent (λ i less. ap (λ xs. is_among xs i) sound.lent ∙ numbered_is (is_lent d.positions d.instance) 0 (parameter_count d) i (omega arith) (omega (arith, less))))
+
+-- a function that ends by a tail call
+tail_spent : (d : Draft) (f : ℕ) (arguments : List ℕ) → d.failed ≡ false → Writes d → (d.failed ≡ false → d.splits ≡ []) → Takes d f arguments → EndsByCall d f arguments → IsSoundDraft d
+    → Spent d.positions d.lent None (owned_parameters d) (plug d.steps (tail_call f arguments))
+tail_spent d f arguments going writes joins takes ends sound =
+    let even : AreEven (all_owed d) (used_in d f arguments) =
+    λ w. total_append w d.owed (outside d.uncalled d.splits) ∙ (ap (λ xs. total w d.owed + total w xs) (ends going).1.1.0 ∙ (omega (arith, minus_all_even (used_in d f arguments) d.owed (ends going).0 w, total_append w (used_in d f arguments) (minus_all (used_in d f arguments) d.owed), ap (total w) (ends going).1.0))) in
+    subst (λ (all : List Split). Spent d.positions d.lent None (first (owned_parameters d) d.uncalled all) (plug d.steps (tail_call f arguments))) (joins going)
+    (call_spent d.positions d.lent (first_of d) (all_owed d) d.steps f arguments (used_in d f arguments) (sound.steps (writes going).0 (writes going).1) even
+    (λ functions. refl) (λ functions. (ends going).1.1.1) (λ functions have function there. have f function there ∙ takes.1))
+
+pub tail_judged : (d : Draft) (f : ℕ) (arguments : List ℕ) → d.failed ≡ false → Writes d → (d.failed ≡ false → d.splits ≡ []) → Takes d f arguments → EndsByCall d f arguments → Works d
+    → IsJudged d.positions d.instance (record { parameters = d.parameters; body = plug d.steps (tail_call f arguments) })
+tail_judged d f arguments going writes joins takes ends works =
+    let sound : IsSoundDraft d = works going in
+    subst (λ n. IsJudged d.positions d.instance (record { parameters = n; body = plug d.steps (tail_call f arguments) })) (sym sound.parameters)
+    (judged d (plug d.steps (tail_call f arguments)) sound (tail_spent d f arguments going writes joins takes ends sound)
+    (λ i less. ap (λ xs. is_among xs i) sound.lent ∙ numbered_is (is_lent d.positions d.instance) 0 (parameter_count d) i (omega arith) (omega (arith, less))))

@@ -1,6 +1,7 @@
 ghost use Rattle.std.specs.Prelude.{◌≡◌, ◌∷◌, ◌++◌, [], false, true, IfSome, IfNone, OnSome, IfOk, IfErr, OnOk, OnErr};
 ghost use Rattle.kk_syntax.specs.Shapes.{is_among};
-ghost use Rattle.kk_counted.specs.CountedForms.{decisions_of, block_code};
+ghost use Rattle.kk_counted.specs.CountedCodes.{tail_call};
+ghost use Rattle.kk_counted.specs.CountedForms.{decisions_of, plug, block_code};
 ghost use Rattle.kk_counted.specs.Drafts.{all_owed, forked, entered, ended_by_value, ended_by_call, joined, finished, Writes, Takes, OwnsAll, AreNewest, IsBetween, IsOnly, IsInArm, EndsByCall};
 ghost use Rattle.kk_counted.specs.Emissions.{state};
 ghost use Rattle.kk_counted.specs.Emitting.{IsJudged};
@@ -171,5 +172,26 @@ impl<'a> Emitter<'a> {
             variable,
         } = owed;
         Ok(work.finish(variable))
+    }
+
+    /// Ends the function by a tail call of an instance. Its arguments at owned positions were handed over, and nothing else
+    /// is unspent on the path.
+    pub fn finish_tail(self, instance: u32, arguments: Vec<u32>) -> Result<CountedFun, Kept>
+        requires writes { Writes (state self) }
+        requires joined { (state self).failed ≡ false → (state self).splits ≡ [] }
+        requires takes { Takes (state self) instance arguments.items }
+        requires ends { EndsByCall (state self) instance arguments.items }
+        ensures going { OnOk result ((state self.entry).failed ≡ false) }
+        ensures body { IfOk result (λ function. block_code function.body ≡ plug (state self.entry).steps (tail_call instance arguments.items)) }
+        ensures instance { IfOk result (λ function. function.instance ≡ (state self.entry).instance) }
+        ensures spent { IfOk result (λ function. IsJudged self.entry.positions (state self.entry).instance (function_of function)) }
+        ensures kept { IfErr result (λ kept. kept.held ≡ Held.Nothing) }
+        ensures ended { IfErr result (λ kept. kept.ended ≡ true) }
+    {
+        let Emitter { shape: _, work } = self;
+        if work.failed {
+            return Err(Kept::of_nothing().as_ended());
+        }
+        Ok(work.finish_by_call(instance, arguments))
     }
 }
