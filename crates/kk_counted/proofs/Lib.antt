@@ -13,3 +13,12 @@ pub mod Places
 pub mod Looks
 pub mod SoundGoing
 pub mod Functions
+pub mod Evenness
+pub mod Leading
+pub mod Drafting
+pub mod Joining
+pub mod FormViews
+pub mod Listing
+pub mod Drafted
+pub mod Working
+pub mod Seeing

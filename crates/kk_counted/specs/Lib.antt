@@ -1,8 +1,15 @@
 pub mod Cost
 pub mod CountedCodes
+pub mod CountedForms
 pub mod CountedMachine
 pub mod CountedStates
+pub mod Drafts
+pub mod Emissions
+pub mod Emitting
 pub mod Heaps
 pub mod Keeping
+pub mod Programs
 pub mod References
+pub mod Shaping
 pub mod Spending
+pub mod Works

@@ -1,11 +1,24 @@
 //! The counted form of a program: core code in which references to cells are counted. Its machine and what its code owes are
-//! in specs/, with laws of its runs.
+//! in specs/, with laws of its runs. An emitter writes it: what it gives spends each reference once on each path.
 #![tactic(auto)]
 
+mod branches;
+mod counted;
+mod debts;
+mod emitter;
+mod form;
 mod law;
+mod lists;
+mod shape;
+mod work;
 
+pub use counted::{Counted, CountedFun};
+pub use debts::{Arms, Debts, Kept, Owed, give_up};
+pub use emitter::Emitter;
+pub use form::{Block, Last, Step};
 pub use law::{
     counted_cells_are_live, drops_pay_for_themselves, judged_code_is_never_stuck,
     judged_code_keeps_its_heap_sound, judged_code_leaves_no_cell, judged_code_uses_counted_cells,
     sound_heaps_are_functions,
 };
+pub use shape::{ConstructorShape, InstanceShape, Parameter, Shape};

@@ -1,0 +1,317 @@
+-- What calls of an emitter leave of its draft works, by what they ask.
+use Rattle.std.proofs.Common.{◌≡◌, ℕ, zero, suc, ◌+◌, ◌≤◌, ◌<◌, ◌==◌, ◌||◌, Bool, true, false, not, List, [], ◌∷◌, ◌++◌, length, map, get_or, Some, None, arith, refl, sym, ap, ◌∙◌, subst}
+use Rattle.std.specs.Prelude.{if◌then◌else◌, slice_index_or}
+use Rattle.kk_syntax.specs.declared.program.Form.{Form}
+use Rattle.kk_syntax.specs.declared.program.Form.TheVariants as OfForm
+use Rattle.kk_syntax.specs.declared.positions.Ownership.{Ownership}
+use Rattle.kk_syntax.specs.declared.positions.Ownership.TheVariants.{Owned}
+use Rattle.kk_syntax.specs.Shapes.{is_among}
+use Rattle.kk_syntax.specs.PositionsOf.{PositionTable, is_lent, lends}
+use Rattle.kk_core.specs.Decisions.{NodeTree}
+use Rattle.kk_counted.specs.declared.shape.Parameter.{Parameter}
+use Rattle.kk_counted.specs.declared.work.Work.{Work}
+use Rattle.kk_counted.specs.declared.shape.InstanceShape.{InstanceShape}
+use Rattle.kk_counted.specs.declared.shape.ConstructorShape.{ConstructorShape}
+use Rattle.std.proofs.lemmas.List.{length-map}
+use Rattle.kk_counted.specs.Shaping.{passed_to, positions_in, fields_in}
+use Rattle.kk_counted.specs.CountedCodes.{Counted, CountedFunction, tail_call}
+use Rattle.kk_counted.specs.CountedForms.{plug}
+use Rattle.kk_counted.specs.Spending.{total, AreEven, AllAmong, at_positions, numbers_from, used_by, lent_by, FitsForm}
+use Rattle.kk_counted.specs.Drafts.{minus_all, Split, Draft, outside, all_owed, parameters_where, begun, fallen, given, duplicated, dropped, opened, computed, forked, entered, entered_in, entered_by, end_code, is_tail, ended_in, ended_by_value, ended_by_call, resumed_as, joined, joined_in, finished, Writes, Awaits, Reaches, IsLentTo, Owns, OwnsAll, HoldsAll, IsPlain, Takes, used_in, LendsAll, IsOnly, IsInArm, EndsByCall}
+use Rattle.kk_counted.specs.Emitting.{IsJudged, AreLow, Spent, owned_parameters, parameter_count, IsSoundDraft, Works, first, first_of}
+use Rattle.kk_counted.specs.Works.{used_at, lends_at, passes, back_to_front, split_of, draft}
+use Rattle.kk_counted.proofs.Counting.{same}
+use Rattle.kk_counted.proofs.Evenness.{among_front, among_behind, minus_all_even, low_numbers, total_append}
+use Rattle.kk_counted.proofs.Drafting.{sound_dup, sound_drop, sound_opened, sound_computed, sound_forked, sound_entered, sound_given}
+use Rattle.kk_counted.proofs.Joining.{sound_by_value, sound_by_call, sound_joined, judged, finished_spent, call_spent}
+
+works_by : (d e f : Draft) → d.failed ≡ false → (IsSoundDraft d → IsSoundDraft f) → e ≡ f → Works d → Works e
+works_by d e f going step is works = λ other. subst IsSoundDraft (sym is) (step (works going))
+
+pub works_same : (d e : Draft) → e ≡ d → Works d → Works e
+works_same d e is works = subst Works (sym is) works
+
+pub works_fallen : (d e : Draft) → e ≡ fallen d → Works e
+works_fallen d e is = subst Works (sym is) (λ going. absurd (never going))
+  where
+    never : true ≡ false → ⊥
+    never same = cc
+
+pub given_works : (d e : Draft) (x : ℕ) → d.failed ≡ false → Writes d → Awaits d x → e ≡ given d x → Works d → Works e
+given_works d e x going writes waits is works =
+    works_by d e (given d x) going (λ sound. sound_given d x sound (writes going).0 (writes going).1 (waits going).0 (waits going).1) is works
+
+pub dup_works : (d e : Draft) (emitter x : ℕ) → d.failed ≡ false → Writes d → Reaches d emitter x → e ≡ duplicated d x → Works d → Works e
+dup_works d e emitter x going writes reaches is works =
+    works_by d e (duplicated d x) going
+    (λ sound. sound_dup d x sound (writes going).0 (writes going).1 (among_behind d.lent (all_owed d) x (reaches going).1) (sound.low x (reaches going).1)) is works
+
+pub dup_lent_works : (d e : Draft) (x : ℕ) → d.failed ≡ false → Writes d → IsLentTo d x → e ≡ duplicated d x → Works d → Works e
+dup_lent_works d e x going writes lent is works =
+    works_by d e (duplicated d x) going
+    (λ sound. sound_dup d x sound (writes going).0 (writes going).1 (among_front d.lent (all_owed d) x (lent going)) (sound.lent_low x (lent going))) is works
+
+pub dropped_works : (d e : Draft) (emitter x : ℕ) → d.failed ≡ false → Writes d → Owns d emitter x → e ≡ dropped d x → Works d → Works e
+dropped_works d e emitter x going writes owns is works =
+    works_by d e (dropped d x) going (λ sound. sound_drop d x sound (writes going).0 (writes going).1 (owns going).1) is works
+
+pub unpacked_works : (d e : Draft) (emitter x c count mask : ℕ) → d.failed ≡ false → Writes d → Owns d emitter x → e ≡ opened d x c count mask → Works d → Works e
+unpacked_works d e emitter x c count mask going writes owns is works =
+    works_by d e (opened d x c count mask) going (λ sound. sound_opened d x c count mask sound (writes going).0 (writes going).1 (owns going).1) is works
+
+-- without parameters that are told of, each position is owned
+no_lent : (i : ℕ) → lends_at [] i ≡ false
+no_lent zero = refl
+no_lent (suc i) = refl
+
+all_at_no : (next : ℕ) (xs : List ℕ) → at_positions (λ i. not (lends_at [] i)) next xs ≡ xs
+all_at_no next [] = refl
+all_at_no next (x ∷ xs) =
+    ap (λ b. if not b then x ∷ at_positions (λ i. not (lends_at [] i)) (suc next) xs else at_positions (λ i. not (lends_at [] i)) (suc next) xs) (no_lent next) ∙ ap (λ ys. x ∷ ys) (all_at_no (suc next) xs)
+
+pub all_used : (arguments : List ℕ) → used_at [] arguments ≡ arguments
+all_used arguments = all_at_no 0 arguments
+
+-- a form that is no call uses up all of its arguments
+pub constructed_works : (d e : Draft) (emitter c : ℕ) (arguments : List ℕ) → d.failed ≡ false → Writes d → OwnsAll d emitter arguments → e ≡ computed d (OfForm.Construct c) arguments arguments → Works d → Works e
+constructed_works d e emitter c arguments going writes owns is works =
+    works_by d e (computed d (OfForm.Construct c) arguments arguments) going
+    (λ sound. sound_computed d (OfForm.Construct c) arguments arguments sound (writes going).0 (writes going).1 (owns going).1 (λ functions. refl) (λ functions. tt) (λ functions have. tt)) is works
+
+plain_used : (positions : PositionTable) (functions : List CountedFunction) (form : Form) (arguments : List ℕ) → IsPlain form arguments → used_by positions functions form arguments ≡ arguments
+plain_used positions functions (OfForm.Number n) arguments plain = refl
+plain_used positions functions OfForm.Unit arguments plain = refl
+plain_used positions functions OfForm.ReadByte arguments plain = refl
+plain_used positions functions (OfForm.PrintText form text) arguments plain = refl
+plain_used positions functions (OfForm.Unary operator) arguments plain = refl
+plain_used positions functions (OfForm.Binary operator) arguments plain = refl
+plain_used positions functions (OfForm.Print form) arguments plain = refl
+plain_used positions functions (OfForm.Construct c) arguments plain = refl
+plain_used positions functions (OfForm.Call f) arguments plain = absurd plain
+
+plain_lent : (positions : PositionTable) (functions : List CountedFunction) (form : Form) (arguments others : List ℕ) → IsPlain form arguments → AllAmong (lent_by positions functions form arguments) others
+plain_lent positions functions (OfForm.Number n) arguments others plain = tt
+plain_lent positions functions OfForm.Unit arguments others plain = tt
+plain_lent positions functions OfForm.ReadByte arguments others plain = tt
+plain_lent positions functions (OfForm.PrintText form text) arguments others plain = tt
+plain_lent positions functions (OfForm.Unary operator) arguments others plain = tt
+plain_lent positions functions (OfForm.Binary operator) arguments others plain = tt
+plain_lent positions functions (OfForm.Print form) arguments others plain = tt
+plain_lent positions functions (OfForm.Construct c) arguments others plain = tt
+plain_lent positions functions (OfForm.Call f) arguments others plain = absurd plain
+
+plain_fits : (positions : PositionTable) (functions : List CountedFunction) (form : Form) (arguments : List ℕ) → IsPlain form arguments → FitsForm positions functions form arguments
+plain_fits positions functions (OfForm.Number n) arguments plain = tt
+plain_fits positions functions OfForm.Unit arguments plain = tt
+plain_fits positions functions OfForm.ReadByte arguments plain = tt
+plain_fits positions functions (OfForm.PrintText form text) arguments plain = tt
+plain_fits positions functions (OfForm.Unary operator) arguments plain = tt
+plain_fits positions functions (OfForm.Binary operator) arguments plain = tt
+plain_fits positions functions (OfForm.Print form) arguments plain = tt
+plain_fits positions functions (OfForm.Construct c) arguments plain = tt
+plain_fits positions functions (OfForm.Call f) arguments plain = absurd plain
+
+pub plain_works : (d e : Draft) (form : Form) (arguments : List ℕ) → d.failed ≡ false → Writes d → IsPlain form arguments → HoldsAll d arguments → e ≡ computed d form arguments arguments → Works d → Works e
+plain_works d e form arguments going writes plain holds is works =
+    works_by d e (computed d form arguments arguments) going
+    (λ sound. sound_computed d form arguments arguments sound (writes going).0 (writes going).1 (holds going)
+    (λ functions. plain_used d.positions functions form arguments plain) (λ functions. plain_lent d.positions functions form arguments (d.lent ++ (minus_all arguments d.owed ++ outside d.uncalled d.splits)) plain) (λ functions have. plain_fits d.positions functions form arguments plain)) is works
+
+pub called_works : (d e : Draft) (f : ℕ) (arguments : List ℕ) → d.failed ≡ false → Writes d → Takes d f arguments → HoldsAll d (used_in d f arguments) → LendsAll d f arguments → e ≡ computed d (OfForm.Call f) arguments (used_in d f arguments) → Works d → Works e
+called_works d e f arguments going writes takes holds lent is works =
+    works_by d e (computed d (OfForm.Call f) arguments (used_in d f arguments)) going
+    (λ sound. sound_computed d (OfForm.Call f) arguments (used_in d f arguments) sound (writes going).0 (writes going).1 (holds going)
+    (λ functions. refl) (λ functions. lent going) (λ functions have function there. have f function there ∙ takes.1)) is works
+
+-- ---- the start
+
+at_among : (takes : ℕ → Bool) (next : ℕ) (xs : List ℕ) (x : ℕ) → is_among (at_positions takes next xs) x ≡ true → is_among xs x ≡ true
+at_among takes next [] x is = is
+at_among takes next (y ∷ xs) x is = by_position (takes next) is (at_among takes (suc next) xs x)
+  where
+    behind : (t : Bool) → is_among xs x ≡ true → (t || is_among xs x) ≡ true
+    behind true there = refl
+    behind false there = there
+
+    under : (t : Bool) → (t || is_among (at_positions takes (suc next) xs) x) ≡ true → (is_among (at_positions takes (suc next) xs) x ≡ true → is_among xs x ≡ true) → (t || is_among xs x) ≡ true
+    under true there later = refl
+    under false there later = later there
+
+    by_position : (b : Bool) → is_among (if b then y ∷ at_positions takes (suc next) xs else at_positions takes (suc next) xs) x ≡ true → (is_among (at_positions takes (suc next) xs) x ≡ true → is_among xs x ≡ true) → ((y == x) || is_among xs x) ≡ true
+    by_position true there later = under (y == x) there later
+    by_position false there later = behind (y == x) (later there)
+
+parameters_low : (takes : ℕ → Bool) (count : ℕ) → AreLow count (parameters_where takes count)
+parameters_low takes count = λ x is. subst (λ (n : ℕ). x < n) {x = 0 + count} {y = count} (omega arith) (low_numbers 0 count x (at_among takes 0 (numbers_from 0 count) x is))
+
+pub begun_sound : (positions : PositionTable) (counts : List ℕ) (instance : ℕ) → IsSoundDraft (begun positions counts instance)
+begun_sound positions counts instance =
+    record {
+      splits = tt;
+      steps = λ inside none left rest spent. spent;
+      closed = λ code known. absurd (nothing code known);
+      low = parameters_low (λ i. not (is_lent positions instance i)) (length (slice_index_or positions instance []));
+      lent = refl;
+      parameters = refl;
+      lent_low = parameters_low (is_lent positions instance) (length (slice_index_or positions instance []));
+      quiet = λ out. absurd (never out);
+    }
+  where
+    nothing : (code : Counted) → None ≡ Some code → ⊥
+    nothing code same = cc
+
+    never : true ≡ false → ⊥
+    never same = cc
+
+-- what an emitter begins with, by the parameters of its instance
+pub begun_is : (positions : PositionTable) (counts : List ℕ) (instance count : ℕ) (parameters : List Parameter) (uncalled lent : List ℕ) → slice_index_or positions instance [] ≡ map (λ parameter. parameter.ownership) parameters → count ≡ length parameters
+    → uncalled ≡ at_positions (passes parameters false) 0 (numbers_from 0 (length parameters)) → lent ≡ at_positions (passes parameters true) 0 (numbers_from 0 (length parameters))
+    → record (begun positions counts instance) { parameters = count; next = count; uncalled = uncalled; lent = lent } ≡ begun positions counts instance
+begun_is positions counts instance count parameters uncalled lent found many owned others =
+    let passed : List Ownership = map (λ parameter. parameter.ownership) parameters in
+    let long : length parameters ≡ length passed = sym (length-map parameters (λ parameter. parameter.ownership)) in
+    ap (λ n. record (begun positions counts instance) { parameters = n; next = n; uncalled = uncalled; lent = lent }) (many ∙ long)
+    ∙ (ap (λ xs. record (begun positions counts instance) { parameters = length passed; next = length passed; uncalled = xs; lent = lent }) (owned ∙ ap (λ n. at_positions (passes parameters false) 0 (numbers_from 0 n)) long)
+    ∙ (ap (λ xs. record (begun positions counts instance) { parameters = length passed; next = length passed; uncalled = at_positions (passes parameters false) 0 (numbers_from 0 (length passed)); lent = xs }) (others ∙ ap (λ n. at_positions (passes parameters true) 0 (numbers_from 0 n)) long)
+    ∙ ap (λ (all : List Ownership). record (begun positions counts instance) { parameters = length all; next = length all; uncalled = at_positions (λ i. not (lends (slice_index_or all i Owned))) 0 (numbers_from 0 (length all)); lent = at_positions (λ i. lends (slice_index_or all i Owned)) 0 (numbers_from 0 (length all)) }) (sym found)))
+
+-- what an instance is passed
+pub passed_at : (instances : List InstanceShape) (i : ℕ) (one : InstanceShape) → i < length instances → one ≡ get_or instances i one → slice_index_or (positions_in instances) i [] ≡ passed_to one
+passed_at [] i one less is = absurd (omega (arith, less))
+passed_at (first ∷ instances) zero one less is = ap passed_to (sym is)
+passed_at (first ∷ instances) (suc i) one less is = passed_at instances i one (omega (arith, less)) is
+
+pub fields_at : (constructors : List ConstructorShape) (i : ℕ) (one : ConstructorShape) → i < length constructors → one ≡ get_or constructors i one → slice_index_or (fields_in constructors) i 0 ≡ length one.fields.items
+fields_at [] i one less is = absurd (omega (arith, less))
+fields_at (first ∷ constructors) zero one less is = ap (λ c. length c.fields.items) (sym is)
+fields_at (first ∷ constructors) (suc i) one less is = fields_at constructors i one (omega (arith, less)) is
+
+pub begun_works : (positions : PositionTable) (counts : List ℕ) (instance : ℕ) (e : Draft) → e ≡ begun positions counts instance → Works e
+begun_works positions counts instance e is = λ going. subst IsSoundDraft (sym is) (begun_sound positions counts instance)
+
+-- ---- branches
+
+pub forked_works : (d e : Draft) (emitter on : ℕ) (decisions : List NodeTree) (each : List ℕ) (rows : ℕ) → d.failed ≡ false → Writes d → OwnsAll d emitter each → (d.failed ≡ false → is_among (d.lent ++ all_owed d) on ≡ true)
+    → e ≡ forked d on decisions each rows → Works d → Works e
+forked_works d e emitter on decisions each rows going writes owns there is works =
+    works_by d e (forked d on decisions each rows) going (λ sound. sound_forked d on decisions each rows sound (writes going).0 (writes going).1 (owns going).1 (there going)) is works
+
+entered_sound : (d : Draft) → d.inside ≡ false → IsSoundDraft d → IsSoundDraft (entered d)
+entered_sound d out sound = by_splits d.splits refl
+  where
+    by_left : (split : Split) (splits : List Split) → d.splits ≡ split ∷ splits → (left : List (List ℕ)) → split.left ≡ left → IsSoundDraft (entered_by d split splits left)
+    by_left split splits is [] known = sound
+    by_left split splits is (each ∷ left) known = sound_entered d split splits each left sound out is known
+
+    by_splits : (splits : List Split) → d.splits ≡ splits → IsSoundDraft (entered_in d splits)
+    by_splits [] is = sound
+    by_splits (split ∷ splits) is = by_left split splits is split.left refl
+
+pub entered_works : (d e : Draft) → d.failed ≡ false → (d.failed ≡ false → d.inside ≡ false) → e ≡ entered d → Works d → Works e
+entered_works d e going between is works = works_by d e (entered d) going (entered_sound d (between going)) is works
+
+ended_sound : (d : Draft) (x : ℕ) → d.inside ≡ true → d.owed ≡ x ∷ [] → IsInArm d.splits → IsSoundDraft d → IsSoundDraft (ended_by_value d x)
+ended_sound d x inside only arm sound = by_splits d.splits refl arm
+  where
+    by_splits : (splits : List Split) → d.splits ≡ splits → IsInArm splits → IsSoundDraft (ended_in d (end_code d.ending x) (is_tail d.ending) splits)
+    by_splits [] is none = absurd none
+    by_splits (split ∷ splits) is some = sound_by_value d split splits x sound inside is only
+
+pub ended_works : (d e : Draft) (emitter x : ℕ) → d.failed ≡ false → (d.failed ≡ false → d.inside ≡ true) → (d.failed ≡ false → IsInArm d.splits) → IsOnly d emitter x → e ≡ ended_by_value d x → Works d → Works e
+ended_works d e emitter x going inside arm only is works = works_by d e (ended_by_value d x) going (ended_sound d x (inside going) (only going).1 (arm going)) is works
+
+called_sound : (d : Draft) (f : ℕ) (arguments : List ℕ) → d.failed ≡ false → Writes d → Takes d f arguments → EndsByCall d f arguments → IsInArm d.splits → IsSoundDraft d → IsSoundDraft (ended_by_call d f arguments)
+called_sound d f arguments going writes takes ends arm sound = by_splits d.splits refl arm
+  where
+    even : AreEven d.owed (used_in d f arguments)
+    even = λ w. minus_all_even (used_in d f arguments) d.owed (ends going).0 w ∙ (ap (λ xs. total w (used_in d f arguments ++ xs)) (ends going).1.0 ∙ (total_append w (used_in d f arguments) [] ∙ omega arith))
+
+    by_splits : (splits : List Split) → d.splits ≡ splits → IsInArm splits → IsSoundDraft (ended_in d (tail_call f arguments) true splits)
+    by_splits [] is none = absurd none
+    by_splits (split ∷ splits) is some =
+        sound_by_call d split splits f arguments (used_in d f arguments) sound (writes going).0 (writes going).1 is even
+        (ap (outside d.uncalled) (sym is) ∙ (ends going).1.1.0)
+        (λ functions. refl) (λ functions. (ends going).1.1.1) (λ functions have function there. have f function there ∙ takes.1)
+
+pub call_works : (d e : Draft) (f : ℕ) (arguments : List ℕ) → d.failed ≡ false → Writes d → Takes d f arguments → EndsByCall d f arguments → (d.failed ≡ false → IsInArm d.splits) → e ≡ ended_by_call d f arguments → Works d → Works e
+call_works d e f arguments going writes takes ends arm is works =
+    works_by d e (ended_by_call d f arguments) going (called_sound d f arguments going writes takes ends (arm going)) is works
+
+joined_sound : (d : Draft) → d.inside ≡ false → IsSoundDraft d → IsSoundDraft (joined d)
+joined_sound d out sound = by_splits d.splits refl
+  where
+    by_splits : (splits : List Split) → d.splits ≡ splits → IsSoundDraft (joined_in d splits)
+    by_splits [] is = sound
+    by_splits (split ∷ splits) is = sound_joined d split splits sound out is
+
+pub joined_works : (d e : Draft) → d.failed ≡ false → (d.failed ≡ false → d.inside ≡ false) → e ≡ joined d → Works d → Works e
+joined_works d e going between is works = works_by d e (joined d) going (joined_sound d (between going)) is works
+
+-- a join leaves the instance
+resumed_instance : (d : Draft) (split : Split) (x : ℕ) (tails : Bool) → (resumed_as d split x tails).instance ≡ d.instance
+resumed_instance d split x true = refl
+resumed_instance d split x false = refl
+
+joined_same : (d : Draft) (splits : List Split) → (joined_in d splits).instance ≡ d.instance
+joined_same d [] = refl
+joined_same d (split ∷ splits) = resumed_instance (record d { next = d.next + 1; splits = splits }) split d.next split.tails
+
+pub joined_instance : (instance : ℕ) (new : Work) (positions : PositionTable) (counts : List ℕ) (work : Work) → draft positions counts new ≡ joined (draft positions counts work) → work.instance ≡ instance → new.instance ≡ instance
+joined_instance instance new positions counts work becomes is =
+    ap (λ (d : Draft). d.instance) becomes ∙ (joined_same (draft positions counts work) (back_to_front split_of work.forks.items []) ∙ is)
+
+-- ---- the end of a function
+
+numbered_low : (takes : ℕ → Bool) (n k i : ℕ) → i < n → is_among (at_positions takes n (numbers_from n k)) i ≡ false
+numbered_low takes n zero i less = refl
+numbered_low takes n (suc k) i less = by_position (takes n) (numbered_low takes (suc n) k i (omega (arith, less)))
+  where
+    apart : (n == i) ≡ false
+    apart = grind arith
+
+    by_position : (b : Bool) → is_among (at_positions takes (suc n) (numbers_from (suc n) k)) i ≡ false → is_among (if b then n ∷ at_positions takes (suc n) (numbers_from (suc n) k) else at_positions takes (suc n) (numbers_from (suc n) k)) i ≡ false
+    by_position true later = ap (λ t. t || is_among (at_positions takes (suc n) (numbers_from (suc n) k)) i) apart ∙ later
+    by_position false later = later
+
+numbered_is : (takes : ℕ → Bool) (n k i : ℕ) → n ≤ i → i < n + k → is_among (at_positions takes n (numbers_from n k)) i ≡ takes i
+numbered_is takes n zero i least less = absurd (omega (arith, least, less))
+numbered_is takes n (suc k) i least less = by_test (n == i) refl (takes n) refl (λ more. numbered_is takes (suc n) k i more (omega (arith, less)))
+  where
+    by_test : (t : Bool) → (n == i) ≡ t → (b : Bool) → takes n ≡ b → (suc n ≤ i → is_among (at_positions takes (suc n) (numbers_from (suc n) k)) i ≡ takes i)
+        → is_among (if b then n ∷ at_positions takes (suc n) (numbers_from (suc n) k) else at_positions takes (suc n) (numbers_from (suc n) k)) i ≡ takes i
+    by_test true one true taken later = ap (λ t. t || is_among (at_positions takes (suc n) (numbers_from (suc n) k)) i) one ∙ (sym taken ∙ ap takes (same n i one))
+    by_test true one false taken later = numbered_low takes (suc n) k i (omega (arith, same n i one)) ∙ (sym taken ∙ ap takes (same n i one))
+    by_test false one true taken later = ap (λ t. t || is_among (at_positions takes (suc n) (numbers_from (suc n) k)) i) one ∙ later (above one)
+      where
+        above : (n == i) ≡ false → suc n ≤ i
+        above two = grind arith
+    by_test false one false taken later = later (above one)
+      where
+        above : (n == i) ≡ false → suc n ≤ i
+        above two = grind arith
+
+pub finished_judged : (d : Draft) (emitter x : ℕ) → d.failed ≡ false → (d.failed ≡ false → d.inside ≡ true) → (d.failed ≡ false → d.splits ≡ []) → (d.failed ≡ false → d.uncalled ≡ []) → IsOnly d emitter x → Works d
+    → IsJudged d.positions d.instance (record { parameters = d.parameters; body = finished d x })
+finished_judged d emitter x going inside joins called only works =
+    let sound : IsSoundDraft d = works going in
+    let spent : Spent d.positions d.lent None (owned_parameters d) (finished d x) = finished_spent d x sound (inside going) (joins going) (called going) (only going).1 in
+    subst (λ n. IsJudged d.positions d.instance (record { parameters = n; body = finished d x })) (sym sound.parameters)
+    (judged d (finished d x) sound spent (λ i less. ap (λ xs. is_among xs i) sound.lent ∙ numbered_is (is_lent d.positions d.instance) 0 (parameter_count d) i (omega arith) (omega (arith, less))))
+
+-- a function that ends by a tail call
+tail_spent : (d : Draft) (f : ℕ) (arguments : List ℕ) → d.failed ≡ false → Writes d → (d.failed ≡ false → d.splits ≡ []) → Takes d f arguments → EndsByCall d f arguments → IsSoundDraft d
+    → Spent d.positions d.lent None (owned_parameters d) (plug d.steps (tail_call f arguments))
+tail_spent d f arguments going writes joins takes ends sound =
+    let even : AreEven (all_owed d) (used_in d f arguments) =
+    λ w. total_append w d.owed (outside d.uncalled d.splits) ∙ (ap (λ xs. total w d.owed + total w xs) (ends going).1.1.0 ∙ (omega (arith, minus_all_even (used_in d f arguments) d.owed (ends going).0 w, total_append w (used_in d f arguments) (minus_all (used_in d f arguments) d.owed), ap (total w) (ends going).1.0))) in
+    subst (λ (all : List Split). Spent d.positions d.lent None (first (owned_parameters d) d.uncalled all) (plug d.steps (tail_call f arguments))) (joins going)
+    (call_spent d.positions d.lent (first_of d) (all_owed d) d.steps f arguments (used_in d f arguments) (sound.steps (writes going).0 (writes going).1) even
+    (λ functions. refl) (λ functions. (ends going).1.1.1) (λ functions have function there. have f function there ∙ takes.1))
+
+pub tail_judged : (d : Draft) (f : ℕ) (arguments : List ℕ) → d.failed ≡ false → Writes d → (d.failed ≡ false → d.splits ≡ []) → Takes d f arguments → EndsByCall d f arguments → Works d
+    → IsJudged d.positions d.instance (record { parameters = d.parameters; body = plug d.steps (tail_call f arguments) })
+tail_judged d f arguments going writes joins takes ends works =
+    let sound : IsSoundDraft d = works going in
+    subst (λ n. IsJudged d.positions d.instance (record { parameters = n; body = plug d.steps (tail_call f arguments) })) (sym sound.parameters)
+    (judged d (plug d.steps (tail_call f arguments)) sound (tail_spent d f arguments going writes joins takes ends sound)
+    (λ i less. ap (λ xs. is_among xs i) sound.lent ∙ numbered_is (is_lent d.positions d.instance) 0 (parameter_count d) i (omega arith) (omega (arith, less))))

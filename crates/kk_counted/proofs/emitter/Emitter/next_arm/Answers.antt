@@ -1,0 +1,24 @@
+use Rattle.std.proofs.Common.{[], ap, ◌∙◌}
+use Rattle.kk_counted.specs.Drafts.{entered}
+use Rattle.kk_counted.specs.Emissions.{state}
+use Rattle.kk_counted.specs.Shaping.{positions_in, fields_in}
+use Rattle.kk_counted.specs.Works.{items_of, left_in, draft}
+use Rattle.kk_counted.proofs.Drafted.{back_more}
+use Rattle.kk_counted.proofs.Seeing.{seen, going_now, works_now}
+use Rattle.kk_counted.proofs.Working.{entered_works}
+use Rattle.kk_counted.proofs.emitter.Emitter.next_arm.Goals as goal
+
+pub returns-then-self-clause-left : goal.returns-then-self-clause-left
+returns-then-self-clause-left c = ap left_in c.in_ok-variables.ensures.items ∙ back_more items_of c.pop.new.self.items c.in_ok-variables.variables []
+
+pub returns-clause-left : goal.returns-clause-left
+returns-clause-left c = ap left_in c.in_ok-variables.ensures.items ∙ back_more items_of c.pop.new.self.items c.in_ok-variables.variables []
+
+pub invariant_of-self : goal.invariant_of-self
+invariant_of-self c =
+    let p = positions_in c.self.inside.shape.now.instances.items in
+    let q = fields_in c.self.inside.shape.now.constructors.items in
+    let work = c.self.inside.work in
+    let now = c.args.self.now in
+    entered_works (state now) (draft p q c.enter.new.self) (going_now p q work now c.self.view_is c.if-self.false) c.requires.between
+    (seen p q work now c.self.view_is entered c.enter.new.self (c.enter.ensures p q)) (works_now p q work now c.self.view_is c.self.invariant)

@@ -1,0 +1,90 @@
+-- That what an emitter has written spends what is owned: so a function that it finishes is spent.
+use Rattle.std.specs.Prelude.{◌≡◌, ℕ, ◌<◌, true, false, not, List, [], ◌∷◌, ◌++◌, length, Option, Some, None, slice_get, slice_index_or}
+use Rattle.kk_syntax.specs.Shapes.{is_among}
+use Rattle.kk_syntax.specs.PositionsOf.{PositionTable, is_lent}
+use Rattle.kk_counted.specs.CountedCodes.{Counted, CountedFunction}
+use Rattle.kk_counted.specs.CountedForms.{Move, plug}
+use Rattle.kk_counted.specs.Spending.{Spends, SpendsParameters}
+use Rattle.kk_counted.specs.Drafts.{Split, Draft, outside, all_owed, parameters_where}
+
+-- functions have as many parameters as the table of positions tells
+abbrev pub HaveParameters : PositionTable → List CountedFunction → Type 0
+HaveParameters positions functions =
+    (f : ℕ) (function : CountedFunction) → slice_get functions f ≡ Some function
+    → function.parameters ≡ length (slice_index_or positions f [])
+
+-- a function spends its parameters, whatever the functions are that it calls
+abbrev pub IsJudged : PositionTable → ℕ → CountedFunction → Type 0
+IsJudged positions f function =
+    (functions : List CountedFunction) → HaveParameters positions functions → SpendsParameters positions functions f function
+
+-- variables are below a number
+abbrev pub AreLow : ℕ → List ℕ → Type 0
+AreLow next xs = (x : ℕ) → is_among xs x ≡ true → x < next
+
+module _ (positions : PositionTable) (lent : List ℕ) where
+  -- code spends what is owned, whatever the functions are that it calls
+  abbrev pub Spent : Option (List ℕ) → List ℕ → Counted → Type 0
+  Spent left owned code =
+      (functions : List CountedFunction) → HaveParameters positions functions → Spends positions functions lent [] left owned code
+
+  abbrev pub AllSpent : Option (List ℕ) → List ℕ → List Counted → Type 0
+  AllSpent left owned [] = Unit {0}
+  AllSpent left owned (code ∷ codes) = Spent left owned code × AllSpent left owned codes
+
+  -- steps lead from what is owned before them to what is owned after them: they, with code behind them that spends the one,
+  -- spend the other
+  abbrev pub Leads : List ℕ → List ℕ → List Move → Type 0
+  Leads before after moves = (left : Option (List ℕ)) (rest : Counted) → Spent left after rest → Spent left before (plug moves rest)
+
+-- what the newest block owned as it began, by the owned parameters and those of them that are not called yet
+abbrev pub first : List ℕ → List ℕ → List Split → List ℕ
+first parameters uncalled [] = parameters
+first parameters uncalled (split ∷ splits) = split.each ++ outside uncalled (split ∷ splits)
+
+abbrev pub AllAre : List ℕ → List (List ℕ) → Type 0
+AllAre each [] = Unit {0}
+AllAre each (xs ∷ left) = (xs ≡ each) × AllAre each left
+
+-- A branch that is not joined: the steps before it lead to what its arms and the code behind them own. Each arm that is ended
+-- spends what it was to spend, and leaves what is owned outside; or nothing is owned outside, and it leaves nothing.
+pub record IsFine (positions : PositionTable) (lent : List ℕ) (next : ℕ) (began : List ℕ) (around : List ℕ) (split : Split) : Type 0 where
+  pub before : Leads positions lent began (split.each ++ around) split.before
+  pub on : is_among (lent ++ (split.each ++ around)) split.on ≡ true
+  pub arms : split.tails ≡ false → AllSpent positions lent (Some around) (split.each ++ around) split.arms
+  pub tails : split.tails ≡ true → (around ≡ []) × AllSpent positions lent None (split.each ++ around) split.arms
+  pub left : AllAre split.each split.left
+  pub low : AreLow next (split.each ++ around)
+
+abbrev pub AreFine : PositionTable → List ℕ → ℕ → List ℕ → List ℕ → List Split → Type 0
+AreFine positions lent next parameters uncalled [] = Unit {0}
+AreFine positions lent next parameters uncalled (split ∷ splits) =
+    IsFine positions lent next (first parameters uncalled splits) (outside uncalled (split ∷ splits)) split
+    × AreFine positions lent next parameters uncalled splits
+
+abbrev pub parameter_count : Draft → ℕ
+parameter_count d = length (slice_index_or d.positions d.instance [])
+
+abbrev pub owned_parameters : Draft → List ℕ
+owned_parameters d = parameters_where (λ i. not (is_lent d.positions d.instance i)) (parameter_count d)
+
+-- what the newest block of a draft owned as it began
+abbrev pub first_of : Draft → List ℕ
+first_of d = first (owned_parameters d) d.uncalled d.splits
+
+-- A draft that is sound: its branches are; the steps of the block that is written lead to what is owned now; a block whose
+-- end is known spends all that it owned as it began; and the next variable is above all of them.
+pub record IsSoundDraft (d : Draft) : Type 0 where
+  pub splits : AreFine d.positions d.lent d.next (owned_parameters d) d.uncalled d.splits
+  pub steps : d.inside ≡ true → d.ending ≡ None → Leads d.positions d.lent (first_of d) (all_owed d) d.steps
+  pub closed : (code : Counted) → d.ending ≡ Some code
+      → Spent d.positions d.lent None (first_of d) (plug d.steps code) × (outside d.uncalled d.splits ≡ [])
+  pub low : AreLow d.next (all_owed d)
+  pub lent : d.lent ≡ parameters_where (is_lent d.positions d.instance) (parameter_count d)
+  pub lent_low : AreLow d.next d.lent
+  pub parameters : d.parameters ≡ parameter_count d
+  pub quiet : d.inside ≡ false → (d.steps ≡ []) × ((d.owed ≡ []) × (d.ending ≡ None))
+
+-- a draft is sound, if no call found no memory
+abbrev pub Works : Draft → Type 0
+Works d = d.failed ≡ false → IsSoundDraft d

@@ -1,0 +1,112 @@
+ghost use Rattle.std.specs.Prelude.{◌≡◌, ◌∷◌, ◌++◌, [], map, OnOk, OnErr};
+ghost use Rattle.kk_counted.specs.CountedForms.{plug, step_move, block_code, last_code};
+ghost use Rattle.kk_counted.specs.Programs.{IsNext};
+
+use crate::form::{Block, Last, Step};
+use crate::shape::Shape;
+use kk_base::NoMemory;
+use std::alloc::Global;
+
+/// The function of an instance, in counted form. An emitter makes it.
+#[derive(Debug, Drop)]
+pub struct CountedFun {
+    instance: u32,
+    parameters: u32,
+    body: Block,
+}
+
+impl CountedFun {
+    pub(crate) fn of(instance: u32, parameters: u32, steps: Vec<Step>, last: Last) -> Self
+        ensures instance { result.instance ≡ instance }
+        ensures parameters { result.parameters ≡ parameters }
+        ensures body { block_code result.body ≡ plug (map step_move steps.items) (last_code last) }
+    {
+        CountedFun {
+            instance,
+            parameters,
+            body: Block { steps, last },
+        }
+    }
+
+    /// The number of its instance.
+    pub fn instance(&self) -> u32
+        ensures { result ≡ self.now.instance }
+    {
+        self.instance
+    }
+
+    /// The number of its parameters: parameter `i` is variable `i`.
+    pub fn parameters(&self) -> u32
+        ensures { result ≡ self.now.parameters }
+    {
+        self.parameters
+    }
+
+    /// What it does.
+    pub fn body(&self) -> &Block
+        ensures { result.now ≡ self.now.body }
+    {
+        &self.body
+    }
+}
+
+/// A program in counted form: its shape and the functions of its first instances. Once it has a function for each instance
+/// it is whole.
+#[derive(Debug, Drop)]
+pub struct Counted {
+    shape: Shape,
+    functions: Vec<CountedFun>,
+    body_nodes: u64,
+    nodes: u64,
+}
+
+impl Counted {
+    /// No function yet. `body_nodes` is the greatest number of nodes of a body, and `nodes` that of all instances together.
+    pub fn new(alloc: Global, shape: Shape, body_nodes: u64, nodes: u64) -> Self
+        ensures shape { result.shape ≡ shape }
+        ensures functions { result.functions.items ≡ [] }
+        ensures body_nodes { result.body_nodes ≡ body_nodes }
+        ensures nodes { result.nodes ≡ nodes }
+    {
+        Counted {
+            shape,
+            functions: Vec::new(alloc),
+            body_nodes,
+            nodes,
+        }
+    }
+
+    /// The shape of its instances and constructors.
+    pub fn shape(&self) -> &Shape
+        ensures { result.now ≡ self.now.shape }
+    {
+        &self.shape
+    }
+
+    /// The functions, each at its instance's number.
+    pub fn functions(&self) -> &[CountedFun]
+        ensures { result.now ≡ self.now.functions.items }
+    {
+        &self.functions
+    }
+
+    /// All that it holds: the shape, the functions, the greatest number of nodes of a body and that of all together.
+    pub fn parts(self) -> (Shape, Vec<CountedFun>, u64, u64)
+        ensures { result ≡ record { 0 = self.shape; 1 = self.functions; 2 = self.body_nodes; 3 = self.nodes } }
+    {
+        (self.shape, self.functions, self.body_nodes, self.nodes)
+    }
+
+    /// Adds the function of the next instance. Refused, it changes nothing.
+    pub fn add(&mut self, function: CountedFun) -> Result<(), NoMemory>
+        requires { IsNext self.old function }
+        ensures ok { OnOk result (self.new.functions.items ≡ self.old.functions.items ++ function ∷ []) }
+        ensures err { OnErr result (self.new.functions.items ≡ self.old.functions.items) }
+        ensures shape { self.new.shape ≡ self.old.shape }
+        ensures body_nodes { self.new.body_nodes ≡ self.old.body_nodes }
+        ensures nodes { self.new.nodes ≡ self.old.nodes }
+    {
+        self.functions.push(function)?;
+        Ok(())
+    }
+}

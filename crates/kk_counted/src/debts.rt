@@ -1,0 +1,202 @@
+ghost use Rattle.std.specs.Prelude.{◌≡◌, true, false, ◌∷◌, ◌++◌, [], IfSome, IfNone, OnOk, OnErr, IfErr};
+ghost use Rattle.kk_counted.specs.Drafts.{AreOf};
+
+use kk_base::NoMemory;
+use std::alloc::Global;
+
+/// One reference that its path must pass on, store or drop. It cannot be let go.
+pub struct Owed {
+    pub(crate) emitter: u32,
+    pub(crate) variable: u32,
+}
+
+impl Owed {
+    /// The variable that owns the reference.
+    pub fn var(&self) -> u32
+        ensures { result ≡ self.now.variable }
+    {
+        self.variable
+    }
+}
+
+/// References of one emitter, which its path must pass on, store or drop. They cannot be let go.
+pub struct Debts {
+    pub(crate) emitter: u32,
+    pub(crate) variables: Vec<u32>,
+}
+
+impl Debts {
+    /// No references. It takes no memory.
+    pub fn new(alloc: Global) -> Self
+        ensures { result.variables.items ≡ [] }
+    {
+        Debts {
+            emitter: 0,
+            variables: Vec::new(alloc),
+        }
+    }
+
+    /// The variables that own the references, in their order.
+    pub fn vars(&self) -> &[u32]
+        ensures { result.now ≡ self.now.variables.items }
+    {
+        &self.variables
+    }
+
+    /// Puts a reference behind the others, which are of the same emitter.
+    pub fn put(&mut self, owed: Owed) -> Result<(), Kept>
+        requires { AreOf owed.emitter self.old.variables.items self.old.emitter }
+        ensures emitter { OnOk result (self.new.emitter ≡ owed.emitter) }
+        ensures variables { OnOk result (self.new.variables.items ≡ self.old.variables.items ++ owed.variable ∷ []) }
+        ensures kept { IfErr result (λ kept. kept.held ≡ Held.One owed) }
+        ensures same { OnErr result (self.new.emitter ≡ self.old.emitter) }
+        ensures unchanged { OnErr result (self.new.variables.items ≡ self.old.variables.items) }
+    {
+        if self.variables.push(owed.variable).is_err() {
+            return Err(Kept::of_one(owed));
+        }
+        let Owed {
+            emitter,
+            variable: _,
+        } = owed;
+        self.emitter = emitter;
+        Ok(())
+    }
+
+    /// Takes the last reference, if there is one.
+    pub fn take(&mut self) -> Option<Owed>
+        ensures emitter { self.new.emitter ≡ self.old.emitter }
+        ensures last { IfSome result (λ owed. self.old.variables.items ≡ self.new.variables.items ++ owed.variable ∷ []) }
+        ensures of { IfSome result (λ owed. owed.emitter ≡ self.old.emitter) }
+        ensures none { IfNone result (self.old.variables.items ≡ []) }
+        ensures unchanged { IfNone result (self.new.variables.items ≡ []) }
+    {
+        match self.variables.pop() {
+            Some(variable) => Some(Owed {
+                emitter: self.emitter,
+                variable,
+            }),
+            None => None,
+        }
+    }
+
+    /// Spends no references.
+    pub fn close(self)
+        requires { self.variables.items ≡ [] }
+    {
+        self.spend();
+    }
+
+    // They are spent by what has been written of them.
+    pub(crate) fn spend(self) {
+        let Debts {
+            emitter: _,
+            variables: _,
+        } = self;
+    }
+}
+
+/// A branch whose arms are not yet joined. It holds what each arm is to spend that is not entered. It cannot be let go.
+pub struct Arms {
+    pub(crate) emitter: u32,
+    /// How many branches of the emitter were not joined when it began, with itself.
+    pub(crate) depth: usize,
+    pub(crate) left: Vec<Vec<u32>>,
+}
+
+/// What a call was handed and could not take.
+pub enum Held {
+    Nothing,
+    One(Owed),
+    Many(Debts),
+    Branch(Arms),
+}
+
+/// The values that were handed to a call that found no memory. It cannot be let go: `Emitter::abandon` takes it, or
+/// `give_up` where the function was to be ended.
+pub struct Kept {
+    pub(crate) held: Held,
+    /// Whether the call was to end its function, and has taken the emitter.
+    pub(crate) ended: bool,
+}
+
+impl Kept {
+    pub(crate) fn of_nothing() -> Self
+        ensures held { result.held ≡ Held.Nothing }
+        ensures ended { result.ended ≡ false }
+    {
+        Kept {
+            held: Held::Nothing,
+            ended: false,
+        }
+    }
+
+    pub(crate) fn of_one(owed: Owed) -> Self
+        ensures held { result.held ≡ Held.One owed }
+        ensures ended { result.ended ≡ false }
+    {
+        Kept {
+            held: Held::One(owed),
+            ended: false,
+        }
+    }
+
+    pub(crate) fn of_many(debts: Debts) -> Self
+        ensures held { result.held ≡ Held.Many debts }
+        ensures ended { result.ended ≡ false }
+    {
+        Kept {
+            held: Held::Many(debts),
+            ended: false,
+        }
+    }
+
+    pub(crate) fn of_branch(arms: Arms) -> Self
+        ensures held { result.held ≡ Held.Branch arms }
+        ensures ended { result.ended ≡ false }
+    {
+        Kept {
+            held: Held::Branch(arms),
+            ended: false,
+        }
+    }
+
+    // The same, of a call that was to end its function.
+    pub(crate) fn as_ended(self) -> Self
+        ensures held { result.held ≡ self.held }
+        ensures ended { result.ended ≡ true }
+    {
+        let Kept { held, ended: _ } = self;
+        Kept { held, ended: true }
+    }
+
+    // Its emitter has failed, or is gone: nothing that it writes counts any more.
+    pub(crate) fn spend(self) {
+        let Kept { held, ended: _ } = self;
+        match held {
+            Held::Nothing => {}
+            Held::One(owed) => {
+                let Owed {
+                    emitter: _,
+                    variable: _,
+                } = owed;
+            }
+            Held::Many(debts) => debts.spend(),
+            Held::Branch(arms) => {
+                let Arms {
+                    emitter: _,
+                    depth: _,
+                    left: _,
+                } = arms;
+            }
+        }
+    }
+}
+
+/// Spends the values of a call that was to end its function, and gives the want of memory.
+pub fn give_up(kept: Kept) -> NoMemory
+    requires { kept.ended ≡ true }
+{
+    kept.spend();
+    NoMemory
+}

@@ -1,0 +1,336 @@
+ghost use Rattle.std.specs.Prelude.{◌≡◌, ◌<◌, ◌∷◌, ◌++◌, [], false, length, IfOk, IfErr, OnOk, OnErr};
+ghost use Rattle.kk_counted.specs.Drafts.{begun, fallen, given, duplicated, dropped, unpacked, fields_given, computed, Writes, Awaits, Reaches, IsLentTo, Owns, OwnsAll, HoldsAll, HasConstructor, HasFields, IsPlain, Takes, used_in, LendsAll};
+ghost use Rattle.kk_counted.specs.Shaping.{positions_in, fields_in};
+ghost use Rattle.kk_counted.specs.Emissions.{state};
+
+use crate::debts::{Debts, Held, Kept, Owed};
+use crate::lists::parameters_passed;
+use crate::shape::Shape;
+use crate::work::Work;
+use kk_base::NoMemory;
+use kk_syntax::Form;
+use std::alloc::Global;
+use std::marker::Model;
+
+/// What writes the counted form of one function. All that its function owns stands in values that cannot be let go, `Owed`,
+/// `Debts` and `Arms`: so each reference is spent once on each path.
+///
+/// Where a call finds no memory it answers what it was handed in a `Kept`, or it has failed. An emitter that has failed asks
+/// nothing and gives no function. Its calls answer what they are handed in a `Kept` again.
+#[derive(Drop)]
+pub struct Emitter<'a> {
+    pub(crate) shape: &'a Shape,
+    pub(crate) work: Work,
+}
+
+impl<'a> Model for Emitter<'a> {
+    ghost use Rattle.kk_counted.specs.Emissions.{Emission, emission_code};
+
+    ghost Value = { Emission };
+
+    ghost coded = { emission_code };
+
+    ghost use Rattle.kk_counted.specs.Shaping.{positions_in, fields_in};
+    ghost use Rattle.kk_counted.specs.Emissions.{state};
+    ghost use Rattle.kk_counted.specs.Emitting.{Works};
+
+    ghost view = { λ e. record { positions = positions_in e.shape.now.instances.items; field_counts = fields_in e.shape.now.constructors.items; work = e.work } };
+
+    ghost invariant = { λ e. Works (state (record { positions = positions_in e.shape.now.instances.items; field_counts = fields_in e.shape.now.constructors.items; work = e.work })) };
+}
+
+impl<'a> Emitter<'a> {
+    /// Begins the function of an instance of the shape.
+    pub fn start(alloc: Global, shape: &'a Shape, instance: u32) -> Result<Emitter<'a>, NoMemory>
+        requires { instance < length shape.now.instances.items }
+        ensures { IfOk result (λ e. state e ≡ begun (positions_in shape.now.instances.items) (fields_in shape.now.constructors.items) instance) }
+    {
+        let parameters = &shape.instances()[instance as usize].parameters;
+        let Ok(count) = u32::try_from(parameters.len()) else {
+            return Err(NoMemory);
+        };
+        let uncalled = parameters_passed(alloc, parameters, false)?;
+        let lent = parameters_passed(alloc, parameters, true)?;
+        let work = Work {
+            alloc,
+            instance,
+            parameters: count,
+            next: count,
+            failed: false,
+            inside: true,
+            steps: Vec::new(alloc),
+            owed: Vec::new(alloc),
+            uncalled,
+            lent,
+            forks: Vec::new(alloc),
+            ending: None,
+        };
+        Ok(Emitter { shape, work })
+    }
+
+    /// Gives the reference of an owned parameter, once for each.
+    pub fn param(&mut self, variable: u32) -> Result<Owed, NoMemory>
+        requires writes { Writes (state self.old) }
+        requires waits { Awaits (state self.old) variable }
+        ensures going { OnOk result ((state self.old).failed ≡ false) }
+        ensures ok { OnOk result (state self.new ≡ given (state self.old) variable) }
+        ensures owed { IfOk result (λ owed. (owed.emitter ≡ (state self.old).instance) × (owed.variable ≡ variable)) }
+        ensures err { OnErr result (state self.new ≡ fallen (state self.old)) }
+    {
+        if self.work.failed {
+            return Err(NoMemory);
+        }
+        match self.work.give(variable) {
+            Err(_) => {
+                self.work.failed = true;
+                return Err(NoMemory);
+            }
+            Ok(()) => {
+                return Ok(Owed {
+                    emitter: self.work.instance,
+                    variable,
+                });
+            }
+        }
+    }
+
+    /// One reference more of a variable.
+    pub fn dup(&mut self, owed: &Owed) -> Result<Owed, NoMemory>
+        requires writes { Writes (state self.old) }
+        requires reaches { Reaches (state self.old) owed.now.emitter owed.now.variable }
+        ensures going { OnOk result ((state self.old).failed ≡ false) }
+        ensures ok { OnOk result (state self.new ≡ duplicated (state self.old) owed.now.variable) }
+        ensures owed { IfOk result (λ one. (one.emitter ≡ (state self.old).instance) × (one.variable ≡ owed.now.variable)) }
+        ensures err { OnErr result (state self.new ≡ fallen (state self.old)) }
+    {
+        let variable = owed.variable;
+        if self.work.failed {
+            return Err(NoMemory);
+        }
+        match self.work.dup(variable) {
+            Err(_) => {
+                self.work.failed = true;
+                return Err(NoMemory);
+            }
+            Ok(()) => {
+                return Ok(Owed {
+                    emitter: self.work.instance,
+                    variable,
+                });
+            }
+        }
+    }
+
+    /// A reference of its own of a lent parameter.
+    pub fn dup_lent(&mut self, variable: u32) -> Result<Owed, NoMemory>
+        requires writes { Writes (state self.old) }
+        requires lent { IsLentTo (state self.old) variable }
+        ensures going { OnOk result ((state self.old).failed ≡ false) }
+        ensures ok { OnOk result (state self.new ≡ duplicated (state self.old) variable) }
+        ensures owed { IfOk result (λ one. (one.emitter ≡ (state self.old).instance) × (one.variable ≡ variable)) }
+        ensures err { OnErr result (state self.new ≡ fallen (state self.old)) }
+    {
+        if self.work.failed {
+            return Err(NoMemory);
+        }
+        match self.work.dup(variable) {
+            Err(_) => {
+                self.work.failed = true;
+                return Err(NoMemory);
+            }
+            Ok(()) => {
+                return Ok(Owed {
+                    emitter: self.work.instance,
+                    variable,
+                });
+            }
+        }
+    }
+
+    /// Hands a reference over as an argument of a call to come.
+    pub fn hand_over(&mut self, owed: Owed) -> Result<u32, Kept>
+        requires writes { Writes (state self.old) }
+        requires owns { Owns (state self.old) owed.emitter owed.variable }
+        ensures variable { IfOk result (λ variable. variable ≡ owed.variable) }
+        ensures going { OnOk result ((state self.old).failed ≡ false) }
+        ensures same { state self.new ≡ state self.old }
+        ensures kept { IfErr result (λ kept. kept.held ≡ Held.One owed) }
+    {
+        if self.work.failed {
+            return Err(Kept::of_one(owed));
+        }
+        let Owed {
+            emitter: _,
+            variable,
+        } = owed;
+        Ok(variable)
+    }
+
+    /// Gives up a reference.
+    pub fn drop_ref(&mut self, owed: Owed) -> Result<(), Kept>
+        requires writes { Writes (state self.old) }
+        requires owns { Owns (state self.old) owed.emitter owed.variable }
+        ensures going { OnOk result ((state self.old).failed ≡ false) }
+        ensures ok { OnOk result (state self.new ≡ dropped (state self.old) owed.variable) }
+        ensures err { OnErr result (state self.new ≡ state self.old) }
+        ensures kept { IfErr result (λ kept. kept.held ≡ Held.One owed) }
+    {
+        if self.work.failed {
+            return Err(Kept::of_one(owed));
+        }
+        match self.work.give_up(owed.variable) {
+            Err(_) => {
+                return Err(Kept::of_one(owed));
+            }
+            Ok(()) => {
+                let Owed {
+                    emitter: _,
+                    variable: _,
+                } = owed;
+                return Ok(());
+            }
+        }
+    }
+
+    /// Opens a cell of that constructor, and gives the fields that the mask names, in their order. Its lowest bit tells
+    /// whether the first field is among them. The other fields are given up with the cell's reference.
+    pub fn unpack(&mut self, owed: Owed, constructor: u32, used: u8) -> Result<Debts, Kept>
+        requires writes { Writes (state self.old) }
+        requires owns { Owns (state self.old) owed.emitter owed.variable }
+        requires constructor { HasConstructor (state self.old) constructor }
+        ensures going { OnOk result ((state self.old).failed ≡ false) }
+        ensures ok { OnOk result (state self.new ≡ unpacked (state self.old) owed.variable constructor used) }
+        ensures debts { IfOk result (λ debts. debts.variables.items ≡ fields_given (state self.old) constructor used) }
+        ensures emitter { IfOk result (λ debts. debts.emitter ≡ (state self.old).instance) }
+        ensures err { OnErr result (state self.new ≡ state self.old) }
+        ensures kept { IfErr result (λ kept. kept.held ≡ Held.One owed) }
+    {
+        if self.work.failed {
+            return Err(Kept::of_one(owed));
+        }
+        let count = self.shape.constructors()[constructor as usize].fields.len();
+        match self.work.open(owed.variable, constructor, count, used) {
+            Err(_) => {
+                return Err(Kept::of_one(owed));
+            }
+            Ok(variables) => {
+                let Owed {
+                    emitter: _,
+                    variable: _,
+                } = owed;
+                return Ok(Debts {
+                    emitter: self.work.instance,
+                    variables,
+                });
+            }
+        }
+    }
+
+    /// A new cell of that constructor, which takes the references as its fields, in their order.
+    pub fn construct(&mut self, constructor: u32, debts: Debts) -> Result<Owed, Kept>
+        requires writes { Writes (state self.old) }
+        requires owns { OwnsAll (state self.old) debts.emitter debts.variables.items }
+        requires fields { HasFields (state self.old) constructor (length debts.variables.items) }
+        ensures going { OnOk result ((state self.old).failed ≡ false) }
+        ensures ok { OnOk result (state self.new ≡ computed (state self.old) (Form.Construct constructor) debts.variables.items debts.variables.items) }
+        ensures owed { IfOk result (λ owed. (owed.emitter ≡ (state self.old).instance) × (owed.variable ≡ (state self.old).next)) }
+        ensures err { OnErr result (state self.new ≡ state self.old) }
+        ensures kept { IfErr result (λ kept. kept.held ≡ Held.Many debts) }
+    {
+        if self.work.failed {
+            return Err(Kept::of_many(debts));
+        }
+        let Debts { emitter, variables } = debts;
+        match self
+            .work
+            .compute(Form::Construct(constructor), variables, &[])
+        {
+            Ok(variable) => {
+                return Ok(Owed {
+                    emitter: self.work.instance,
+                    variable,
+                });
+            }
+            Err(variables) => {
+                return Err(Kept::of_many(Debts { emitter, variables }));
+            }
+        }
+    }
+
+    /// An operator, print or read on variables that were handed over, or, with none, a number, `()` or a constructor without
+    /// fields.
+    pub fn plain(&mut self, form: Form, arguments: Vec<u32>) -> Result<Owed, Kept>
+        requires writes { Writes (state self.old) }
+        requires plain { IsPlain form arguments.items }
+        requires owns { HoldsAll (state self.old) arguments.items }
+        ensures going { OnOk result ((state self.old).failed ≡ false) }
+        ensures ok { OnOk result (state self.new ≡ computed (state self.old) form arguments.items arguments.items) }
+        ensures owed { IfOk result (λ owed. (owed.emitter ≡ (state self.old).instance) × (owed.variable ≡ (state self.old).next)) }
+        ensures err { OnErr result (state self.new ≡ state self.old) }
+        ensures kept { IfErr result (λ kept. kept.held ≡ Held.Nothing) }
+    {
+        if self.work.failed {
+            return Err(Kept::of_nothing());
+        }
+        match self.work.compute(form, arguments, &[]) {
+            Ok(variable) => {
+                return Ok(Owed {
+                    emitter: self.work.instance,
+                    variable,
+                });
+            }
+            Err(_) => {
+                return Err(Kept::of_nothing());
+            }
+        }
+    }
+
+    /// A call that is no tail call. Its arguments at owned positions were handed over; those at lent positions are lent, or
+    /// stay owned on this path.
+    pub fn called(&mut self, instance: u32, arguments: Vec<u32>) -> Result<Owed, Kept>
+        requires writes { Writes (state self.old) }
+        requires takes { Takes (state self.old) instance arguments.items }
+        requires owns { HoldsAll (state self.old) (used_in (state self.old) instance arguments.items) }
+        requires lends { LendsAll (state self.old) instance arguments.items }
+        ensures going { OnOk result ((state self.old).failed ≡ false) }
+        ensures ok { OnOk result (state self.new ≡ computed (state self.old) (Form.Call instance) arguments.items (used_in (state self.old) instance arguments.items)) }
+        ensures owed { IfOk result (λ owed. (owed.emitter ≡ (state self.old).instance) × (owed.variable ≡ (state self.old).next)) }
+        ensures err { OnErr result (state self.new ≡ state self.old) }
+        ensures kept { IfErr result (λ kept. kept.held ≡ Held.Nothing) }
+    {
+        if self.work.failed {
+            return Err(Kept::of_nothing());
+        }
+        let parameters = &self.shape.instances()[instance as usize].parameters;
+        match self
+            .work
+            .compute(Form::Call(instance), arguments, parameters)
+        {
+            Ok(variable) => {
+                return Ok(Owed {
+                    emitter: self.work.instance,
+                    variable,
+                });
+            }
+            Err(_) => {
+                return Err(Kept::of_nothing());
+            }
+        }
+    }
+
+    /// Spends the values of a call that found no memory. The emitter has failed from then on.
+    pub fn abandon(&mut self, kept: Kept)
+        ensures { state self.new ≡ fallen (state self.old) }
+    {
+        kept.spend();
+        self.work.failed = true;
+    }
+
+    /// Tells that its caller has found no memory. The emitter has failed from then on.
+    pub fn fail(&mut self) -> NoMemory
+        ensures { state self.new ≡ fallen (state self.old) }
+    {
+        self.work.failed = true;
+        NoMemory
+    }
+}
