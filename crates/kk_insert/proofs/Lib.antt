@@ -1,2 +1,3 @@
 pub mod Sets
 pub mod Fine
+pub mod Owned
