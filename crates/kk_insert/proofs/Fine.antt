@@ -93,7 +93,7 @@ fields_if true fields lent y other = by_test (is_among lent y) refl
 fields_if false fields lent y other = refl
 
 mutual
-  lent_before : (lent bound : List ℕ) (low : ℕ) (code : Code) (high y : ℕ) → Ordered bound low code high → y < low → is_among (lent_in lent code) y ≡ is_among lent y
+  pub lent_before : (lent bound : List ℕ) (low : ℕ) (code : Code) (high y : ℕ) → Ordered bound low code high → y < low → is_among (lent_in lent code) y ≡ is_among lent y
   lent_before lent bound low (give x) high y o less = refl
   lent_before lent bound low (tail_call f arguments) high y o less = refl
   lent_before lent bound low (branch x positive negative) high y o less =

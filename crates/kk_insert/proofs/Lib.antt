@@ -1,3 +1,4 @@
 pub mod Sets
 pub mod Fine
 pub mod Owned
+pub mod Spent

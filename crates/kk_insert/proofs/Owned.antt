@@ -183,7 +183,7 @@ module _ (positions : PositionTable) (lent : List ℕ) where
         own_clear (without (x ∷ []) (own positions lent left rest)) block
         (λ y is. own_clear left rest clear y (filter_in (λ z. not (is_among (x ∷ []) z)) (own positions lent left rest) y is))
 
-    own_arms_clear : (left : List ℕ) (arms : Arms) → Clear left lent → Clear (own_arms positions lent left arms) lent
+    pub own_arms_clear : (left : List ℕ) (arms : Arms) → Clear left lent → Clear (own_arms positions lent left arms) lent
     own_arms_clear left no_arm clear = clear
     own_arms_clear left (arm pattern body rest) clear =
         λ y is. elim (before_either (own positions lent left body) (own_arms positions lent left rest) y is) [ inl here ↦ own_clear left body clear y here | inr there ↦ own_arms_clear left rest clear y there ]
@@ -204,6 +204,6 @@ module _ (positions : PositionTable) (lent : List ℕ) where
     own_apart left (inside x block rest) apart =
         own_apart (without (x ∷ []) (own positions lent left rest)) block (apart_filter (λ z. not (is_among (x ∷ []) z)) (own positions lent left rest) (own_apart left rest apart))
 
-    own_arms_apart : (left : List ℕ) (arms : Arms) → AreApart left → AreApart (own_arms positions lent left arms)
+    pub own_arms_apart : (left : List ℕ) (arms : Arms) → AreApart left → AreApart (own_arms positions lent left arms)
     own_arms_apart left no_arm apart = apart
     own_arms_apart left (arm pattern body rest) apart = apart_before (own positions lent left body) (own_arms positions lent left rest) (own_arms_apart left rest apart)
