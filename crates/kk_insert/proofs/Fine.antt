@@ -1,6 +1,6 @@
 -- Code whose variables are in order is fine: what it reads is bound, what it binds is new, and the fields of cells that lent
 -- variables name are lent, and no others.
-use Rattle.std.proofs.Common.{◌≡◌, ◌⊎◌, inl, inr, ℕ, zero, suc, ◌+◌, ◌≤◌, ◌<◌, ◌==◌, ◌||◌, Bool, true, false, List, [], ◌∷◌, ◌++◌, arith, refl, sym, ap, ◌∙◌, subst}
+use Rattle.std.proofs.Common.{◌≡◌, ◌⊎◌, inl, inr, ℕ, ◌+◌, ◌≤◌, ◌<◌, ◌==◌, Bool, true, false, List, [], ◌∷◌, ◌++◌, arith, refl, sym, ap, ◌∙◌}
 use Rattle.std.specs.Prelude.{if◌then◌else◌}
 use Rattle.kk_syntax.specs.Shapes.{is_among}
 use Rattle.kk_core.specs.Codes.{Code, give, tail_call, branch, case, compute, use_of, unpack, inside, Arms, no_arm, arm}
@@ -8,7 +8,7 @@ use Rattle.kk_core.specs.Sizes.{AreBound, Rise, Ordered, OrderedArms}
 use Rattle.kk_counted.specs.Spending.{AreApart}
 use Rattle.kk_counted.proofs.Counting.{same}
 use Rattle.kk_insert.specs.Insertion.{lent_in, lent_in_arms}
-use Rattle.kk_insert.proofs.Sets.{or_cases, no_both, false_if, Part, Clear, among_first, in_front, in_either, in_back}
+use Rattle.kk_insert.proofs.Sets.{or_cases, no_both, false_if, Part, Clear, in_front, in_either, in_back}
 
 module _ (lent : List ℕ) where
   abbrev pub FineFields : ℕ → List ℕ → Type 0

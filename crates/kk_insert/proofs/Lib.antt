@@ -1,4 +1,6 @@
+mod Examples
 pub mod Sets
 pub mod Fine
 pub mod Owned
 pub mod Spent
+pub mod Programs

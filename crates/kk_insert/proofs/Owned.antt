@@ -1,5 +1,5 @@
 -- What a code owns: variables that are bound, without repetition, and none that is lent.
-use Rattle.std.proofs.Common.{◌≡◌, ◌⊎◌, inl, inr, ℕ, suc, ◌+◌, ◌==◌, ◌||◌, Bool, true, false, not, List, [], ◌∷◌, ◌++◌, arith, refl, sym, ap, ◌∙◌, subst}
+use Rattle.std.proofs.Common.{◌≡◌, ◌⊎◌, inl, inr, ℕ, suc, ◌==◌, ◌||◌, Bool, true, false, not, List, [], ◌∷◌, ◌++◌, arith, refl, ap, subst}
 use Rattle.std.specs.Prelude.{if◌then◌else◌}
 use Rattle.kk_syntax.specs.declared.program.Form.{Form}
 use Rattle.kk_syntax.specs.declared.program.Form.TheVariants.{Number, Unit as Nothing, ReadByte, PrintText, Unary, Binary, Print, Construct, Call}
@@ -7,9 +7,9 @@ use Rattle.kk_syntax.specs.Shapes.{is_among, without}
 use Rattle.kk_syntax.specs.PositionsOf.{PositionTable, is_lent}
 use Rattle.kk_core.specs.Codes.{Code, give, tail_call, branch, case, compute, use_of, unpack, inside, Arms, no_arm, arm}
 use Rattle.kk_counted.specs.CountedCodes.{CountedFunction}
-use Rattle.kk_counted.specs.Spending.{total, AreEven, AreApart, at_positions, is_owned, used_by, lent_by}
+use Rattle.kk_counted.specs.Spending.{AreEven, AreApart, at_positions, is_owned, used_by, lent_by}
 use Rattle.kk_insert.specs.Insertion.{before, extra, common, used, lends, owns, wants, own, own_arms}
-use Rattle.kk_insert.proofs.Sets.{or_cases, or_right, no_both, false_if, Part, Clear, among_first, among_next, one_only, in_front, in_back, in_either, filter_in, filter_passes, without_clear, in_without, before_front, before_back, before_either, extra_in, apart_filter, apart_before, total_append, total_before, total_parts}
+use Rattle.kk_insert.proofs.Sets.{or_cases, no_both, Part, Clear, among_next, one_only, in_front, in_back, in_either, filter_in, filter_passes, without_clear, in_without, before_front, before_back, before_either, extra_in, apart_filter, apart_before, total_append, total_before, total_parts}
 use Rattle.kk_insert.proofs.Fine.{IsFine, AreFine}
 
 -- ---- arguments

@@ -1,8 +1,8 @@
 -- Sets of variables as lists: what is among them, and what they weigh.
-use Rattle.std.proofs.Common.{◌≡◌, ◌⊎◌, inl, inr, ℕ, zero, suc, ◌+◌, ◌==◌, ◌||◌, ◌&&◌, Bool, true, false, not, List, [], ◌∷◌, ◌++◌, arith, refl, sym, ap, ◌∙◌, subst}
+use Rattle.std.proofs.Common.{◌≡◌, ◌⊎◌, inl, inr, ℕ, ◌+◌, ◌==◌, ◌||◌, ◌&&◌, Bool, true, false, not, List, [], ◌∷◌, ◌++◌, arith, refl, sym, ap, ◌∙◌, subst}
 use Rattle.std.specs.Prelude.{if◌then◌else◌, filter}
 use Rattle.kk_syntax.specs.Shapes.{is_among, without}
-use Rattle.kk_counted.specs.Spending.{total, AreEven, AllAmong, AreFresh, AreApart}
+use Rattle.kk_counted.specs.Spending.{total, AllAmong, AreFresh, AreApart}
 use Rattle.kk_counted.proofs.Counting.{same, itself}
 use Rattle.kk_insert.specs.Insertion.{add, before, extra, common}
 

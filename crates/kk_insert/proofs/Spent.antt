@@ -1,22 +1,20 @@
 -- Inserted code spends what it owns.
-use Rattle.std.proofs.Common.{◌≡◌, ◌⊎◌, inl, inr, ℕ, zero, suc, ◌+◌, ◌≤◌, ◌<◌, ◌==◌, ◌||◌, ◌&&◌, Bool, true, false, not, List, [], ◌∷◌, ◌++◌, length, Option, Some, None, arith, refl, sym, ap, ◌∙◌, subst}
-use Rattle.std.specs.Prelude.{if◌then◌else◌, filter, slice_get}
+use Rattle.std.proofs.Common.{◌≡◌, ◌⊎◌, inl, inr, ℕ, ◌+◌, ◌||◌, ◌&&◌, Bool, true, false, not, List, [], ◌∷◌, ◌++◌, Option, Some, None, arith, refl, sym, ap, ◌∙◌, subst}
+use Rattle.std.specs.Prelude.{if◌then◌else◌, filter}
 use Rattle.kk_syntax.specs.declared.program.Form.{Form}
 use Rattle.kk_syntax.specs.declared.program.Form.TheVariants.{Number, Unit as Nothing, ReadByte, PrintText, Unary, Binary, Print, Construct, Call}
 use Rattle.kk_syntax.specs.Shapes.{is_among, without}
-use Rattle.kk_syntax.specs.PositionsOf.{PositionTable, is_lent}
-use Rattle.kk_core.specs.Codes.{Code, give, tail_call, branch, case, compute, use_of, unpack, inside, Arms, no_arm, arm, FunctionCode, ProgramCode}
-use Rattle.kk_core.specs.Sizes.{below}
+use Rattle.kk_syntax.specs.PositionsOf.{PositionTable}
+use Rattle.kk_core.specs.Codes.{Code, give, tail_call, branch, case, compute, use_of, unpack, inside, Arms, no_arm, arm, FunctionCode}
 use Rattle.kk_counted.specs.CountedCodes as Counted
 use Rattle.kk_counted.specs.CountedCodes.{CountedFunction}
-use Rattle.kk_counted.specs.Spending.{total, AreEven, AllAmong, AreFresh, AreApart, at_positions, numbers_from, left_by, is_owned, used_by, lent_by, HasAsMany, FitsForm, Spends, SpendsAll, SpendsParameters, IsSpent}
-use Rattle.kk_counted.proofs.Counting.{same}
+use Rattle.kk_counted.specs.Spending.{total, AreEven, AllAmong, AreFresh, AreApart, left_by, HasAsMany, FitsForm, Spends, SpendsAll}
 use Rattle.kk_counted.proofs.Order.{spends_even}
-use Rattle.kk_insert.specs.Insertion.{before, common, dups, drops, dropping, lent_in, used, lends, lent_of, owns, wants, own, own_arms, back, insert, insert_arms, opening, inserted_function, inserted_functions, inserted}
-use Rattle.kk_insert.specs.Promise.{TakesAsMany, FormTakes, LendsOn, AllLendOn, IsFunctionInsertable, IsInsertable}
-use Rattle.kk_insert.proofs.Sets.{or_cases, or_left, no_both, false_if, is_not, not_true, equal_tests, Part, Clear, among_first, among_next, one_only, among_append, in_front, in_back, in_either, among_filter, filter_in, filter_passes, without_clear, in_without, clear_back, before_front, before_back, part_all, clear_fresh, apart_filter, total_append, total_parts, filter_alike, filter_all, total_one, total_minus, total_common}
-use Rattle.kk_insert.proofs.Fine.{FineFields, IsFine, AreFine, AreBelow, lent_before, ordered_fine}
-use Rattle.kk_insert.proofs.Owned.{used_same, lends_same, used_part, lends_part, part_at, owns_either, owns_apart, in_owns, owns_after, wants_in, wants_even, own_part, fields_part, rest_part, own_clear, own_apart, own_arms_apart}
+use Rattle.kk_insert.specs.Insertion.{before, common, dups, drops, dropping, used, lends, owns, wants, own, own_arms, back, insert, insert_arms, opening}
+use Rattle.kk_insert.specs.Promise.{TakesAsMany, FormTakes, LendsOn, AllLendOn}
+use Rattle.kk_insert.proofs.Sets.{or_cases, or_left, no_both, false_if, is_not, Part, Clear, among_first, among_next, one_only, in_front, in_back, in_either, among_filter, filter_in, without_clear, in_without, clear_back, before_front, before_back, part_all, clear_fresh, apart_filter, total_append, filter_alike, filter_all, total_one, total_minus, total_common}
+use Rattle.kk_insert.proofs.Fine.{FineFields, IsFine, AreFine}
+use Rattle.kk_insert.proofs.Owned.{used_same, lends_same, lends_part, owns_either, owns_apart, in_owns, owns_after, wants_in, wants_even, own_part, rest_part, own_apart}
 
 -- whether what comes is the end of the function
 abbrev pub at_tail : Option (List ℕ) → Bool
@@ -135,7 +133,7 @@ module _ (positions : PositionTable) (source : List FunctionCode) (functions : L
   spends_drops [] left now code s = s
   spends_drops (x ∷ xs) left now code s = (xs ++ now, (λ weight. refl, spends_drops xs left now code s))
 
-  spends_dropping : (all now : List ℕ) (left : Option (List ℕ)) (code : Counted.Counted) → AreApart all → AreApart now → Part now all → Spent [] left now code → Spent [] left all (dropping all now code)
+  pub spends_dropping : (all now : List ℕ) (left : Option (List ℕ)) (code : Counted.Counted) → AreApart all → AreApart now → Part now all → Spent [] left now code → Spent [] left all (dropping all now code)
   spends_dropping all now left code apart_all apart part s =
       even_spent [] left (without now all ++ now) all (drops (without now all) code) (dropping_even all now apart_all apart part) (spends_drops (without now all) left now code s)
 

@@ -1,2 +1,6 @@
 //! The insertion of dups and drops: from the core form to the counted form. It is a function on code in specs/, with laws.
 #![tactic(auto)]
+
+mod law;
+
+pub use law::inserted_code_is_spent;
