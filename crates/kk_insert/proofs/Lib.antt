@@ -4,3 +4,4 @@ pub mod Fine
 pub mod Owned
 pub mod Spent
 pub mod Programs
+pub mod Paths
