@@ -5,3 +5,4 @@ pub mod Owned
 pub mod Spent
 pub mod Programs
 pub mod Paths
+pub mod Settling

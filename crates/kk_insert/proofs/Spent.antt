@@ -32,7 +32,7 @@ lent_arguments lent kept xs into y is = by_test (is_among lent y) refl
 
 -- ---- a value comes to a variable, and is dropped where nothing uses it
 
-landing_even : (x : ℕ) (now : List ℕ) → AreApart now → AreEven (x ∷ without (x ∷ []) now) (without now (x ∷ []) ++ now)
+pub landing_even : (x : ℕ) (now : List ℕ) → AreApart now → AreEven (x ∷ without (x ∷ []) now) (without now (x ∷ []) ++ now)
 landing_even x now apart = λ weight. by_test weight (is_among now x) refl
   where
     by_test : (weight : ℕ → ℕ) (t : Bool) → is_among now x ≡ t → weight x + total weight (without (x ∷ []) now) ≡ total weight ((if not t then x ∷ [] else []) ++ now)
@@ -41,17 +41,17 @@ landing_even x now apart = λ weight. by_test weight (is_among now x) refl
         omega (arith, ap (total weight) (filter_all (λ z. not (is_among (x ∷ []) z)) now (λ z there. is_not (is_among (x ∷ []) z) (false_if (is_among (x ∷ []) z) (λ one. no_both ⊥ (is_among now x) (subst (λ w. is_among now w ≡ true) (sym (one_only x z one)) there) is)))))
 
 -- a part of what is owned stays, and the others are dropped
-dropping_even : (all now : List ℕ) → AreApart all → AreApart now → Part now all → AreEven all (without now all ++ now)
+pub dropping_even : (all now : List ℕ) → AreApart all → AreApart now → Part now all → AreEven all (without now all ++ now)
 dropping_even all now apart_all apart part =
     λ weight. omega (arith, total_minus weight all now apart_all apart part, total_append weight (without now all) now)
 
 -- the fields in use, and the others that are owned then
-fields_even : (now fields : List ℕ) → AreApart now → AreApart fields → AreEven (common now fields ++ without fields now) now
+pub fields_even : (now fields : List ℕ) → AreApart now → AreApart fields → AreEven (common now fields ++ without fields now) now
 fields_even now fields apart_now apart_fields =
     λ weight. omega (arith, total_common weight fields now apart_fields apart_now, total_append weight (common now fields) (without fields now))
 
 -- what is used and is owned after that anyhow
-owns_kept : (positions : PositionTable) (lent xs after : List ℕ) → ((y : ℕ) → is_among xs y ≡ true → (is_among lent y ≡ true) ⊎ (is_among after y ≡ true)) → owns positions lent xs after ≡ after
+pub owns_kept : (positions : PositionTable) (lent xs after : List ℕ) → ((y : ℕ) → is_among xs y ≡ true → (is_among lent y ≡ true) ⊎ (is_among after y ≡ true)) → owns positions lent xs after ≡ after
 owns_kept positions lent [] after kept = refl
 owns_kept positions lent (x ∷ xs) after kept =
     by_test (is_among lent x) refl (owns_kept positions lent xs after (λ y is. kept y (among_next x y xs is)))
@@ -66,7 +66,7 @@ owns_kept positions lent (x ∷ xs) after kept =
         there (inr two) = two
 
 -- a variable that is used up, and is not owned after that
-owns_new : (positions : PositionTable) (lent : List ℕ) (x : ℕ) (after : List ℕ) → is_among lent x ≡ false → is_among after x ≡ false → owns positions lent (x ∷ []) after ≡ x ∷ after
+pub owns_new : (positions : PositionTable) (lent : List ℕ) (x : ℕ) (after : List ℕ) → is_among lent x ≡ false → is_among after x ≡ false → owns positions lent (x ∷ []) after ≡ x ∷ after
 owns_new positions lent x after unlent new =
     ap (λ t. before (if not t then x ∷ [] else []) after) unlent ∙ ap (λ b. if b then after else x ∷ after) new
 
@@ -248,10 +248,10 @@ module _ (positions : PositionTable) (source : List FunctionCode) (functions : L
   fits_form (Call f) arguments takes = as_many f arguments takes
 
   -- one variable that is looked at
-  looked_at : (x : ℕ) (after : List ℕ) → is_among (lent ++ owns positions lent (x ∷ []) after) x ≡ true
+  pub looked_at : (x : ℕ) (after : List ℕ) → is_among (lent ++ owns positions lent (x ∷ []) after) x ≡ true
   looked_at x after = lent_arguments lent (owns positions lent (x ∷ []) after) (x ∷ []) (λ y is unlent. in_owns positions lent (x ∷ []) after y is unlent) x (among_first x [])
 
-  no_self : (x : ℕ) (now : List ℕ) → is_among (without (x ∷ []) now) x ≡ false
+  pub no_self : (x : ℕ) (now : List ℕ) → is_among (without (x ∷ []) now) x ≡ false
   no_self x now = false_if (is_among (without (x ∷ []) now) x) (λ is. no_both ⊥ (is_among (x ∷ []) x) (among_first x []) (without_clear (x ∷ []) now x is))
 
   spends_compute : (x : ℕ) (form : Form) (arguments now bound : List ℕ) (left : Option (List ℕ)) (rest : Counted.Counted)
