@@ -6,3 +6,4 @@ pub mod Spent
 pub mod Programs
 pub mod Paths
 pub mod Settling
+pub mod Standing
