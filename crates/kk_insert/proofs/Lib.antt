@@ -7,3 +7,4 @@ pub mod Programs
 pub mod Paths
 pub mod Settling
 pub mod Standing
+pub mod Following

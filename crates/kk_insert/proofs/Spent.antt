@@ -23,7 +23,7 @@ at_tail (Some left) = false
 
 -- ---- arguments that are lent
 
-lent_arguments : (lent kept xs : List ℕ) → ((y : ℕ) → is_among xs y ≡ true → is_among lent y ≡ false → is_among kept y ≡ true) → Part xs (lent ++ kept)
+pub lent_arguments : (lent kept xs : List ℕ) → ((y : ℕ) → is_among xs y ≡ true → is_among lent y ≡ false → is_among kept y ≡ true) → Part xs (lent ++ kept)
 lent_arguments lent kept xs into y is = by_test (is_among lent y) refl
   where
     by_test : (t : Bool) → is_among lent y ≡ t → is_among (lent ++ kept) y ≡ true
