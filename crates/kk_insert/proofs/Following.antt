@@ -1,14 +1,14 @@
 -- The counted machine follows the core machine at blocks, branches, cases, uses and openings.
-use Rattle.std.proofs.Common.{◌≡◌, ◌⊎◌, inl, inr, ℕ, zero, suc, ◌+◌, ◌≤◌, ◌==◌, ◌||◌, ◌&&◌, Bool, true, false, not, List, [], ◌∷◌, ◌++◌, length, map, Option, Some, None, arith, refl, sym, ap, ◌∙◌, subst}
+use Rattle.std.proofs.Common.{◌≡◌, ◌⊎◌, inl, inr, ℕ, zero, suc, ◌≤◌, ◌==◌, ◌||◌, ◌&&◌, Bool, true, false, not, List, [], ◌∷◌, ◌++◌, length, Option, Some, None, arith, refl, sym, ap, ◌∙◌, subst}
 use Rattle.std.specs.Prelude.{if◌then◌else◌, slice_get, filter}
 use Rattle.kk_syntax.specs.Shapes.{is_among, without}
 use Rattle.kk_source.specs.State.{Value, place, Cell, Store, Environment}
-use Rattle.kk_source.specs.Live.{value_of, fields_at, fields_in, Among, Reached}
+use Rattle.kk_source.specs.Live.{value_of, fields_in, Among, Reached}
 use Rattle.kk_source.specs.Matching.{fields_made_by, and_then}
 use Rattle.kk_source.specs.Notes.{Note}
 use Rattle.kk_source.specs.Actions.{Action, goes, performed}
 use Rattle.kk_source.specs.FormEffects.{is_true}
-use Rattle.kk_core.specs.Codes.{Code, give, tail_call, branch, case, compute, use_of, unpack, inside, Arms, no_arm, arm}
+use Rattle.kk_core.specs.Codes.{Code, branch, case, use_of, unpack, inside, Arms, no_arm, arm}
 use Rattle.kk_core.specs.CoreStates.{CoreSetting, Join, CoreConfiguration, CoreState}
 use Rattle.kk_core.specs.CoreMachine.{at_code, bind_fields, fields_opened, unpack_step, arm_at, case_step}
 use Rattle.kk_core.specs.Decisions.{NodeTree, chosen}
@@ -16,25 +16,25 @@ use Rattle.kk_core.specs.Sizes.{forms, forms_of_arms, most_forms}
 use Rattle.kk_counted.specs.CountedCodes as Counted
 use Rattle.kk_counted.specs.Heaps.{Heap, forwards, count_at, cell_at, fields_held}
 use Rattle.kk_counted.specs.CountedStates.{CountedFrame, CountedState}
-use Rattle.kk_counted.specs.CountedMachine.{with_heap, arm_at as counted_arm_at, case_step as counted_case_step, if_made_by, Named, cell_named, used_values, other_values, opened_heap, open_step, at_counted}
-use Rattle.kk_counted.specs.References.{refs_of, refs, counted_fields, IsSound, IsCounted, cells_of}
+use Rattle.kk_counted.specs.CountedMachine.{with_heap, arm_at as counted_arm_at, case_step as counted_case_step, if_made_by, Named, cell_named, used_values, other_values, opened_heap, open_step}
+use Rattle.kk_counted.specs.References.{refs_of, refs, IsSound, IsCounted, cells_of}
 use Rattle.kk_counted.specs.Spending.{total, AreApart, AreFresh, left_by}
 use Rattle.kk_counted.specs.Keeping.{values_of, AreReached}
 use Rattle.kk_counted.proofs.Counting.{itself, refs_append}
-use Rattle.kk_counted.proofs.Heaps.{Became, ref_here, positive, value_counted, fields_counted, with_place, with_fields, opened}
+use Rattle.kk_counted.proofs.Heaps.{Became, ref_here, positive, value_counted, fields_counted, with_fields, opened}
 use Rattle.kk_counted.proofs.Variables.{refs_of_both, fields_fresh, field_past, field_or_old, field_is_one, used_refs, fields_part as refs_part}
 use Rattle.kk_counted.proofs.Reaching.{one_among, same_store, store_fields, reached_field}
 use Rattle.kk_counted.proofs.Looks.{cell_same, chosen_same}
-use Rattle.kk_counted.proofs.SoundSteps.{moved, became_sound}
+use Rattle.kk_counted.proofs.SoundSteps.{became_sound}
 use Rattle.kk_insert.specs.Insertion.{before, common, dups, dropping, owns, own, own_arms, insert, insert_arms, opening}
 use Rattle.kk_insert.specs.Promise.{LendsOn, AllLendOn}
-use Rattle.kk_insert.proofs.Sets.{or_cases, or_left, or_right, no_both, false_if, Part, Clear, among_first, among_next, one_only, in_front, in_back, filter_in, filter_passes, without_clear, in_without, clear_back, before_front, before_back, clear_fresh, apart_filter, filter_alike, among_filter, total_append}
+use Rattle.kk_insert.proofs.Sets.{no_both, false_if, Part, among_first, among_next, one_only, in_back, filter_in, without_clear, in_without, clear_back, before_front, before_back, clear_fresh, apart_filter, filter_alike, among_filter}
 use Rattle.kk_insert.proofs.Fine.{FineFields, IsFine, AreFine}
-use Rattle.kk_insert.proofs.Owned.{own_part, own_apart, owns_after, in_owns, fields_part, rest_part}
+use Rattle.kk_insert.proofs.Owned.{own_part, own_apart, owns_after, in_owns, rest_part}
 use Rattle.kk_insert.proofs.Spent.{at_tail, lent_arguments, fields_even, owns_kept, owns_new}
-use Rattle.kk_insert.proofs.Paths.{conf, with_input, Path, path_here, path_step, path_less}
-use Rattle.kk_insert.proofs.Settling.{sound_even, owned_counted, either_counted, dups_path, dropping_path}
-use Rattle.kk_insert.proofs.Standing.{target, left_of, image_joins, CodeOk, RestOk, JoinsOk, FramesStand, Stands, Follows}
+use Rattle.kk_insert.proofs.Paths.{conf, with_input, Path, path_here, path_step}
+use Rattle.kk_insert.proofs.Settling.{sound_even, either_counted, dups_path, dropping_path}
+use Rattle.kk_insert.proofs.Standing.{target, left_of, image_joins, CodeOk, JoinsOk, FramesStand, Stands, Follows}
 
 module _ (setting : CoreSetting) (from : CoreConfiguration) (lent : List ℕ) (below : List Value) (frames : List CountedFrame) (heap : Heap)
     (store : from.store ≡ forwards heap) (waits : FramesStand setting.positions setting.code.functions from.store from.frames frames below) (input : List ℕ) where

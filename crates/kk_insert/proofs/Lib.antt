@@ -8,3 +8,4 @@ pub mod Paths
 pub mod Settling
 pub mod Standing
 pub mod Following
+pub mod Entering

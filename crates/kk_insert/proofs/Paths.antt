@@ -1,15 +1,15 @@
 -- Steps of the counted machine, one after the other, to a state of some kind.
-use Rattle.std.proofs.Common.{◌≡◌, ℕ, zero, suc, ◌+◌, ◌*◌, ◌≤◌, ◌<◌, List, [], ◌∷◌, ◌++◌, length, Option, Some, None, arith, refl, sym, ap, ◌∙◌, subst}
-use Rattle.kk_base.specs.Machines.{Machine, step_unless, weight_unless, trace, state, weight_of}
+use Rattle.std.proofs.Common.{◌≡◌, ℕ, zero, suc, ◌*◌, ◌≤◌, ◌<◌, List, [], ◌++◌, Option, Some, None, arith, refl, sym, ap, ◌∙◌, subst}
+use Rattle.kk_base.specs.Machines.{Machine, weight_unless, trace, state, weight_of}
 use Rattle.kk_base.proofs.Machines.{weight_of-at_most}
-use Rattle.kk_source.specs.State.{Value, Environment, End}
+use Rattle.kk_source.specs.State.{Environment, End}
 use Rattle.kk_source.specs.Live.{value_of}
-use Rattle.kk_source.specs.Actions.{Action, goes, puts, takes, builds, calls, WithInput, performed}
+use Rattle.kk_source.specs.Actions.{Action, goes, performed}
 use Rattle.kk_source.specs.Notes.{Note}
 use Rattle.kk_counted.specs.CountedCodes.{Counted, dup, drop}
 use Rattle.kk_counted.specs.Heaps.{Heap, dup_value, drop_value}
 use Rattle.kk_counted.specs.CountedStates.{CountedSetting, CountedJoin, CountedFrame, running, CountedConfiguration, CountedState}
-use Rattle.kk_counted.specs.CountedMachine.{with_heap, counted_code_step, counted_step, counted_ending_of, counted_machine, NotStuck}
+use Rattle.kk_counted.specs.CountedMachine.{with_heap, counted_code_step, counted_ending_of, counted_machine, NotStuck}
 use Rattle.kk_counted.specs.Keeping.{FitsAt}
 
 -- steps weigh nothing here

@@ -54,7 +54,7 @@ numbers_at takes next (suc count) y low high is = by_tests (next == y) refl (tak
     by_tests false other true passes later = among_next next y (at_positions takes (suc next) (numbers_from (suc next) count)) (later (above other) (omega (arith, high)) is)
     by_tests false other false fails later = later (above other) (omega (arith, high)) is
 
-numbers_apart : (takes : ℕ → Bool) (next count : ℕ) → AreApart (at_positions takes next (numbers_from next count))
+pub numbers_apart : (takes : ℕ → Bool) (next count : ℕ) → AreApart (at_positions takes next (numbers_from next count))
 numbers_apart takes next zero = tt
 numbers_apart takes next (suc count) = by_test (takes next) (numbers_apart takes (suc next) count)
   where
@@ -77,7 +77,7 @@ module _ (positions : PositionTable) where
   lent_parameters f function = at_positions (is_lent positions f) 0 (numbers_from 0 function.parameters)
 
   module _ (source : List FunctionCode) (f : ℕ) (function : FunctionCode) (promise : IsFunctionInsertable positions source f function) where
-    lent_parameter : (i : ℕ) → i < function.parameters → is_among (lent_of positions f function) i ≡ is_lent positions f i
+    pub lent_parameter : (i : ℕ) → i < function.parameters → is_among (lent_of positions f function) i ≡ is_lent positions f i
     lent_parameter i less =
         lent_before (lent_parameters f function) (below function.parameters) function.parameters function.body function.variables i promise.ordered less
         ∙ equal_tests (is_among (lent_parameters f function) i) (is_lent positions f i)
@@ -91,7 +91,7 @@ module _ (positions : PositionTable) where
         (λ y is. omega (arith, (at_numbers (is_lent positions f) 0 function.parameters y is).1.0))
         (λ y less. refl)
 
-    owned_parameter : (y : ℕ) → is_among (own positions (lent_of positions f function) [] function.body) y ≡ true → is_among (at_positions (is_owned positions [] f) 0 (numbers_from 0 function.parameters)) y ≡ true
+    pub owned_parameter : (y : ℕ) → is_among (own positions (lent_of positions f function) [] function.body) y ≡ true → is_among (at_positions (is_owned positions [] f) 0 (numbers_from 0 function.parameters)) y ≡ true
     owned_parameter y is =
         let less : y < function.parameters = below_less function.parameters y (own_part positions (lent_of positions f function) [] (below function.parameters) function.body is_fine (λ z there. none z there) y is) in
         numbers_at (is_owned positions [] f) 0 function.parameters y (omega arith) (omega (arith, less))

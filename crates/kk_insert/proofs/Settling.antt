@@ -1,19 +1,19 @@
 -- Dups and drops before a code: the counted machine takes them one by one, and the heap is sound over what is owned then.
-use Rattle.std.proofs.Common.{◌≡◌, ◌⊎◌, inl, inr, ℕ, zero, suc, ◌+◌, ◌≤◌, ◌<◌, ◌||◌, Bool, true, false, not, List, [], ◌∷◌, ◌++◌, length, Option, Some, None, arith, refl, sym, ap, ◌∙◌, subst}
+use Rattle.std.proofs.Common.{◌≡◌, inl, inr, ℕ, suc, ◌+◌, true, not, List, [], ◌∷◌, ◌++◌, arith, refl, ◌∙◌}
 use Rattle.kk_syntax.specs.Shapes.{is_among, without}
 use Rattle.kk_syntax.specs.PositionsOf.{PositionTable}
 use Rattle.kk_source.specs.State.{Value, Environment}
 use Rattle.kk_source.specs.Live.{value_of}
 use Rattle.kk_source.specs.Notes.{Note}
 use Rattle.kk_counted.specs.CountedCodes.{Counted}
-use Rattle.kk_counted.specs.Heaps.{Heap, count_at, forwards, dup_value, drop_value}
+use Rattle.kk_counted.specs.Heaps.{Heap, forwards, dup_value, drop_value}
 use Rattle.kk_counted.specs.CountedStates.{CountedSetting, CountedJoin, CountedFrame, CountedState}
 use Rattle.kk_counted.specs.References.{refs_of, refs, IsSound, IsCounted, cells_of}
-use Rattle.kk_counted.specs.Spending.{total, AreEven, AreApart}
+use Rattle.kk_counted.specs.Spending.{AreEven, AreApart}
 use Rattle.kk_counted.specs.Keeping.{values_of, AreReached}
 use Rattle.kk_counted.proofs.Counting.{refs_append}
 use Rattle.kk_counted.proofs.Heaps.{value_counted, dupped, dropped}
-use Rattle.kk_counted.proofs.Variables.{even_refs, refs_of_both, among_refs}
+use Rattle.kk_counted.proofs.Variables.{even_refs, among_refs}
 use Rattle.kk_counted.proofs.Reaching.{reached_counted}
 use Rattle.kk_counted.proofs.SoundSteps.{moved, became_sound, counted_if, counted_grows}
 use Rattle.kk_insert.specs.Insertion.{dups, drops, dropping, owns, back}

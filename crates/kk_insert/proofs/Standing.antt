@@ -1,13 +1,11 @@
 -- When a state of the counted machine stands for one of the core machine.
-use Rattle.std.proofs.Common.{◌≡◌, ℕ, zero, suc, ◌+◌, ◌≤◌, Bool, true, false, not, List, [], ◌∷◌, ◌++◌, length, Option, Some, None, arith, refl, sym, ap, ◌∙◌, subst}
+use Rattle.std.proofs.Common.{◌≡◌, ℕ, ◌≤◌, false, not, List, [], ◌∷◌, ◌++◌, Option, Some, None}
 use Rattle.kk_syntax.specs.Shapes.{is_among, without}
 use Rattle.kk_syntax.specs.PositionsOf.{PositionTable}
 use Rattle.kk_source.specs.State.{Value, Store, Environment}
-use Rattle.kk_source.specs.Live.{value_of}
 use Rattle.kk_source.specs.Actions.{Action, performed}
 use Rattle.kk_core.specs.Codes.{Code, FunctionCode}
 use Rattle.kk_core.specs.CoreStates.{CoreSetting, Join, CallFrame, CoreControl, running, stopped, CoreConfiguration, CoreState}
-use Rattle.kk_core.specs.CoreMachine.{at_code}
 use Rattle.kk_core.specs.Sizes.{forms, most_forms}
 use Rattle.kk_counted.specs.Heaps.{Heap, forwards}
 use Rattle.kk_counted.specs.CountedStates as Counted
@@ -21,7 +19,7 @@ use Rattle.kk_insert.proofs.Sets.{Part, among_next, apart_filter}
 use Rattle.kk_insert.proofs.Fine.{IsFine}
 use Rattle.kk_insert.proofs.Owned.{own_part, own_apart, rest_part}
 use Rattle.kk_insert.proofs.Spent.{at_tail}
-use Rattle.kk_insert.proofs.Paths.{conf, with_input, Path}
+use Rattle.kk_insert.proofs.Paths.{conf, Path}
 
 -- the same program inserted, with as many cells and call frames
 abbrev pub target : CoreSetting → CountedSetting
