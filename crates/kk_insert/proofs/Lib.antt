@@ -9,3 +9,4 @@ pub mod Settling
 pub mod Standing
 pub mod Following
 pub mod Entering
+pub mod Needed
