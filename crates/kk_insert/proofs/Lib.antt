@@ -10,3 +10,4 @@ pub mod Standing
 pub mod Following
 pub mod Entering
 pub mod Needed
+pub mod Calling
