@@ -1,13 +1,13 @@
 -- The counted machine follows the core machine at calls.
-use Rattle.std.proofs.Common.{◌≡◌, ◌⊎◌, inl, inr, ℕ, zero, suc, ◌+◌, ◌≤◌, ◌<◌, Bool, true, false, not, List, [], ◌∷◌, ◌++◌, length, map, Option, Some, None, arith, refl, sym, ap, ◌∙◌, subst}
+use Rattle.std.proofs.Common.{◌≡◌, ◌⊎◌, inl, inr, ℕ, suc, Bool, true, false, List, [], ◌∷◌, ◌++◌, length, map, Option, Some, arith, refl, sym, ap, ◌∙◌, subst}
 use Rattle.std.specs.Prelude.{if◌then◌else◌, slice_get, nat_le}
 use Rattle.kk_syntax.specs.declared.program.Form.TheVariants.{Call}
 use Rattle.kk_syntax.specs.Shapes.{is_among, without}
 use Rattle.kk_syntax.specs.PositionsOf.{is_lent}
 use Rattle.kk_source.specs.State.{Value, integer, unit, constant, place, Store, Environment, stack_full}
 use Rattle.kk_source.specs.Live.{value_of, Among, Reached}
-use Rattle.kk_source.specs.Notes.{Note, called}
-use Rattle.kk_source.specs.Actions.{Action, goes, calls, performed}
+use Rattle.kk_source.specs.Notes.{called}
+use Rattle.kk_source.specs.Actions.{calls, performed}
 use Rattle.kk_source.specs.Step.{lent_places, bind_parameters}
 use Rattle.kk_source.proofs.Live.{among_front, among_back}
 use Rattle.kk_core.specs.Codes.{Code, tail_call, FunctionCode}
@@ -16,23 +16,22 @@ use Rattle.kk_core.specs.CoreMachine.{at_end, in_code, tail_step, call_step}
 use Rattle.kk_counted.specs.CountedCodes as Counted
 use Rattle.kk_counted.specs.CountedCodes.{CountedFunction}
 use Rattle.kk_counted.specs.Heaps.{Heap, forwards}
-use Rattle.kk_counted.specs.CountedStates as Final
 use Rattle.kk_counted.specs.CountedStates.{CountedFrame, CountedConfiguration}
 use Rattle.kk_counted.specs.CountedMachine.{tail_step as counted_tail_step, call_step as counted_call_step, in_code as counted_in_code, at_end as counted_at_end}
-use Rattle.kk_counted.specs.References.{refs_of, refs, IsSound, cells_of}
-use Rattle.kk_counted.specs.Spending.{AllAmong, at_positions, left_by, is_owned}
+use Rattle.kk_counted.specs.References.{refs_of, refs, IsSound}
+use Rattle.kk_counted.specs.Spending.{at_positions, left_by, is_owned}
 use Rattle.kk_counted.specs.Keeping.{values_of, AreReached}
 use Rattle.kk_counted.proofs.Counting.{refs_append}
 use Rattle.kk_counted.proofs.Variables.{refs_of_both, among_values, among_others, values_at}
 use Rattle.kk_counted.proofs.Reaching.{same_store, reached_widen}
 use Rattle.kk_counted.proofs.SoundSteps.{moved}
-use Rattle.kk_insert.specs.Insertion.{used, lends, owns, own, back, insert, inserted_function, inserted_functions}
+use Rattle.kk_insert.specs.Insertion.{used, lends, owns, own, insert, inserted_function, inserted_functions}
 use Rattle.kk_insert.specs.Promise.{IsInsertable}
 use Rattle.kk_insert.proofs.Sets.{in_either, part_all}
 use Rattle.kk_insert.proofs.Owned.{in_owns}
 use Rattle.kk_insert.proofs.Spent.{lent_arguments}
 use Rattle.kk_insert.proofs.Programs.{inserted_there}
-use Rattle.kk_insert.proofs.Paths.{conf, with_input, Path, path_here, path_step}
+use Rattle.kk_insert.proofs.Paths.{conf, with_input, path_here, path_step}
 use Rattle.kk_insert.proofs.Standing.{target, left_of, image_joins, image_frame, CodeOk, RestOk, JoinsOk, FramesStand, Stands, Follows}
 use Rattle.kk_insert.proofs.Entering.{dups_first, enters}
 

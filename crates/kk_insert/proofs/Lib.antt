@@ -11,3 +11,4 @@ pub mod Following
 pub mod Entering
 pub mod Needed
 pub mod Calling
+pub mod Computing

@@ -1,6 +1,6 @@
 -- What the counted machine owns and is lent is what the core machine still needs: so the counted cells are the live places.
 use Rattle.std.specs.Prelude.{if◌then◌else◌}
-use Rattle.std.proofs.Common.{◌≡◌, ◌⊎◌, inl, inr, ℕ, zero, suc, ◌+◌, ◌≤◌, ◌<◌, ◌==◌, ◌||◌, Bool, true, false, not, List, [], ◌∷◌, ◌++◌, length, map, Option, Some, None, arith, refl, sym, ap, ◌∙◌, subst}
+use Rattle.std.proofs.Common.{◌≡◌, ◌⊎◌, inl, inr, ℕ, suc, ◌==◌, Bool, true, false, not, List, [], ◌∷◌, ◌++◌, arith, refl, sym, ap, ◌∙◌, subst}
 use Rattle.kk_syntax.specs.declared.program.Form.{Form}
 use Rattle.kk_syntax.specs.declared.program.Form.TheVariants.{Number, Unit as Nothing, ReadByte, PrintText, Unary, Binary, Print, Construct, Call}
 use Rattle.kk_syntax.specs.Shapes.{is_among, without}
@@ -13,10 +13,10 @@ use Rattle.kk_core.specs.Codes.{Code, give, tail_call, branch, case, compute, us
 use Rattle.kk_core.specs.CoreStates.{Join, CallFrame}
 use Rattle.kk_core.specs.CoreMachine.{needed_after, held_for, held_by_frames}
 use Rattle.kk_core.specs.Needed.{needed, needed_by_arms}
-use Rattle.kk_counted.specs.Heaps.{Heap, forwards, count_at, busy}
+use Rattle.kk_counted.specs.Heaps.{Heap, forwards, busy}
 use Rattle.kk_counted.specs.CountedStates.{CountedFrame}
 use Rattle.kk_counted.specs.References.{refs, IsSound}
-use Rattle.kk_counted.specs.Spending.{at_positions, left_by, is_owned}
+use Rattle.kk_counted.specs.Spending.{at_positions, left_by}
 use Rattle.kk_counted.specs.Keeping.{values_of, AreReached}
 use Rattle.kk_counted.proofs.Variables.{among_values, among_others}
 use Rattle.kk_counted.proofs.Reaching.{among_one, one_among, store_fields, forwards_length, reached_widen, reached_field, reached_counted}
@@ -24,9 +24,9 @@ use Rattle.kk_counted.proofs.Places.{busy_passing, counted_is_reached}
 use Rattle.kk_insert.specs.Insertion.{before, used, lends, owns, own, own_arms}
 use Rattle.kk_insert.specs.Promise.{LendsOn, AllLendOn}
 use Rattle.kk_insert.proofs.Spent.{at_tail}
-use Rattle.kk_insert.proofs.Sets.{all_part, or_cases, or_left, or_right, no_both, false_if, Part, among_first, among_next, one_only, in_front, in_back, in_either, filter_in, without_clear, in_without, before_front, before_back, before_either, part_all}
+use Rattle.kk_insert.proofs.Sets.{all_part, or_cases, or_left, Part, among_first, among_next, one_only, in_front, in_back, in_either, filter_in, without_clear, in_without, before_front, before_back, before_either, part_all}
 use Rattle.kk_insert.proofs.Owned.{used_part, lends_part, owns_either, in_owns, owns_after}
-use Rattle.kk_insert.proofs.Standing.{left_of, RestOk, JoinsOk, FrameStands, FramesStand}
+use Rattle.kk_insert.proofs.Standing.{left_of, RestOk, JoinsOk, FramesStand}
 
 -- ---- variables
 
