@@ -25,6 +25,7 @@ use Rattle.kk_counted.proofs.Counting.{refs_append}
 use Rattle.kk_counted.proofs.Variables.{refs_of_both, among_values, among_others, values_at}
 use Rattle.kk_counted.proofs.Reaching.{same_store, reached_widen}
 use Rattle.kk_counted.proofs.SoundSteps.{moved}
+use Rattle.kk_insert.specs.Meaning.{inserted_setting}
 use Rattle.kk_insert.specs.Insertion.{used, lends, owns, own, insert, inserted_function, inserted_functions}
 use Rattle.kk_insert.specs.Promise.{IsInsertable}
 use Rattle.kk_insert.proofs.Sets.{in_either, part_all}
@@ -32,7 +33,7 @@ use Rattle.kk_insert.proofs.Owned.{in_owns}
 use Rattle.kk_insert.proofs.Spent.{lent_arguments}
 use Rattle.kk_insert.proofs.Programs.{inserted_there}
 use Rattle.kk_insert.proofs.Paths.{conf, with_input, path_here, path_step}
-use Rattle.kk_insert.proofs.Standing.{target, left_of, image_joins, image_frame, CodeOk, RestOk, JoinsOk, FramesStand, Stands, Follows}
+use Rattle.kk_insert.proofs.Standing.{left_of, image_joins, image_frame, CodeOk, RestOk, JoinsOk, FramesStand, Stands, Follows}
 use Rattle.kk_insert.proofs.Entering.{dups_first, enters}
 
 -- as many functions wait
@@ -68,23 +69,23 @@ module _ (setting : CoreSetting) (promise : IsInsertable setting.positions setti
       → AreReached from.store below environment lent
       → IsSound (values_of environment (own setting.positions lent (left_by (left_of setting.positions setting.code.functions lent joins)) (tail_call f arguments)) ++ below) heap
       → slice_get setting.code.functions f ≡ Some function → length (map (value_of environment) arguments) ≡ function.parameters
-      → Follows setting.positions setting.code.functions (target setting) 1 (tail_step (slice_get setting.code.functions f) (map (value_of environment) arguments) from) input
+      → Follows setting.positions setting.code.functions (inserted_setting setting) 1 (tail_step (slice_get setting.code.functions f) (map (value_of environment) arguments) from) input
       (with_input (conf (insert setting.positions lent (left_by (left_of setting.positions setting.code.functions lent joins)) (tail_call f arguments)) environment (image_joins setting.positions setting.code.functions lent joins) frames heap) input)
   follows_tail f arguments environment (join ∷ joins) function ok reached sound there many = absurd (not_tail ok.lends_on.0)
     where
       not_tail : false ≡ true → ⊥
       not_tail is = absurd (cc)
   follows_tail f arguments environment [] function ok reached sound there many =
-      subst (λ (o : Option FunctionCode). Follows setting.positions setting.code.functions (target setting) 1 (tail_step o (map (value_of environment) arguments) from) input
+      subst (λ (o : Option FunctionCode). Follows setting.positions setting.code.functions (inserted_setting setting) 1 (tail_step o (map (value_of environment) arguments) from) input
       (with_input (conf (insert setting.positions lent [] (tail_call f arguments)) environment [] frames heap) input)) (sym there)
-      (dups_first (target setting) (Stands setting.positions setting.code.functions (record { machine = in_code function (map (value_of environment) arguments) from; input = input })) environment [] frames below input 1 []
+      (dups_first (inserted_setting setting) (Stands setting.positions setting.code.functions (record { machine = in_code function (map (value_of environment) arguments) from; input = input })) environment [] frames below input 1 []
       setting.positions lent (used setting.positions (Call f) arguments) [] (Counted.tail_call f arguments) heap sound (subst (λ (s : Store). AreReached s below environment lent) store reached)
       (λ after cells sound_then.
-      path_step (target setting) 0 [] [] (Stands setting.positions setting.code.functions (record { machine = in_code function (map (value_of environment) arguments) from; input = input }))
+      path_step (inserted_setting setting) 0 [] [] (Stands setting.positions setting.code.functions (record { machine = in_code function (map (value_of environment) arguments) from; input = input }))
       (with_input (conf (Counted.tail_call f arguments) environment [] frames after) input)
       (with_input (conf (inserted_function setting.positions f function).body (bind_parameters 0 (map (value_of environment) arguments) []) [] frames after) input)
       (ap (λ (o : Option CountedFunction). performed (counted_tail_step o (map (value_of environment) arguments) (conf (Counted.tail_call f arguments) environment [] frames after)) input) (inserted_there setting.positions setting.code.functions f function there))
-      (tt, tt)
+      (tt, (tt, tt))
       (enters setting from lent below frames after (store ∙ same_store heap after (sym cells)) waits input f function (map (value_of environment) arguments) (promise.each f function there) many
       (λ at among.
       let y = among_others environment (at_positions (is_lent setting.positions f) 0 arguments) lent at ok.lends_on.1.0
@@ -157,29 +158,29 @@ module _ (setting : CoreSetting) (promise : IsInsertable setting.positions setti
 
     pub call_at : (function : FunctionCode) → slice_get setting.code.functions f ≡ Some function → length values ≡ function.parameters
         → IsSound (values_of environment (used setting.positions (Call f) arguments ++ held) ++ below) heap
-        → Follows setting.positions setting.code.functions (target setting) 1
+        → Follows setting.positions setting.code.functions (inserted_setting setting) 1
         (call_step setting f (slice_get setting.code.functions f) values (λ lent. record { variable = x; rest = rest; joins = joins; environment = environment; lent = lent }) from) input (with_input before_call input)
     call_at function there many sound =
-        subst (λ (o : Option FunctionCode). Follows setting.positions setting.code.functions (target setting) 1 (call_step setting f o values (λ lent. record { variable = x; rest = rest; joins = joins; environment = environment; lent = lent }) from) input (with_input before_call input)) (sym there)
+        subst (λ (o : Option FunctionCode). Follows setting.positions setting.code.functions (inserted_setting setting) 1 (call_step setting f o values (λ lent. record { variable = x; rest = rest; joins = joins; environment = environment; lent = lent }) from) input (with_input before_call input)) (sym there)
         (by_test (nat_le setting.depth (suc (length from.frames))) refl)
       where
         step_is : (t : Bool) → nat_le setting.depth (suc (length from.frames)) ≡ t
-            → performed (counted_call_step (target setting) (slice_get (inserted_functions setting.positions 0 setting.code.functions) f) values image before_call) input
+            → performed (counted_call_step (inserted_setting setting) (slice_get (inserted_functions setting.positions 0 setting.code.functions) f) values image before_call) input
             ≡ (called (suc (length from.frames)) ∷ [], with_input (if t then counted_at_end stack_full before_call else counted_in_code (inserted_function setting.positions f function) values (record before_call { frames = image ∷ frames })) input)
         step_is t is =
-            ap (λ (o : Option CountedFunction). performed (counted_call_step (target setting) o values image before_call) input) (inserted_there setting.positions setting.code.functions f function there)
+            ap (λ (o : Option CountedFunction). performed (counted_call_step (inserted_setting setting) o values image before_call) input) (inserted_there setting.positions setting.code.functions f function there)
             ∙ (ap (λ (n : ℕ). performed (calls n (if nat_le setting.depth n then counted_at_end stack_full before_call else counted_in_code (inserted_function setting.positions f function) values (record before_call { frames = image ∷ frames }))) input) (ap suc (frames_length setting from.store from.frames frames below waits))
                ∙ ap (λ (b : Bool). performed (calls (suc (length from.frames)) (if b then counted_at_end stack_full before_call else counted_in_code (inserted_function setting.positions f function) values (record before_call { frames = image ∷ frames }))) input) is)
 
         by_test : (t : Bool) → nat_le setting.depth (suc (length from.frames)) ≡ t
-            → Follows setting.positions setting.code.functions (target setting) 1 (calls (suc (length from.frames)) (if t then at_end stack_full from else in_code function values (record from { frames = waiting ∷ from.frames }))) input (with_input before_call input)
+            → Follows setting.positions setting.code.functions (inserted_setting setting) 1 (calls (suc (length from.frames)) (if t then at_end stack_full from else in_code function values (record from { frames = waiting ∷ from.frames }))) input (with_input before_call input)
         by_test true is =
-            path_step (target setting) 0 (called (suc (length from.frames)) ∷ []) [] (Stands setting.positions setting.code.functions (record { machine = at_end stack_full from; input = input }))
-            (with_input before_call input) (with_input (counted_at_end stack_full before_call) input) (step_is true is) (tt, tt)
-            (path_here (target setting) (Stands setting.positions setting.code.functions (record { machine = at_end stack_full from; input = input })) (with_input (counted_at_end stack_full before_call) input) (refl, refl))
+            path_step (inserted_setting setting) 0 (called (suc (length from.frames)) ∷ []) [] (Stands setting.positions setting.code.functions (record { machine = at_end stack_full from; input = input }))
+            (with_input before_call input) (with_input (counted_at_end stack_full before_call) input) (step_is true is) (tt, (tt, tt))
+            (path_here (inserted_setting setting) (Stands setting.positions setting.code.functions (record { machine = at_end stack_full from; input = input })) (with_input (counted_at_end stack_full before_call) input) (refl, (refl, tt)))
         by_test false is =
-            path_step (target setting) 0 (called (suc (length from.frames)) ∷ []) [] (Stands setting.positions setting.code.functions (record { machine = in_code function values (record from { frames = waiting ∷ from.frames }); input = input }))
-            (with_input before_call input) (with_input (counted_in_code (inserted_function setting.positions f function) values (record before_call { frames = image ∷ frames })) input) (step_is false is) (tt, tt)
+            path_step (inserted_setting setting) 0 (called (suc (length from.frames)) ∷ []) [] (Stands setting.positions setting.code.functions (record { machine = in_code function values (record from { frames = waiting ∷ from.frames }); input = input }))
+            (with_input before_call input) (with_input (counted_in_code (inserted_function setting.positions f function) values (record before_call { frames = image ∷ frames })) input) (step_is false is) (tt, (tt, tt))
             (enters setting (record from { frames = waiting ∷ from.frames }) lent (values_of environment held ++ below) (image ∷ frames) heap store waits_longer input f function values (promise.each f function there) many lents
             (moved (values_of environment (used setting.positions (Call f) arguments ++ held) ++ below) (at_positions (is_owned setting.positions [] f) 0 values ++ (values_of environment held ++ below)) heap
             (λ q. omega (

@@ -30,12 +30,13 @@ use Rattle.kk_counted.proofs.Heaps.{positive}
 use Rattle.kk_counted.proofs.Variables.{refs_of_both}
 use Rattle.kk_counted.proofs.Reaching.{all_within, forwards_length, same_store, reached_longer, built as counts_built, built_older}
 use Rattle.kk_counted.proofs.SoundSteps.{no_refs, unary_free, number_free, byte_free}
+use Rattle.kk_insert.specs.Meaning.{inserted_setting}
 use Rattle.kk_insert.specs.Insertion.{used, lends, owns, own, back, insert}
 use Rattle.kk_insert.specs.Promise.{IsInsertable}
 use Rattle.kk_insert.proofs.Sets.{false_if, no_both}
 use Rattle.kk_insert.proofs.Owned.{lends_part}
 use Rattle.kk_insert.proofs.Paths.{conf, with_input, Path, path_here, path_step}
-use Rattle.kk_insert.proofs.Standing.{target, left_of, image_joins, CodeOk, RestOk, JoinsOk, FramesStand, Stands, Follows}
+use Rattle.kk_insert.proofs.Standing.{left_of, image_joins, CodeOk, RestOk, JoinsOk, FramesStand, Stands, Follows}
 use Rattle.kk_insert.proofs.Entering.{dups_first, lands}
 use Rattle.kk_insert.proofs.Calling.{call_at}
 use Rattle.kk_insert.proofs.Needed.{busy_is_live}
@@ -110,7 +111,7 @@ module _ (setting : CoreSetting) (constructors : List ConstructorTree) (promise 
       conf (back setting.positions lent [] x now (insert setting.positions lent (left_by (left_of setting.positions setting.code.functions lent joins)) rest)) (record { variable = x; value = v } ∷ environment) (image_joins setting.positions setting.code.functions lent joins) frames heap
 
   value_lands : (v : Value) (input : List ℕ) → ((q : ℕ) → refs_of v q ≡ 0) → HaveNoCells (values_of environment arguments) → IsSound (values_of environment (arguments ++ without (x ∷ []) now) ++ below) heap
-      → Path (target setting) 0 [] (Stands setting.positions setting.code.functions (record { machine = bound_then x v rest environment joins from; input = input })) (with_input (with_value v) input)
+      → Path (inserted_setting setting) 0 [] (Stands setting.positions setting.code.functions (record { machine = bound_then x v rest environment joins from; input = input })) (with_input (with_value v) input)
   value_lands v input free none sound =
       lands setting from lent below frames heap store waits input x v rest environment joins [] (values_of environment (arguments ++ without (x ∷ []) now) ++ below) rest_ok joins_ok reached refl
       (λ q. omega (
@@ -125,29 +126,29 @@ module _ (setting : CoreSetting) (constructors : List ConstructorTree) (promise 
   module _ (input : List ℕ) where
     abbrev FollowsForm : Form → Type 0
     FollowsForm form =
-        Follows setting.positions setting.code.functions (target setting) 1 (form_step setting form (map (value_of environment) arguments) x rest environment joins from) input (with_input (before_form form) input)
+        Follows setting.positions setting.code.functions (inserted_setting setting) 1 (form_step setting form (map (value_of environment) arguments) x rest environment joins from) input (with_input (before_form form) input)
 
     -- a form that has a value, and one that prints
     value_comes : (form : Form) (v : Value)
-        → performed (counted_code_step (target setting) (Counted.compute x form arguments (behind form)) environment (image_joins setting.positions setting.code.functions lent joins) (before_form form)) input ≡ ([], with_input (with_value v) input)
+        → performed (counted_code_step (inserted_setting setting) (Counted.compute x form arguments (behind form)) environment (image_joins setting.positions setting.code.functions lent joins) (before_form form)) input ≡ ([], with_input (with_value v) input)
         → TakesNoCells form (values_of environment arguments)
         → ((q : ℕ) → refs_of v q ≡ 0) → HaveNoCells (values_of environment arguments) → IsSound (values_of environment (arguments ++ without (x ∷ []) now) ++ below) heap
-        → Path (target setting) 1 [] (Stands setting.positions setting.code.functions (record { machine = bound_then x v rest environment joins from; input = input })) (with_input (before_form form) input)
+        → Path (inserted_setting setting) 1 [] (Stands setting.positions setting.code.functions (record { machine = bound_then x v rest environment joins from; input = input })) (with_input (before_form form) input)
     value_comes form v is fits free none sound =
-        path_step (target setting) 0 [] [] (Stands setting.positions setting.code.functions (record { machine = bound_then x v rest environment joins from; input = input })) (with_input (before_form form) input) (with_input (with_value v) input) is
-        (tt, fits) (value_lands v input free none sound)
+        path_step (inserted_setting setting) 0 [] [] (Stands setting.positions setting.code.functions (record { machine = bound_then x v rest environment joins from; input = input })) (with_input (before_form form) input) (with_input (with_value v) input) is
+        (tt, (fits, tt)) (value_lands v input free none sound)
 
     print_comes : (form : Form) (piece : List ℕ)
-        → performed (counted_code_step (target setting) (Counted.compute x form arguments (behind form)) environment (image_joins setting.positions setting.code.functions lent joins) (before_form form)) input ≡ performed (print_step piece (with_value unit)) input
+        → performed (counted_code_step (inserted_setting setting) (Counted.compute x form arguments (behind form)) environment (image_joins setting.positions setting.code.functions lent joins) (before_form form)) input ≡ performed (print_step piece (with_value unit)) input
         → TakesNoCells form (values_of environment arguments)
         → HaveNoCells (values_of environment arguments) → IsSound (values_of environment (arguments ++ without (x ∷ []) now) ++ below) heap
-        → Follows setting.positions setting.code.functions (target setting) 1 (print_step piece (bound_then x unit rest environment joins from)) input (with_input (before_form form) input)
+        → Follows setting.positions setting.code.functions (inserted_setting setting) 1 (print_step piece (bound_then x unit rest environment joins from)) input (with_input (before_form form) input)
     print_comes form [] is fits none sound =
-        path_step (target setting) 0 [] [] (Stands setting.positions setting.code.functions (record { machine = bound_then x unit rest environment joins from; input = input })) (with_input (before_form form) input) (with_input (with_value unit) input) is
-        (tt, fits) (value_lands unit input (λ q. refl) none sound)
+        path_step (inserted_setting setting) 0 [] [] (Stands setting.positions setting.code.functions (record { machine = bound_then x unit rest environment joins from; input = input })) (with_input (before_form form) input) (with_input (with_value unit) input) is
+        (tt, (fits, tt)) (value_lands unit input (λ q. refl) none sound)
     print_comes form (byte ∷ bytes) is fits none sound =
-        path_step (target setting) 0 (seen (output (byte ∷ bytes)) ∷ []) [] (Stands setting.positions setting.code.functions (record { machine = bound_then x unit rest environment joins from; input = input })) (with_input (before_form form) input) (with_input (with_value unit) input) is
-        (tt, fits) (value_lands unit input (λ q. refl) none sound)
+        path_step (inserted_setting setting) 0 (seen (output (byte ∷ bytes)) ∷ []) [] (Stands setting.positions setting.code.functions (record { machine = bound_then x unit rest environment joins from; input = input })) (with_input (before_form form) input) (with_input (with_value unit) input) is
+        (tt, (fits, tt)) (value_lands unit input (λ q. refl) none sound)
 
     -- ---- constructions
 
@@ -187,7 +188,7 @@ module _ (setting : CoreSetting) (constructors : List ConstructorTree) (promise 
       with_cell at =
           conf (back setting.positions lent [] x now (insert setting.positions lent (left_by (left_of setting.positions setting.code.functions lent joins)) rest)) (record { variable = x; value = place at } ∷ environment) (image_joins setting.positions setting.code.functions lent joins) frames longer
 
-      cell_lands : Path (target setting) 0 [] (Stands setting.positions setting.code.functions (record { machine = record (bound_then x (place (length from.store)) rest environment joins from) { store = from.store ++ cell ∷ [] }; input = input })) (with_input (with_cell (length from.store)) input)
+      cell_lands : Path (inserted_setting setting) 0 [] (Stands setting.positions setting.code.functions (record { machine = record (bound_then x (place (length from.store)) rest environment joins from) { store = from.store ++ cell ∷ [] }; input = input })) (with_input (with_cell (length from.store)) input)
       cell_lands =
           lands setting from_longer lent below frames longer (ap (λ (s : Store). s ++ cell ∷ []) store) (frames_longer setting from.store cell from.frames frames below waits) input x (place (length from.store)) rest environment joins []
           (place (length from.store) ∷ (values_of environment (without (x ∷ []) now) ++ below)) rest_ok joins_ok (λ y at is named. reached_longer from.store cell below at (reached y at is named)) refl
@@ -202,14 +203,14 @@ module _ (setting : CoreSetting) (constructors : List ConstructorTree) (promise 
           (subst (λ (s : Store). AreReached s below environment lent) store reached) sound
           ∙ ap (λ (s : Store). live s (values ++ (held_for x rest joins environment ++ held_by_frames from.frames))) (sym store)
 
-      made : performed (counted_code_step (target setting) (Counted.compute x (Construct c) arguments (behind (Construct c))) environment (image_joins setting.positions setting.code.functions lent joins) (before_form (Construct c))) input
+      made : performed (counted_code_step (inserted_setting setting) (Counted.compute x (Construct c) arguments (behind (Construct c))) environment (image_joins setting.positions setting.code.functions lent joins) (before_form (Construct c))) input
           ≡ performed (builds (busy heap) (if nat_le setting.cells (busy heap) then counted_at_end heap_full (before_form (Construct c)) else with_cell (length heap))) input
-          → Follows setting.positions setting.code.functions (target setting) 1
+          → Follows setting.positions setting.code.functions (inserted_setting setting) 1
           (builds found (if nat_le setting.cells found then at_end heap_full from else record (bound_then x (place (length from.store)) rest environment joins from) { store = from.store ++ cell ∷ [] })) input (with_input (before_form (Construct c)) input)
       made step = by_test (nat_le setting.cells found) refl
         where
           step_is : (t : Bool) → nat_le setting.cells found ≡ t
-              → performed (counted_code_step (target setting) (Counted.compute x (Construct c) arguments (behind (Construct c))) environment (image_joins setting.positions setting.code.functions lent joins) (before_form (Construct c))) input
+              → performed (counted_code_step (inserted_setting setting) (Counted.compute x (Construct c) arguments (behind (Construct c))) environment (image_joins setting.positions setting.code.functions lent joins) (before_form (Construct c))) input
               ≡ (built found ∷ [], with_input (if t then counted_at_end heap_full (before_form (Construct c)) else with_cell (length from.store)) input)
           step_is t is =
               step
@@ -218,15 +219,15 @@ module _ (setting : CoreSetting) (constructors : List ConstructorTree) (promise 
                     ∙ ap (λ (b : Bool). performed (builds found (if b then counted_at_end heap_full (before_form (Construct c)) else with_cell (length from.store))) input) is))
 
           by_test : (t : Bool) → nat_le setting.cells found ≡ t
-              → Follows setting.positions setting.code.functions (target setting) 1
+              → Follows setting.positions setting.code.functions (inserted_setting setting) 1
               (builds found (if t then at_end heap_full from else record (bound_then x (place (length from.store)) rest environment joins from) { store = from.store ++ cell ∷ [] })) input (with_input (before_form (Construct c)) input)
           by_test true is =
-              path_step (target setting) 0 (built found ∷ []) [] (Stands setting.positions setting.code.functions (record { machine = at_end heap_full from; input = input }))
-              (with_input (before_form (Construct c)) input) (with_input (counted_at_end heap_full (before_form (Construct c))) input) (step_is true is) (tt, tt)
-              (path_here (target setting) (Stands setting.positions setting.code.functions (record { machine = at_end heap_full from; input = input })) (with_input (counted_at_end heap_full (before_form (Construct c))) input) (refl, refl))
+              path_step (inserted_setting setting) 0 (built found ∷ []) [] (Stands setting.positions setting.code.functions (record { machine = at_end heap_full from; input = input }))
+              (with_input (before_form (Construct c)) input) (with_input (counted_at_end heap_full (before_form (Construct c))) input) (step_is true is) (tt, (tt, tt))
+              (path_here (inserted_setting setting) (Stands setting.positions setting.code.functions (record { machine = at_end heap_full from; input = input })) (with_input (counted_at_end heap_full (before_form (Construct c))) input) (refl, (refl, tt)))
           by_test false is =
-              path_step (target setting) 0 (built found ∷ []) [] (Stands setting.positions setting.code.functions (record { machine = record (bound_then x (place (length from.store)) rest environment joins from) { store = from.store ++ cell ∷ [] }; input = input }))
-              (with_input (before_form (Construct c)) input) (with_input (with_cell (length from.store)) input) (step_is false is) (tt, tt) cell_lands
+              path_step (inserted_setting setting) 0 (built found ∷ []) [] (Stands setting.positions setting.code.functions (record { machine = record (bound_then x (place (length from.store)) rest environment joins from) { store = from.store ++ cell ∷ [] }; input = input }))
+              (with_input (before_form (Construct c)) input) (with_input (with_cell (length from.store)) input) (step_is false is) (tt, (tt, tt)) cell_lands
 
 module _ (setting : CoreSetting) (constructors : List ConstructorTree) (promise : IsInsertable setting.positions setting.code) (from : CoreConfiguration) (lent : List ℕ) (below : List Value) (frames : List CountedFrame) (heap : Heap)
     (store : from.store ≡ forwards heap) (waits : FramesStand setting.positions setting.code.functions from.store from.frames frames below)
@@ -237,14 +238,14 @@ module _ (setting : CoreSetting) (constructors : List ConstructorTree) (promise 
       → SoundAt setting constructors promise from lent below frames heap store waits x arguments rest environment joins rest_ok joins_ok reached ReadByte
       → FollowsForm setting constructors promise from lent below frames heap store waits x arguments rest environment joins rest_ok joins_ok reached input ReadByte
   reads [] arguments none sound =
-      path_step (target setting) 0 (seen input_end ∷ []) [] (Stands setting.positions setting.code.functions (record { machine = bound_then x (byte_value None) rest environment joins from; input = [] }))
+      path_step (inserted_setting setting) 0 (seen input_end ∷ []) [] (Stands setting.positions setting.code.functions (record { machine = bound_then x (byte_value None) rest environment joins from; input = [] }))
       (with_input (before_form setting constructors promise from lent below frames heap store waits x arguments rest environment joins rest_ok joins_ok reached ReadByte) [])
-      (with_input (with_value setting constructors promise from lent below frames heap store waits x arguments rest environment joins rest_ok joins_ok reached (byte_value None)) []) refl (tt, none)
+      (with_input (with_value setting constructors promise from lent below frames heap store waits x arguments rest environment joins rest_ok joins_ok reached (byte_value None)) []) refl (tt, (none, tt))
       (value_lands setting constructors promise from lent below frames heap store waits x arguments rest environment joins rest_ok joins_ok reached (byte_value None) [] (byte_free None) none sound)
   reads (byte ∷ bytes) arguments none sound =
-      path_step (target setting) 0 (seen (taken byte) ∷ []) [] (Stands setting.positions setting.code.functions (record { machine = bound_then x (byte_value (Some byte)) rest environment joins from; input = bytes }))
+      path_step (inserted_setting setting) 0 (seen (taken byte) ∷ []) [] (Stands setting.positions setting.code.functions (record { machine = bound_then x (byte_value (Some byte)) rest environment joins from; input = bytes }))
       (with_input (before_form setting constructors promise from lent below frames heap store waits x arguments rest environment joins rest_ok joins_ok reached ReadByte) (byte ∷ bytes))
-      (with_input (with_value setting constructors promise from lent below frames heap store waits x arguments rest environment joins rest_ok joins_ok reached (byte_value (Some byte))) bytes) refl (tt, none)
+      (with_input (with_value setting constructors promise from lent below frames heap store waits x arguments rest environment joins rest_ok joins_ok reached (byte_value (Some byte))) bytes) refl (tt, (none, tt))
       (value_lands setting constructors promise from lent below frames heap store waits x arguments rest environment joins rest_ok joins_ok reached (byte_value (Some byte)) bytes (byte_free (Some byte)) none sound)
 
   module _ (input : List ℕ) where
@@ -290,10 +291,10 @@ module _ (setting : CoreSetting) (constructors : List ConstructorTree) (promise 
   pub follows_compute : (x : ℕ) (form : Form) (arguments : List ℕ) (rest : Code) → CodeOk setting.positions setting.code.functions lent (left_of setting.positions setting.code.functions lent joins) (compute x form arguments rest)
       → IsSound (values_of environment (own setting.positions lent (left_by (left_of setting.positions setting.code.functions lent joins)) (compute x form arguments rest)) ++ below) heap
       → ArgumentsFit constructors setting.code form (map (value_of environment) arguments)
-      → Follows setting.positions setting.code.functions (target setting) 1 (form_step setting form (map (value_of environment) arguments) x rest environment joins from) input
+      → Follows setting.positions setting.code.functions (inserted_setting setting) 1 (form_step setting form (map (value_of environment) arguments) x rest environment joins from) input
       (with_input (conf (insert setting.positions lent (left_by (left_of setting.positions setting.code.functions lent joins)) (compute x form arguments rest)) environment (image_joins setting.positions setting.code.functions lent joins) frames heap) input)
   follows_compute x form arguments rest ok sound fits =
-      dups_first (target setting) (Stands setting.positions setting.code.functions (performed (form_step setting form (map (value_of environment) arguments) x rest environment joins from) input).1) environment (image_joins setting.positions setting.code.functions lent joins) frames below input 1 (performed (form_step setting form (map (value_of environment) arguments) x rest environment joins from) input).0
+      dups_first (inserted_setting setting) (Stands setting.positions setting.code.functions (performed (form_step setting form (map (value_of environment) arguments) x rest environment joins from) input).1) environment (image_joins setting.positions setting.code.functions lent joins) frames below input 1 (performed (form_step setting form (map (value_of environment) arguments) x rest environment joins from) input).0
       setting.positions lent (used setting.positions form arguments) (owns setting.positions lent (lends setting.positions form arguments) (without (x ∷ []) (own setting.positions lent (left_by (left_of setting.positions setting.code.functions lent joins)) rest)))
       (Counted.compute x form arguments (back setting.positions lent (lends setting.positions form arguments) x (own setting.positions lent (left_by (left_of setting.positions setting.code.functions lent joins)) rest) (insert setting.positions lent (left_by (left_of setting.positions setting.code.functions lent joins)) rest)))
       heap sound (subst (λ (s : Store). AreReached s below environment lent) store reached)

@@ -26,6 +26,7 @@ use Rattle.kk_counted.proofs.Variables.{refs_of_both, fields_fresh, field_past, 
 use Rattle.kk_counted.proofs.Reaching.{one_among, same_store, store_fields, reached_field}
 use Rattle.kk_counted.proofs.Looks.{cell_same, chosen_same}
 use Rattle.kk_counted.proofs.SoundSteps.{became_sound}
+use Rattle.kk_insert.specs.Meaning.{inserted_setting}
 use Rattle.kk_insert.specs.Insertion.{before, common, dups, dropping, owns, own, own_arms, insert, insert_arms, opening}
 use Rattle.kk_insert.specs.Promise.{LendsOn, AllLendOn}
 use Rattle.kk_insert.proofs.Sets.{no_both, false_if, Part, among_first, among_next, one_only, in_back, filter_in, without_clear, in_without, clear_back, before_front, before_back, clear_fresh, apart_filter, filter_alike, among_filter}
@@ -34,7 +35,7 @@ use Rattle.kk_insert.proofs.Owned.{own_part, own_apart, owns_after, in_owns, res
 use Rattle.kk_insert.proofs.Spent.{at_tail, lent_arguments, fields_even, owns_kept, owns_new}
 use Rattle.kk_insert.proofs.Paths.{conf, with_input, Path, path_here, path_step}
 use Rattle.kk_insert.proofs.Settling.{sound_even, either_counted, dups_path, dropping_path}
-use Rattle.kk_insert.proofs.Standing.{target, left_of, image_joins, CodeOk, JoinsOk, FramesStand, Stands, Follows}
+use Rattle.kk_insert.proofs.Standing.{left_of, image_joins, CodeOk, JoinsOk, FramesStand, Stands, Follows}
 
 module _ (setting : CoreSetting) (from : CoreConfiguration) (lent : List ℕ) (below : List Value) (frames : List CountedFrame) (heap : Heap)
     (store : from.store ≡ forwards heap) (waits : FramesStand setting.positions setting.code.functions from.store from.frames frames below) (input : List ℕ) where
@@ -79,7 +80,7 @@ module _ (setting : CoreSetting) (from : CoreConfiguration) (lent : List ℕ) (b
     SoundNow code = IsSound (values_of environment (owning code) ++ below) heap
 
     abbrev Does : ℕ → Action CoreConfiguration → Counted.Counted → Type 0
-    Does least action code = Follows setting.positions setting.code.functions (target setting) least action input (with_input (conf code environment (image_joins setting.positions setting.code.functions lent joins) frames heap) input)
+    Does least action code = Follows setting.positions setting.code.functions (inserted_setting setting) least action input (with_input (conf code environment (image_joins setting.positions setting.code.functions lent joins) frames heap) input)
 
     abbrev StandsAs : List Note × CoreState → CountedState → Type 0
     StandsAs done u = Stands setting.positions setting.code.functions done.1 u
@@ -91,9 +92,9 @@ module _ (setting : CoreSetting) (from : CoreConfiguration) (lent : List ℕ) (b
     dropped_first : (all : List ℕ) (code : Code) → Ok code → AreApart all → Part (owning code) all → IsSound (values_of environment all ++ below) heap
         → Does 0 (goes (at_code code environment joins from)) (dropping all (owning code) (inserted_code code))
     dropped_first all code ok apart part sound =
-        dropping_path (target setting) (StandsAs (performed (goes (at_code code environment joins from)) input)) environment (image_joins setting.positions setting.code.functions lent joins) frames below input 0 []
+        dropping_path (inserted_setting setting) (StandsAs (performed (goes (at_code code environment joins from)) input)) environment (image_joins setting.positions setting.code.functions lent joins) frames below input 0 []
         all (owning code) (inserted_code code) heap apart (own_apart setting.positions lent (left_by left) code ok.apart) part sound
-        (λ after cells sound_then. path_here (target setting) (StandsAs (performed (goes (at_code code environment joins from)) input))
+        (λ after cells sound_then. path_here (inserted_setting setting) (StandsAs (performed (goes (at_code code environment joins from)) input))
         (with_input (conf (inserted_code code) environment (image_joins setting.positions setting.code.functions lent joins) frames after) input)
         (arrives code environment joins after cells ok joins_ok reached sound_then))
 
@@ -108,20 +109,20 @@ module _ (setting : CoreSetting) (from : CoreConfiguration) (lent : List ℕ) (b
       where
         by_test : (t : Bool) → is_true (value_of environment x) ≡ t → Does 1 (goes (at_code (if t then positive else negative) environment joins from)) (inserted_code (branch x positive negative))
         by_test true is =
-            path_step (target setting) 0 [] [] (StandsAs (performed (goes (at_code positive environment joins from)) input))
+            path_step (inserted_setting setting) 0 [] [] (StandsAs (performed (goes (at_code positive environment joins from)) input))
             (with_input (conf (inserted_code (branch x positive negative)) environment (image_joins setting.positions setting.code.functions lent joins) frames heap) input)
             (with_input (conf (dropping (owning (branch x positive negative)) (owning positive) (inserted_code positive)) environment (image_joins setting.positions setting.code.functions lent joins) frames heap) input)
             (ap (λ t. performed (goes (conf (if t then dropping (owning (branch x positive negative)) (owning positive) (inserted_code positive) else dropping (owning (branch x positive negative)) (owning negative) (inserted_code negative)) environment (image_joins setting.positions setting.code.functions lent joins) frames heap)) input) is)
-            (tt, tt)
+            (tt, (tt, tt))
             (dropped_first (owning (branch x positive negative)) positive (record { bound = ok.bound; fine = ok.fine.1.0; lends_on = ok.lends_on.0; part = ok.part; apart = ok.apart; small = omega (arith, ok.small) })
             (own_apart setting.positions lent (left_by left) (branch x positive negative) ok.apart)
             (λ y is. owns_after setting.positions lent (x ∷ []) (before (owning positive) (owning negative)) y (before_front (owning positive) (owning negative) y is)) sound)
         by_test false is =
-            path_step (target setting) 0 [] [] (StandsAs (performed (goes (at_code negative environment joins from)) input))
+            path_step (inserted_setting setting) 0 [] [] (StandsAs (performed (goes (at_code negative environment joins from)) input))
             (with_input (conf (inserted_code (branch x positive negative)) environment (image_joins setting.positions setting.code.functions lent joins) frames heap) input)
             (with_input (conf (dropping (owning (branch x positive negative)) (owning negative) (inserted_code negative)) environment (image_joins setting.positions setting.code.functions lent joins) frames heap) input)
             (ap (λ t. performed (goes (conf (if t then dropping (owning (branch x positive negative)) (owning positive) (inserted_code positive) else dropping (owning (branch x positive negative)) (owning negative) (inserted_code negative)) environment (image_joins setting.positions setting.code.functions lent joins) frames heap)) input) is)
-            (tt, tt)
+            (tt, (tt, tt))
             (dropped_first (owning (branch x positive negative)) negative (record { bound = ok.bound; fine = ok.fine.1.1; lends_on = ok.lends_on.1; part = ok.part; apart = ok.apart; small = omega (arith, ok.small) })
             (own_apart setting.positions lent (left_by left) (branch x positive negative) ok.apart)
             (λ y is. owns_after setting.positions lent (x ∷ []) (before (owning positive) (owning negative)) y (before_back (owning positive) (owning negative) y is)) sound)
@@ -129,11 +130,11 @@ module _ (setting : CoreSetting) (from : CoreConfiguration) (lent : List ℕ) (b
     pub follows_inside : (x : ℕ) (block rest : Code) → Ok (inside x block rest) → SoundNow (inside x block rest)
         → Does 1 (goes (at_code block environment (record { variable = x; rest = rest } ∷ joins) from)) (inserted_code (inside x block rest))
     follows_inside x block rest ok sound =
-        path_step (target setting) 0 [] [] (StandsAs (performed (goes (at_code block environment (record { variable = x; rest = rest } ∷ joins) from)) input))
+        path_step (inserted_setting setting) 0 [] [] (StandsAs (performed (goes (at_code block environment (record { variable = x; rest = rest } ∷ joins) from)) input))
         (with_input (conf (inserted_code (inside x block rest)) environment (image_joins setting.positions setting.code.functions lent joins) frames heap) input)
         (with_input (conf (insert setting.positions lent (without (x ∷ []) (owning rest)) block) environment (image_joins setting.positions setting.code.functions lent (record { variable = x; rest = rest } ∷ joins)) frames heap) input)
-        refl (tt, tt)
-        (path_here (target setting) (StandsAs (performed (goes (at_code block environment (record { variable = x; rest = rest } ∷ joins) from)) input))
+        refl (tt, (tt, tt))
+        (path_here (inserted_setting setting) (StandsAs (performed (goes (at_code block environment (record { variable = x; rest = rest } ∷ joins) from)) input))
         (with_input (conf (insert setting.positions lent (without (x ∷ []) (owning rest)) block) environment (image_joins setting.positions setting.code.functions lent (record { variable = x; rest = rest } ∷ joins)) frames heap) input)
         (arrives block environment (record { variable = x; rest = rest } ∷ joins) heap refl
         (record {
@@ -193,11 +194,11 @@ module _ (setting : CoreSetting) (from : CoreConfiguration) (lent : List ℕ) (b
         → Does 1 (case_step (and_then (chosen (slice_get from.store) (value_of environment x) decisions) (arm_at arms)) environment joins from) (inserted_code (case x decisions arms))
     follows_case x decisions arms row body ok sound row_is body_is =
         subst (λ (o : Option Code). Does 1 (case_step o environment joins from) (inserted_code (case x decisions arms))) (sym (ap (λ (o : Option ℕ). and_then o (arm_at arms)) row_is ∙ body_is))
-        (path_step (target setting) 0 [] [] (StandsAs (performed (goes (at_code body environment joins from)) input))
+        (path_step (inserted_setting setting) 0 [] [] (StandsAs (performed (goes (at_code body environment joins from)) input))
         (with_input (conf (inserted_code (case x decisions arms)) environment (image_joins setting.positions setting.code.functions lent joins) frames heap) input)
         (with_input (conf (dropping (owning (case x decisions arms)) (owning body) (inserted_code body)) environment (image_joins setting.positions setting.code.functions lent joins) frames heap) input)
         (ap (λ (o : Option Counted.Counted). performed (counted_case_step o environment (image_joins setting.positions setting.code.functions lent joins) (conf (inserted_code (case x decisions arms)) environment (image_joins setting.positions setting.code.functions lent joins) frames heap)) input) found)
-        (tt, tt)
+        (tt, (tt, tt))
         (dropped_first (owning (case x decisions arms)) body (record { bound = ok.bound; fine = good.0; lends_on = good.1.0; part = ok.part; apart = ok.apart; small = good.1.1.0 })
         (own_apart setting.positions lent (left_by left) (case x decisions arms) ok.apart) good.1.1.1 sound))
       where
@@ -278,20 +279,20 @@ module _ (setting : CoreSetting) (from : CoreConfiguration) (lent : List ℕ) (b
       step_done = performed (goes (at_code rest (bind_fields fields vs environment) joins from)) input
 
       arrives_rest : (after : Heap) → cells_of after ≡ cells_of heap → IsSound (values_of (bind_fields fields vs environment) (owning rest) ++ below) after
-          → Path (target setting) 0 [] (StandsAs step_done) (with_input (conf (inserted_code rest) (bind_fields fields vs environment) (image_joins setting.positions setting.code.functions lent joins) frames after) input)
+          → Path (inserted_setting setting) 0 [] (StandsAs step_done) (with_input (conf (inserted_code rest) (bind_fields fields vs environment) (image_joins setting.positions setting.code.functions lent joins) frames after) input)
       arrives_rest after cells sound_then =
-          path_here (target setting) (StandsAs step_done) (with_input (conf (inserted_code rest) (bind_fields fields vs environment) (image_joins setting.positions setting.code.functions lent joins) frames after) input)
+          path_here (inserted_setting setting) (StandsAs step_done) (with_input (conf (inserted_code rest) (bind_fields fields vs environment) (image_joins setting.positions setting.code.functions lent joins) frames after) input)
           (arrives rest (bind_fields fields vs environment) joins after cells rest_ok joins_ok (reached_fields ok.fine.1.1.1.0) sound_then)
 
       follows_read : owning (unpack x c fields rest) ≡ without fields (owning rest)
           → Does 1 (goes (at_code rest (bind_fields fields vs environment) joins from)) (Counted.read x c fields (dups (common (owning rest) fields) (inserted_code rest)))
       follows_read owned =
-          path_step (target setting) 0 [] [] (StandsAs step_done)
+          path_step (inserted_setting setting) 0 [] [] (StandsAs step_done)
           (with_input (conf (Counted.read x c fields (dups (common (owning rest) fields) (inserted_code rest))) environment (image_joins setting.positions setting.code.functions lent joins) frames heap) input)
           (with_input (conf (dups (common (owning rest) fields) (inserted_code rest)) (bind_fields fields vs environment) (image_joins setting.positions setting.code.functions lent joins) frames heap) input)
           (ap (λ (o : Option Named). performed (open_step o (λ one. Some heap) fields (dups (common (owning rest) fields) (inserted_code rest)) environment (image_joins setting.positions setting.code.functions lent joins) (conf (Counted.read x c fields (dups (common (owning rest) fields) (inserted_code rest))) environment (image_joins setting.positions setting.code.functions lent joins) frames heap)) input) opens)
-          (tt, tt)
-          (dups_path (target setting) (StandsAs step_done) (bind_fields fields vs environment) (image_joins setting.positions setting.code.functions lent joins) frames below input 0 []
+          (tt, (tt, tt))
+          (dups_path (inserted_setting setting) (StandsAs step_done) (bind_fields fields vs environment) (image_joins setting.positions setting.code.functions lent joins) frames below input 0 []
           (common (owning rest) fields) (without fields (owning rest)) (inserted_code rest) heap
           (subst (λ us. IsSound (us ++ below) heap) (ap (values_of environment) owned ∙ sym (fields_fresh fields vs environment (without fields (owning rest)) others_fresh)) sound)
           (λ y is. field_is_one (IsCounted heap) fields vs environment y many (filter_in (is_among (owning rest)) fields y is) (λ v one. field_counted v one))
@@ -304,12 +305,12 @@ module _ (setting : CoreSetting) (from : CoreConfiguration) (lent : List ℕ) (b
       follows_open : owning (unpack x c fields rest) ≡ x ∷ without fields (owning rest)
           → Does 1 (goes (at_code rest (bind_fields fields vs environment) joins from)) (Counted.open_cell x c fields (common (owning rest) fields) (inserted_code rest))
       follows_open owned =
-          path_step (target setting) 0 [] [] (StandsAs step_done)
+          path_step (inserted_setting setting) 0 [] [] (StandsAs step_done)
           (with_input (conf (Counted.open_cell x c fields (common (owning rest) fields) (inserted_code rest)) environment (image_joins setting.positions setting.code.functions lent joins) frames heap) input)
           (with_input (conf (inserted_code rest) (bind_fields fields vs environment) (image_joins setting.positions setting.code.functions lent joins) frames became.heap) input)
           (ap (λ (o : Option Named). performed (open_step o (λ one. opened_heap one.at (used_values (common (owning rest) fields) fields one.fields) heap) fields (inserted_code rest) environment (image_joins setting.positions setting.code.functions lent joins) (conf (Counted.open_cell x c fields (common (owning rest) fields) (inserted_code rest)) environment (image_joins setting.positions setting.code.functions lent joins) frames heap)) input) opens
            ∙ ap (λ (o : Option Heap). performed (goes (with_heap o (conf (Counted.open_cell x c fields (common (owning rest) fields) (inserted_code rest)) environment (image_joins setting.positions setting.code.functions lent joins) frames heap) (conf (inserted_code rest) (bind_fields fields vs environment) (image_joins setting.positions setting.code.functions lent joins) frames heap))) input) became.is)
-          (tt, tt)
+          (tt, (tt, tt))
           (arrives_rest became.heap became.cells
           (sound_even (bind_fields fields vs environment) (filter (is_among (common (owning rest) fields)) fields ++ without fields (owning rest)) (owning rest) below became.heap
           (λ weight. ap (λ ys. total weight (ys ++ without fields (owning rest))) (filter_alike (is_among (common (owning rest) fields)) (is_among (owning rest)) fields (λ y is. among_filter (is_among (owning rest)) fields y ∙ ap (λ b. b && is_among (owning rest) y) is)) ∙ fields_even (owning rest) fields now_apart ok.fine.1.0 weight)

@@ -11,13 +11,14 @@ use Rattle.kk_counted.specs.Heaps.{Heap, dup_value, drop_value}
 use Rattle.kk_counted.specs.CountedStates.{CountedSetting, CountedJoin, CountedFrame, running, CountedConfiguration, CountedState}
 use Rattle.kk_counted.specs.CountedMachine.{with_heap, counted_code_step, counted_ending_of, counted_machine, NotStuck}
 use Rattle.kk_counted.specs.Keeping.{FitsAt}
+use Rattle.kk_insert.specs.Meaning.{EndsClean}
 
 -- steps weigh nothing here
 abbrev pub lower : CountedSetting → Machine CountedState Note End
 lower setting = counted_machine (λ s. 0) setting
 
 abbrev pub Passing : CountedState → Type 0
-Passing t = NotStuck t.machine.control × FitsAt t.machine.control
+Passing t = NotStuck t.machine.control × (FitsAt t.machine.control × EndsClean t.machine.control t.machine.heap)
 
 -- the machine at a code
 abbrev pub conf : Counted → Environment → List CountedJoin → List CountedFrame → Heap → CountedConfiguration

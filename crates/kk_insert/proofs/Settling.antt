@@ -63,7 +63,7 @@ module _ (setting : CountedSetting) (P : CountedState → Type 0) (environment :
       let d = dupped (refs (values_of environment now ++ below)) (λ q. refs_of (value_of environment x) q + refs (values_of environment now ++ below) q) (value_of environment x) heap sound.counts (usable x (among_first x xs)) (λ q. refl) in
       path_less setting (suc least) least events P (with_input (conf (dups (x ∷ xs) code) environment joins frames heap) input) (omega arith)
       (path_step setting least [] events P (with_input (conf (dups (x ∷ xs) code) environment joins frames heap) input) (with_input (conf (dups xs code) environment joins frames d.0.heap) input)
-      (dup_step setting x (dups xs code) environment joins frames heap d.0.heap input d.0.is) (tt, tt)
+      (dup_step setting x (dups xs code) environment joins frames heap d.0.heap input d.0.is) (tt, (tt, tt))
       (dups_path xs (x ∷ now) code d.0.heap
       (became_sound (values_of environment now ++ below) (values_of environment (x ∷ now) ++ below) heap (dup_value (value_of environment x) heap) (λ q. refs_of (value_of environment x) q + refs (values_of environment now ++ below) q) d.0 (λ q. refl) sound)
       (λ y is. counted_grows (value_of environment y) heap d.0.heap d.1 (usable y (among_next x y xs is)))
@@ -76,7 +76,7 @@ module _ (setting : CountedSetting) (P : CountedState → Type 0) (environment :
       let d = dropped (refs (values_of environment (x ∷ (xs ++ now)) ++ below)) (refs (values_of environment (xs ++ now) ++ below)) (value_of environment x) heap sound.counts (λ q. refl) in
       path_less setting (suc least) least events P (with_input (conf (drops (x ∷ xs) code) environment joins frames heap) input) (omega arith)
       (path_step setting least [] events P (with_input (conf (drops (x ∷ xs) code) environment joins frames heap) input) (with_input (conf (drops xs code) environment joins frames d.heap) input)
-      (drop_step setting x (drops xs code) environment joins frames heap d.heap input d.is) (tt, tt)
+      (drop_step setting x (drops xs code) environment joins frames heap d.heap input d.is) (tt, (tt, tt))
       (drops_path xs now code d.heap
       (became_sound (values_of environment (x ∷ (xs ++ now)) ++ below) (values_of environment (xs ++ now) ++ below) heap (drop_value (value_of environment x) heap) (refs (values_of environment (xs ++ now) ++ below)) d (λ q. refl) sound)
       (λ after cells sound_then. next after (cells ∙ d.cells) sound_then)))

@@ -13,6 +13,7 @@ use Rattle.kk_counted.specs.CountedStates.{CountedSetting, CountedJoin, CountedF
 use Rattle.kk_counted.specs.References.{refs, IsSound}
 use Rattle.kk_counted.specs.Spending.{AreApart, left_by}
 use Rattle.kk_counted.specs.Keeping.{values_of, AreReached}
+use Rattle.kk_insert.specs.Meaning.{LeavesNone}
 use Rattle.kk_insert.specs.Insertion.{dropping, owns, own, back, insert, inserted}
 use Rattle.kk_insert.specs.Promise.{LendsOn}
 use Rattle.kk_insert.proofs.Sets.{Part, among_next, apart_filter}
@@ -20,10 +21,6 @@ use Rattle.kk_insert.proofs.Fine.{IsFine}
 use Rattle.kk_insert.proofs.Owned.{own_part, own_apart, rest_part}
 use Rattle.kk_insert.proofs.Spent.{at_tail}
 use Rattle.kk_insert.proofs.Paths.{conf, Path}
-
--- the same program inserted, with as many cells and call frames
-abbrev pub target : CoreSetting → CountedSetting
-target setting = record { program = inserted setting.positions setting.code; cells = setting.cells; depth = setting.depth }
 
 module _ (positions : PositionTable) (source : List FunctionCode) where
   -- ---- by the lent variables of a function
@@ -126,7 +123,7 @@ module _ (positions : PositionTable) (source : List FunctionCode) where
 
   abbrev pub StandsAt : CoreControl → CoreConfiguration → CountedConfiguration → Type 0
   StandsAt (running code environment joins) s c = Active code environment joins s c
-  StandsAt (stopped by) s c = c.control ≡ Counted.stopped by
+  StandsAt (stopped by) s c = (c.control ≡ Counted.stopped by) × LeavesNone by c.heap
 
   abbrev pub Stands : CoreState → CountedState → Type 0
   Stands s t = (t.input ≡ s.input) × StandsAt s.machine.control s.machine t.machine
