@@ -12,3 +12,4 @@ pub mod Entering
 pub mod Needed
 pub mod Calling
 pub mod Computing
+pub mod Simulating

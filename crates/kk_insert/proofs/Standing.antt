@@ -5,7 +5,7 @@ use Rattle.kk_syntax.specs.PositionsOf.{PositionTable}
 use Rattle.kk_source.specs.State.{Value, Store, Environment}
 use Rattle.kk_source.specs.Actions.{Action, performed}
 use Rattle.kk_core.specs.Codes.{Code, FunctionCode}
-use Rattle.kk_core.specs.CoreStates.{CoreSetting, Join, CallFrame, CoreControl, running, stopped, CoreConfiguration, CoreState}
+use Rattle.kk_core.specs.CoreStates.{Join, CallFrame, CoreControl, running, stopped, CoreConfiguration, CoreState}
 use Rattle.kk_core.specs.Sizes.{forms, most_forms}
 use Rattle.kk_counted.specs.Heaps.{Heap, forwards}
 use Rattle.kk_counted.specs.CountedStates as Counted
@@ -14,7 +14,7 @@ use Rattle.kk_counted.specs.References.{refs, IsSound}
 use Rattle.kk_counted.specs.Spending.{AreApart, left_by}
 use Rattle.kk_counted.specs.Keeping.{values_of, AreReached}
 use Rattle.kk_insert.specs.Meaning.{LeavesNone}
-use Rattle.kk_insert.specs.Insertion.{dropping, owns, own, back, insert, inserted}
+use Rattle.kk_insert.specs.Insertion.{dropping, owns, own, back, insert}
 use Rattle.kk_insert.specs.Promise.{LendsOn}
 use Rattle.kk_insert.proofs.Sets.{Part, among_next, apart_filter}
 use Rattle.kk_insert.proofs.Fine.{IsFine}

@@ -3,4 +3,4 @@
 
 mod law;
 
-pub use law::inserted_code_is_spent;
+pub use law::{inserted_code_is_spent, inserted_code_keeps_meaning};
