@@ -170,7 +170,7 @@ module _ (setting : CoreSetting) (promise : IsInsertable setting.positions setti
         step_is t is =
             ap (λ (o : Option CountedFunction). performed (counted_call_step (inserted_setting setting) o values image before_call) input) (inserted_there setting.positions setting.code.functions f function there)
             ∙ (ap (λ (n : ℕ). performed (calls n (if nat_le setting.depth n then counted_at_end stack_full before_call else counted_in_code (inserted_function setting.positions f function) values (record before_call { frames = image ∷ frames }))) input) (ap suc (frames_length setting from.store from.frames frames below waits))
-               ∙ ap (λ (b : Bool). performed (calls (suc (length from.frames)) (if b then counted_at_end stack_full before_call else counted_in_code (inserted_function setting.positions f function) values (record before_call { frames = image ∷ frames }))) input) is)
+            ∙ ap (λ (b : Bool). performed (calls (suc (length from.frames)) (if b then counted_at_end stack_full before_call else counted_in_code (inserted_function setting.positions f function) values (record before_call { frames = image ∷ frames }))) input) is)
 
         by_test : (t : Bool) → nat_le setting.depth (suc (length from.frames)) ≡ t
             → Follows setting.positions setting.code.functions (inserted_setting setting) 1 (calls (suc (length from.frames)) (if t then at_end stack_full from else in_code function values (record from { frames = waiting ∷ from.frames }))) input (with_input before_call input)

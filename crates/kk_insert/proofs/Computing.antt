@@ -215,8 +215,8 @@ module _ (setting : CoreSetting) (constructors : List ConstructorTree) (promise 
           step_is t is =
               step
               ∙ (ap (λ (n : ℕ). performed (builds n (if nat_le setting.cells n then counted_at_end heap_full (before_form (Construct c)) else with_cell (length heap))) input) found_is
-                 ∙ (ap (λ (n : ℕ). performed (builds found (if nat_le setting.cells found then counted_at_end heap_full (before_form (Construct c)) else with_cell n)) input) as_long
-                    ∙ ap (λ (b : Bool). performed (builds found (if b then counted_at_end heap_full (before_form (Construct c)) else with_cell (length from.store))) input) is))
+              ∙ (ap (λ (n : ℕ). performed (builds found (if nat_le setting.cells found then counted_at_end heap_full (before_form (Construct c)) else with_cell n)) input) as_long
+              ∙ ap (λ (b : Bool). performed (builds found (if b then counted_at_end heap_full (before_form (Construct c)) else with_cell (length from.store))) input) is))
 
           by_test : (t : Bool) → nat_le setting.cells found ≡ t
               → Follows setting.positions setting.code.functions (inserted_setting setting) 1

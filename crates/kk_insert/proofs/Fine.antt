@@ -171,18 +171,18 @@ module _ (lent : List ℕ) where
   fine_fields now bound low middle high x fields rest rise o below now_below is true here alike =
       inl (
         alike x (omega (arith, below x is, rise_high low fields middle rise, ordered_high (fields ++ bound) middle rest high o))
-        ∙ (lent_before (fields ++ now) (fields ++ bound) middle rest high x o (omega (arith, below x is, rise_high low fields middle rise)) ∙ in_back fields now x here),
+            ∙ (lent_before (fields ++ now) (fields ++ bound) middle rest high x o (omega (arith, below x is, rise_high low fields middle rise)) ∙ in_back fields now x here),
         λ y one.
-        alike y (omega (arith, (rise_in low fields middle y rise one).1, ordered_high (fields ++ bound) middle rest high o))
-        ∙ (lent_before (fields ++ now) (fields ++ bound) middle rest high y o (rise_in low fields middle y rise one).1 ∙ in_front fields now y one),
+            alike y (omega (arith, (rise_in low fields middle y rise one).1, ordered_high (fields ++ bound) middle rest high o))
+            ∙ (lent_before (fields ++ now) (fields ++ bound) middle rest high y o (rise_in low fields middle y rise one).1 ∙ in_front fields now y one),
       )
   fine_fields now bound low middle high x fields rest rise o below now_below is false here alike =
       inr (
         alike x (omega (arith, below x is, rise_high low fields middle rise, ordered_high (fields ++ bound) middle rest high o))
-        ∙ (lent_before now (fields ++ bound) middle rest high x o (omega (arith, below x is, rise_high low fields middle rise)) ∙ here),
+            ∙ (lent_before now (fields ++ bound) middle rest high x o (omega (arith, below x is, rise_high low fields middle rise)) ∙ here),
         λ y one.
-        alike y (omega (arith, (rise_in low fields middle y rise one).1, ordered_high (fields ++ bound) middle rest high o))
-        ∙ (lent_before now (fields ++ bound) middle rest high y o (rise_in low fields middle y rise one).1 ∙ never_below now low y now_below (rise_in low fields middle y rise one).0),
+            alike y (omega (arith, (rise_in low fields middle y rise one).1, ordered_high (fields ++ bound) middle rest high o))
+            ∙ (lent_before now (fields ++ bound) middle rest high y o (rise_in low fields middle y rise one).1 ∙ never_below now low y now_below (rise_in low fields middle y rise one).0),
       )
 
   mutual
@@ -238,7 +238,7 @@ module _ (lent : List ℕ) where
         (
           alike x (omega (arith, ordered_high (x ∷ bound) (x + 1) rest high o.1))
               ∙ (lent_before (lent_in now block) (x ∷ bound) (x + 1) rest high x o.1 (omega arith)
-                 ∙ never_below (lent_in now block) x x (λ y is. lent_below now bound low block x o.0 now_below y is) (omega arith)),
+              ∙ never_below (lent_in now block) x x (λ y is. lent_below now bound low block x o.0 now_below y is) (omega arith)),
           ordered_fine (lent_in now block) (x ∷ bound) (x + 1) rest high o.1 (λ y is. one_below x low y bound below (ordered_high bound low block x o.0) is)
               (λ y is. omega (arith, lent_below now bound low block x o.0 now_below y is)) alike,
         ),

@@ -144,17 +144,19 @@ module _ (setting : CoreSetting) (from : CoreConfiguration) (lent : List ℕ) (b
           part = rest_part setting.positions lent x (owning rest) ok.bound (own_part setting.positions lent (left_by left) (x ∷ ok.bound) rest ok.fine.1.1.1 (λ y is. among_next x y ok.bound (ok.part y is)));
           apart = apart_filter (λ z. not (is_among (x ∷ []) z)) (owning rest) (own_apart setting.positions lent (left_by left) rest ok.apart);
           small = omega (arith, ok.small);
-        })
-        (record {
-          bound = ok.bound;
-          new = ok.fine.1.0;
-          unlent = ok.fine.1.1.0;
-          fine = ok.fine.1.1.1;
-          lends_on = ok.lends_on.1;
-          part = ok.part;
-          apart = ok.apart;
-          small = omega (arith, ok.small);
-        }, joins_ok) reached sound))
+        }) (
+          record {
+            bound = ok.bound;
+            new = ok.fine.1.0;
+            unlent = ok.fine.1.1.0;
+            fine = ok.fine.1.1.1;
+            lends_on = ok.lends_on.1;
+            part = ok.part;
+            apart = ok.apart;
+            small = omega (arith, ok.small);
+          },
+          joins_ok,
+        ) reached sound))
 
     -- ---- cases
 
@@ -258,7 +260,7 @@ module _ (setting : CoreSetting) (from : CoreConfiguration) (lent : List ℕ) (b
       opens =
           ap (cell_named c (length fields) heap) named
           ∙ (ap (λ (o : Option Cell). and_then o (λ cell. and_then (if_made_by c (length fields) cell) (λ these. Some (record { at = at; fields = these })))) (cell_same heap at at_counted_now ∙ in_store)
-             ∙ ap (λ t. and_then (if t then Some vs else None) (λ these. Some (record { at = at; fields = these }))) (ap (λ t. t && (length vs == length fields)) (itself c) ∙ (ap (λ n. n == length fields) many ∙ itself (length fields))))
+          ∙ ap (λ t. and_then (if t then Some vs else None) (λ these. Some (record { at = at; fields = these }))) (ap (λ t. t && (length vs == length fields)) (itself c) ∙ (ap (λ n. n == length fields) many ∙ itself (length fields))))
 
       reached_fields : FineFields lent x fields → AreReached from.store below (bind_fields fields vs environment) lent
       reached_fields (inl lent_x) y goal is e =
@@ -309,7 +311,7 @@ module _ (setting : CoreSetting) (from : CoreConfiguration) (lent : List ℕ) (b
           (with_input (conf (Counted.open_cell x c fields (common (owning rest) fields) (inserted_code rest)) environment (image_joins setting.positions setting.code.functions lent joins) frames heap) input)
           (with_input (conf (inserted_code rest) (bind_fields fields vs environment) (image_joins setting.positions setting.code.functions lent joins) frames became.heap) input)
           (ap (λ (o : Option Named). performed (open_step o (λ one. opened_heap one.at (used_values (common (owning rest) fields) fields one.fields) heap) fields (inserted_code rest) environment (image_joins setting.positions setting.code.functions lent joins) (conf (Counted.open_cell x c fields (common (owning rest) fields) (inserted_code rest)) environment (image_joins setting.positions setting.code.functions lent joins) frames heap)) input) opens
-           ∙ ap (λ (o : Option Heap). performed (goes (with_heap o (conf (Counted.open_cell x c fields (common (owning rest) fields) (inserted_code rest)) environment (image_joins setting.positions setting.code.functions lent joins) frames heap) (conf (inserted_code rest) (bind_fields fields vs environment) (image_joins setting.positions setting.code.functions lent joins) frames heap))) input) became.is)
+          ∙ ap (λ (o : Option Heap). performed (goes (with_heap o (conf (Counted.open_cell x c fields (common (owning rest) fields) (inserted_code rest)) environment (image_joins setting.positions setting.code.functions lent joins) frames heap) (conf (inserted_code rest) (bind_fields fields vs environment) (image_joins setting.positions setting.code.functions lent joins) frames heap))) input) became.is)
           (tt, (tt, tt))
           (arrives_rest became.heap became.cells
           (sound_even (bind_fields fields vs environment) (filter (is_among (common (owning rest) fields)) fields ++ without fields (owning rest)) (owning rest) below became.heap
