@@ -1,7 +1,7 @@
 -- The counted machine of an inserted program does what the core machine does, step for step.
-use Rattle.std.proofs.Common.{◌≡◌, ℕ, zero, suc, ◌+◌, ◌*◌, ◌≤◌, true, List, [], ◌∷◌, ◌++◌, arith, refl, sym, ap, subst, mul-le-mul_right}
+use Rattle.std.proofs.Common.{Some, ◌∙◌, ◌≡◌, ℕ, zero, suc, ◌+◌, ◌*◌, ◌≤◌, true, List, [], ◌∷◌, ◌++◌, arith, refl, sym, ap, subst, mul-le-mul_right}
 use Rattle.std.proofs.lemmas.Option.{get_or_from_slice_get}
-use Rattle.std.specs.Prelude.{slice_index_or}
+use Rattle.std.specs.Prelude.{slice_get, slice_index_or}
 use Rattle.kk_base.specs.Machines.{Machine, step_unless, state}
 use Rattle.kk_base.specs.Simulations.{Reaches, Simulates}
 use Rattle.kk_base.proofs.Simulations.{ended_reaches, simulates_agree, simulates_passing}
@@ -25,7 +25,7 @@ use Rattle.kk_counted.specs.Spending.{at_positions, numbers_from, left_by, is_ow
 use Rattle.kk_counted.specs.Keeping.{values_of, FitsAt}
 use Rattle.kk_counted.proofs.SoundRuns.{keeps_sound}
 use Rattle.kk_insert.specs.Insertion.{dropping, lent_of, own, insert, inserted_function, inserted_functions}
-use Rattle.kk_insert.specs.Meaning.{inserted_setting, pace, LeavesNone, EndsClean, KeepsMeaning}
+use Rattle.kk_insert.specs.Meaning.{inserted_setting, pace, LeavesNone, EndsClean, counted_notes, KeepsMeaning, FindsAsMany}
 use Rattle.kk_insert.specs.Promise.{IsInsertable}
 use Rattle.kk_insert.proofs.Programs.{is_fine, inserted_there, inserted_is_spent}
 use Rattle.kk_insert.proofs.Paths.{lower, Passing, conf, with_input, no_weight, Path}
@@ -259,3 +259,23 @@ keeps_meaning setting constructors weight input promise sane =
     passing : (n : ℕ) → Passing (state (lower (inserted_setting setting)) n (counted_first_state (inserted_setting setting) input))
     passing n =
         simulates_passing (core_machine weight setting) (lower (inserted_setting setting)) (Related setting constructors promise weight) Passing pace (simulates setting constructors promise weight) 0 pace (core_first_state setting input) (counted_first_state (inserted_setting setting) input) related n
+
+front_get : (xs ys : List Note) (k : ℕ) (note : Note) → slice_get xs k ≡ Some note → slice_get (xs ++ ys) k ≡ Some note
+front_get [] ys k note is = absurd (cc)
+front_get (x ∷ xs) ys zero note is = is
+front_get (x ∷ xs) ys (suc k) note is = front_get xs ys k note is
+
+-- equal notes: what one finds counted the other finds live
+pub finds_as_many : (setting : CoreSetting) (constructors : List ConstructorTree) (weight : CoreState → ℕ) (input : List ℕ) → IsInsertable setting.positions setting.code → NeverStuck constructors weight setting input → FindsAsMany setting input
+finds_as_many setting constructors weight input promise sane =
+    record {
+      counted_are_live = λ n k note is.
+          let prefix = kept.agrees.upwards.prefix n in
+          (n * pace + pace + 1, ap (λ (notes : List Note). slice_get notes k) (sym prefix.1) ∙ front_get (counted_notes setting input n) prefix.0 k note is);
+      live_are_counted = λ n k note is.
+          let done = kept.agrees.downwards n in
+          (done.steps, ap (λ (notes : List Note). slice_get notes k) done.events_are ∙ is);
+    }
+  where
+    kept : KeepsMeaning weight setting input
+    kept = keeps_meaning setting constructors weight input promise sane

@@ -3,4 +3,6 @@
 
 mod law;
 
-pub use law::{inserted_code_is_spent, inserted_code_keeps_meaning};
+pub use law::{
+    counted_cells_are_the_live_places, inserted_code_is_spent, inserted_code_keeps_meaning,
+};
