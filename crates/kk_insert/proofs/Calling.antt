@@ -108,7 +108,7 @@ module _ (setting : CoreSetting) (promise : IsInsertable setting.positions setti
     now = own setting.positions lent (left_by (left_of setting.positions setting.code.functions lent joins)) rest
 
     abbrev held : List ℕ
-    held = owns setting.positions lent (lends setting.positions (Call f) arguments) (without (x ∷ []) now)
+    held = owns lent (lends setting.positions (Call f) arguments) (without (x ∷ []) now)
 
     abbrev values : List Value
     values = map (value_of environment) arguments

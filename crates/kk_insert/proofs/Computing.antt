@@ -92,11 +92,11 @@ module _ (setting : CoreSetting) (constructors : List ConstructorTree) (promise 
   now = own setting.positions lent (left_by (left_of setting.positions setting.code.functions lent joins)) rest
 
   abbrev held : Form → List ℕ
-  held form = owns setting.positions lent (lends setting.positions form arguments) (without (x ∷ []) now)
+  held form = owns lent (lends setting.positions form arguments) (without (x ∷ []) now)
 
   abbrev behind : Form → Counted.Counted
   behind form =
-      back setting.positions lent (lends setting.positions form arguments) x now (insert setting.positions lent (left_by (left_of setting.positions setting.code.functions lent joins)) rest)
+      back lent (lends setting.positions form arguments) x now (insert setting.positions lent (left_by (left_of setting.positions setting.code.functions lent joins)) rest)
 
   abbrev before_form : Form → CountedConfiguration
   before_form form =
@@ -108,7 +108,7 @@ module _ (setting : CoreSetting) (constructors : List ConstructorTree) (promise 
   -- the value of a form that is lent nothing, and takes no cells
   abbrev with_value : Value → CountedConfiguration
   with_value v =
-      conf (back setting.positions lent [] x now (insert setting.positions lent (left_by (left_of setting.positions setting.code.functions lent joins)) rest)) (record { variable = x; value = v } ∷ environment) (image_joins setting.positions setting.code.functions lent joins) frames heap
+      conf (back lent [] x now (insert setting.positions lent (left_by (left_of setting.positions setting.code.functions lent joins)) rest)) (record { variable = x; value = v } ∷ environment) (image_joins setting.positions setting.code.functions lent joins) frames heap
 
   value_lands : (v : Value) (input : List ℕ) → ((q : ℕ) → refs_of v q ≡ 0) → HaveNoCells (values_of environment arguments) → IsSound (values_of environment (arguments ++ without (x ∷ []) now) ++ below) heap
       → Path (inserted_setting setting) 0 [] (Stands setting.positions setting.code.functions (record { machine = bound_then x v rest environment joins from; input = input })) (with_input (with_value v) input)
@@ -186,7 +186,7 @@ module _ (setting : CoreSetting) (constructors : List ConstructorTree) (promise 
 
       abbrev with_cell : ℕ → CountedConfiguration
       with_cell at =
-          conf (back setting.positions lent [] x now (insert setting.positions lent (left_by (left_of setting.positions setting.code.functions lent joins)) rest)) (record { variable = x; value = place at } ∷ environment) (image_joins setting.positions setting.code.functions lent joins) frames longer
+          conf (back lent [] x now (insert setting.positions lent (left_by (left_of setting.positions setting.code.functions lent joins)) rest)) (record { variable = x; value = place at } ∷ environment) (image_joins setting.positions setting.code.functions lent joins) frames longer
 
       cell_lands : Path (inserted_setting setting) 0 [] (Stands setting.positions setting.code.functions (record { machine = record (bound_then x (place (length from.store)) rest environment joins from) { store = from.store ++ cell ∷ [] }; input = input })) (with_input (with_cell (length from.store)) input)
       cell_lands =
@@ -295,8 +295,8 @@ module _ (setting : CoreSetting) (constructors : List ConstructorTree) (promise 
       (with_input (conf (insert setting.positions lent (left_by (left_of setting.positions setting.code.functions lent joins)) (compute x form arguments rest)) environment (image_joins setting.positions setting.code.functions lent joins) frames heap) input)
   follows_compute x form arguments rest ok sound fits =
       dups_first (inserted_setting setting) (Stands setting.positions setting.code.functions (performed (form_step setting form (map (value_of environment) arguments) x rest environment joins from) input).1) environment (image_joins setting.positions setting.code.functions lent joins) frames below input 1 (performed (form_step setting form (map (value_of environment) arguments) x rest environment joins from) input).0
-      setting.positions lent (used setting.positions form arguments) (owns setting.positions lent (lends setting.positions form arguments) (without (x ∷ []) (own setting.positions lent (left_by (left_of setting.positions setting.code.functions lent joins)) rest)))
-      (Counted.compute x form arguments (back setting.positions lent (lends setting.positions form arguments) x (own setting.positions lent (left_by (left_of setting.positions setting.code.functions lent joins)) rest) (insert setting.positions lent (left_by (left_of setting.positions setting.code.functions lent joins)) rest)))
+      setting.positions lent (used setting.positions form arguments) (owns lent (lends setting.positions form arguments) (without (x ∷ []) (own setting.positions lent (left_by (left_of setting.positions setting.code.functions lent joins)) rest)))
+      (Counted.compute x form arguments (back lent (lends setting.positions form arguments) x (own setting.positions lent (left_by (left_of setting.positions setting.code.functions lent joins)) rest) (insert setting.positions lent (left_by (left_of setting.positions setting.code.functions lent joins)) rest)))
       heap sound (subst (λ (s : Store). AreReached s below environment lent) store reached)
       (λ after cells sound_then. form_at setting constructors promise from lent below frames after (store ∙ same_store heap after (sym cells)) waits x rest environment joins
       (record { bound = ok.bound; new = ok.fine.1.0; unlent = ok.fine.1.1.0; fine = ok.fine.1.1.1; lends_on = ok.lends_on.1; part = ok.part; apart = ok.apart; small = omega (arith, ok.small) })

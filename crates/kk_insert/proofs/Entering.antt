@@ -41,21 +41,21 @@ use Rattle.kk_insert.proofs.Following.{arrives}
 -- the dups before a code that uses variables up
 pub dups_first : (setting : CountedSetting) (P : CountedState → Type 0) (environment : Environment) (joins : List CountedJoin) (frames : List CountedFrame) (below : List Value) (input : List ℕ) (least : ℕ) (events : List Note)
     (positions : PositionTable) (lent xs after : List ℕ) (code : Counted.Counted) (heap : Heap)
-    → IsSound (values_of environment (owns positions lent xs after) ++ below) heap → AreReached (forwards heap) below environment lent
+    → IsSound (values_of environment (owns lent xs after) ++ below) heap → AreReached (forwards heap) below environment lent
     → GoesOn setting P environment joins frames below input least events code (xs ++ after) heap
-    → From setting P environment joins frames below input least events (dups (wants positions lent xs after) code) heap
+    → From setting P environment joins frames below input least events (dups (wants lent xs after) code) heap
 dups_first setting P environment joins frames below input least events positions lent xs after code heap sound reached next =
-    dups_path setting P environment joins frames below input least events (wants positions lent xs after) (owns positions lent xs after) code heap sound
-    (λ y is. either_counted environment (owns positions lent xs after) lent below heap y sound reached (wants_in positions lent xs after y is))
+    dups_path setting P environment joins frames below input least events (wants lent xs after) (owns lent xs after) code heap sound
+    (λ y is. either_counted environment (owns lent xs after) lent below heap y sound reached (wants_in positions lent xs after y is))
     (λ last cells sound_then. next last cells
-    (sound_even environment (wants positions lent xs after ++ owns positions lent xs after) (xs ++ after) below last (wants_even positions lent xs after) sound_then))
+    (sound_even environment (wants lent xs after ++ owns lent xs after) (xs ++ after) below last (wants_even positions lent xs after) sound_then))
 
 no_self : (x : ℕ) (now : List ℕ) → is_among (without (x ∷ []) now) x ≡ false
 no_self x now = false_if (is_among (without (x ∷ []) now) x) (λ is. no_both ⊥ (is_among (x ∷ []) x) (among_first x []) (without_clear (x ∷ []) now x is))
 
-pub not_held : (positions : PositionTable) (lent given : List ℕ) (x : ℕ) (now : List ℕ) → is_among given x ≡ false → is_among (owns positions lent given (without (x ∷ []) now)) x ≡ false
+pub not_held : (positions : PositionTable) (lent given : List ℕ) (x : ℕ) (now : List ℕ) → is_among given x ≡ false → is_among (owns lent given (without (x ∷ []) now)) x ≡ false
 not_held positions lent given x now new =
-    false_if (is_among (owns positions lent given (without (x ∷ []) now)) x)
+    false_if (is_among (owns lent given (without (x ∷ []) now)) x)
     (λ is. elim (owns_either positions lent given (without (x ∷ []) now) x is) [ inl one ↦ no_both ⊥ (is_among given x) one new | inr two ↦ no_both ⊥ (is_among (without (x ∷ []) now) x) two (no_self x now) ])
 
 module _ (setting : CoreSetting) (from : CoreConfiguration) (lent : List ℕ) (below : List Value) (frames : List CountedFrame) (heap : Heap)
@@ -64,15 +64,15 @@ module _ (setting : CoreSetting) (from : CoreConfiguration) (lent : List ℕ) (b
   pub lands : (x : ℕ) (v : Value) (rest : Code) (environment : Environment) (joins : List Join) (given : List ℕ) (all : List Value)
       → RestOk setting.positions setting.code.functions lent (left_of setting.positions setting.code.functions lent joins) x rest → JoinsOk setting.positions setting.code.functions lent joins
       → AreReached from.store below environment lent → is_among given x ≡ false
-      → ((q : ℕ) → refs all q ≡ refs_of v q + (refs (values_of environment (owns setting.positions lent given (without (x ∷ []) (own setting.positions lent (left_by (left_of setting.positions setting.code.functions lent joins)) rest)))) q + refs below q))
+      → ((q : ℕ) → refs all q ≡ refs_of v q + (refs (values_of environment (owns lent given (without (x ∷ []) (own setting.positions lent (left_by (left_of setting.positions setting.code.functions lent joins)) rest)))) q + refs below q))
       → IsSound all heap
       → Path (inserted_setting setting) 0 [] (Stands setting.positions setting.code.functions (record { machine = bound_then x v rest environment joins from; input = input }))
-      (with_input (conf (back setting.positions lent given x (own setting.positions lent (left_by (left_of setting.positions setting.code.functions lent joins)) rest) (insert setting.positions lent (left_by (left_of setting.positions setting.code.functions lent joins)) rest)) (record { variable = x; value = v } ∷ environment) (image_joins setting.positions setting.code.functions lent joins) frames heap) input)
+      (with_input (conf (back lent given x (own setting.positions lent (left_by (left_of setting.positions setting.code.functions lent joins)) rest) (insert setting.positions lent (left_by (left_of setting.positions setting.code.functions lent joins)) rest)) (record { variable = x; value = v } ∷ environment) (image_joins setting.positions setting.code.functions lent joins) frames heap) input)
   lands x v rest environment joins given all rest_ok joins_ok reached new even sound =
       back_path (inserted_setting setting) (Stands setting.positions setting.code.functions (record { machine = bound_then x v rest environment joins from; input = input })) (record { variable = x; value = v } ∷ environment) (image_joins setting.positions setting.code.functions lent joins) frames below input 0 []
       setting.positions lent given x (own setting.positions lent (left_by (left_of setting.positions setting.code.functions lent joins)) rest) (insert setting.positions lent (left_by (left_of setting.positions setting.code.functions lent joins)) rest) heap
       (own_apart setting.positions lent (left_by (left_of setting.positions setting.code.functions lent joins)) rest rest_ok.apart)
-      (landed x v environment (owns setting.positions lent given (without (x ∷ []) (own setting.positions lent (left_by (left_of setting.positions setting.code.functions lent joins)) rest))) below all heap
+      (landed x v environment (owns lent given (without (x ∷ []) (own setting.positions lent (left_by (left_of setting.positions setting.code.functions lent joins)) rest))) below all heap
       (not_held setting.positions lent given x (own setting.positions lent (left_by (left_of setting.positions setting.code.functions lent joins)) rest) new) even sound)
       (λ after cells sound_then. path_here (inserted_setting setting) (Stands setting.positions setting.code.functions (record { machine = bound_then x v rest environment joins from; input = input }))
       (with_input (conf (insert setting.positions lent (left_by (left_of setting.positions setting.code.functions lent joins)) rest) (record { variable = x; value = v } ∷ environment) (image_joins setting.positions setting.code.functions lent joins) frames after) input)
@@ -167,7 +167,7 @@ module _ (setting : CoreSetting) (constructors : List ConstructorTree) (from : C
       refl (tt, (tt, tt))
       (lands setting (record from { frames = older }) stand.1.0.lent stand.0 cs after (store ∙ same_store heap after (sym cells)) stand.1.1 input
       frame.variable (value_of environment x) frame.rest frame.environment frame.joins stand.1.0.given (values_of environment (x ∷ []) ++ below) stand.1.0.rest stand.1.0.joins stand.1.0.reached stand.1.0.new
-      (λ q. omega (arith, ap (λ us. refs us q) stand.1.0.owned, refs_append (values_of frame.environment (owns setting.positions stand.1.0.lent stand.1.0.given (without (frame.variable ∷ []) (own setting.positions stand.1.0.lent (left_by (left_of setting.positions setting.code.functions stand.1.0.lent frame.joins)) frame.rest)))) stand.0 q))
+      (λ q. omega (arith, ap (λ us. refs us q) stand.1.0.owned, refs_append (values_of frame.environment (owns stand.1.0.lent stand.1.0.given (without (frame.variable ∷ []) (own setting.positions stand.1.0.lent (left_by (left_of setting.positions setting.code.functions stand.1.0.lent frame.joins)) frame.rest)))) stand.0 q))
       sound))
 
   pub follows_give : (x : ℕ) (environment : Environment) (joins : List Join) (frames : List CountedFrame)

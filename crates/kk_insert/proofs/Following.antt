@@ -187,9 +187,9 @@ module _ (setting : CoreSetting) (from : CoreConfiguration) (lent : List ℕ) (b
         good_arm rest bound all row fine.1 on.1 (omega (arith, small)) (λ y is. part y (before_back (owning body) (own_arms setting.positions lent (left_by left) rest) y is))
 
     -- a variable that is looked at is lent or owned
-    looked : (x : ℕ) (after : List ℕ) → is_among (lent ++ owns setting.positions lent (x ∷ []) after) x ≡ true
+    looked : (x : ℕ) (after : List ℕ) → is_among (lent ++ owns lent (x ∷ []) after) x ≡ true
     looked x after =
-        lent_arguments lent (owns setting.positions lent (x ∷ []) after) (x ∷ []) (λ y is unlent. in_owns setting.positions lent (x ∷ []) after y is unlent) x (among_first x [])
+        lent_arguments lent (owns lent (x ∷ []) after) (x ∷ []) (λ y is unlent. in_owns setting.positions lent (x ∷ []) after y is unlent) x (among_first x [])
 
     pub follows_case : (x : ℕ) (decisions : List NodeTree) (arms : Arms) (row : ℕ) (body : Code) → Ok (case x decisions arms) → SoundNow (case x decisions arms)
         → chosen (slice_get from.store) (value_of environment x) decisions ≡ Some row → arm_at arms row ≡ Some body
@@ -355,7 +355,7 @@ module _ (setting : CoreSetting) (from : CoreConfiguration) (lent : List ℕ) (b
               (elim either as (λ _. (is_among lent x ≡ true) ⊎ (is_among (without fields (owning rest)) x ≡ true)) [ inl one ↦ inl one | inr two ↦ inr (in_without fields (owning rest) x two not_field) ]))
 
           by_tests : (t : Bool) → is_among lent x ≡ t → (u : Bool) → is_among (owning rest) x ≡ u
-              → Does 1 (goes (at_code rest (bind_fields fields vs environment) joins from)) (opening setting.positions lent (t || u) x c fields (common (owning rest) fields) (inserted_code rest))
+              → Does 1 (goes (at_code rest (bind_fields fields vs environment) joins from)) (opening (t || u) x c fields (common (owning rest) fields) (inserted_code rest))
           by_tests true one u two = follows_read (stays (inl one))
           by_tests false one true two = follows_read (stays (inr two))
           by_tests false one false two =

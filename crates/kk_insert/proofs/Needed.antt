@@ -63,7 +63,7 @@ used_or_lent positions (Call f) xs y is = at_either (is_lent positions f) 0 xs y
 
 module _ (positions : PositionTable) (lent : List ℕ) where
   -- one variable that is looked at, and others
-  owns_one : (x : ℕ) (after others : List ℕ) → Part after others → Part (owns positions lent (x ∷ []) after) (x ∷ others)
+  owns_one : (x : ℕ) (after others : List ℕ) → Part after others → Part (owns lent (x ∷ []) after) (x ∷ others)
   owns_one x after others part y is =
       elim (owns_either positions lent (x ∷ []) after y is) [ inl one ↦ subst (λ z. is_among (x ∷ others) z ≡ true) (one_only x y one) (among_first x others) | inr two ↦ among_next x y others (part y two) ]
 
@@ -83,7 +83,7 @@ module _ (positions : PositionTable) (lent : List ℕ) where
         ])
     own_needed left later (case x decisions arms) part = owns_one x (own_arms positions lent left arms) (needed_by_arms later arms) (own_needed_arms left later arms part)
     own_needed left later (compute x form arguments rest) part =
-        λ y is. elim (owns_either positions lent (used positions form arguments) (owns positions lent (lends positions form arguments) (without (x ∷ []) (own positions lent left rest))) y is) [
+        λ y is. elim (owns_either positions lent (used positions form arguments) (owns lent (lends positions form arguments) (without (x ∷ []) (own positions lent left rest))) y is) [
           | inl one ↦ in_front arguments (without (x ∷ []) (needed later rest)) y (used_part positions form arguments y one)
           | inr more ↦ elim (owns_either positions lent (lends positions form arguments) (without (x ∷ []) (own positions lent left rest)) y more) [
             | inl two ↦ in_front arguments (without (x ∷ []) (needed later rest)) y (lends_part positions form arguments y two)
@@ -126,31 +126,31 @@ module _ (positions : PositionTable) (lent : List ℕ) where
   covered_both xs ys now one two y is = elim (in_either xs ys y is) [ inl here ↦ one y here | inr there ↦ two y there ]
 
   -- variables that are used up
-  covered_owns : (xs after : List ℕ) → Covered xs (owns positions lent xs after)
+  covered_owns : (xs after : List ℕ) → Covered xs (owns lent xs after)
   covered_owns xs after y is = by_test (is_among lent y) refl
     where
-      by_test : (t : Bool) → is_among lent y ≡ t → is_among (lent ++ owns positions lent xs after) y ≡ true
-      by_test true one = in_front lent (owns positions lent xs after) y one
-      by_test false other = in_back lent (owns positions lent xs after) y (in_owns positions lent xs after y is other)
+      by_test : (t : Bool) → is_among lent y ≡ t → is_among (lent ++ owns lent xs after) y ≡ true
+      by_test true one = in_front lent (owns lent xs after) y one
+      by_test false other = in_back lent (owns lent xs after) y (in_owns positions lent xs after y is other)
 
-  covered_one : (x : ℕ) (others after : List ℕ) → Covered others after → Covered (x ∷ others) (owns positions lent (x ∷ []) after)
+  covered_one : (x : ℕ) (others after : List ℕ) → Covered others after → Covered (x ∷ others) (owns lent (x ∷ []) after)
   covered_one x others after covered y is = by_case (or_cases (x == y) (is_among others y) is)
     where
-      by_case : ((x == y) ≡ true) ⊎ (is_among others y ≡ true) → is_among (lent ++ owns positions lent (x ∷ []) after) y ≡ true
+      by_case : ((x == y) ≡ true) ⊎ (is_among others y ≡ true) → is_among (lent ++ owns lent (x ∷ []) after) y ≡ true
       by_case (inl here) = covered_owns (x ∷ []) after y (or_left (x == y) false here)
-      by_case (inr there) = covered_wider others after (owns positions lent (x ∷ []) after) (owns_after positions lent (x ∷ []) after) covered y there
+      by_case (inr there) = covered_wider others after (owns lent (x ∷ []) after) (owns_after positions lent (x ∷ []) after) covered y there
 
   module _ (source : List FunctionCode) where
     mutual
       pub need_covered : (left later : List ℕ) (tail : Bool) (code : Code) → LendsOn positions source lent tail code → Covered later left → Covered (needed later code) (own positions lent left code)
       need_covered left later tail (give x) on covered = covered_one x later left covered
       need_covered left later tail (tail_call f arguments) on covered =
-          covered_both arguments later (owns positions lent (used positions (Call f) arguments) left)
+          covered_both arguments later (owns lent (used positions (Call f) arguments) left)
           (λ y is. elim (used_or_lent positions (Call f) arguments y is) [
             | inl one ↦ covered_owns (used positions (Call f) arguments) left y one
-            | inr two ↦ in_front lent (owns positions lent (used positions (Call f) arguments) left) y (all_part (lends positions (Call f) arguments) lent on.1.0 y two)
+            | inr two ↦ in_front lent (owns lent (used positions (Call f) arguments) left) y (all_part (lends positions (Call f) arguments) lent on.1.0 y two)
           ])
-          (covered_wider later left (owns positions lent (used positions (Call f) arguments) left) (owns_after positions lent (used positions (Call f) arguments) left) covered)
+          (covered_wider later left (owns lent (used positions (Call f) arguments) left) (owns_after positions lent (used positions (Call f) arguments) left) covered)
       need_covered left later tail (branch x positive negative) on covered =
           covered_one x (needed later positive ++ needed later negative) (before (own positions lent left positive) (own positions lent left negative))
           (covered_both (needed later positive) (needed later negative) (before (own positions lent left positive) (own positions lent left negative))
@@ -159,15 +159,15 @@ module _ (positions : PositionTable) (lent : List ℕ) where
       need_covered left later tail (case x decisions arms) on covered =
           covered_one x (needed_by_arms later arms) (own_arms positions lent left arms) (need_covered_arms left later tail arms on covered)
       need_covered left later tail (compute x form arguments rest) on covered =
-          covered_both arguments (without (x ∷ []) (needed later rest)) (owns positions lent (used positions form arguments) (owns positions lent (lends positions form arguments) (without (x ∷ []) (own positions lent left rest))))
+          covered_both arguments (without (x ∷ []) (needed later rest)) (owns lent (used positions form arguments) (owns lent (lends positions form arguments) (without (x ∷ []) (own positions lent left rest))))
           (λ y is. elim (used_or_lent positions form arguments y is) [
-            | inl one ↦ covered_owns (used positions form arguments) (owns positions lent (lends positions form arguments) (without (x ∷ []) (own positions lent left rest))) y one
-            | inr two ↦ covered_wider (lends positions form arguments) (owns positions lent (lends positions form arguments) (without (x ∷ []) (own positions lent left rest))) (owns positions lent (used positions form arguments) (owns positions lent (lends positions form arguments) (without (x ∷ []) (own positions lent left rest))))
-                (owns_after positions lent (used positions form arguments) (owns positions lent (lends positions form arguments) (without (x ∷ []) (own positions lent left rest))))
+            | inl one ↦ covered_owns (used positions form arguments) (owns lent (lends positions form arguments) (without (x ∷ []) (own positions lent left rest))) y one
+            | inr two ↦ covered_wider (lends positions form arguments) (owns lent (lends positions form arguments) (without (x ∷ []) (own positions lent left rest))) (owns lent (used positions form arguments) (owns lent (lends positions form arguments) (without (x ∷ []) (own positions lent left rest))))
+                (owns_after positions lent (used positions form arguments) (owns lent (lends positions form arguments) (without (x ∷ []) (own positions lent left rest))))
                 (covered_owns (lends positions form arguments) (without (x ∷ []) (own positions lent left rest))) y two
           ])
-          (covered_wider (without (x ∷ []) (needed later rest)) (without (x ∷ []) (own positions lent left rest)) (owns positions lent (used positions form arguments) (owns positions lent (lends positions form arguments) (without (x ∷ []) (own positions lent left rest))))
-          (λ y is. owns_after positions lent (used positions form arguments) (owns positions lent (lends positions form arguments) (without (x ∷ []) (own positions lent left rest))) y (owns_after positions lent (lends positions form arguments) (without (x ∷ []) (own positions lent left rest)) y is))
+          (covered_wider (without (x ∷ []) (needed later rest)) (without (x ∷ []) (own positions lent left rest)) (owns lent (used positions form arguments) (owns lent (lends positions form arguments) (without (x ∷ []) (own positions lent left rest))))
+          (λ y is. owns_after positions lent (used positions form arguments) (owns lent (lends positions form arguments) (without (x ∷ []) (own positions lent left rest))) y (owns_after positions lent (lends positions form arguments) (without (x ∷ []) (own positions lent left rest)) y is))
           (covered_without (x ∷ []) (needed later rest) (own positions lent left rest) (need_covered left later tail rest on.1 covered)))
       need_covered left later tail (use_of x rest) on covered = covered_one x (needed later rest) (own positions lent left rest) (need_covered left later tail rest on covered)
       need_covered left later tail (unpack x c fields rest) on covered =
@@ -240,7 +240,7 @@ module _ (positions : PositionTable) (source : List FunctionCode) (store : Store
       by_part (among_split (values_of frame.environment owned) stand.0 at (subst (λ vs. Among vs at) stand.1.0.owned among)) (frames_hold older cs stand.0 stand.1.1 at)
     where
       owned : List ℕ
-      owned = owns positions stand.1.0.lent stand.1.0.given (keeps positions stand.1.0.lent source frame.variable frame.rest frame.joins)
+      owned = owns stand.1.0.lent stand.1.0.given (keeps positions stand.1.0.lent source frame.variable frame.rest frame.joins)
 
       from_variable : (y : ℕ) → value_of frame.environment y ≡ place at → (is_among stand.1.0.given y ≡ true) ⊎ (is_among (keeps positions stand.1.0.lent source frame.variable frame.rest frame.joins) y ≡ true) → Among (held_for frame.variable frame.rest frame.joins frame.environment ++ frame.lent) at
       from_variable y named (inl one) =
@@ -267,33 +267,33 @@ module _ (positions : PositionTable) (source : List FunctionCode) (store : Store
       subst (λ vs. Reached store vs at) (sym stand.1.0.owned)
       (by_part (among_split (held_for frame.variable frame.rest frame.joins frame.environment ++ frame.lent) (held_by_frames older) at among) (frames_reach older cs stand.0 stand.1.1 at))
     where
-      abbrev_owned : List ℕ
-      abbrev_owned = owns positions stand.1.0.lent stand.1.0.given (keeps positions stand.1.0.lent source frame.variable frame.rest frame.joins)
+      owned : List ℕ
+      owned = owns stand.1.0.lent stand.1.0.given (keeps positions stand.1.0.lent source frame.variable frame.rest frame.joins)
 
-      by_variable : (y : ℕ) → value_of frame.environment y ≡ place at → (is_among stand.1.0.lent y ≡ true) ⊎ (is_among abbrev_owned y ≡ true) → Reached store (values_of frame.environment abbrev_owned ++ stand.0) at
+      by_variable : (y : ℕ) → value_of frame.environment y ≡ place at → (is_among stand.1.0.lent y ≡ true) ⊎ (is_among owned y ≡ true) → Reached store (values_of frame.environment owned ++ stand.0) at
       by_variable y named (inl one) =
-          reached_widen store stand.0 (values_of frame.environment abbrev_owned ++ stand.0) at (λ goal. among_back (values_of frame.environment abbrev_owned) stand.0 goal) (stand.1.0.reached y at one named)
+          reached_widen store stand.0 (values_of frame.environment owned ++ stand.0) at (λ goal. among_back (values_of frame.environment owned) stand.0 goal) (stand.1.0.reached y at one named)
       by_variable y named (inr two) =
-          ([], among_front (values_of frame.environment abbrev_owned) stand.0 at (among_values frame.environment abbrev_owned y at two named))
+          ([], among_front (values_of frame.environment owned) stand.0 at (among_values frame.environment owned y at two named))
 
-      by_held : Among (held_for frame.variable frame.rest frame.joins frame.environment) at ⊎ Among frame.lent at → Reached store (values_of frame.environment abbrev_owned ++ stand.0) at
+      by_held : Among (held_for frame.variable frame.rest frame.joins frame.environment) at ⊎ Among frame.lent at → Reached store (values_of frame.environment owned ++ stand.0) at
       by_held (inl here) =
-          let y = among_others frame.environment (needs positions stand.1.0.lent source frame.variable frame.rest frame.joins) (stand.1.0.lent ++ abbrev_owned) at
-          (part_all (needs positions stand.1.0.lent source frame.variable frame.rest frame.joins) (stand.1.0.lent ++ abbrev_owned)
-          (covered_wider positions stand.1.0.lent (needs positions stand.1.0.lent source frame.variable frame.rest frame.joins) (keeps positions stand.1.0.lent source frame.variable frame.rest frame.joins) abbrev_owned
+          let y = among_others frame.environment (needs positions stand.1.0.lent source frame.variable frame.rest frame.joins) (stand.1.0.lent ++ owned) at
+          (part_all (needs positions stand.1.0.lent source frame.variable frame.rest frame.joins) (stand.1.0.lent ++ owned)
+          (covered_wider positions stand.1.0.lent (needs positions stand.1.0.lent source frame.variable frame.rest frame.joins) (keeps positions stand.1.0.lent source frame.variable frame.rest frame.joins) owned
           (owns_after positions stand.1.0.lent stand.1.0.given (keeps positions stand.1.0.lent source frame.variable frame.rest frame.joins))
           (rest_covered positions stand.1.0.lent source frame.variable frame.rest frame.joins stand.1.0.rest stand.1.0.joins))) here in
-          by_variable y.0 y.1.1 (in_either stand.1.0.lent abbrev_owned y.0 y.1.0)
+          by_variable y.0 y.1.1 (in_either stand.1.0.lent owned y.0 y.1.0)
       by_held (inr there) =
-          let y = among_others frame.environment stand.1.0.given (stand.1.0.lent ++ abbrev_owned) at
-          (part_all stand.1.0.given (stand.1.0.lent ++ abbrev_owned) (covered_owns positions stand.1.0.lent stand.1.0.given (keeps positions stand.1.0.lent source frame.variable frame.rest frame.joins)))
+          let y = among_others frame.environment stand.1.0.given (stand.1.0.lent ++ owned) at
+          (part_all stand.1.0.given (stand.1.0.lent ++ owned) (covered_owns positions stand.1.0.lent stand.1.0.given (keeps positions stand.1.0.lent source frame.variable frame.rest frame.joins)))
           (one_among (values_of frame.environment stand.1.0.given) at (omega (arith, stand.1.0.lends at, among_one frame.lent at there))) in
-          by_variable y.0 y.1.1 (in_either stand.1.0.lent abbrev_owned y.0 y.1.0)
+          by_variable y.0 y.1.1 (in_either stand.1.0.lent owned y.0 y.1.0)
 
-      by_part : Among (held_for frame.variable frame.rest frame.joins frame.environment ++ frame.lent) at ⊎ Among (held_by_frames older) at → (Among (held_by_frames older) at → Reached store stand.0 at) → Reached store (values_of frame.environment abbrev_owned ++ stand.0) at
+      by_part : Among (held_for frame.variable frame.rest frame.joins frame.environment ++ frame.lent) at ⊎ Among (held_by_frames older) at → (Among (held_by_frames older) at → Reached store stand.0 at) → Reached store (values_of frame.environment owned ++ stand.0) at
       by_part (inl here) later = by_held (among_split (held_for frame.variable frame.rest frame.joins frame.environment) frame.lent at here)
       by_part (inr there) later =
-          reached_widen store stand.0 (values_of frame.environment abbrev_owned ++ stand.0) at (λ goal. among_back (values_of frame.environment abbrev_owned) stand.0 goal) (later there)
+          reached_widen store stand.0 (values_of frame.environment owned ++ stand.0) at (λ goal. among_back (values_of frame.environment owned) stand.0 goal) (later there)
 
 -- At a construction the counted cells are the live places.
 module _ (positions : PositionTable) (source : List FunctionCode) (heap : Heap) (lent : List ℕ) (below : List Value) (frames : List CallFrame) (cs : List CountedFrame)

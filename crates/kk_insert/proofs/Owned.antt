@@ -77,43 +77,43 @@ lends_part positions (Call f) xs y is = part_at (is_lent positions f) 0 xs y is
 -- ---- what is owned before variables are used up
 
 module _ (positions : PositionTable) (lent : List ℕ) where
-  pub owns_either : (xs after : List ℕ) (y : ℕ) → is_among (owns positions lent xs after) y ≡ true → (is_among xs y ≡ true) ⊎ (is_among after y ≡ true)
+  pub owns_either : (xs after : List ℕ) (y : ℕ) → is_among (owns lent xs after) y ≡ true → (is_among xs y ≡ true) ⊎ (is_among after y ≡ true)
   owns_either xs after y is = either (before_either (without lent xs) after y is)
     where
       either : (is_among (without lent xs) y ≡ true) ⊎ (is_among after y ≡ true) → (is_among xs y ≡ true) ⊎ (is_among after y ≡ true)
       either (inl here) = inl (filter_in (λ x. not (is_among lent x)) xs y here)
       either (inr there) = inr there
 
-  pub owns_part : (xs after bound : List ℕ) → Part xs bound → Part after bound → Part (owns positions lent xs after) bound
+  pub owns_part : (xs after bound : List ℕ) → Part xs bound → Part after bound → Part (owns lent xs after) bound
   owns_part xs after bound one two y is = elim (owns_either xs after y is) [ inl here ↦ one y here | inr there ↦ two y there ]
 
-  pub owns_clear : (xs after : List ℕ) → Clear after lent → Clear (owns positions lent xs after) lent
+  pub owns_clear : (xs after : List ℕ) → Clear after lent → Clear (owns lent xs after) lent
   owns_clear xs after clear y is =
       elim (before_either (without lent xs) after y is) [ inl here ↦ without_clear lent xs y here | inr there ↦ clear y there ]
 
-  pub owns_apart : (xs after : List ℕ) → AreApart after → AreApart (owns positions lent xs after)
+  pub owns_apart : (xs after : List ℕ) → AreApart after → AreApart (owns lent xs after)
   owns_apart xs after apart = apart_before (without lent xs) after apart
 
   -- a variable that is not lent, and is used up, is owned
-  pub in_owns : (xs after : List ℕ) (y : ℕ) → is_among xs y ≡ true → is_among lent y ≡ false → is_among (owns positions lent xs after) y ≡ true
+  pub in_owns : (xs after : List ℕ) (y : ℕ) → is_among xs y ≡ true → is_among lent y ≡ false → is_among (owns lent xs after) y ≡ true
   in_owns xs after y is unlent = before_front (without lent xs) after y (in_without lent xs y is unlent)
 
-  pub owns_after : (xs after : List ℕ) → Part after (owns positions lent xs after)
+  pub owns_after : (xs after : List ℕ) → Part after (owns lent xs after)
   owns_after xs after y is = before_back (without lent xs) after y is
 
   -- the dups of uses are of lent variables and of owned ones
-  pub wants_in : (xs after : List ℕ) → Part (wants positions lent xs after) (lent ++ owns positions lent xs after)
+  pub wants_in : (xs after : List ℕ) → Part (wants lent xs after) (lent ++ owns lent xs after)
   wants_in xs after y is = either (in_either (common lent xs) (extra (without lent xs) after) y is)
     where
-      either : (is_among (common lent xs) y ≡ true) ⊎ (is_among (extra (without lent xs) after) y ≡ true) → is_among (lent ++ owns positions lent xs after) y ≡ true
-      either (inl here) = in_front lent (owns positions lent xs after) y (filter_passes (is_among lent) xs y here)
-      either (inr there) = in_back lent (owns positions lent xs after) y (extra_in (without lent xs) after y there)
+      either : (is_among (common lent xs) y ≡ true) ⊎ (is_among (extra (without lent xs) after) y ≡ true) → is_among (lent ++ owns lent xs after) y ≡ true
+      either (inl here) = in_front lent (owns lent xs after) y (filter_passes (is_among lent) xs y here)
+      either (inr there) = in_back lent (owns lent xs after) y (extra_in (without lent xs) after y there)
 
   -- with their dups the uses leave what is to be left
-  pub wants_even : (xs after : List ℕ) → AreEven (wants positions lent xs after ++ owns positions lent xs after) (xs ++ after)
+  pub wants_even : (xs after : List ℕ) → AreEven (wants lent xs after ++ owns lent xs after) (xs ++ after)
   wants_even xs after = λ weight. omega (
     arith,
-    total_append weight (wants positions lent xs after) (owns positions lent xs after),
+    total_append weight (wants lent xs after) (owns lent xs after),
     total_append weight (common lent xs) (extra (without lent xs) after),
     total_before weight (without lent xs) after,
     total_parts weight lent xs,
@@ -146,7 +146,7 @@ module _ (positions : PositionTable) (lent : List ℕ) where
     own_part left bound (case x decisions arms) fine part =
         owns_part (x ∷ []) (own_arms positions lent left arms) bound (λ y is. subst (λ z. is_among bound z ≡ true) (one_only x y is) fine.0) (own_arms_part left bound arms fine.1 part)
     own_part left bound (compute x form arguments rest) fine part =
-        owns_part (used positions form arguments) (owns positions lent (lends positions form arguments) (without (x ∷ []) (own positions lent left rest))) bound (λ y is. fine.0 y (used_part positions form arguments y is))
+        owns_part (used positions form arguments) (owns lent (lends positions form arguments) (without (x ∷ []) (own positions lent left rest))) bound (λ y is. fine.0 y (used_part positions form arguments y is))
         (owns_part (lends positions form arguments) (without (x ∷ []) (own positions lent left rest)) bound (λ y is. fine.0 y (lends_part positions form arguments y is))
         (rest_part x (own positions lent left rest) bound (own_part left (x ∷ bound) rest fine.1.1.1 (λ y is. among_next x y bound (part y is)))))
     own_part left bound (use_of x rest) fine part =
@@ -172,7 +172,7 @@ module _ (positions : PositionTable) (lent : List ℕ) where
         (λ y is. elim (before_either (own positions lent left positive) (own positions lent left negative) y is) [ inl here ↦ own_clear left positive clear y here | inr there ↦ own_clear left negative clear y there ])
     own_clear left (case x decisions arms) clear = owns_clear (x ∷ []) (own_arms positions lent left arms) (own_arms_clear left arms clear)
     own_clear left (compute x form arguments rest) clear =
-        owns_clear (used positions form arguments) (owns positions lent (lends positions form arguments) (without (x ∷ []) (own positions lent left rest)))
+        owns_clear (used positions form arguments) (owns lent (lends positions form arguments) (without (x ∷ []) (own positions lent left rest)))
         (owns_clear (lends positions form arguments) (without (x ∷ []) (own positions lent left rest))
         (λ y is. own_clear left rest clear y (filter_in (λ z. not (is_among (x ∷ []) z)) (own positions lent left rest) y is)))
     own_clear left (use_of x rest) clear = owns_clear (x ∷ []) (own positions lent left rest) (own_clear left rest clear)
@@ -196,7 +196,7 @@ module _ (positions : PositionTable) (lent : List ℕ) where
         owns_apart (x ∷ []) (before (own positions lent left positive) (own positions lent left negative)) (apart_before (own positions lent left positive) (own positions lent left negative) (own_apart left negative apart))
     own_apart left (case x decisions arms) apart = owns_apart (x ∷ []) (own_arms positions lent left arms) (own_arms_apart left arms apart)
     own_apart left (compute x form arguments rest) apart =
-        owns_apart (used positions form arguments) (owns positions lent (lends positions form arguments) (without (x ∷ []) (own positions lent left rest)))
+        owns_apart (used positions form arguments) (owns lent (lends positions form arguments) (without (x ∷ []) (own positions lent left rest)))
         (owns_apart (lends positions form arguments) (without (x ∷ []) (own positions lent left rest)) (apart_filter (λ z. not (is_among (x ∷ []) z)) (own positions lent left rest) (own_apart left rest apart)))
     own_apart left (use_of x rest) apart = owns_apart (x ∷ []) (own positions lent left rest) (own_apart left rest apart)
     own_apart left (unpack x c fields rest) apart =

@@ -90,15 +90,15 @@ module _ (setting : CountedSetting) (P : CountedState → Type 0) (environment :
       drops_path (without now (x ∷ [])) now code heap (sound_even environment (x ∷ without (x ∷ []) now) (without now (x ∷ []) ++ now) below heap (landing_even x now apart) sound) next
 
   pub back_path : (positions : PositionTable) (lent given : List ℕ) (x : ℕ) (now : List ℕ) (code : Counted) (heap : Heap) → AreApart now
-      → IsSound (values_of environment (x ∷ owns positions lent given (without (x ∷ []) now)) ++ below) heap → GoesOn code now heap → From (back positions lent given x now code) heap
+      → IsSound (values_of environment (x ∷ owns lent given (without (x ∷ []) now)) ++ below) heap → GoesOn code now heap → From (back lent given x now code) heap
   back_path positions lent given x now code heap apart sound next =
-      drops_path (without (without (x ∷ []) now) (owns positions lent given (without (x ∷ []) now))) (x ∷ without (x ∷ []) now) (dropping (x ∷ []) now code) heap
-      (sound_even environment (x ∷ owns positions lent given (without (x ∷ []) now)) (without (without (x ∷ []) now) (owns positions lent given (without (x ∷ []) now)) ++ (x ∷ without (x ∷ []) now)) below heap
+      drops_path (without (without (x ∷ []) now) (owns lent given (without (x ∷ []) now))) (x ∷ without (x ∷ []) now) (dropping (x ∷ []) now code) heap
+      (sound_even environment (x ∷ owns lent given (without (x ∷ []) now)) (without (without (x ∷ []) now) (owns lent given (without (x ∷ []) now)) ++ (x ∷ without (x ∷ []) now)) below heap
       (λ weight. omega (
         arith,
-        dropping_even (owns positions lent given (without (x ∷ []) now)) (without (x ∷ []) now) (owns_apart positions lent given (without (x ∷ []) now) (apart_filter (λ z. not (is_among (x ∷ []) z)) now apart)) (apart_filter (λ z. not (is_among (x ∷ []) z)) now apart) (owns_after positions lent given (without (x ∷ []) now)) weight,
-        total_append weight (without (without (x ∷ []) now) (owns positions lent given (without (x ∷ []) now))) (without (x ∷ []) now),
-        total_append weight (without (without (x ∷ []) now) (owns positions lent given (without (x ∷ []) now))) (x ∷ without (x ∷ []) now),
+        dropping_even (owns lent given (without (x ∷ []) now)) (without (x ∷ []) now) (owns_apart positions lent given (without (x ∷ []) now) (apart_filter (λ z. not (is_among (x ∷ []) z)) now apart)) (apart_filter (λ z. not (is_among (x ∷ []) z)) now apart) (owns_after positions lent given (without (x ∷ []) now)) weight,
+        total_append weight (without (without (x ∷ []) now) (owns lent given (without (x ∷ []) now))) (without (x ∷ []) now),
+        total_append weight (without (without (x ∷ []) now) (owns lent given (without (x ∷ []) now))) (x ∷ without (x ∷ []) now),
       ))
       sound)
       (λ after cells sound_then. landing_path x now code after apart sound_then (λ last cells_then sound_last. next last (cells_then ∙ cells) sound_last))

@@ -51,7 +51,7 @@ fields_even now fields apart_now apart_fields =
     λ weight. omega (arith, total_common weight fields now apart_fields apart_now, total_append weight (common now fields) (without fields now))
 
 -- what is used and is owned after that anyhow
-pub owns_kept : (positions : PositionTable) (lent xs after : List ℕ) → ((y : ℕ) → is_among xs y ≡ true → (is_among lent y ≡ true) ⊎ (is_among after y ≡ true)) → owns positions lent xs after ≡ after
+pub owns_kept : (positions : PositionTable) (lent xs after : List ℕ) → ((y : ℕ) → is_among xs y ≡ true → (is_among lent y ≡ true) ⊎ (is_among after y ≡ true)) → owns lent xs after ≡ after
 owns_kept positions lent [] after kept = refl
 owns_kept positions lent (x ∷ xs) after kept =
     by_test (is_among lent x) refl (owns_kept positions lent xs after (λ y is. kept y (among_next x y xs is)))
@@ -66,7 +66,7 @@ owns_kept positions lent (x ∷ xs) after kept =
         there (inr two) = two
 
 -- a variable that is used up, and is not owned after that
-pub owns_new : (positions : PositionTable) (lent : List ℕ) (x : ℕ) (after : List ℕ) → is_among lent x ≡ false → is_among after x ≡ false → owns positions lent (x ∷ []) after ≡ x ∷ after
+pub owns_new : (positions : PositionTable) (lent : List ℕ) (x : ℕ) (after : List ℕ) → is_among lent x ≡ false → is_among after x ≡ false → owns lent (x ∷ []) after ≡ x ∷ after
 owns_new positions lent x after unlent new =
     ap (λ t. before (if not t then x ∷ [] else []) after) unlent ∙ ap (λ b. if b then after else x ∷ after) new
 
@@ -142,16 +142,16 @@ module _ (positions : PositionTable) (source : List FunctionCode) (functions : L
       even_spent [] left (without now (x ∷ []) ++ now) (x ∷ without (x ∷ []) now) (drops (without now (x ∷ [])) code) (landing_even x now apart) (spends_drops (without now (x ∷ [])) left now code s)
 
   spends_back : (given : List ℕ) (x : ℕ) (now : List ℕ) (left : Option (List ℕ)) (code : Counted.Counted) → AreApart now → Spent [] left now code
-      → Spent [] left (x ∷ owns positions lent given (without (x ∷ []) now)) (back positions lent given x now code)
+      → Spent [] left (x ∷ owns lent given (without (x ∷ []) now)) (back lent given x now code)
   spends_back given x now left code apart s =
-      even_spent [] left (without (without (x ∷ []) now) (owns positions lent given (without (x ∷ []) now)) ++ (x ∷ without (x ∷ []) now)) (x ∷ owns positions lent given (without (x ∷ []) now)) (back positions lent given x now code)
+      even_spent [] left (without (without (x ∷ []) now) (owns lent given (without (x ∷ []) now)) ++ (x ∷ without (x ∷ []) now)) (x ∷ owns lent given (without (x ∷ []) now)) (back lent given x now code)
       (λ weight. omega (
         arith,
-        dropping_even (owns positions lent given (without (x ∷ []) now)) (without (x ∷ []) now) (owns_apart positions lent given (without (x ∷ []) now) apart_rest) apart_rest (owns_after positions lent given (without (x ∷ []) now)) weight,
-        total_append weight (without (without (x ∷ []) now) (owns positions lent given (without (x ∷ []) now))) (without (x ∷ []) now),
-        total_append weight (without (without (x ∷ []) now) (owns positions lent given (without (x ∷ []) now))) (x ∷ without (x ∷ []) now),
+        dropping_even (owns lent given (without (x ∷ []) now)) (without (x ∷ []) now) (owns_apart positions lent given (without (x ∷ []) now) apart_rest) apart_rest (owns_after positions lent given (without (x ∷ []) now)) weight,
+        total_append weight (without (without (x ∷ []) now) (owns lent given (without (x ∷ []) now))) (without (x ∷ []) now),
+        total_append weight (without (without (x ∷ []) now) (owns lent given (without (x ∷ []) now))) (x ∷ without (x ∷ []) now),
       ))
-      (spends_drops (without (without (x ∷ []) now) (owns positions lent given (without (x ∷ []) now))) left (x ∷ without (x ∷ []) now) (dropping (x ∷ []) now code) (spends_landing x now left code apart s))
+      (spends_drops (without (without (x ∷ []) now) (owns lent given (without (x ∷ []) now))) left (x ∷ without (x ∷ []) now) (dropping (x ∷ []) now code) (spends_landing x now left code apart s))
     where
       apart_rest : AreApart (without (x ∷ []) now)
       apart_rest = apart_filter (λ z. not (is_among (x ∷ []) z)) now apart
@@ -167,7 +167,7 @@ module _ (positions : PositionTable) (source : List FunctionCode) (functions : L
     not_field : is_among fields x ≡ false
     not_field = clear_back fields bound fresh x there
 
-    kept : (is_among lent x || is_among now x) ≡ true → owns positions lent (x ∷ []) (without fields now) ≡ without fields now
+    kept : (is_among lent x || is_among now x) ≡ true → owns lent (x ∷ []) (without fields now) ≡ without fields now
     kept stays = owns_kept positions lent (x ∷ []) (without fields now) (λ y is. subst (λ z. (is_among lent z ≡ true) ⊎ (is_among (without fields now) z ≡ true)) (one_only x y is) (either (or_cases (is_among lent x) (is_among now x) stays)))
       where
         either : (is_among lent x ≡ true) ⊎ (is_among now x ≡ true) → (is_among lent x ≡ true) ⊎ (is_among (without fields now) x ≡ true)
@@ -219,10 +219,10 @@ module _ (positions : PositionTable) (source : List FunctionCode) (functions : L
         unlent_fields (inl f) = no_both (AreFresh fields lent) (is_among lent x) f.0 unlent
         unlent_fields (inr f) = clear_fresh fields lent f.1
 
-    spends_opening : Spent [] left (owns positions lent (x ∷ []) (without fields now)) (opening positions lent (is_among lent x || is_among now x) x c fields (common now fields) rest)
+    spends_opening : Spent [] left (owns lent (x ∷ []) (without fields now)) (opening (is_among lent x || is_among now x) x c fields (common now fields) rest)
     spends_opening = by_tests (is_among lent x) refl (is_among now x) refl
       where
-        by_tests : (t : Bool) → is_among lent x ≡ t → (u : Bool) → is_among now x ≡ u → Spent [] left (owns positions lent (x ∷ []) (without fields now)) (if t || u then Counted.read x c fields (dups (common now fields) rest) else Counted.open_cell x c fields (common now fields) rest)
+        by_tests : (t : Bool) → is_among lent x ≡ t → (u : Bool) → is_among now x ≡ u → Spent [] left (owns lent (x ∷ []) (without fields now)) (if t || u then Counted.read x c fields (dups (common now fields) rest) else Counted.open_cell x c fields (common now fields) rest)
         by_tests true one u two =
             let stays : (is_among lent x || is_among now x) ≡ true = or_left (is_among lent x) (is_among now x) one in
             subst (λ o. Spent [] left o (Counted.read x c fields (dups (common now fields) rest))) (sym (kept stays)) (spends_read stays)
@@ -248,8 +248,8 @@ module _ (positions : PositionTable) (source : List FunctionCode) (functions : L
   fits_form (Call f) arguments takes = as_many f arguments takes
 
   -- one variable that is looked at
-  pub looked_at : (x : ℕ) (after : List ℕ) → is_among (lent ++ owns positions lent (x ∷ []) after) x ≡ true
-  looked_at x after = lent_arguments lent (owns positions lent (x ∷ []) after) (x ∷ []) (λ y is unlent. in_owns positions lent (x ∷ []) after y is unlent) x (among_first x [])
+  pub looked_at : (x : ℕ) (after : List ℕ) → is_among (lent ++ owns lent (x ∷ []) after) x ≡ true
+  looked_at x after = lent_arguments lent (owns lent (x ∷ []) after) (x ∷ []) (λ y is unlent. in_owns positions lent (x ∷ []) after y is unlent) x (among_first x [])
 
   pub no_self : (x : ℕ) (now : List ℕ) → is_among (without (x ∷ []) now) x ≡ false
   no_self x now = false_if (is_among (without (x ∷ []) now) x) (λ is. no_both ⊥ (is_among (x ∷ []) x) (among_first x []) (without_clear (x ∷ []) now x is))
@@ -257,22 +257,22 @@ module _ (positions : PositionTable) (source : List FunctionCode) (functions : L
   spends_compute : (x : ℕ) (form : Form) (arguments now bound : List ℕ) (left : Option (List ℕ)) (rest : Counted.Counted)
       → Part arguments bound → is_among bound x ≡ false → is_among lent x ≡ false → FormTakes positions source form arguments
       → AreApart now → Spent [] left now rest
-      → Spent [] left (owns positions lent (used positions form arguments) (owns positions lent (lends positions form arguments) (without (x ∷ []) now)))
-      (dups (wants positions lent (used positions form arguments) (owns positions lent (lends positions form arguments) (without (x ∷ []) now)))
-      (Counted.compute x form arguments (back positions lent (lends positions form arguments) x now rest)))
+      → Spent [] left (owns lent (used positions form arguments) (owns lent (lends positions form arguments) (without (x ∷ []) now)))
+      (dups (wants lent (used positions form arguments) (owns lent (lends positions form arguments) (without (x ∷ []) now)))
+      (Counted.compute x form arguments (back lent (lends positions form arguments) x now rest)))
   spends_compute x form arguments now bound left rest part new unlent takes apart s =
-      spends_dups (wants positions lent (used positions form arguments) (owns positions lent (lends positions form arguments) (without (x ∷ []) now))) [] left (owns positions lent (used positions form arguments) (owns positions lent (lends positions form arguments) (without (x ∷ []) now)))
-      (Counted.compute x form arguments (back positions lent (lends positions form arguments) x now rest))
-      (wants_in positions lent (used positions form arguments) (owns positions lent (lends positions form arguments) (without (x ∷ []) now))) (
-        owns positions lent (lends positions form arguments) (without (x ∷ []) now),
+      spends_dups (wants lent (used positions form arguments) (owns lent (lends positions form arguments) (without (x ∷ []) now))) [] left (owns lent (used positions form arguments) (owns lent (lends positions form arguments) (without (x ∷ []) now)))
+      (Counted.compute x form arguments (back lent (lends positions form arguments) x now rest))
+      (wants_in positions lent (used positions form arguments) (owns lent (lends positions form arguments) (without (x ∷ []) now))) (
+        owns lent (lends positions form arguments) (without (x ∷ []) now),
         (
-          λ weight. wants_even positions lent (used positions form arguments) (owns positions lent (lends positions form arguments) (without (x ∷ []) now)) weight ∙ ap (λ ys. total weight (ys ++ (owns positions lent (lends positions form arguments) (without (x ∷ []) now)))) (sym (used_same positions functions form arguments)),
+          λ weight. wants_even positions lent (used positions form arguments) (owns lent (lends positions form arguments) (without (x ∷ []) now)) weight ∙ ap (λ ys. total weight (ys ++ (owns lent (lends positions form arguments) (without (x ∷ []) now)))) (sym (used_same positions functions form arguments)),
           (
-            subst (λ ys. AllAmong ys (lent ++ (owns positions lent (lends positions form arguments) (without (x ∷ []) now)))) (sym (lends_same positions functions form arguments))
-                (part_all (lends positions form arguments) (lent ++ (owns positions lent (lends positions form arguments) (without (x ∷ []) now))) (lent_arguments lent (owns positions lent (lends positions form arguments) (without (x ∷ []) now)) (lends positions form arguments) (λ y is other. in_owns positions lent (lends positions form arguments) (without (x ∷ []) now) y is other))),
+            subst (λ ys. AllAmong ys (lent ++ (owns lent (lends positions form arguments) (without (x ∷ []) now)))) (sym (lends_same positions functions form arguments))
+                (part_all (lends positions form arguments) (lent ++ (owns lent (lends positions form arguments) (without (x ∷ []) now))) (lent_arguments lent (owns lent (lends positions form arguments) (without (x ∷ []) now)) (lends positions form arguments) (λ y is other. in_owns positions lent (lends positions form arguments) (without (x ∷ []) now) y is other))),
             (
               fits_form form arguments takes,
-              (false_if (is_among (owns positions lent (lends positions form arguments) (without (x ∷ []) now)) x) (λ is. never (owns_either positions lent (lends positions form arguments) (without (x ∷ []) now) x is)), (unlent, spends_back (lends positions form arguments) x now left rest apart s)),
+              (false_if (is_among (owns lent (lends positions form arguments) (without (x ∷ []) now)) x) (λ is. never (owns_either positions lent (lends positions form arguments) (without (x ∷ []) now) x is)), (unlent, spends_back (lends positions form arguments) x now left rest apart s)),
             ),
           ),
         ),
@@ -288,10 +288,10 @@ module _ (positions : PositionTable) (source : List FunctionCode) (functions : L
     pub spends : (code : Code) (bound : List ℕ) (left : Option (List ℕ)) → IsFine lent bound code → LendsOn positions source lent (at_tail left) code
         → Part (left_by left) bound → AreApart (left_by left) → Spent [] left (own positions lent (left_by left) code) (insert positions lent (left_by left) code)
     spends (give x) bound left fine on part apart =
-        spends_dups (wants positions lent (x ∷ []) (left_by left)) [] left (owns positions lent (x ∷ []) (left_by left)) (Counted.give x) (wants_in positions lent (x ∷ []) (left_by left))
+        spends_dups (wants lent (x ∷ []) (left_by left)) [] left (owns lent (x ∷ []) (left_by left)) (Counted.give x) (wants_in positions lent (x ∷ []) (left_by left))
         (wants_even positions lent (x ∷ []) (left_by left))
     spends (tail_call f arguments) bound None fine on part apart =
-        spends_dups (wants positions lent (used positions (Call f) arguments) []) [] None (owns positions lent (used positions (Call f) arguments) []) (Counted.tail_call f arguments) (wants_in positions lent (used positions (Call f) arguments) [])
+        spends_dups (wants lent (used positions (Call f) arguments) []) [] None (owns lent (used positions (Call f) arguments) []) (Counted.tail_call f arguments) (wants_in positions lent (used positions (Call f) arguments) [])
         (refl, (as_many f arguments on.1.1, (on.1.0, λ weight. wants_even positions lent (used positions (Call f) arguments) [] weight ∙ omega (arith, total_append weight (used positions (Call f) arguments) []))))
     spends (tail_call f arguments) bound (Some left) fine on part apart = absurd (cc)
     spends (branch x positive negative) bound left fine on part apart = (
@@ -329,7 +329,7 @@ module _ (positions : PositionTable) (source : List FunctionCode) (functions : L
         fine.0 fine.1.0 fine.1.1.0 on.0 (own_apart positions lent (left_by left) rest apart)
         (spends rest (x ∷ bound) left fine.1.1.1 on.1 (λ y is. among_next x y bound (part y is)) apart)
     spends (use_of x rest) bound left fine on part apart =
-        spends_dropping (owns positions lent (x ∷ []) (own positions lent (left_by left) rest)) (own positions lent (left_by left) rest) left (insert positions lent (left_by left) rest)
+        spends_dropping (owns lent (x ∷ []) (own positions lent (left_by left) rest)) (own positions lent (left_by left) rest) left (insert positions lent (left_by left) rest)
         (own_apart positions lent (left_by left) (use_of x rest) apart) (own_apart positions lent (left_by left) rest apart) (owns_after positions lent (x ∷ []) (own positions lent (left_by left) rest))
         (spends rest bound left fine.1 on part apart)
     spends (unpack x c fields rest) bound left fine on part apart =

@@ -82,7 +82,7 @@ module _ (positions : PositionTable) (source : List FunctionCode) where
   image_frame lent given frame =
       record {
         variable = frame.variable;
-        rest = back positions lent given frame.variable (own positions lent (left_by (left_of lent frame.joins)) frame.rest) (insert positions lent (left_by (left_of lent frame.joins)) frame.rest);
+        rest = back lent given frame.variable (own positions lent (left_by (left_of lent frame.joins)) frame.rest) (insert positions lent (left_by (left_of lent frame.joins)) frame.rest);
         joins = image_joins lent frame.joins;
         environment = frame.environment;
       }
@@ -95,7 +95,7 @@ module _ (positions : PositionTable) (source : List FunctionCode) where
     pub rest : RestOk lent (left_of lent frame.joins) frame.variable frame.rest
     pub new : is_among given frame.variable ≡ false
     pub joins : JoinsOk lent frame.joins
-    pub owned : below ≡ values_of frame.environment (owns positions lent given (without (frame.variable ∷ []) (own positions lent (left_by (left_of lent frame.joins)) frame.rest))) ++ beneath
+    pub owned : below ≡ values_of frame.environment (owns lent given (without (frame.variable ∷ []) (own positions lent (left_by (left_of lent frame.joins)) frame.rest))) ++ beneath
     pub lends : (q : ℕ) → refs frame.lent q ≡ refs (values_of frame.environment given) q
     pub reached : AreReached store beneath frame.environment lent
 

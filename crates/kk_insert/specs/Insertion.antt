@@ -44,6 +44,12 @@ drops (x ∷ xs) rest = Counted.drop x (drops xs rest)
 abbrev pub dropping : (all now : List ℕ) → Counted.Counted → Counted.Counted
 dropping all now code = drops (without now all) code
 
+-- An opening. The cell stays where its variable is lent or is used later, and the fields in use get a reference more; else
+-- the variable is given up.
+abbrev pub opening : Bool → ℕ → ℕ → List ℕ → List ℕ → Counted.Counted → Counted.Counted
+opening stays x c fields in_use rest =
+    if stays then Counted.read x c fields (dups in_use rest) else Counted.open_cell x c fields in_use rest
+
 -- ---- the lent variables of a code: those that are lent before, and the fields of cells that lent variables name
 
 abbrev mutual
@@ -61,6 +67,22 @@ abbrev mutual
   lent_in_arms lent no_arm = lent
   lent_in_arms lent (arm pattern body rest) = lent_in_arms (lent_in lent body) rest
 
+-- ---- by the lent variables of the function
+
+module _ (lent : List ℕ) where
+  -- what is owned before variables are used up, where `after` is owned then
+  abbrev pub owns : List ℕ → List ℕ → List ℕ
+  owns xs after = before (without lent xs) after
+
+  -- the uses that take a dup: those of lent variables, and those that are not the last ones
+  abbrev pub wants : List ℕ → List ℕ → List ℕ
+  wants xs after = common lent xs ++ extra (without lent xs) after
+
+  -- Behind a form, where `now` is owned later: what was only lent to it is dropped, and its value where nothing uses it.
+  abbrev pub back : List ℕ → ℕ → List ℕ → Counted.Counted → Counted.Counted
+  back given x now rest =
+      dropping (owns given (without (x ∷ []) now)) (without (x ∷ []) now) (dropping (x ∷ []) now rest)
+
 module _ (positions : PositionTable) where
   -- the arguments that a form uses up, and those that it is lent
   abbrev pub used : Form → List ℕ → List ℕ
@@ -73,50 +95,29 @@ module _ (positions : PositionTable) where
   abbrev pub lent_of : ℕ → FunctionCode → List ℕ
   lent_of f function = lent_in (at_positions (is_lent positions f) 0 (numbers_from 0 function.parameters)) function.body
 
-  -- ---- by the lent variables of the function
-
   module _ (lent : List ℕ) where
-    -- what is owned before variables are used up, where `after` is owned then
-    abbrev pub owns : List ℕ → List ℕ → List ℕ
-    owns xs after = before (without lent xs) after
-
-    -- the uses that take a dup: those of lent variables, and those that are not the last ones
-    abbrev pub wants : List ℕ → List ℕ → List ℕ
-    wants xs after = common lent xs ++ extra (without lent xs) after
-
     -- What a code owns at its start, where `left` is owned at its end: what it uses up or is to lend, and what it leaves.
     abbrev mutual
       pub own : List ℕ → Code → List ℕ
-      own left (give x) = owns (x ∷ []) left
-      own left (tail_call f arguments) = owns (used (Call f) arguments) left
-      own left (branch x positive negative) = owns (x ∷ []) (before (own left positive) (own left negative))
-      own left (case x decisions arms) = owns (x ∷ []) (own_arms left arms)
+      own left (give x) = owns lent (x ∷ []) left
+      own left (tail_call f arguments) = owns lent (used (Call f) arguments) left
+      own left (branch x positive negative) = owns lent (x ∷ []) (before (own left positive) (own left negative))
+      own left (case x decisions arms) = owns lent (x ∷ []) (own_arms left arms)
       own left (compute x form arguments rest) =
-          owns (used form arguments) (owns (lends form arguments) (without (x ∷ []) (own left rest)))
-      own left (use_of x rest) = owns (x ∷ []) (own left rest)
-      own left (unpack x c fields rest) = owns (x ∷ []) (without fields (own left rest))
+          owns lent (used form arguments) (owns lent (lends form arguments) (without (x ∷ []) (own left rest)))
+      own left (use_of x rest) = owns lent (x ∷ []) (own left rest)
+      own left (unpack x c fields rest) = owns lent (x ∷ []) (without fields (own left rest))
       own left (inside x block rest) = own (without (x ∷ []) (own left rest)) block
 
       pub own_arms : List ℕ → Arms → List ℕ
       own_arms left no_arm = left
       own_arms left (arm pattern body rest) = before (own left body) (own_arms left rest)
 
-    -- Behind a form, where `now` is owned later: what was only lent to it is dropped, and its value where nothing uses it.
-    abbrev pub back : List ℕ → ℕ → List ℕ → Counted.Counted → Counted.Counted
-    back given x now rest =
-        dropping (owns given (without (x ∷ []) now)) (without (x ∷ []) now) (dropping (x ∷ []) now rest)
-
-    -- An opening. The cell stays where its variable is lent or is used later, and the fields in use get a reference more; else
-    -- the variable is given up.
-    abbrev pub opening : Bool → ℕ → ℕ → List ℕ → List ℕ → Counted.Counted → Counted.Counted
-    opening stays x c fields in_use rest =
-        if stays then Counted.read x c fields (dups in_use rest) else Counted.open_cell x c fields in_use rest
-
     -- the code with its dups and drops, where `left` is owned at its end
     abbrev mutual
       pub insert : List ℕ → Code → Counted.Counted
-      insert left (give x) = dups (wants (x ∷ []) left) (Counted.give x)
-      insert left (tail_call f arguments) = dups (wants (used (Call f) arguments) left) (Counted.tail_call f arguments)
+      insert left (give x) = dups (wants lent (x ∷ []) left) (Counted.give x)
+      insert left (tail_call f arguments) = dups (wants lent (used (Call f) arguments) left) (Counted.tail_call f arguments)
       insert left (branch x positive negative) =
           Counted.branch x
           (dropping (own left (branch x positive negative)) (own left positive) (insert left positive))
@@ -124,8 +125,8 @@ module _ (positions : PositionTable) where
       insert left (case x decisions arms) =
           Counted.case x decisions (insert_arms left (own left (case x decisions arms)) arms)
       insert left (compute x form arguments rest) =
-          dups (wants (used form arguments) (owns (lends form arguments) (without (x ∷ []) (own left rest))))
-          (Counted.compute x form arguments (back (lends form arguments) x (own left rest) (insert left rest)))
+          dups (wants lent (used form arguments) (owns lent (lends form arguments) (without (x ∷ []) (own left rest))))
+          (Counted.compute x form arguments (back lent (lends form arguments) x (own left rest) (insert left rest)))
       insert left (use_of x rest) = dropping (own left (use_of x rest)) (own left rest) (insert left rest)
       insert left (unpack x c fields rest) =
           opening (is_among lent x || is_among (own left rest) x) x c fields (common (own left rest) fields) (insert left rest)
