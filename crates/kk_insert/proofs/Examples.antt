@@ -1,5 +1,6 @@
 -- Two programs, inserted and run on both machines: one lends a list, and one has a nested pattern.
-use Rattle.std.proofs.Common.{◌≡◌, pos, List, [], ◌∷◌, None, refl}
+use Rattle.std.proofs.Common.{◌≡◌, ℕ, zero, suc, pos, List, [], ◌∷◌, Option, Some, None, arith, refl, sym, ap, subst}
+use Rattle.std.specs.Prelude.{slice_get}
 use Rattle.std.specs.Int.{int_wrap}
 use Rattle.std.specs.Fmt.{digits}
 use Rattle.kk_base.specs.Machines.{trace, state}
@@ -18,10 +19,12 @@ use Rattle.kk_core.specs.CoreMachine.{core_machine}
 use Rattle.kk_core.specs.Decisions.{NodeTree, chooses, tests}
 use Rattle.kk_counted.specs.CountedCodes as Counted
 use Rattle.kk_counted.specs.Heaps.{busy}
-use Rattle.kk_counted.specs.CountedStates.{CountedSetting, CountedState, stopped, counted_first_state}
+use Rattle.kk_counted.specs.CountedStates.{CountedState, stopped, counted_first_state}
 use Rattle.kk_counted.specs.CountedMachine.{counted_machine}
 use Rattle.kk_counted.proofs.Examples.{nil_or_cons}
-use Rattle.kk_insert.specs.Insertion.{inserted, inserted_function}
+use Rattle.kk_insert.specs.Meaning.{inserted_setting}
+use Rattle.kk_insert.specs.Promise.{IsFunctionInsertable, IsInsertable}
+use Rattle.kk_insert.specs.Insertion.{inserted_function}
 
 -- type list<a> { Nil; Cons(head: a, tail: list<a>) }: constructors 2 and 3
 abbrev nil : Pattern
@@ -39,18 +42,14 @@ core positions first main = record {
   depth = 4;
 }
 
-abbrev counted : CoreSetting → CountedSetting
-counted setting =
-    record { program = inserted setting.positions setting.code; cells = setting.cells; depth = setting.depth }
-
 abbrev core_tells : CoreSetting → List Note
 core_tells setting = trace (core_machine (λ s. 1) setting) 60 (core_first_state setting [])
 
 abbrev counted_tells : CoreSetting → List Note
-counted_tells setting = trace (counted_machine (λ s. 1) (counted setting)) 90 (counted_first_state (counted setting) [])
+counted_tells setting = trace (counted_machine (λ s. 1) (inserted_setting setting)) 90 (counted_first_state (inserted_setting setting) [])
 
 abbrev counted_end : CoreSetting → CountedState
-counted_end setting = state (counted_machine (λ s. 1) (counted setting)) 90 (counted_first_state (counted setting) [])
+counted_end setting = state (counted_machine (λ s. 1) (inserted_setting setting)) 90 (counted_first_state (inserted_setting setting) [])
 
 -- a list of the numbers 8 and 7, which variable 4 names
 abbrev with_list : Code → FunctionCode
@@ -88,10 +87,12 @@ len_inserted : inserted_function lent_first 0 len ≡ record {
 len_inserted = refl
 
 -- println(len(xs) + len(xs)): the list is lent twice, and dropped as soon as the second call has returned
+abbrev two_lendings_main : FunctionCode
+two_lendings_main =
+    with_list (compute 5 (Call 0) (4 ∷ []) (compute 6 (Call 0) (4 ∷ []) (compute 7 (Binary Add) (5 ∷ 6 ∷ []) (compute 8 (Print PrintLine) (7 ∷ []) (give 8)))))
+
 abbrev two_lendings : CoreSetting
-two_lendings =
-    core lent_first len
-    (with_list (compute 5 (Call 0) (4 ∷ []) (compute 6 (Call 0) (4 ∷ []) (compute 7 (Binary Add) (5 ∷ 6 ∷ []) (compute 8 (Print PrintLine) (7 ∷ []) (give 8))))))
+two_lendings = core lent_first len two_lendings_main
 
 lendings_tell : counted_tells two_lendings ≡ core_tells two_lendings
 unfolding int_wrap digits
@@ -154,3 +155,77 @@ calls_end = refl
 calls_leave_none : busy (counted_end two_calls).machine.heap ≡ 0
 unfolding int_wrap digits
 calls_leave_none = refl
+
+-- ---- the program that lends a list may be inserted
+
+abbrev lendings : List FunctionCode
+lendings = two_lendings.code.functions
+
+the_function : FunctionCode → Option FunctionCode → FunctionCode
+the_function other None = other
+the_function other (Some function) = function
+
+only_function : (found : FunctionCode) (function : FunctionCode) → Some found ≡ Some function → found ≡ function
+unfolding the_function
+only_function found function same = ap (λ (o : Option FunctionCode). the_function found o) same
+
+-- a function that is there has the parameters that it has
+as_many : (found : FunctionCode) (function : FunctionCode) → Some found ≡ Some function → function.parameters ≡ found.parameters
+as_many found function same = ap (λ (f : FunctionCode). f.parameters) (sym (only_function found function same))
+
+len_insertable : IsFunctionInsertable lent_first lendings 0 len
+len_insertable =
+    record {
+      ordered = (refl, (2, (tt, omega arith, (refl, omega arith)), (7, (4, refl, (omega arith, (omega arith, omega arith)), ((refl, tt), omega arith, (tt, omega arith, ((refl, (refl, tt)), omega arith, (refl, omega arith))))), omega arith)));
+      small = omega arith;
+      tails = ((tt, tt), ((λ function there. as_many len function there, (tt, (tt, tt))), tt));
+    }
+
+main_insertable : IsFunctionInsertable lent_first lendings 1 two_lendings_main
+main_insertable =
+    record {
+      ordered = (
+        tt,
+        omega arith,
+        (
+          tt,
+          omega arith,
+          (
+            (refl, (refl, tt)),
+            omega arith,
+            (
+              tt,
+              omega arith,
+              (
+                (refl, (refl, tt)),
+                omega arith,
+                (
+                  (refl, tt),
+                  omega arith,
+                  (
+                    (refl, tt),
+                    omega arith,
+                    (
+                      (refl, (refl, tt)),
+                      omega arith,
+                      ((refl, tt), omega arith, (refl, omega arith)),
+                    ),
+                  ),
+                ),
+              ),
+            ),
+          ),
+        ),
+      );
+      small = omega arith;
+      tails = (tt, (tt, (tt, (tt, (tt, (λ function there. as_many len function there, (λ function there. as_many len function there, (tt, (tt, tt)))))))));
+    }
+
+lendings_insertable : IsInsertable lent_first two_lendings.code
+lendings_insertable = record { each = each; main = (two_lendings_main, (refl, refl)) }
+  where
+    each : (f : ℕ) (function : FunctionCode) → slice_get (len ∷ two_lendings_main ∷ []) f ≡ Some function → IsFunctionInsertable lent_first lendings f function
+    each zero function there = subst (IsFunctionInsertable lent_first lendings 0) (only_function len function there) len_insertable
+    each (suc zero) function there = subst (IsFunctionInsertable lent_first lendings 1) (only_function two_lendings_main function there) main_insertable
+    each (suc (suc zero)) function there = absurd (cc)
+    each (suc (suc (suc f))) function there = absurd (cc)
