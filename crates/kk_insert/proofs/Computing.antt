@@ -17,7 +17,8 @@ use Rattle.kk_source.specs.FormEffects.{truth, integer_of, unary_result, binary_
 use Rattle.kk_core.specs.Codes.{Code, compute}
 use Rattle.kk_core.specs.CoreStates.{CoreSetting, Join, CallFrame, CoreConfiguration}
 use Rattle.kk_core.specs.CoreMachine.{bound_then, at_end, held_for, held_by_frames, form_step}
-use Rattle.kk_core.specs.NeverStuck.{ArgumentsFit}
+use Rattle.kk_source.specs.NeverStuck.{ArgumentsFit}
+use Rattle.kk_core.specs.NeverStuck.{CallFits}
 use Rattle.kk_counted.specs.CountedCodes as Counted
 use Rattle.kk_counted.specs.Heaps.{Heap, count_at, forwards, busy}
 use Rattle.kk_counted.specs.CountedStates.{CountedFrame, CountedConfiguration}
@@ -48,7 +49,8 @@ truth_has_none true = tt
 truth_has_none false = tt
 
 -- operators and prints take values without cells
-pub takes_none : (setting : CoreSetting) (constructors : List ConstructorTree) (form : Form) (vs : List Value) → ArgumentsFit constructors setting.code form vs → TakesNoCells form vs
+pub takes_none : (setting : CoreSetting) (constructors : List ConstructorTree) (form : Form) (vs : List Value)
+    → ArgumentsFit constructors setting.code.texts (CallFits constructors setting.code) form vs → TakesNoCells form vs
 takes_none setting constructors (Number n) vs fits = subst HaveNoCells (sym fits) tt
 takes_none setting constructors Nothing vs fits = subst HaveNoCells (sym fits) tt
 takes_none setting constructors ReadByte vs fits = subst HaveNoCells (sym fits) tt
@@ -61,7 +63,9 @@ takes_none setting constructors (Construct c) vs fits = tt
 takes_none setting constructors (Call f) vs fits = tt
 
 -- functions that wait, where a cell is made
-frames_longer : (setting : CoreSetting) (store : Store) (cell : Cell) (frames : List CallFrame) (cs : List CountedFrame) (below : List Value) → FramesStand setting.positions setting.code.functions store frames cs below → FramesStand setting.positions setting.code.functions (store ++ cell ∷ []) frames cs below
+frames_longer : (setting : CoreSetting) (store : Store) (cell : Cell) (frames : List CallFrame) (cs : List CountedFrame)
+    (below : List Value) → FramesStand setting.positions setting.code.functions store frames cs below
+    → FramesStand setting.positions setting.code.functions (store ++ cell ∷ []) frames cs below
 frames_longer setting store cell [] [] below stand = stand
 frames_longer setting store cell [] (c ∷ cs) below stand = absurd stand
 frames_longer setting store cell (frame ∷ older) [] below stand = absurd stand
@@ -83,10 +87,14 @@ frames_longer setting store cell (frame ∷ older) (c ∷ cs) below stand = (
   ),
 )
 
-module _ (setting : CoreSetting) (constructors : List ConstructorTree) (promise : IsInsertable setting.positions setting.code) (from : CoreConfiguration) (lent : List ℕ) (below : List Value) (frames : List CountedFrame) (heap : Heap)
-    (store : from.store ≡ forwards heap) (waits : FramesStand setting.positions setting.code.functions from.store from.frames frames below)
+module _ (setting : CoreSetting) (constructors : List ConstructorTree) (promise : IsInsertable setting.positions setting.code)
+    (from : CoreConfiguration) (lent : List ℕ) (below : List Value) (frames : List CountedFrame) (heap : Heap)
+    (store : from.store ≡ forwards heap)
+    (waits : FramesStand setting.positions setting.code.functions from.store from.frames frames below)
     (x : ℕ) (arguments : List ℕ) (rest : Code) (environment : Environment) (joins : List Join)
-    (rest_ok : RestOk setting.positions setting.code.functions lent (left_of setting.positions setting.code.functions lent joins) x rest) (joins_ok : JoinsOk setting.positions setting.code.functions lent joins)
+    (rest_ok : RestOk setting.positions setting.code.functions lent
+    (left_of setting.positions setting.code.functions lent joins) x rest)
+    (joins_ok : JoinsOk setting.positions setting.code.functions lent joins)
     (reached : AreReached from.store below environment lent) where
   abbrev now : List ℕ
   now = own setting.positions lent (left_by (left_of setting.positions setting.code.functions lent joins)) rest
@@ -96,11 +104,13 @@ module _ (setting : CoreSetting) (constructors : List ConstructorTree) (promise 
 
   abbrev behind : Form → Counted.Counted
   behind form =
-      back lent (lends setting.positions form arguments) x now (insert setting.positions lent (left_by (left_of setting.positions setting.code.functions lent joins)) rest)
+      back lent (lends setting.positions form arguments) x now
+      (insert setting.positions lent (left_by (left_of setting.positions setting.code.functions lent joins)) rest)
 
   abbrev before_form : Form → CountedConfiguration
   before_form form =
-      conf (Counted.compute x form arguments (behind form)) environment (image_joins setting.positions setting.code.functions lent joins) frames heap
+      conf (Counted.compute x form arguments (behind form)) environment
+      (image_joins setting.positions setting.code.functions lent joins) frames heap
 
   abbrev SoundAt : Form → Type 0
   SoundAt form = IsSound (values_of environment (used setting.positions form arguments ++ held form) ++ below) heap
@@ -108,12 +118,19 @@ module _ (setting : CoreSetting) (constructors : List ConstructorTree) (promise 
   -- the value of a form that is lent nothing, and takes no cells
   abbrev with_value : Value → CountedConfiguration
   with_value v =
-      conf (back lent [] x now (insert setting.positions lent (left_by (left_of setting.positions setting.code.functions lent joins)) rest)) (record { variable = x; value = v } ∷ environment) (image_joins setting.positions setting.code.functions lent joins) frames heap
+      conf (back lent [] x now (insert setting.positions lent
+      (left_by (left_of setting.positions setting.code.functions lent joins)) rest))
+      (record { variable = x; value = v } ∷ environment)
+      (image_joins setting.positions setting.code.functions lent joins) frames heap
 
-  value_lands : (v : Value) (input : List ℕ) → ((q : ℕ) → refs_of v q ≡ 0) → HaveNoCells (values_of environment arguments) → IsSound (values_of environment (arguments ++ without (x ∷ []) now) ++ below) heap
-      → Path (inserted_setting setting) 0 [] (Stands setting.positions setting.code.functions (record { machine = bound_then x v rest environment joins from; input = input })) (with_input (with_value v) input)
+  value_lands : (v : Value) (input : List ℕ) → ((q : ℕ) → refs_of v q ≡ 0) → HaveNoCells (values_of environment arguments)
+      → IsSound (values_of environment (arguments ++ without (x ∷ []) now) ++ below) heap
+      → Path (inserted_setting setting) 0 []
+      (Stands setting.positions setting.code.functions
+      (record { machine = bound_then x v rest environment joins from; input = input })) (with_input (with_value v) input)
   value_lands v input free none sound =
-      lands setting from lent below frames heap store waits input x v rest environment joins [] (values_of environment (arguments ++ without (x ∷ []) now) ++ below) rest_ok joins_ok reached refl
+      lands setting from lent below frames heap store waits input x v rest environment joins []
+      (values_of environment (arguments ++ without (x ∷ []) now) ++ below) rest_ok joins_ok reached refl
       (λ q. omega (
         arith,
         free q,
@@ -126,28 +143,48 @@ module _ (setting : CoreSetting) (constructors : List ConstructorTree) (promise 
   module _ (input : List ℕ) where
     abbrev FollowsForm : Form → Type 0
     FollowsForm form =
-        Follows setting.positions setting.code.functions (inserted_setting setting) 1 (form_step setting form (map (value_of environment) arguments) x rest environment joins from) input (with_input (before_form form) input)
+        Follows setting.positions setting.code.functions (inserted_setting setting) 1
+        (form_step setting form (map (value_of environment) arguments) x rest environment joins from) input
+        (with_input (before_form form) input)
 
     -- a form that has a value, and one that prints
     value_comes : (form : Form) (v : Value)
-        → performed (counted_code_step (inserted_setting setting) (Counted.compute x form arguments (behind form)) environment (image_joins setting.positions setting.code.functions lent joins) (before_form form)) input ≡ ([], with_input (with_value v) input)
+        → performed (counted_code_step (inserted_setting setting) (Counted.compute x form arguments (behind form)) environment
+        (image_joins setting.positions setting.code.functions lent joins) (before_form form)) input ≡
+        ([], with_input (with_value v) input)
         → TakesNoCells form (values_of environment arguments)
-        → ((q : ℕ) → refs_of v q ≡ 0) → HaveNoCells (values_of environment arguments) → IsSound (values_of environment (arguments ++ without (x ∷ []) now) ++ below) heap
-        → Path (inserted_setting setting) 1 [] (Stands setting.positions setting.code.functions (record { machine = bound_then x v rest environment joins from; input = input })) (with_input (before_form form) input)
+        → ((q : ℕ) → refs_of v q ≡ 0) → HaveNoCells (values_of environment arguments)
+        → IsSound (values_of environment (arguments ++ without (x ∷ []) now) ++ below) heap
+        → Path (inserted_setting setting) 1 []
+        (Stands setting.positions setting.code.functions
+        (record { machine = bound_then x v rest environment joins from; input = input })) (with_input (before_form form) input)
     value_comes form v is fits free none sound =
-        path_step (inserted_setting setting) 0 [] [] (Stands setting.positions setting.code.functions (record { machine = bound_then x v rest environment joins from; input = input })) (with_input (before_form form) input) (with_input (with_value v) input) is
+        path_step (inserted_setting setting) 0 [] []
+        (Stands setting.positions setting.code.functions
+        (record { machine = bound_then x v rest environment joins from; input = input })) (with_input (before_form form) input)
+        (with_input (with_value v) input) is
         (tt, (fits, tt)) (value_lands v input free none sound)
 
     print_comes : (form : Form) (piece : List ℕ)
-        → performed (counted_code_step (inserted_setting setting) (Counted.compute x form arguments (behind form)) environment (image_joins setting.positions setting.code.functions lent joins) (before_form form)) input ≡ performed (print_step piece (with_value unit)) input
+        → performed (counted_code_step (inserted_setting setting) (Counted.compute x form arguments (behind form)) environment
+        (image_joins setting.positions setting.code.functions lent joins) (before_form form)) input ≡ performed
+        (print_step piece (with_value unit)) input
         → TakesNoCells form (values_of environment arguments)
-        → HaveNoCells (values_of environment arguments) → IsSound (values_of environment (arguments ++ without (x ∷ []) now) ++ below) heap
-        → Follows setting.positions setting.code.functions (inserted_setting setting) 1 (print_step piece (bound_then x unit rest environment joins from)) input (with_input (before_form form) input)
+        → HaveNoCells (values_of environment arguments)
+        → IsSound (values_of environment (arguments ++ without (x ∷ []) now) ++ below) heap
+        → Follows setting.positions setting.code.functions (inserted_setting setting) 1
+        (print_step piece (bound_then x unit rest environment joins from)) input (with_input (before_form form) input)
     print_comes form [] is fits none sound =
-        path_step (inserted_setting setting) 0 [] [] (Stands setting.positions setting.code.functions (record { machine = bound_then x unit rest environment joins from; input = input })) (with_input (before_form form) input) (with_input (with_value unit) input) is
+        path_step (inserted_setting setting) 0 [] []
+        (Stands setting.positions setting.code.functions
+        (record { machine = bound_then x unit rest environment joins from; input = input }))
+        (with_input (before_form form) input) (with_input (with_value unit) input) is
         (tt, (fits, tt)) (value_lands unit input (λ q. refl) none sound)
     print_comes form (byte ∷ bytes) is fits none sound =
-        path_step (inserted_setting setting) 0 (seen (output (byte ∷ bytes)) ∷ []) [] (Stands setting.positions setting.code.functions (record { machine = bound_then x unit rest environment joins from; input = input })) (with_input (before_form form) input) (with_input (with_value unit) input) is
+        path_step (inserted_setting setting) 0 (seen (output (byte ∷ bytes)) ∷ []) []
+        (Stands setting.positions setting.code.functions
+        (record { machine = bound_then x unit rest environment joins from; input = input }))
+        (with_input (before_form form) input) (with_input (with_value unit) input) is
         (tt, (fits, tt)) (value_lands unit input (λ q. refl) none sound)
 
     -- ---- constructions
@@ -168,9 +205,18 @@ module _ (setting : CoreSetting) (constructors : List ConstructorTree) (promise 
       as_long : length heap ≡ length from.store
       as_long = sym (forwards_length heap) ∙ ap length (sym store)
 
-      counts : (q : ℕ) → count_at heap q ≡ (refs values q + refs (values_of environment (without (x ∷ []) now) ++ below) q) + refs (counted_fields heap) q
+      counts : (q : ℕ) → count_at heap q ≡ (refs values q + refs (values_of environment (without (x ∷ []) now) ++ below) q) + refs
+          (counted_fields heap) q
       counts q =
-          omega (arith, sound.counts q, refs_append (values_of environment (arguments ++ without (x ∷ []) now)) below q, refs_of_both environment arguments (without (x ∷ []) now) q, refs_append (values_of environment (without (x ∷ []) now)) below q)
+          omega (
+            arith,
+            sound.counts q,
+            refs_append
+                (values_of environment (arguments ++ without (x ∷ []) now)) below q,
+            refs_of_both environment arguments
+                (without (x ∷ []) now) q,
+            refs_append (values_of environment (without (x ∷ []) now)) below q,
+          )
 
       within : AllWithin (length heap) values
       within =
@@ -180,18 +226,36 @@ module _ (setting : CoreSetting) (constructors : List ConstructorTree) (promise 
       sound_longer : IsSound (place (length from.store) ∷ (values_of environment (without (x ∷ []) now) ++ below)) longer
       sound_longer =
           record {
-            counts = λ q. omega (arith, counts_built cell (λ p. refs (values_of environment (without (x ∷ []) now) ++ below) p) heap counts q, ap (λ n. refs_of (place n) q) as_long);
+            counts = λ q. omega (
+              arith,
+              counts_built cell
+                  (λ p. refs (values_of environment (without (x ∷ []) now) ++ below) p) heap counts q,
+              ap
+                  (λ n. refs_of (place n) q) as_long,
+            );
             older = built_older cell 1 heap within sound.older;
           }
 
       abbrev with_cell : ℕ → CountedConfiguration
       with_cell at =
-          conf (back lent [] x now (insert setting.positions lent (left_by (left_of setting.positions setting.code.functions lent joins)) rest)) (record { variable = x; value = place at } ∷ environment) (image_joins setting.positions setting.code.functions lent joins) frames longer
+          conf (back lent [] x now (insert setting.positions lent
+          (left_by (left_of setting.positions setting.code.functions lent joins)) rest))
+          (record { variable = x; value = place at } ∷ environment)
+          (image_joins setting.positions setting.code.functions lent joins) frames longer
 
-      cell_lands : Path (inserted_setting setting) 0 [] (Stands setting.positions setting.code.functions (record { machine = record (bound_then x (place (length from.store)) rest environment joins from) { store = from.store ++ cell ∷ [] }; input = input })) (with_input (with_cell (length from.store)) input)
+      cell_lands : Path (inserted_setting setting) 0 []
+          (Stands setting.positions setting.code.functions
+          (record {
+            machine = record (bound_then x (place (length from.store)) rest environment joins from)
+                { store = from.store ++ cell ∷ [] };
+            input = input;
+          })) (with_input (with_cell (length from.store)) input)
       cell_lands =
-          lands setting from_longer lent below frames longer (ap (λ (s : Store). s ++ cell ∷ []) store) (frames_longer setting from.store cell from.frames frames below waits) input x (place (length from.store)) rest environment joins []
-          (place (length from.store) ∷ (values_of environment (without (x ∷ []) now) ++ below)) rest_ok joins_ok (λ y at is named. reached_longer from.store cell below at (reached y at is named)) refl
+          lands setting from_longer lent below frames longer (ap (λ (s : Store). s ++ cell ∷ []) store)
+          (frames_longer setting from.store cell from.frames frames below waits) input x
+          (place (length from.store)) rest environment joins []
+          (place (length from.store) ∷ (values_of environment (without (x ∷ []) now) ++ below)) rest_ok joins_ok
+          (λ y at is named. reached_longer from.store cell below at (reached y at is named)) refl
           (λ q. omega (arith, refs_append (values_of environment (without (x ∷ []) now)) below q)) sound_longer
 
       abbrev found : ℕ
@@ -199,106 +263,214 @@ module _ (setting : CoreSetting) (constructors : List ConstructorTree) (promise 
 
       found_is : busy heap ≡ found
       found_is =
-          busy_is_live setting.positions setting.code.functions heap lent below from.frames frames (subst (λ (s : Store). FramesStand setting.positions setting.code.functions s from.frames frames below) store waits) environment joins x rest arguments rest_ok joins_ok
+          busy_is_live setting.positions setting.code.functions heap lent below from.frames frames
+          (subst (λ (s : Store). FramesStand setting.positions setting.code.functions s from.frames frames below) store waits)
+          environment joins x rest arguments rest_ok joins_ok
           (subst (λ (s : Store). AreReached s below environment lent) store reached) sound
           ∙ ap (λ (s : Store). live s (values ++ (held_for x rest joins environment ++ held_by_frames from.frames))) (sym store)
 
-      made : performed (counted_code_step (inserted_setting setting) (Counted.compute x (Construct c) arguments (behind (Construct c))) environment (image_joins setting.positions setting.code.functions lent joins) (before_form (Construct c))) input
-          ≡ performed (builds (busy heap) (if nat_le setting.cells (busy heap) then counted_at_end heap_full (before_form (Construct c)) else with_cell (length heap))) input
+      made : performed (counted_code_step (inserted_setting setting)
+          (Counted.compute x (Construct c) arguments (behind (Construct c))) environment
+          (image_joins setting.positions setting.code.functions lent joins) (before_form (Construct c))) input
+          ≡ performed (builds (busy heap)
+          (if nat_le setting.cells (busy heap) then counted_at_end heap_full (before_form (Construct c)) else with_cell
+          (length heap))) input
           → Follows setting.positions setting.code.functions (inserted_setting setting) 1
-          (builds found (if nat_le setting.cells found then at_end heap_full from else record (bound_then x (place (length from.store)) rest environment joins from) { store = from.store ++ cell ∷ [] })) input (with_input (before_form (Construct c)) input)
+          (builds found (if nat_le setting.cells found then at_end heap_full from else record
+          (bound_then x (place (length from.store)) rest environment joins from) { store = from.store ++ cell ∷ [] })) input
+          (with_input (before_form (Construct c)) input)
       made step = by_test (nat_le setting.cells found) refl
         where
           step_is : (t : Bool) → nat_le setting.cells found ≡ t
-              → performed (counted_code_step (inserted_setting setting) (Counted.compute x (Construct c) arguments (behind (Construct c))) environment (image_joins setting.positions setting.code.functions lent joins) (before_form (Construct c))) input
-              ≡ (built found ∷ [], with_input (if t then counted_at_end heap_full (before_form (Construct c)) else with_cell (length from.store)) input)
+              → performed (counted_code_step (inserted_setting setting)
+              (Counted.compute x (Construct c) arguments (behind (Construct c))) environment
+              (image_joins setting.positions setting.code.functions lent joins) (before_form (Construct c))) input
+              ≡ (
+                built found ∷ [],
+                with_input
+                    (if t then counted_at_end heap_full (before_form (Construct c)) else with_cell (length from.store)) input,
+              )
           step_is t is =
               step
-              ∙ (ap (λ (n : ℕ). performed (builds n (if nat_le setting.cells n then counted_at_end heap_full (before_form (Construct c)) else with_cell (length heap))) input) found_is
-              ∙ (ap (λ (n : ℕ). performed (builds found (if nat_le setting.cells found then counted_at_end heap_full (before_form (Construct c)) else with_cell n)) input) as_long
-              ∙ ap (λ (b : Bool). performed (builds found (if b then counted_at_end heap_full (before_form (Construct c)) else with_cell (length from.store))) input) is))
+              ∙ (ap (λ (n : ℕ). performed
+              (builds n (if nat_le setting.cells n then counted_at_end heap_full (before_form (Construct c)) else with_cell
+              (length heap))) input) found_is
+              ∙ (ap (λ (n : ℕ). performed
+              (builds found (if nat_le setting.cells found then counted_at_end heap_full
+              (before_form (Construct c)) else with_cell n)) input) as_long
+              ∙ ap (λ (b : Bool). performed
+              (builds found (if b then counted_at_end heap_full (before_form (Construct c)) else with_cell (length from.store)))
+              input) is))
 
           by_test : (t : Bool) → nat_le setting.cells found ≡ t
               → Follows setting.positions setting.code.functions (inserted_setting setting) 1
-              (builds found (if t then at_end heap_full from else record (bound_then x (place (length from.store)) rest environment joins from) { store = from.store ++ cell ∷ [] })) input (with_input (before_form (Construct c)) input)
+              (builds found (if t then at_end heap_full from else record
+              (bound_then x (place (length from.store)) rest environment joins from) { store = from.store ++ cell ∷ [] })) input
+              (with_input (before_form (Construct c)) input)
           by_test true is =
-              path_step (inserted_setting setting) 0 (built found ∷ []) [] (Stands setting.positions setting.code.functions (record { machine = at_end heap_full from; input = input }))
-              (with_input (before_form (Construct c)) input) (with_input (counted_at_end heap_full (before_form (Construct c))) input) (step_is true is) (tt, (tt, tt))
-              (path_here (inserted_setting setting) (Stands setting.positions setting.code.functions (record { machine = at_end heap_full from; input = input })) (with_input (counted_at_end heap_full (before_form (Construct c))) input) (refl, (refl, tt)))
+              path_step (inserted_setting setting) 0 (built found ∷ []) []
+              (Stands setting.positions setting.code.functions (record { machine = at_end heap_full from; input = input }))
+              (with_input (before_form (Construct c)) input)
+              (with_input (counted_at_end heap_full (before_form (Construct c))) input) (step_is true is) (tt, (tt, tt))
+              (path_here (inserted_setting setting)
+              (Stands setting.positions setting.code.functions (record { machine = at_end heap_full from; input = input }))
+              (with_input (counted_at_end heap_full (before_form (Construct c))) input) (refl, (refl, tt)))
           by_test false is =
-              path_step (inserted_setting setting) 0 (built found ∷ []) [] (Stands setting.positions setting.code.functions (record { machine = record (bound_then x (place (length from.store)) rest environment joins from) { store = from.store ++ cell ∷ [] }; input = input }))
-              (with_input (before_form (Construct c)) input) (with_input (with_cell (length from.store)) input) (step_is false is) (tt, (tt, tt)) cell_lands
+              path_step (inserted_setting setting) 0 (built found ∷ []) []
+              (Stands setting.positions setting.code.functions
+              (record {
+                machine = record (bound_then x (place (length from.store)) rest environment joins from)
+                    { store = from.store ++ cell ∷ [] };
+                input = input;
+              }))
+              (with_input (before_form (Construct c)) input) (with_input (with_cell (length from.store)) input) (step_is false is)
+              (tt, (tt, tt)) cell_lands
 
-module _ (setting : CoreSetting) (constructors : List ConstructorTree) (promise : IsInsertable setting.positions setting.code) (from : CoreConfiguration) (lent : List ℕ) (below : List Value) (frames : List CountedFrame) (heap : Heap)
-    (store : from.store ≡ forwards heap) (waits : FramesStand setting.positions setting.code.functions from.store from.frames frames below)
+module _ (setting : CoreSetting) (constructors : List ConstructorTree) (promise : IsInsertable setting.positions setting.code)
+    (from : CoreConfiguration) (lent : List ℕ) (below : List Value) (frames : List CountedFrame) (heap : Heap)
+    (store : from.store ≡ forwards heap)
+    (waits : FramesStand setting.positions setting.code.functions from.store from.frames frames below)
     (x : ℕ) (rest : Code) (environment : Environment) (joins : List Join)
-    (rest_ok : RestOk setting.positions setting.code.functions lent (left_of setting.positions setting.code.functions lent joins) x rest) (joins_ok : JoinsOk setting.positions setting.code.functions lent joins)
+    (rest_ok : RestOk setting.positions setting.code.functions lent
+    (left_of setting.positions setting.code.functions lent joins) x rest)
+    (joins_ok : JoinsOk setting.positions setting.code.functions lent joins)
     (reached : AreReached from.store below environment lent) where
   reads : (input : List ℕ) (arguments : List ℕ) → HaveNoCells (values_of environment arguments)
-      → SoundAt setting constructors promise from lent below frames heap store waits x arguments rest environment joins rest_ok joins_ok reached ReadByte
-      → FollowsForm setting constructors promise from lent below frames heap store waits x arguments rest environment joins rest_ok joins_ok reached input ReadByte
+      → SoundAt setting constructors promise from lent below frames heap store waits x arguments rest environment joins rest_ok
+      joins_ok reached ReadByte
+      → FollowsForm setting constructors promise from lent below frames heap store waits x arguments rest environment joins rest_ok
+      joins_ok reached input ReadByte
   reads [] arguments none sound =
-      path_step (inserted_setting setting) 0 (seen input_end ∷ []) [] (Stands setting.positions setting.code.functions (record { machine = bound_then x (byte_value None) rest environment joins from; input = [] }))
-      (with_input (before_form setting constructors promise from lent below frames heap store waits x arguments rest environment joins rest_ok joins_ok reached ReadByte) [])
-      (with_input (with_value setting constructors promise from lent below frames heap store waits x arguments rest environment joins rest_ok joins_ok reached (byte_value None)) []) refl (tt, (none, tt))
-      (value_lands setting constructors promise from lent below frames heap store waits x arguments rest environment joins rest_ok joins_ok reached (byte_value None) [] (byte_free None) none sound)
+      path_step (inserted_setting setting) 0 (seen input_end ∷ []) []
+      (Stands setting.positions setting.code.functions
+      (record { machine = bound_then x (byte_value None) rest environment joins from; input = [] }))
+      (with_input (before_form setting constructors promise from lent below frames heap store waits x arguments rest environment
+      joins rest_ok joins_ok reached ReadByte) [])
+      (with_input (with_value setting constructors promise from lent below frames heap store waits x arguments rest environment
+      joins rest_ok joins_ok reached (byte_value None)) []) refl (tt, (none, tt))
+      (value_lands setting constructors promise from lent below frames heap store waits x arguments rest environment joins rest_ok
+      joins_ok reached (byte_value None) [] (byte_free None) none sound)
   reads (byte ∷ bytes) arguments none sound =
-      path_step (inserted_setting setting) 0 (seen (taken byte) ∷ []) [] (Stands setting.positions setting.code.functions (record { machine = bound_then x (byte_value (Some byte)) rest environment joins from; input = bytes }))
-      (with_input (before_form setting constructors promise from lent below frames heap store waits x arguments rest environment joins rest_ok joins_ok reached ReadByte) (byte ∷ bytes))
-      (with_input (with_value setting constructors promise from lent below frames heap store waits x arguments rest environment joins rest_ok joins_ok reached (byte_value (Some byte))) bytes) refl (tt, (none, tt))
-      (value_lands setting constructors promise from lent below frames heap store waits x arguments rest environment joins rest_ok joins_ok reached (byte_value (Some byte)) bytes (byte_free (Some byte)) none sound)
+      path_step (inserted_setting setting) 0 (seen (taken byte) ∷ []) []
+      (Stands setting.positions setting.code.functions
+      (record { machine = bound_then x (byte_value (Some byte)) rest environment joins from; input = bytes }))
+      (with_input (before_form setting constructors promise from lent below frames heap store waits x arguments rest environment
+      joins rest_ok joins_ok reached ReadByte) (byte ∷ bytes))
+      (with_input (with_value setting constructors promise from lent below frames heap store waits x arguments rest environment
+      joins rest_ok joins_ok reached (byte_value (Some byte))) bytes) refl (tt, (none, tt))
+      (value_lands setting constructors promise from lent below frames heap store waits x arguments rest environment joins rest_ok
+      joins_ok reached (byte_value (Some byte)) bytes (byte_free (Some byte)) none sound)
 
   module _ (input : List ℕ) where
     constructs : (c : ℕ) (arguments : List ℕ)
-        → SoundAt setting constructors promise from lent below frames heap store waits x arguments rest environment joins rest_ok joins_ok reached (Construct c)
-        → FollowsForm setting constructors promise from lent below frames heap store waits x arguments rest environment joins rest_ok joins_ok reached input (Construct c)
+        → SoundAt setting constructors promise from lent below frames heap store waits x arguments rest environment joins rest_ok
+        joins_ok reached (Construct c)
+        → FollowsForm setting constructors promise from lent below frames heap store waits x arguments rest environment joins
+        rest_ok joins_ok reached input (Construct c)
     constructs c [] sound =
-        value_comes setting constructors promise from lent below frames heap store waits x [] rest environment joins rest_ok joins_ok reached input (Construct c) (constant c) refl tt (λ q. refl) tt sound
+        value_comes setting constructors promise from lent below frames heap store waits x
+        [] rest environment joins rest_ok joins_ok reached input (Construct c) (constant c) refl tt (λ q. refl) tt sound
     constructs c (y ∷ ys) sound =
-        made setting constructors promise from lent below frames heap store waits x (y ∷ ys) rest environment joins rest_ok joins_ok reached input c sound refl
+        made setting constructors promise from lent below frames heap store waits x
+        (y ∷ ys) rest environment joins rest_ok joins_ok reached input c sound refl
 
     -- the step of each form
-    pub form_at : (form : Form) (arguments : List ℕ) → ArgumentsFit constructors setting.code form (map (value_of environment) arguments) → is_among arguments x ≡ false
-        → SoundAt setting constructors promise from lent below frames heap store waits x arguments rest environment joins rest_ok joins_ok reached form
-        → FollowsForm setting constructors promise from lent below frames heap store waits x arguments rest environment joins rest_ok joins_ok reached input form
+    pub form_at : (form : Form) (arguments : List ℕ)
+        → ArgumentsFit constructors setting.code.texts (CallFits constructors setting.code) form (map (value_of environment) arguments) → is_among arguments x ≡ false
+        → SoundAt setting constructors promise from lent below frames heap store waits x arguments rest environment joins rest_ok
+        joins_ok reached form
+        → FollowsForm setting constructors promise from lent below frames heap store waits x arguments rest environment joins
+        rest_ok joins_ok reached input form
     form_at (Number n) arguments fits new sound =
-        value_comes setting constructors promise from lent below frames heap store waits x arguments rest environment joins rest_ok joins_ok reached input (Number n) (integer n) refl (takes_none setting constructors (Number n) (map (value_of environment) arguments) fits) (λ q. refl) (takes_none setting constructors (Number n) (map (value_of environment) arguments) fits) sound
+        value_comes setting constructors promise from lent below frames heap store waits x arguments rest environment joins rest_ok
+        joins_ok reached input (Number n) (integer n) refl
+        (takes_none setting constructors (Number n) (map (value_of environment) arguments) fits) (λ q. refl)
+        (takes_none setting constructors (Number n) (map (value_of environment) arguments) fits) sound
     form_at Nothing arguments fits new sound =
-        value_comes setting constructors promise from lent below frames heap store waits x arguments rest environment joins rest_ok joins_ok reached input Nothing unit refl (takes_none setting constructors Nothing (map (value_of environment) arguments) fits) (λ q. refl) (takes_none setting constructors Nothing (map (value_of environment) arguments) fits) sound
-    form_at ReadByte arguments fits new sound = reads input arguments (takes_none setting constructors ReadByte (map (value_of environment) arguments) fits) sound
+        value_comes setting constructors promise from lent below frames heap store waits x arguments rest environment joins rest_ok
+        joins_ok reached input Nothing unit refl
+        (takes_none setting constructors Nothing (map (value_of environment) arguments) fits) (λ q. refl)
+        (takes_none setting constructors Nothing (map (value_of environment) arguments) fits) sound
+    form_at ReadByte arguments fits new sound = reads input arguments
+        (takes_none setting constructors ReadByte (map (value_of environment) arguments) fits) sound
     form_at (PrintText form text) arguments fits new sound =
-        print_comes setting constructors promise from lent below frames heap store waits x arguments rest environment joins rest_ok joins_ok reached input (PrintText form text) (piece_of form (text_at setting.code.texts text)) refl
-        (takes_none setting constructors (PrintText form text) (map (value_of environment) arguments) fits) (takes_none setting constructors (PrintText form text) (map (value_of environment) arguments) fits) sound
+        print_comes setting constructors promise from lent below frames heap store waits x arguments rest environment joins rest_ok
+        joins_ok reached input (PrintText form text) (piece_of form (text_at setting.code.texts text)) refl
+        (takes_none setting constructors (PrintText form text) (map (value_of environment) arguments) fits)
+        (takes_none setting constructors (PrintText form text) (map (value_of environment) arguments) fits) sound
     form_at (Unary operator) arguments fits new sound =
-        value_comes setting constructors promise from lent below frames heap store waits x arguments rest environment joins rest_ok joins_ok reached input (Unary operator) (unary_result operator (argument 0 (map (value_of environment) arguments))) refl
-        (takes_none setting constructors (Unary operator) (map (value_of environment) arguments) fits) (unary_free operator (argument 0 (map (value_of environment) arguments))) (takes_none setting constructors (Unary operator) (map (value_of environment) arguments) fits) sound
+        value_comes setting constructors promise from lent below frames heap store waits x arguments rest environment joins rest_ok
+        joins_ok reached input (Unary operator) (unary_result operator (argument 0 (map (value_of environment) arguments))) refl
+        (takes_none setting constructors (Unary operator) (map (value_of environment) arguments) fits)
+        (unary_free operator (argument 0 (map (value_of environment) arguments)))
+        (takes_none setting constructors (Unary operator) (map (value_of environment) arguments) fits) sound
     form_at (Binary operator) arguments fits new sound =
-        value_comes setting constructors promise from lent below frames heap store waits x arguments rest environment joins rest_ok joins_ok reached input (Binary operator) (binary_result operator (argument 0 (map (value_of environment) arguments)) (argument 1 (map (value_of environment) arguments))) refl
-        (takes_none setting constructors (Binary operator) (map (value_of environment) arguments) fits) (number_free operator (integer_of (argument 0 (map (value_of environment) arguments))) (integer_of (argument 1 (map (value_of environment) arguments)))) (takes_none setting constructors (Binary operator) (map (value_of environment) arguments) fits) sound
+        value_comes setting constructors promise from lent below frames heap store waits x arguments rest environment joins rest_ok
+        joins_ok reached input (Binary operator)
+        (binary_result operator (argument 0 (map (value_of environment) arguments))
+        (argument 1 (map (value_of environment) arguments))) refl
+        (takes_none setting constructors (Binary operator) (map (value_of environment) arguments) fits)
+        (number_free operator (integer_of (argument 0 (map (value_of environment) arguments)))
+        (integer_of (argument 1 (map (value_of environment) arguments))))
+        (takes_none setting constructors (Binary operator) (map (value_of environment) arguments) fits) sound
     form_at (Print form) arguments fits new sound =
-        print_comes setting constructors promise from lent below frames heap store waits x arguments rest environment joins rest_ok joins_ok reached input (Print form) (piece_of form (signed_decimal (integer_of (argument 0 (map (value_of environment) arguments))))) refl
-        (takes_none setting constructors (Print form) (map (value_of environment) arguments) fits) (takes_none setting constructors (Print form) (map (value_of environment) arguments) fits) sound
+        print_comes setting constructors promise from lent below frames heap store waits x arguments rest environment joins rest_ok
+        joins_ok reached input (Print form)
+        (piece_of form (signed_decimal (integer_of (argument 0 (map (value_of environment) arguments))))) refl
+        (takes_none setting constructors (Print form) (map (value_of environment) arguments) fits)
+        (takes_none setting constructors (Print form) (map (value_of environment) arguments) fits) sound
     form_at (Construct c) arguments fits new sound = constructs c arguments sound
     form_at (Call f) arguments fits new sound =
-        call_at setting promise from lent below frames heap store waits input x f arguments rest environment joins rest_ok joins_ok reached
-        (false_if (is_among (lends setting.positions (Call f) arguments) x) (λ is. no_both ⊥ (is_among arguments x) (lends_part setting.positions (Call f) arguments x is) new))
+        call_at setting promise from lent below frames heap store waits input x f arguments rest environment joins rest_ok joins_ok
+        reached
+        (false_if (is_among (lends setting.positions (Call f) arguments) x)
+        (λ is. no_both ⊥ (is_among arguments x) (lends_part setting.positions (Call f) arguments x is) new))
         fits.0 fits.1 fits.2 sound
 
 -- the step of a code that computes
-module _ (setting : CoreSetting) (constructors : List ConstructorTree) (promise : IsInsertable setting.positions setting.code) (from : CoreConfiguration) (lent : List ℕ) (below : List Value) (frames : List CountedFrame) (heap : Heap)
-    (store : from.store ≡ forwards heap) (waits : FramesStand setting.positions setting.code.functions from.store from.frames frames below) (input : List ℕ)
-    (environment : Environment) (joins : List Join) (joins_ok : JoinsOk setting.positions setting.code.functions lent joins) (reached : AreReached from.store below environment lent) where
-  pub follows_compute : (x : ℕ) (form : Form) (arguments : List ℕ) (rest : Code) → CodeOk setting.positions setting.code.functions lent (left_of setting.positions setting.code.functions lent joins) (compute x form arguments rest)
-      → IsSound (values_of environment (own setting.positions lent (left_by (left_of setting.positions setting.code.functions lent joins)) (compute x form arguments rest)) ++ below) heap
-      → ArgumentsFit constructors setting.code form (map (value_of environment) arguments)
-      → Follows setting.positions setting.code.functions (inserted_setting setting) 1 (form_step setting form (map (value_of environment) arguments) x rest environment joins from) input
-      (with_input (conf (insert setting.positions lent (left_by (left_of setting.positions setting.code.functions lent joins)) (compute x form arguments rest)) environment (image_joins setting.positions setting.code.functions lent joins) frames heap) input)
+module _ (setting : CoreSetting) (constructors : List ConstructorTree) (promise : IsInsertable setting.positions setting.code)
+    (from : CoreConfiguration) (lent : List ℕ) (below : List Value) (frames : List CountedFrame) (heap : Heap)
+    (store : from.store ≡ forwards heap)
+    (waits : FramesStand setting.positions setting.code.functions from.store from.frames frames below) (input : List ℕ)
+    (environment : Environment) (joins : List Join) (joins_ok : JoinsOk setting.positions setting.code.functions lent joins)
+    (reached : AreReached from.store below environment lent) where
+  pub follows_compute : (x : ℕ) (form : Form) (arguments : List ℕ) (rest : Code)
+      → CodeOk setting.positions setting.code.functions lent (left_of setting.positions setting.code.functions lent joins)
+      (compute x form arguments rest)
+      → IsSound (values_of environment (own setting.positions lent
+      (left_by (left_of setting.positions setting.code.functions lent joins)) (compute x form arguments rest)) ++ below) heap
+      → ArgumentsFit constructors setting.code.texts (CallFits constructors setting.code) form (map (value_of environment) arguments)
+      → Follows setting.positions setting.code.functions (inserted_setting setting) 1
+      (form_step setting form (map (value_of environment) arguments) x rest environment joins from) input
+      (with_input (conf (insert setting.positions lent (left_by (left_of setting.positions setting.code.functions lent joins))
+      (compute x form arguments rest)) environment
+      (image_joins setting.positions setting.code.functions lent joins) frames heap) input)
   follows_compute x form arguments rest ok sound fits =
-      dups_first (inserted_setting setting) (Stands setting.positions setting.code.functions (performed (form_step setting form (map (value_of environment) arguments) x rest environment joins from) input).1) environment (image_joins setting.positions setting.code.functions lent joins) frames below input 1 (performed (form_step setting form (map (value_of environment) arguments) x rest environment joins from) input).0
-      setting.positions lent (used setting.positions form arguments) (owns lent (lends setting.positions form arguments) (without (x ∷ []) (own setting.positions lent (left_by (left_of setting.positions setting.code.functions lent joins)) rest)))
-      (Counted.compute x form arguments (back lent (lends setting.positions form arguments) x (own setting.positions lent (left_by (left_of setting.positions setting.code.functions lent joins)) rest) (insert setting.positions lent (left_by (left_of setting.positions setting.code.functions lent joins)) rest)))
+      dups_first (inserted_setting setting)
+      (Stands setting.positions setting.code.functions
+      (performed (form_step setting form (map (value_of environment) arguments) x rest environment joins from) input).1)
+      environment (image_joins setting.positions setting.code.functions lent joins) frames below input 1
+      (performed (form_step setting form (map (value_of environment) arguments) x rest environment joins from) input).0
+      setting.positions lent (used setting.positions form arguments)
+      (owns lent (lends setting.positions form arguments)
+      (without (x ∷ []) (own setting.positions lent
+      (left_by (left_of setting.positions setting.code.functions lent joins)) rest)))
+      (Counted.compute x form arguments (back lent (lends setting.positions form arguments) x
+      (own setting.positions lent (left_by (left_of setting.positions setting.code.functions lent joins)) rest)
+      (insert setting.positions lent (left_by (left_of setting.positions setting.code.functions lent joins)) rest)))
       heap sound (subst (λ (s : Store). AreReached s below environment lent) store reached)
-      (λ after cells sound_then. form_at setting constructors promise from lent below frames after (store ∙ same_store heap after (sym cells)) waits x rest environment joins
-      (record { bound = ok.bound; new = ok.fine.1.0; unlent = ok.fine.1.1.0; fine = ok.fine.1.1.1; lends_on = ok.lends_on.1; part = ok.part; apart = ok.apart; small = omega (arith, ok.small) })
+      (λ after cells sound_then. form_at setting constructors promise from lent below frames after
+      (store ∙ same_store heap after (sym cells)) waits x rest environment joins
+      (record {
+        bound = ok.bound;
+        new = ok.fine.1.0;
+        unlent = ok.fine.1.1.0;
+        fine = ok.fine.1.1.1;
+        lends_on = ok.lends_on.1;
+        part
+            = ok.part;
+        apart = ok.apart;
+        small = omega (arith, ok.small);
+      })
       joins_ok reached input form arguments fits
       (false_if (is_among arguments x) (λ is. no_both ⊥ (is_among ok.bound x) (ok.fine.0 x is) ok.fine.1.0)) sound_then)

@@ -46,10 +46,12 @@ abbrev core_tells : CoreSetting → List Note
 core_tells setting = trace (core_machine (λ s. 1) setting) 60 (core_first_state setting [])
 
 abbrev counted_tells : CoreSetting → List Note
-counted_tells setting = trace (counted_machine (λ s. 1) (inserted_setting setting)) 90 (counted_first_state (inserted_setting setting) [])
+counted_tells setting = trace (counted_machine (λ s. 1) (inserted_setting setting)) 90
+    (counted_first_state (inserted_setting setting) [])
 
 abbrev counted_end : CoreSetting → CountedState
-counted_end setting = state (counted_machine (λ s. 1) (inserted_setting setting)) 90 (counted_first_state (inserted_setting setting) [])
+counted_end setting = state (counted_machine (λ s. 1) (inserted_setting setting)) 90
+    (counted_first_state (inserted_setting setting) [])
 
 -- a list of the numbers 8 and 7, which variable 4 names
 abbrev with_list : Code → FunctionCode
@@ -68,7 +70,8 @@ len = record {
   body = case 0 nil_or_cons
       (arm nil (compute 1 (Number (pos 0)) [] (give 1))
       (arm (cons anything anything)
-      (unpack 0 3 (2 ∷ 3 ∷ []) (compute 4 (Call 0) (3 ∷ []) (compute 5 (Number (pos 1)) [] (compute 6 (Binary Add) (5 ∷ 4 ∷ []) (give 6)))))
+      (unpack 0 3 (2 ∷ 3 ∷ []) (compute 4 (Call 0) (3 ∷ [])
+      (compute 5 (Number (pos 1)) [] (compute 6 (Binary Add) (5 ∷ 4 ∷ []) (give 6)))))
       no_arm));
 }
 
@@ -81,7 +84,8 @@ len_inserted : inserted_function lent_first 0 len ≡ record {
   body = Counted.case 0 nil_or_cons
       (Counted.arm (Counted.compute 1 (Number (pos 0)) [] (Counted.give 1))
       (Counted.arm
-      (Counted.read 0 3 (2 ∷ 3 ∷ []) (Counted.compute 4 (Call 0) (3 ∷ []) (Counted.compute 5 (Number (pos 1)) [] (Counted.compute 6 (Binary Add) (5 ∷ 4 ∷ []) (Counted.give 6)))))
+      (Counted.read 0 3 (2 ∷ 3 ∷ []) (Counted.compute 4 (Call 0) (3 ∷ [])
+      (Counted.compute 5 (Number (pos 1)) [] (Counted.compute 6 (Binary Add) (5 ∷ 4 ∷ []) (Counted.give 6)))))
       Counted.no_arm));
 }
 len_inserted = refl
@@ -89,7 +93,8 @@ len_inserted = refl
 -- println(len(xs) + len(xs)): the list is lent twice, and dropped as soon as the second call has returned
 abbrev two_lendings_main : FunctionCode
 two_lendings_main =
-    with_list (compute 5 (Call 0) (4 ∷ []) (compute 6 (Call 0) (4 ∷ []) (compute 7 (Binary Add) (5 ∷ 6 ∷ []) (compute 8 (Print PrintLine) (7 ∷ []) (give 8)))))
+    with_list (compute 5 (Call 0) (4 ∷ [])
+    (compute 6 (Call 0) (4 ∷ []) (compute 7 (Binary Add) (5 ∷ 6 ∷ []) (compute 8 (Print PrintLine) (7 ∷ []) (give 8)))))
 
 abbrev two_lendings : CoreSetting
 two_lendings = core lent_first len two_lendings_main
@@ -132,7 +137,8 @@ first_two_inserted : inserted_function all_owned 0 first_two ≡ record {
   body = Counted.case 0 one_or_more
       (Counted.arm (Counted.open_cell 0 3 (1 ∷ 2 ∷ []) (1 ∷ []) (Counted.give 1))
       (Counted.arm
-      (Counted.open_cell 0 3 (3 ∷ 4 ∷ []) (3 ∷ 4 ∷ []) (Counted.open_cell 4 3 (5 ∷ 6 ∷ []) (5 ∷ []) (Counted.compute 7 (Binary Add) (3 ∷ 5 ∷ []) (Counted.give 7))))
+      (Counted.open_cell 0 3 (3 ∷ 4 ∷ []) (3 ∷ 4 ∷ [])
+      (Counted.open_cell 4 3 (5 ∷ 6 ∷ []) (5 ∷ []) (Counted.compute 7 (Binary Add) (3 ∷ 5 ∷ []) (Counted.give 7))))
       (Counted.arm (Counted.drop 0 (Counted.compute 8 (Number (pos 0)) [] (Counted.give 8)))
       Counted.no_arm)));
 }
@@ -142,7 +148,8 @@ first_two_inserted = refl
 abbrev two_calls : CoreSetting
 two_calls =
     core all_owned first_two
-    (with_list (compute 5 (Call 0) (4 ∷ []) (compute 6 (Call 0) (4 ∷ []) (compute 7 (Binary Add) (5 ∷ 6 ∷ []) (compute 8 (Print PrintLine) (7 ∷ []) (give 8))))))
+    (with_list (compute 5 (Call 0) (4 ∷ [])
+    (compute 6 (Call 0) (4 ∷ []) (compute 7 (Binary Add) (5 ∷ 6 ∷ []) (compute 8 (Print PrintLine) (7 ∷ []) (give 8))))))
 
 calls_tell : counted_tells two_calls ≡ core_tells two_calls
 unfolding int_wrap digits
@@ -176,7 +183,23 @@ as_many found function same = ap (λ (f : FunctionCode). f.parameters) (sym (onl
 len_insertable : IsFunctionInsertable lent_first lendings 0 len
 len_insertable =
     record {
-      ordered = (refl, (2, (tt, omega arith, (refl, omega arith)), (7, (4, refl, (omega arith, (omega arith, omega arith)), ((refl, tt), omega arith, (tt, omega arith, ((refl, (refl, tt)), omega arith, (refl, omega arith))))), omega arith)));
+      ordered = (
+        refl,
+        (
+          2,
+          (tt, omega arith, (refl, omega arith)),
+          (
+            7,
+            (
+              4,
+              refl,
+              (omega arith, (omega arith, omega arith)),
+              ((refl, tt), omega arith, (tt, omega arith, ((refl, (refl, tt)), omega arith, (refl, omega arith)))),
+            ),
+            omega arith,
+          ),
+        ),
+      );
       small = omega arith;
       tails = ((tt, tt), ((λ function there. as_many len function there, (tt, (tt, tt))), tt));
     }
@@ -218,14 +241,28 @@ main_insertable =
         ),
       );
       small = omega arith;
-      tails = (tt, (tt, (tt, (tt, (tt, (λ function there. as_many len function there, (λ function there. as_many len function there, (tt, (tt, tt)))))))));
+      tails = (
+        tt,
+        (
+          tt,
+          (
+            tt,
+            (
+              tt,
+              (tt, (λ function there. as_many len function there, (λ function there. as_many len function there, (tt, (tt, tt))))),
+            ),
+          ),
+        ),
+      );
     }
 
 lendings_insertable : IsInsertable lent_first two_lendings.code
 lendings_insertable = record { each = each; main = (two_lendings_main, (refl, refl)) }
   where
-    each : (f : ℕ) (function : FunctionCode) → slice_get (len ∷ two_lendings_main ∷ []) f ≡ Some function → IsFunctionInsertable lent_first lendings f function
+    each : (f : ℕ) (function : FunctionCode) → slice_get (len ∷ two_lendings_main ∷ []) f ≡ Some function
+        → IsFunctionInsertable lent_first lendings f function
     each zero function there = subst (IsFunctionInsertable lent_first lendings 0) (only_function len function there) len_insertable
-    each (suc zero) function there = subst (IsFunctionInsertable lent_first lendings 1) (only_function two_lendings_main function there) main_insertable
+    each (suc zero) function there = subst (IsFunctionInsertable lent_first lendings 1)
+        (only_function two_lendings_main function there) main_insertable
     each (suc (suc zero)) function there = absurd (cc)
     each (suc (suc (suc f))) function there = absurd (cc)

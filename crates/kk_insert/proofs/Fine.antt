@@ -84,40 +84,48 @@ mutual
 
 -- ---- what a code lends besides is of its own numbers
 
-fields_if : (t : Bool) (fields lent : List ℕ) (y : ℕ) → is_among fields y ≡ false → is_among (if t then fields ++ lent else lent) y ≡ is_among lent y
+fields_if : (t : Bool) (fields lent : List ℕ) (y : ℕ) → is_among fields y ≡ false
+    → is_among (if t then fields ++ lent else lent) y ≡ is_among lent y
 fields_if true fields lent y other = by_test (is_among lent y) refl
   where
     by_test : (s : Bool) → is_among lent y ≡ s → is_among (fields ++ lent) y ≡ is_among lent y
     by_test true is = in_back fields lent y is ∙ sym is
-    by_test false is = false_if (is_among (fields ++ lent) y) (λ there. elim (in_either fields lent y there) [ inl one ↦ no_both ⊥ (is_among fields y) one other | inr two ↦ no_both ⊥ (is_among lent y) two is ]) ∙ sym is
+    by_test false is = false_if (is_among (fields ++ lent) y)
+        (λ there. elim (in_either fields lent y there)
+        [ inl one ↦ no_both ⊥ (is_among fields y) one other | inr two ↦ no_both ⊥ (is_among lent y) two is ]) ∙ sym is
 fields_if false fields lent y other = refl
 
 mutual
-  pub lent_before : (lent bound : List ℕ) (low : ℕ) (code : Code) (high y : ℕ) → Ordered bound low code high → y < low → is_among (lent_in lent code) y ≡ is_among lent y
+  pub lent_before : (lent bound : List ℕ) (low : ℕ) (code : Code) (high y : ℕ) → Ordered bound low code high → y < low
+      → is_among (lent_in lent code) y ≡ is_among lent y
   lent_before lent bound low (give x) high y o less = refl
   lent_before lent bound low (tail_call f arguments) high y o less = refl
   lent_before lent bound low (branch x positive negative) high y o less =
-      lent_before (lent_in lent positive) bound o.0 negative high y o.3 (omega (arith, less, ordered_high bound low positive o.0 o.2))
+      lent_before (lent_in lent positive) bound o.0 negative high y o.3
+      (omega (arith, less, ordered_high bound low positive o.0 o.2))
       ∙ lent_before lent bound low positive o.0 y o.2 less
   lent_before lent bound low (case x decisions arms) high y o less = lent_before_arms lent bound low arms high y o.1 less
   lent_before lent bound low (compute x form arguments rest) high y o less =
       lent_before lent (x ∷ bound) (x + 1) rest high y o.2 (omega (arith, less, o.1))
   lent_before lent bound low (use_of x rest) high y o less = lent_before lent bound low rest high y o.1 less
   lent_before lent bound low (unpack x c fields rest) high y o less =
-      lent_before (if is_among lent x then fields ++ lent else lent) (fields ++ bound) o.0 rest high y o.3 (omega (arith, less, rise_high low fields o.0 o.2))
+      lent_before (if is_among lent x then fields ++ lent else lent) (fields ++ bound) o.0 rest high y o.3
+      (omega (arith, less, rise_high low fields o.0 o.2))
       ∙ fields_if (is_among lent x) fields lent y
       (false_if (is_among fields y) (λ is. absurd (omega (arith, less, (rise_in low fields o.0 y o.2 is).0))))
   lent_before lent bound low (inside x block rest) high y o less =
       lent_before (lent_in lent block) (x ∷ bound) (x + 1) rest high y o.1 (omega (arith, less, ordered_high bound low block x o.0))
       ∙ lent_before lent bound low block x y o.0 less
 
-  lent_before_arms : (lent bound : List ℕ) (low : ℕ) (arms : Arms) (high y : ℕ) → OrderedArms bound low arms high → y < low → is_among (lent_in_arms lent arms) y ≡ is_among lent y
+  lent_before_arms : (lent bound : List ℕ) (low : ℕ) (arms : Arms) (high y : ℕ) → OrderedArms bound low arms high → y < low
+      → is_among (lent_in_arms lent arms) y ≡ is_among lent y
   lent_before_arms lent bound low no_arm high y o less = refl
   lent_before_arms lent bound low (arm pattern body rest) high y o less =
       lent_before_arms (lent_in lent body) bound o.0 rest high y o.2 (omega (arith, less, ordered_high bound low body o.0 o.1))
       ∙ lent_before lent bound low body o.0 y o.1 less
 
-fields_below : (t : Bool) (fields lent : List ℕ) (low middle : ℕ) → Rise low fields middle → AreBelow lent low → (y : ℕ) → is_among (if t then fields ++ lent else lent) y ≡ true → y < middle
+fields_below : (t : Bool) (fields lent : List ℕ) (low middle : ℕ) → Rise low fields middle → AreBelow lent low → (y : ℕ)
+    → is_among (if t then fields ++ lent else lent) y ≡ true → y < middle
 fields_below false fields lent low middle rise below y is = omega (arith, below y is, rise_high low fields middle rise)
 fields_below true fields lent low middle rise below y is = either (in_either fields lent y is)
   where
@@ -126,7 +134,8 @@ fields_below true fields lent low middle rise below y is = either (in_either fie
     either (inr there) = omega (arith, below y there, rise_high low fields middle rise)
 
 mutual
-  lent_below : (lent bound : List ℕ) (low : ℕ) (code : Code) (high : ℕ) → Ordered bound low code high → AreBelow lent low → (y : ℕ) → is_among (lent_in lent code) y ≡ true → y < high
+  lent_below : (lent bound : List ℕ) (low : ℕ) (code : Code) (high : ℕ) → Ordered bound low code high → AreBelow lent low → (y : ℕ)
+      → is_among (lent_in lent code) y ≡ true → y < high
   lent_below lent bound low (give x) high o below y is = omega (arith, below y is, o.1)
   lent_below lent bound low (tail_call f arguments) high o below y is = omega (arith, below y is, o.1)
   lent_below lent bound low (branch x positive negative) high o below y is =
@@ -142,7 +151,8 @@ mutual
       lent_below (lent_in lent block) (x ∷ bound) (x + 1) rest high o.1
       (λ z there. omega (arith, lent_below lent bound low block x o.0 below z there)) y is
 
-  lent_below_arms : (lent bound : List ℕ) (low : ℕ) (arms : Arms) (high : ℕ) → OrderedArms bound low arms high → AreBelow lent low → (y : ℕ) → is_among (lent_in_arms lent arms) y ≡ true → y < high
+  lent_below_arms : (lent bound : List ℕ) (low : ℕ) (arms : Arms) (high : ℕ) → OrderedArms bound low arms high → AreBelow lent low
+      → (y : ℕ) → is_among (lent_in_arms lent arms) y ≡ true → y < high
   lent_below_arms lent bound low no_arm high o below y is = omega (arith, below y is, o)
   lent_below_arms lent bound low (arm pattern body rest) high o below y is =
       lent_below_arms (lent_in lent body) bound o.0 rest high o.2 (λ z. lent_below lent bound low body o.0 o.1 below z) y is
@@ -165,28 +175,36 @@ module _ (lent : List ℕ) where
   abbrev Alike : List ℕ → ℕ → Type 0
   Alike now high = (y : ℕ) → y < high → is_among lent y ≡ is_among now y
 
-  fine_fields : (now bound : List ℕ) (low middle high x : ℕ) (fields : List ℕ) (rest : Code) → Rise low fields middle → Ordered (fields ++ bound) middle rest high
+  fine_fields : (now bound : List ℕ) (low middle high x : ℕ) (fields : List ℕ) (rest : Code) → Rise low fields middle
+      → Ordered (fields ++ bound) middle rest high
       → AreBelow bound low → AreBelow now low → is_among bound x ≡ true
-      → (t : Bool) → is_among now x ≡ t → ((y : ℕ) → y < high → is_among lent y ≡ is_among (lent_in (if t then fields ++ now else now) rest) y) → FineFields lent x fields
+      → (t : Bool) → is_among now x ≡ t
+      → ((y : ℕ) → y < high → is_among lent y ≡ is_among (lent_in (if t then fields ++ now else now) rest) y)
+      → FineFields lent x fields
   fine_fields now bound low middle high x fields rest rise o below now_below is true here alike =
       inl (
         alike x (omega (arith, below x is, rise_high low fields middle rise, ordered_high (fields ++ bound) middle rest high o))
-            ∙ (lent_before (fields ++ now) (fields ++ bound) middle rest high x o (omega (arith, below x is, rise_high low fields middle rise)) ∙ in_back fields now x here),
+            ∙ (lent_before (fields ++ now) (fields ++ bound) middle rest high x o
+            (omega (arith, below x is, rise_high low fields middle rise)) ∙ in_back fields now x here),
         λ y one.
             alike y (omega (arith, (rise_in low fields middle y rise one).1, ordered_high (fields ++ bound) middle rest high o))
-            ∙ (lent_before (fields ++ now) (fields ++ bound) middle rest high y o (rise_in low fields middle y rise one).1 ∙ in_front fields now y one),
+            ∙ (lent_before (fields ++ now) (fields ++ bound) middle rest high y o (rise_in low fields middle y rise one).1
+            ∙ in_front fields now y one),
       )
   fine_fields now bound low middle high x fields rest rise o below now_below is false here alike =
       inr (
         alike x (omega (arith, below x is, rise_high low fields middle rise, ordered_high (fields ++ bound) middle rest high o))
-            ∙ (lent_before now (fields ++ bound) middle rest high x o (omega (arith, below x is, rise_high low fields middle rise)) ∙ here),
+            ∙ (lent_before now (fields ++ bound) middle rest high x o (omega (arith, below x is, rise_high low fields middle rise))
+            ∙ here),
         λ y one.
             alike y (omega (arith, (rise_in low fields middle y rise one).1, ordered_high (fields ++ bound) middle rest high o))
-            ∙ (lent_before now (fields ++ bound) middle rest high y o (rise_in low fields middle y rise one).1 ∙ never_below now low y now_below (rise_in low fields middle y rise one).0),
+            ∙ (lent_before now (fields ++ bound) middle rest high y o (rise_in low fields middle y rise one).1
+            ∙ never_below now low y now_below (rise_in low fields middle y rise one).0),
       )
 
   mutual
-    pub ordered_fine : (now bound : List ℕ) (low : ℕ) (code : Code) (high : ℕ) → Ordered bound low code high → AreBelow bound low → AreBelow now low
+    pub ordered_fine : (now bound : List ℕ) (low : ℕ) (code : Code) (high : ℕ) → Ordered bound low code high → AreBelow bound low
+        → AreBelow now low
         → ((y : ℕ) → y < high → is_among lent y ≡ is_among (lent_in now code) y) → IsFine lent bound code
     ordered_fine now bound low (give x) high o below now_below alike = o.0
     ordered_fine now bound low (tail_call f arguments) high o below now_below alike = bound_part bound arguments o.0
@@ -194,8 +212,10 @@ module _ (lent : List ℕ) where
       o.1,
       (
         ordered_fine now bound low positive o.0 o.2 below now_below
-            (λ y less. alike y (omega (arith, less, ordered_high bound o.0 negative high o.3)) ∙ lent_before (lent_in now positive) bound o.0 negative high y o.3 less),
-        ordered_fine (lent_in now positive) bound o.0 negative high o.3 (λ y is. omega (arith, below y is, ordered_high bound low positive o.0 o.2))
+            (λ y less. alike y (omega (arith, less, ordered_high bound o.0 negative high o.3))
+            ∙ lent_before (lent_in now positive) bound o.0 negative high y o.3 less),
+        ordered_fine (lent_in now positive) bound o.0 negative high o.3
+            (λ y is. omega (arith, below y is, ordered_high bound low positive o.0 o.2))
             (λ y is. lent_below now bound low positive o.0 o.2 now_below y is) alike,
       ),
     )
@@ -232,25 +252,30 @@ module _ (lent : List ℕ) where
     )
     ordered_fine now bound low (inside x block rest) high o below now_below alike = (
       ordered_fine now bound low block x o.0 below now_below
-          (λ y less. alike y (omega (arith, less, ordered_high (x ∷ bound) (x + 1) rest high o.1)) ∙ lent_before (lent_in now block) (x ∷ bound) (x + 1) rest high y o.1 (omega (arith, less))),
+          (λ y less. alike y (omega (arith, less, ordered_high (x ∷ bound) (x + 1) rest high o.1))
+          ∙ lent_before (lent_in now block) (x ∷ bound) (x + 1) rest high y o.1 (omega (arith, less))),
       (
         never_below bound low x below (ordered_high bound low block x o.0),
         (
           alike x (omega (arith, ordered_high (x ∷ bound) (x + 1) rest high o.1))
               ∙ (lent_before (lent_in now block) (x ∷ bound) (x + 1) rest high x o.1 (omega arith)
               ∙ never_below (lent_in now block) x x (λ y is. lent_below now bound low block x o.0 now_below y is) (omega arith)),
-          ordered_fine (lent_in now block) (x ∷ bound) (x + 1) rest high o.1 (λ y is. one_below x low y bound below (ordered_high bound low block x o.0) is)
+          ordered_fine (lent_in now block) (x ∷ bound) (x + 1) rest high o.1
+              (λ y is. one_below x low y bound below (ordered_high bound low block x o.0) is)
               (λ y is. omega (arith, lent_below now bound low block x o.0 now_below y is)) alike,
         ),
       ),
     )
 
-    ordered_fine_arms : (now bound : List ℕ) (low : ℕ) (arms : Arms) (high : ℕ) → OrderedArms bound low arms high → AreBelow bound low → AreBelow now low
+    ordered_fine_arms : (now bound : List ℕ) (low : ℕ) (arms : Arms) (high : ℕ) → OrderedArms bound low arms high
+        → AreBelow bound low → AreBelow now low
         → ((y : ℕ) → y < high → is_among lent y ≡ is_among (lent_in_arms now arms) y) → AreFine lent bound arms
     ordered_fine_arms now bound low no_arm high o below now_below alike = tt
     ordered_fine_arms now bound low (arm pattern body rest) high o below now_below alike = (
       ordered_fine now bound low body o.0 o.1 below now_below
-          (λ y less. alike y (omega (arith, less, arms_high bound o.0 rest high o.2)) ∙ lent_before_arms (lent_in now body) bound o.0 rest high y o.2 less),
-      ordered_fine_arms (lent_in now body) bound o.0 rest high o.2 (λ y is. omega (arith, below y is, ordered_high bound low body o.0 o.1))
+          (λ y less. alike y (omega (arith, less, arms_high bound o.0 rest high o.2))
+          ∙ lent_before_arms (lent_in now body) bound o.0 rest high y o.2 less),
+      ordered_fine_arms (lent_in now body) bound o.0 rest high o.2
+          (λ y is. omega (arith, below y is, ordered_high bound low body o.0 o.1))
           (λ y is. lent_below now bound low body o.0 o.1 now_below y is) alike,
     )

@@ -34,11 +34,13 @@ weighs_nothing (Some end) = omega arith
 
 pub no_weight : (setting : CountedSetting) (n : ℕ) (t : CountedState) → weight_of (lower setting) n t ≤ 0
 no_weight setting n t =
-    let w : weight_of (lower setting) n t ≤ 0 * n = weight_of-at_most (lower setting) 0 (λ s. weighs_nothing (counted_ending_of s)) n t in
+    let w : weight_of (lower setting) n t ≤ 0 * n = weight_of-at_most (lower setting) 0
+    (λ s. weighs_nothing (counted_ending_of s)) n t in
     omega (arith, w)
 
 -- from a state some steps with these notes, at least so many, lead to a state of a kind, through states that are not stuck
-pub record Path (setting : CountedSetting) (least : ℕ) (events : List Note) (P : CountedState → Type 0) (t : CountedState) : Type 0 where
+pub record Path (setting : CountedSetting) (least : ℕ) (events : List Note) (P : CountedState → Type 0)
+    (t : CountedState) : Type 0 where
   pub steps : ℕ
   pub enough : least ≤ steps
   pub tells : trace (lower setting) steps t ≡ events
@@ -56,34 +58,52 @@ path_step setting least now events P t u is passing rest =
     record {
       steps = suc rest.steps;
       enough = omega (arith, rest.enough);
-      tells = ap (λ (next : List Note × CountedState). next.0 ++ trace (lower setting) rest.steps next.1) is ∙ ap (λ later. now ++ later) rest.tells;
+      tells = ap (λ (next : List Note × CountedState). next.0 ++ trace (lower setting) rest.steps next.1) is
+          ∙ ap (λ later. now ++ later) rest.tells;
       passes = passes;
       ends = subst (λ (next : List Note × CountedState). P (state (lower setting) rest.steps next.1)) (sym is) rest.ends;
     }
   where
     passes : (k : ℕ) → k < suc rest.steps → Passing (state (lower setting) k t)
     passes zero less = passing
-    passes (suc k) less = subst (λ (next : List Note × CountedState). Passing (state (lower setting) k next.1)) (sym is) (rest.passes k (omega (arith, less)))
+    passes (suc k) less = subst (λ (next : List Note × CountedState). Passing (state (lower setting) k next.1)) (sym is)
+        (rest.passes k (omega (arith, less)))
 
-pub path_less : (setting : CountedSetting) (least fewer : ℕ) (events : List Note) (P : CountedState → Type 0) (t : CountedState) → fewer ≤ least → Path setting least events P t → Path setting fewer events P t
+pub path_less : (setting : CountedSetting) (least fewer : ℕ) (events : List Note) (P : CountedState → Type 0) (t : CountedState)
+    → fewer ≤ least → Path setting least events P t → Path setting fewer events P t
 path_less setting least fewer events P t less path =
-    record { steps = path.steps; enough = omega (arith, less, path.enough); tells = path.tells; passes = path.passes; ends = path.ends }
+    record {
+      steps = path.steps;
+      enough = omega (arith, less, path.enough);
+      tells = path.tells;
+      passes = path.passes;
+      ends
+          = path.ends;
+    }
 
 -- the step at a code
-pub code_step : (setting : CountedSetting) (code : Counted) (environment : Environment) (joins : List CountedJoin) (frames : List CountedFrame) (heap : Heap) (input : List ℕ) (action : Action CountedConfiguration)
+pub code_step : (setting : CountedSetting) (code : Counted) (environment : Environment) (joins : List CountedJoin)
+    (frames : List CountedFrame) (heap : Heap) (input : List ℕ) (action : Action CountedConfiguration)
     → counted_code_step setting code environment joins (conf code environment joins frames heap) ≡ action
     → (lower setting).step (with_input (conf code environment joins frames heap) input) ≡ performed action input
-code_step setting code environment joins frames heap input action is = ap (λ (a : Action CountedConfiguration). performed a input) is
+code_step setting code environment joins frames heap input action is = ap
+    (λ (a : Action CountedConfiguration). performed a input) is
 
 -- a dup, and a drop, that leave a heap
-pub dup_step : (setting : CountedSetting) (x : ℕ) (rest : Counted) (environment : Environment) (joins : List CountedJoin) (frames : List CountedFrame) (heap after : Heap) (input : List ℕ)
+pub dup_step : (setting : CountedSetting) (x : ℕ) (rest : Counted) (environment : Environment) (joins : List CountedJoin)
+    (frames : List CountedFrame) (heap after : Heap) (input : List ℕ)
     → dup_value (value_of environment x) heap ≡ Some after
-    → (lower setting).step (with_input (conf (dup x rest) environment joins frames heap) input) ≡ ([], with_input (conf rest environment joins frames after) input)
+    → (lower setting).step (with_input (conf (dup x rest) environment joins frames heap) input) ≡
+    ([], with_input (conf rest environment joins frames after) input)
 dup_step setting x rest environment joins frames heap after input is =
-    ap (λ (o : Option Heap). performed (goes (with_heap o (conf (dup x rest) environment joins frames heap) (conf rest environment joins frames heap))) input) is
+    ap (λ (o : Option Heap). performed (goes
+    (with_heap o (conf (dup x rest) environment joins frames heap) (conf rest environment joins frames heap))) input) is
 
-pub drop_step : (setting : CountedSetting) (x : ℕ) (rest : Counted) (environment : Environment) (joins : List CountedJoin) (frames : List CountedFrame) (heap after : Heap) (input : List ℕ)
+pub drop_step : (setting : CountedSetting) (x : ℕ) (rest : Counted) (environment : Environment) (joins : List CountedJoin)
+    (frames : List CountedFrame) (heap after : Heap) (input : List ℕ)
     → drop_value (value_of environment x) heap ≡ Some after
-    → (lower setting).step (with_input (conf (drop x rest) environment joins frames heap) input) ≡ ([], with_input (conf rest environment joins frames after) input)
+    → (lower setting).step (with_input (conf (drop x rest) environment joins frames heap) input) ≡
+    ([], with_input (conf rest environment joins frames after) input)
 drop_step setting x rest environment joins frames heap after input is =
-    ap (λ (o : Option Heap). performed (goes (with_heap o (conf (drop x rest) environment joins frames heap) (conf rest environment joins frames heap))) input) is
+    ap (λ (o : Option Heap). performed (goes
+    (with_heap o (conf (drop x rest) environment joins frames heap) (conf rest environment joins frames heap))) input) is

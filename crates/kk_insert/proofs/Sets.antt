@@ -80,7 +80,8 @@ pub among_append : (xs ys : List ℕ) (y : ℕ) → is_among (xs ++ ys) y ≡ (i
 among_append [] ys y = refl
 among_append (x ∷ xs) ys y = by_test (x == y) (among_append xs ys y)
   where
-    by_test : (t : Bool) → is_among (xs ++ ys) y ≡ (is_among xs y || is_among ys y) → (t || is_among (xs ++ ys) y) ≡ ((t || is_among xs y) || is_among ys y)
+    by_test : (t : Bool) → is_among (xs ++ ys) y ≡ (is_among xs y || is_among ys y)
+        → (t || is_among (xs ++ ys) y) ≡ ((t || is_among xs y) || is_among ys y)
     by_test true later = refl
     by_test false later = later
 
@@ -97,7 +98,8 @@ pub among_filter : (p : ℕ → Bool) (xs : List ℕ) (y : ℕ) → is_among (fi
 among_filter p [] y = refl
 among_filter p (x ∷ xs) y = by_tests (x == y) refl (p x) refl (among_filter p xs y)
   where
-    by_tests : (t : Bool) → (x == y) ≡ t → (s : Bool) → p x ≡ s → is_among (filter p xs) y ≡ (is_among xs y && p y) → is_among (if s then x ∷ filter p xs else filter p xs) y ≡ ((t || is_among xs y) && p y)
+    by_tests : (t : Bool) → (x == y) ≡ t → (s : Bool) → p x ≡ s → is_among (filter p xs) y ≡ (is_among xs y && p y)
+        → is_among (if s then x ∷ filter p xs else filter p xs) y ≡ ((t || is_among xs y) && p y)
     by_tests true here true is later = rw here (sym (ap p (sym (same x y here)) ∙ is))
     by_tests true here false is later =
         later ∙ (ap (λ b. is_among xs y && b) no ∙ (none (is_among xs y) ∙ sym no))
@@ -158,9 +160,11 @@ before_either xs ys y is = in_either xs ys y (sym (among_before xs ys y) ∙ is)
 -- the uses that take a dup are of variables that are owned
 pub extra_in : (xs after : List ℕ) → Part (extra xs after) (before xs after)
 extra_in [] after y is = absurd (cc)
-extra_in (x ∷ xs) after y is = among_add x (before xs after) y ∙ by_test (is_among (before xs after) x) refl is (extra_in xs after y)
+extra_in (x ∷ xs) after y is = among_add x (before xs after) y
+    ∙ by_test (is_among (before xs after) x) refl is (extra_in xs after y)
   where
-    by_test : (t : Bool) → is_among (before xs after) x ≡ t → is_among (if t then x ∷ extra xs after else extra xs after) y ≡ true → (is_among (extra xs after) y ≡ true → is_among (before xs after) y ≡ true) → is_among (x ∷ before xs after) y ≡ true
+    by_test : (t : Bool) → is_among (before xs after) x ≡ t → is_among (if t then x ∷ extra xs after else extra xs after) y ≡ true
+        → (is_among (extra xs after) y ≡ true → is_among (before xs after) y ≡ true) → is_among (x ∷ before xs after) y ≡ true
     by_test true here is later = either (or_cases (x == y) (is_among (extra xs after) y) is)
       where
         either : ((x == y) ≡ true) ⊎ (is_among (extra xs after) y ≡ true) → is_among (x ∷ before xs after) y ≡ true
@@ -191,14 +195,19 @@ apart_filter p [] apart = tt
 apart_filter p (x ∷ xs) apart = by_test (p x) (apart_filter p xs apart.1)
   where
     by_test : (t : Bool) → AreApart (filter p xs) → AreApart (if t then x ∷ filter p xs else filter p xs)
-    by_test true later = (false_if (is_among (filter p xs) x) (λ is. no_both ⊥ (is_among xs x) (filter_in p xs x is) apart.0), later)
+    by_test true later = (
+      false_if (is_among (filter p xs) x)
+          (λ is. no_both ⊥ (is_among xs x) (filter_in p xs x is) apart.0),
+      later,
+    )
     by_test false later = later
 
 pub apart_before : (xs ys : List ℕ) → AreApart ys → AreApart (before xs ys)
 apart_before [] ys apart = apart
 apart_before (x ∷ xs) ys apart = by_test (is_among (before xs ys) x) refl (apart_before xs ys apart)
   where
-    by_test : (t : Bool) → is_among (before xs ys) x ≡ t → AreApart (before xs ys) → AreApart (if t then before xs ys else x ∷ before xs ys)
+    by_test : (t : Bool) → is_among (before xs ys) x ≡ t → AreApart (before xs ys)
+        → AreApart (if t then before xs ys else x ∷ before xs ys)
     by_test true is later = later
     by_test false is later = (is, later)
 
@@ -209,12 +218,14 @@ total_append weight [] ys = omega arith
 total_append weight (x ∷ xs) ys = omega (arith, total_append weight xs ys)
 
 -- each use is one that takes a dup, or the last one of a variable that is owned
-pub total_before : (weight : ℕ → ℕ) (xs after : List ℕ) → total weight (extra xs after) + total weight (before xs after) ≡ total weight xs + total weight after
+pub total_before : (weight : ℕ → ℕ) (xs after : List ℕ)
+    → total weight (extra xs after) + total weight (before xs after) ≡ total weight xs + total weight after
 total_before weight [] after = refl
 total_before weight (x ∷ xs) after = by_test (is_among (before xs after) x) (total_before weight xs after)
   where
     by_test : (t : Bool) → total weight (extra xs after) + total weight (before xs after) ≡ total weight xs + total weight after
-        → total weight (if t then x ∷ extra xs after else extra xs after) + total weight (if t then before xs after else x ∷ before xs after) ≡ (weight x + total weight xs) + total weight after
+        → total weight (if t then x ∷ extra xs after else extra xs after) + total weight
+        (if t then before xs after else x ∷ before xs after) ≡ (weight x + total weight xs) + total weight after
     by_test true later = omega (arith, later)
     by_test false later = omega (arith, later)
 
@@ -223,7 +234,8 @@ total_parts weight bs [] = refl
 total_parts weight bs (x ∷ xs) = by_test (is_among bs x) (total_parts weight bs xs)
   where
     by_test : (t : Bool) → total weight xs ≡ total weight (common bs xs) + total weight (without bs xs)
-        → weight x + total weight xs ≡ total weight (if t then x ∷ common bs xs else common bs xs) + total weight (if not t then x ∷ without bs xs else without bs xs)
+        → weight x + total weight xs ≡ total weight (if t then x ∷ common bs xs else common bs xs) + total weight
+        (if not t then x ∷ without bs xs else without bs xs)
     by_test true later = omega (arith, later)
     by_test false later = omega (arith, later)
 
@@ -245,24 +257,32 @@ filter_twice p q [] = refl
 filter_twice p q (x ∷ xs) = by_test (q x) (filter_twice p q xs)
   where
     by_test : (t : Bool) → filter p (filter q xs) ≡ filter (λ x. q x && p x) xs
-        → filter p (if t then x ∷ filter q xs else filter q xs) ≡ (if t && p x then x ∷ filter (λ x. q x && p x) xs else filter (λ x. q x && p x) xs)
+        → filter p (if t then x ∷ filter q xs else filter q xs) ≡
+        (if t && p x then x ∷ filter (λ x. q x && p x) xs else filter (λ x. q x && p x) xs)
     by_test true later = ap (λ ys. if p x then x ∷ ys else ys) later
     by_test false later = later
 
 -- one variable taken out of a list without repetition
-pub total_one : (weight : ℕ → ℕ) (x : ℕ) (xs : List ℕ) → AreApart xs → is_among xs x ≡ true → total weight xs ≡ weight x + total weight (without (x ∷ []) xs)
+pub total_one : (weight : ℕ → ℕ) (x : ℕ) (xs : List ℕ) → AreApart xs → is_among xs x ≡ true
+    → total weight xs ≡ weight x + total weight (without (x ∷ []) xs)
 total_one weight x [] apart is = absurd (cc)
 total_one weight x (y ∷ xs) apart is = by_test (x == y) refl (total_one weight x xs apart.1)
   where
     Later : Type 0
     Later = is_among xs x ≡ true → total weight xs ≡ weight x + total weight (without (x ∷ []) xs)
 
-    by_test : (t : Bool) → (x == y) ≡ t → Later → weight y + total weight xs ≡ weight x + total weight (if not (t || false) then y ∷ without (x ∷ []) xs else without (x ∷ []) xs)
+    by_test : (t : Bool) → (x == y) ≡ t → Later
+        → weight y + total weight xs ≡ weight x + total weight
+        (if not (t || false) then y ∷ without (x ∷ []) xs else without (x ∷ []) xs)
     by_test true here later =
         omega (
           arith,
           ap weight (same x y here),
-          ap (total weight) (filter_all (λ z. not (is_among (x ∷ []) z)) xs (λ z there. is_not (is_among (x ∷ []) z) (false_if (is_among (x ∷ []) z) (λ one. no_both ⊥ (is_among xs y) (subst (λ w. is_among xs w ≡ true) (sym (one_only x z one) ∙ same x y here) there) apart.0)))),
+          ap (total weight) (filter_all (λ z. not (is_among (x ∷ []) z)) xs
+              (λ z there. is_not (is_among (x ∷ []) z)
+              (false_if (is_among (x ∷ []) z)
+              (λ one. no_both ⊥ (is_among xs y) (subst (λ w. is_among xs w ≡ true) (sym (one_only x z one) ∙ same x y here) there)
+              apart.0)))),
         )
     by_test false other later = omega (arith, later (either (or_cases (y == x) (is_among xs x) is)))
       where
@@ -271,7 +291,8 @@ total_one weight x (y ∷ xs) apart is = by_test (x == y) refl (total_one weight
         either (inr there) = there
 
 -- a part of a list, both without repetition, taken out
-pub total_minus : (weight : ℕ → ℕ) (all now : List ℕ) → AreApart all → AreApart now → Part now all → total weight all ≡ total weight (without now all) + total weight now
+pub total_minus : (weight : ℕ → ℕ) (all now : List ℕ) → AreApart all → AreApart now → Part now all
+    → total weight all ≡ total weight (without now all) + total weight now
 total_minus weight all [] apart_all apart part =
     omega (arith, ap (total weight) (filter_all (λ z. not (is_among [] z)) all (λ z is. refl)))
 total_minus weight all (x ∷ now) apart_all apart part =
@@ -279,7 +300,9 @@ total_minus weight all (x ∷ now) apart_all apart part =
       arith,
       total_one weight x all apart_all (part x (among_first x now)),
       total_minus weight (without (x ∷ []) all) now (apart_filter (λ z. not (is_among (x ∷ []) z)) all apart_all) apart.1 rest,
-      ap (total weight) (filter_twice (λ z. not (is_among now z)) (λ z. not (is_among (x ∷ []) z)) all ∙ filter_alike (λ z. not (is_among (x ∷ []) z) && not (is_among now z)) (λ z. not (is_among (x ∷ now) z)) all (λ y is. both (x == y) (is_among now y))),
+      ap (total weight) (filter_twice (λ z. not (is_among now z)) (λ z. not (is_among (x ∷ []) z)) all
+          ∙ filter_alike (λ z. not (is_among (x ∷ []) z) && not (is_among now z)) (λ z. not (is_among (x ∷ now) z)) all
+          (λ y is. both (x == y) (is_among now y))),
     )
   where
     both : (a b : Bool) → (not (a || false) && not b) ≡ not (a || b)
@@ -289,15 +312,19 @@ total_minus weight all (x ∷ now) apart_all apart part =
     rest : (y : ℕ) → is_among now y ≡ true → is_among (without (x ∷ []) all) y ≡ true
     rest y is =
         in_without (x ∷ []) all y (part y (among_next x y now is))
-        (false_if (is_among (x ∷ []) y) (λ one. no_both ⊥ (is_among now x) (subst (λ w. is_among now w ≡ true) (sym (one_only x y one)) is) apart.0))
+        (false_if (is_among (x ∷ []) y) (λ one. no_both ⊥ (is_among now x)
+        (subst (λ w. is_among now w ≡ true) (sym (one_only x y one)) is) apart.0))
 
 -- the common part of two lists without repetition weighs the same from both sides
-pub total_common : (weight : ℕ → ℕ) (xs ys : List ℕ) → AreApart xs → AreApart ys → total weight ys ≡ total weight (common ys xs) + total weight (without xs ys)
+pub total_common : (weight : ℕ → ℕ) (xs ys : List ℕ) → AreApart xs → AreApart ys
+    → total weight ys ≡ total weight (common ys xs) + total weight (without xs ys)
 total_common weight xs ys apart_xs apart_ys =
     omega (
       arith,
-      total_minus weight ys (common ys xs) apart_ys (apart_filter (is_among ys) xs apart_xs) (λ y is. filter_passes (is_among ys) xs y is),
-      ap (total weight) (filter_alike (λ z. not (is_among (common ys xs) z)) (λ z. not (is_among xs z)) ys (λ y is. ap not (among_filter (is_among ys) xs y ∙ one (is_among xs y) (is_among ys y) is))),
+      total_minus weight ys (common ys xs) apart_ys (apart_filter (is_among ys) xs apart_xs)
+          (λ y is. filter_passes (is_among ys) xs y is),
+      ap (total weight) (filter_alike (λ z. not (is_among (common ys xs) z)) (λ z. not (is_among xs z)) ys
+          (λ y is. ap not (among_filter (is_among ys) xs y ∙ one (is_among xs y) (is_among ys y) is))),
     )
   where
     one : (a b : Bool) → b ≡ true → (a && b) ≡ a

@@ -37,7 +37,8 @@ module _ (positions : PositionTable) (source : List FunctionCode) where
     image_joins (join ∷ joins) =
         record {
           variable = join.variable;
-          rest = dropping (join.variable ∷ []) (own positions lent (left_by (left_of joins)) join.rest) (insert positions lent (left_by (left_of joins)) join.rest);
+          rest = dropping (join.variable ∷ []) (own positions lent (left_by (left_of joins)) join.rest)
+              (insert positions lent (left_by (left_of joins)) join.rest);
         } ∷ image_joins joins
 
     -- a code in its place: what is bound before it, and what is left behind it
@@ -66,15 +67,27 @@ module _ (positions : PositionTable) (source : List FunctionCode) where
 
     pub rest_code : (left : Option (List ℕ)) (x : ℕ) (rest : Code) → RestOk left x rest → CodeOk left rest
     rest_code left x rest ok =
-        record { bound = x ∷ ok.bound; fine = ok.fine; lends_on = ok.lends_on; part = λ y is. among_next x y ok.bound (ok.part y is); apart = ok.apart; small = ok.small }
+        record {
+          bound = x ∷ ok.bound;
+          fine = ok.fine;
+          lends_on = ok.lends_on;
+          part = λ y is. among_next x y ok.bound
+              (ok.part y is);
+          apart = ok.apart;
+          small = ok.small;
+        }
 
     -- what a code that waits owns besides its variable
-    pub rest_owned_part : (left : Option (List ℕ)) (x : ℕ) (rest : Code) (ok : RestOk left x rest) → Part (without (x ∷ []) (own positions lent (left_by left) rest)) ok.bound
+    pub rest_owned_part : (left : Option (List ℕ)) (x : ℕ) (rest : Code) (ok : RestOk left x rest)
+        → Part (without (x ∷ []) (own positions lent (left_by left) rest)) ok.bound
     rest_owned_part left x rest ok =
-        rest_part positions lent x (own positions lent (left_by left) rest) ok.bound (own_part positions lent (left_by left) (x ∷ ok.bound) rest ok.fine (λ y is. among_next x y ok.bound (ok.part y is)))
+        rest_part positions lent x (own positions lent (left_by left) rest) ok.bound
+        (own_part positions lent (left_by left) (x ∷ ok.bound) rest ok.fine (λ y is. among_next x y ok.bound (ok.part y is)))
 
-    pub rest_owned_apart : (left : Option (List ℕ)) (x : ℕ) (rest : Code) (ok : RestOk left x rest) → AreApart (without (x ∷ []) (own positions lent (left_by left) rest))
-    rest_owned_apart left x rest ok = apart_filter (λ z. not (is_among (x ∷ []) z)) (own positions lent (left_by left) rest) (own_apart positions lent (left_by left) rest ok.apart)
+    pub rest_owned_apart : (left : Option (List ℕ)) (x : ℕ) (rest : Code) (ok : RestOk left x rest)
+        → AreApart (without (x ∷ []) (own positions lent (left_by left) rest))
+    rest_owned_apart left x rest ok = apart_filter (λ z. not (is_among (x ∷ []) z)) (own positions lent (left_by left) rest)
+        (own_apart positions lent (left_by left) rest ok.apart)
 
   -- ---- functions that wait
 
@@ -82,7 +95,8 @@ module _ (positions : PositionTable) (source : List FunctionCode) where
   image_frame lent given frame =
       record {
         variable = frame.variable;
-        rest = back lent given frame.variable (own positions lent (left_by (left_of lent frame.joins)) frame.rest) (insert positions lent (left_by (left_of lent frame.joins)) frame.rest);
+        rest = back lent given frame.variable (own positions lent (left_by (left_of lent frame.joins)) frame.rest)
+            (insert positions lent (left_by (left_of lent frame.joins)) frame.rest);
         joins = image_joins lent frame.joins;
         environment = frame.environment;
       }
@@ -95,7 +109,9 @@ module _ (positions : PositionTable) (source : List FunctionCode) where
     pub rest : RestOk lent (left_of lent frame.joins) frame.variable frame.rest
     pub new : is_among given frame.variable ≡ false
     pub joins : JoinsOk lent frame.joins
-    pub owned : below ≡ values_of frame.environment (owns lent given (without (frame.variable ∷ []) (own positions lent (left_by (left_of lent frame.joins)) frame.rest))) ++ beneath
+    pub owned : below ≡ values_of frame.environment
+        (owns lent given (without (frame.variable ∷ []) (own positions lent (left_by (left_of lent frame.joins)) frame.rest))) ++
+        beneath
     pub lends : (q : ℕ) → refs frame.lent q ≡ refs (values_of frame.environment given) q
     pub reached : AreReached store beneath frame.environment lent
 
@@ -108,7 +124,8 @@ module _ (positions : PositionTable) (source : List FunctionCode) where
 
   -- ---- states
 
-  pub record Active (code : Code) (environment : Environment) (joins : List Join) (from : CoreConfiguration) (c : CountedConfiguration) : Type 0 where
+  pub record Active (code : Code) (environment : Environment) (joins : List Join) (from : CoreConfiguration)
+      (c : CountedConfiguration) : Type 0 where
     pub lent : List ℕ
     pub below : List Value
     pub frames : List CountedFrame
