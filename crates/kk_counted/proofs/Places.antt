@@ -43,7 +43,7 @@ field_of (held ∷ heap) q one = by_count held.count refl (field_of heap q)
     by_count (suc k) counted later = by_own k (refs held.cell.fields q) counted refl later
 
 -- a counted cell is reached: it is owned, or a field of a newer one that is reached
-counted_reached : (owned : List Value) (heap : Heap) → IsSound owned heap → (n at : ℕ) → length heap ≤ at + n → 1 ≤ count_at heap at → Reached (forwards heap) owned at
+pub counted_reached : (owned : List Value) (heap : Heap) → IsSound owned heap → (n at : ℕ) → length heap ≤ at + n → 1 ≤ count_at heap at → Reached (forwards heap) owned at
 counted_reached owned heap sound zero at room one =
     let k = positive (count_at heap at) one in absurd (omega (arith, room, counted_within heap at k.0 k.1))
 counted_reached owned heap sound (suc n) at room one = by_refs (refs owned at) refl (counted_reached owned heap sound n)
@@ -65,7 +65,7 @@ one_if zero one = absurd (omega (arith, one))
 one_if (suc n) one = refl
 
 -- the number of counted cells, by a test for them
-busy_passing : (heap : Heap) (passes : ℕ → Bool) → ((at : ℕ) → at < length heap → passes at ≡ true → 1 ≤ count_at heap at) → ((at : ℕ) → at < length heap → 1 ≤ count_at heap at → passes at ≡ true) → busy heap ≡ passing passes (length heap)
+pub busy_passing : (heap : Heap) (passes : ℕ → Bool) → ((at : ℕ) → at < length heap → passes at ≡ true → 1 ≤ count_at heap at) → ((at : ℕ) → at < length heap → 1 ≤ count_at heap at → passes at ≡ true) → busy heap ≡ passing passes (length heap)
 busy_passing [] passes only all = refl
 busy_passing (held ∷ heap) passes only all =
     omega (

@@ -43,21 +43,21 @@ LeadsTo P (calls found to) = P to
 
 -- ---- sound heaps
 
-moved : (all other : List Value) (heap : Heap) → ((q : ℕ) → refs other q ≡ refs all q) → IsSound all heap → IsSound other heap
+pub moved : (all other : List Value) (heap : Heap) → ((q : ℕ) → refs other q ≡ refs all q) → IsSound all heap → IsSound other heap
 moved all other heap even sound = record { counts = λ q. omega (arith, sound.counts q, even q); older = sound.older }
 
 -- a heap of the same cells, with right counts
-became_sound : (all other : List Value) (heap : Heap) (result : Option Heap) (outside : ℕ → ℕ) (became : Became heap result outside) → ((q : ℕ) → refs other q ≡ outside q) → IsSound all heap → IsSound other became.heap
+pub became_sound : (all other : List Value) (heap : Heap) (result : Option Heap) (outside : ℕ → ℕ) (became : Became heap result outside) → ((q : ℕ) → refs other q ≡ outside q) → IsSound all heap → IsSound other became.heap
 became_sound all other heap result outside became even sound =
     record {
       counts = λ q. omega (arith, became.counts q, even q);
       older = λ at. subst (AllWithin at) (sym (same_fields became.heap heap at became.cells)) (sound.older at);
     }
 
-abbrev with_variable : ℕ → Value → Environment → Environment
+abbrev pub with_variable : ℕ → Value → Environment → Environment
 with_variable x v environment = record { variable = x; value = v } ∷ environment
 
-landed : (x : ℕ) (v : Value) (environment : Environment) (kept : List ℕ) (below all : List Value) (heap : Heap) → is_among kept x ≡ false → ((q : ℕ) → refs all q ≡ refs_of v q + (refs (values_of environment kept) q + refs below q)) → IsSound all heap → IsSound (values_of (with_variable x v environment) (x ∷ kept) ++ below) heap
+pub landed : (x : ℕ) (v : Value) (environment : Environment) (kept : List ℕ) (below all : List Value) (heap : Heap) → is_among kept x ≡ false → ((q : ℕ) → refs all q ≡ refs_of v q + (refs (values_of environment kept) q + refs below q)) → IsSound all heap → IsSound (values_of (with_variable x v environment) (x ∷ kept) ++ below) heap
 landed x v environment kept below all heap fresh even sound =
     moved all (values_of (with_variable x v environment) (x ∷ kept) ++ below) heap
     (λ q. omega (
@@ -69,27 +69,27 @@ landed x v environment kept below all heap fresh even sound =
     ))
     sound
 
-reached_bound : (store : Store) (below : List Value) (environment : Environment) (lent : List ℕ) (x : ℕ) (v : Value) → is_among lent x ≡ false → AreReached store below environment lent → AreReached store below (with_variable x v environment) lent
+pub reached_bound : (store : Store) (below : List Value) (environment : Environment) (lent : List ℕ) (x : ℕ) (v : Value) → is_among lent x ≡ false → AreReached store below environment lent → AreReached store below (with_variable x v environment) lent
 reached_bound store below environment lent x v unlent reached =
     λ y at is named. reached y at is (sym (value_old x y v environment (other_variable x y lent unlent is)) ∙ named)
 
-fresh_past : (fields ys : List ℕ) (y : ℕ) → AreFresh fields ys → is_among ys y ≡ true → is_among fields y ≡ false
+pub fresh_past : (fields ys : List ℕ) (y : ℕ) → AreFresh fields ys → is_among ys y ≡ true → is_among fields y ≡ false
 fresh_past [] ys y fresh is = refl
 fresh_past (x ∷ xs) ys y fresh is = rw (other_variable x y ys fresh.0 is) (fresh_past xs ys y fresh.1 is)
 
-counted_if : (v : Value) (heap : Heap) → ((at : ℕ) → v ≡ place at → 1 ≤ count_at heap at) → IsCounted heap v
+pub counted_if : (v : Value) (heap : Heap) → ((at : ℕ) → v ≡ place at → 1 ≤ count_at heap at) → IsCounted heap v
 counted_if (integer n) heap each = tt
 counted_if unit heap each = tt
 counted_if (constant c) heap each = tt
 counted_if (place at) heap each = each at refl
 
-counted_grows : (v : Value) (heap other : Heap) → ((q : ℕ) → count_at heap q ≤ count_at other q) → IsCounted heap v → IsCounted other v
+pub counted_grows : (v : Value) (heap other : Heap) → ((q : ℕ) → count_at heap q ≤ count_at other q) → IsCounted heap v → IsCounted other v
 counted_grows (integer n) heap other grows counted = tt
 counted_grows unit heap other grows counted = tt
 counted_grows (constant c) heap other grows counted = tt
 counted_grows (place at) heap other grows counted = omega (arith, grows at, counted)
 
-no_refs : (vs : List Value) (q : ℕ) → HaveNoCells vs → refs vs q ≡ 0
+pub no_refs : (vs : List Value) (q : ℕ) → HaveNoCells vs → refs vs q ≡ 0
 no_refs [] q none = refl
 no_refs (integer n ∷ vs) q none = omega (arith, no_refs vs q none.1)
 no_refs (unit ∷ vs) q none = omega (arith, no_refs vs q none.1)
@@ -101,15 +101,15 @@ none_among P y is = absurd (cc)
 
 -- ---- results of operators
 
-truth_free : (t : Bool) (q : ℕ) → refs_of (truth t) q ≡ 0
+pub truth_free : (t : Bool) (q : ℕ) → refs_of (truth t) q ≡ 0
 truth_free true q = refl
 truth_free false q = refl
 
-unary_free : (operator : UnaryOperator) (v : Value) (q : ℕ) → refs_of (unary_result operator v) q ≡ 0
+pub unary_free : (operator : UnaryOperator) (v : Value) (q : ℕ) → refs_of (unary_result operator v) q ≡ 0
 unary_free Negate v q = refl
 unary_free Not v q = truth_free _ q
 
-number_free : (operator : BinaryOperator) (m n : ℤ) (q : ℕ) → refs_of (number_result operator m n) q ≡ 0
+pub number_free : (operator : BinaryOperator) (m n : ℤ) (q : ℕ) → refs_of (number_result operator m n) q ≡ 0
 number_free Add m n q = refl
 number_free Subtract m n q = refl
 number_free Multiply m n q = refl
@@ -122,7 +122,7 @@ number_free LessEqual m n q = truth_free _ q
 number_free Greater m n q = truth_free _ q
 number_free GreaterEqual m n q = truth_free _ q
 
-byte_free : (byte : Option ℕ) (q : ℕ) → refs_of (byte_value byte) q ≡ 0
+pub byte_free : (byte : Option ℕ) (q : ℕ) → refs_of (byte_value byte) q ≡ 0
 byte_free None q = refl
 byte_free (Some byte) q = refl
 
@@ -394,7 +394,7 @@ module _ (positions : PositionTable) (setting : CountedSetting) (spent : IsSpent
 
     -- ---- forms
 
-    own_longer : (store : Store) (cell : Cell) (frames : List CountedFrame) (owned : List Value) → Own positions setting.program.functions store frames owned → Own positions setting.program.functions (store ++ cell ∷ []) frames owned
+    pub own_longer : (store : Store) (cell : Cell) (frames : List CountedFrame) (owned : List Value) → Own positions setting.program.functions store frames owned → Own positions setting.program.functions (store ++ cell ∷ []) frames owned
     own_longer store cell [] owned o = o
     own_longer store cell (frame ∷ older) owned o = (
       o.0,

@@ -1,0 +1,5 @@
+use Rattle.kk_insert.proofs.Simulating.{finds_as_many}
+use Rattle.kk_insert.proofs.law.counted_cells_are_the_live_places.Goals as goal
+
+pub returns : goal.returns
+returns c = finds_as_many

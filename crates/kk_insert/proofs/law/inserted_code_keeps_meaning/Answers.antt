@@ -1,0 +1,5 @@
+use Rattle.kk_insert.proofs.Simulating.{keeps_meaning}
+use Rattle.kk_insert.proofs.law.inserted_code_keeps_meaning.Goals as goal
+
+pub returns : goal.returns
+returns c = keeps_meaning

@@ -1,0 +1,49 @@
+-- What a program in core form must be, so that dups and drops can be inserted.
+use Rattle.std.specs.Prelude.{◌≡◌, ◌≤◌, ℕ, Bool, true, false, List, length, Some, slice_get}
+use Rattle.kk_syntax.specs.declared.program.Form.{Form}
+use Rattle.kk_syntax.specs.declared.program.Form.TheVariants.{Call}
+use Rattle.kk_syntax.specs.PositionsOf.{PositionTable}
+use Rattle.kk_core.specs.Codes.{Code, give, tail_call, branch, case, compute, use_of, unpack, inside, Arms, no_arm, arm, FunctionCode, ProgramCode}
+use Rattle.kk_core.specs.Sizes.{IsOrdered, forms, most_forms}
+use Rattle.kk_counted.specs.Spending.{AllAmong}
+use Rattle.kk_insert.specs.Insertion.{lends, lent_of}
+
+module _ (positions : PositionTable) (functions : List FunctionCode) where
+  -- a function is called with as many arguments as it has parameters
+  abbrev pub TakesAsMany : ℕ → List ℕ → Type 0
+  TakesAsMany f arguments =
+      (function : FunctionCode) → slice_get functions f ≡ Some function → function.parameters ≡ length arguments
+
+  abbrev pub FormTakes : Form → List ℕ → Type 0
+  FormTakes (Call f) arguments = TakesAsMany f arguments
+  FormTakes _ arguments = Unit {0}
+
+  -- By the lent variables of a function: its tail calls stand where no block waits, and lend only variables that it is lent
+  -- itself, since it is gone when they run; and all calls have as many arguments as their functions have parameters.
+  abbrev mutual
+    pub LendsOn : List ℕ → Bool → Code → Type 0
+    LendsOn lent tail (give x) = Unit {0}
+    LendsOn lent tail (tail_call f arguments) =
+        (tail ≡ true) × (AllAmong (lends positions (Call f) arguments) lent × TakesAsMany f arguments)
+    LendsOn lent tail (branch x positive negative) = LendsOn lent tail positive × LendsOn lent tail negative
+    LendsOn lent tail (case x decisions arms) = AllLendOn lent tail arms
+    LendsOn lent tail (compute x form arguments rest) = FormTakes form arguments × LendsOn lent tail rest
+    LendsOn lent tail (use_of x rest) = LendsOn lent tail rest
+    LendsOn lent tail (unpack x c fields rest) = LendsOn lent tail rest
+    LendsOn lent tail (inside x block rest) = LendsOn lent false block × LendsOn lent tail rest
+
+    pub AllLendOn : List ℕ → Bool → Arms → Type 0
+    AllLendOn lent tail no_arm = Unit {0}
+    AllLendOn lent tail (arm pattern body rest) = LendsOn lent tail body × AllLendOn lent tail rest
+
+  -- A function: its variables are in order, its forms are no more than the limit, and its tail calls lend on what it is lent.
+  pub record IsFunctionInsertable (f : ℕ) (function : FunctionCode) : Type 0 where
+    pub ordered : IsOrdered function
+    pub small : forms function.body ≤ most_forms
+    pub tails : LendsOn (lent_of positions f function) true function.body
+
+-- a program: each of its functions, and `main` is there and has no parameters
+pub record IsInsertable (positions : PositionTable) (code : ProgramCode) : Type 0 where
+  pub each : (f : ℕ) (function : FunctionCode) → slice_get code.functions f ≡ Some function
+      → IsFunctionInsertable positions code.functions f function
+  pub main : (function : FunctionCode) × ((slice_get code.functions code.main ≡ Some function) × (function.parameters ≡ 0))

@@ -1,0 +1,36 @@
+ghost use Rattle.std.specs.Prelude.{ℕ, List};
+ghost use Rattle.kk_syntax.specs.PositionsOf.{PositionTable};
+ghost use Rattle.kk_syntax.specs.Programs.{ConstructorTree};
+ghost use Rattle.kk_core.specs.Codes.{ProgramCode};
+ghost use Rattle.kk_core.specs.CoreStates.{CoreSetting, CoreState};
+ghost use Rattle.kk_core.specs.NeverStuck.{NeverStuck};
+ghost use Rattle.kk_counted.specs.Spending.{IsSpent};
+ghost use Rattle.kk_insert.specs.Insertion.{inserted};
+ghost use Rattle.kk_insert.specs.Meaning.{KeepsMeaning, FindsAsMany};
+ghost use Rattle.kk_insert.specs.Promise.{IsInsertable};
+
+/// Inserted code spends what it owns: so the laws of counted code hold of it, and its heap is sound in each state. It is a law,
+/// and does nothing.
+pub fn inserted_code_is_spent()
+    ensures { (positions : PositionTable) (code : ProgramCode) → IsInsertable positions code
+        → IsSpent positions (inserted positions code) }
+{}
+
+/// An inserted program keeps the meaning of a core program that is never stuck: both machines tell the same notes and end alike.
+/// The counted machine is never stuck, its heap is sound in each state, and no cell is left where it ends by itself. It is a law,
+/// and does nothing.
+pub fn inserted_code_keeps_meaning()
+    ensures { (setting : CoreSetting) (constructors : List ConstructorTree) (weight : CoreState → ℕ) (input : List ℕ)
+        → IsInsertable setting.positions setting.code
+        → NeverStuck constructors weight setting input
+        → KeepsMeaning weight setting input }
+{}
+
+/// The k-th note of either machine is the k-th of the other: so at each construction the cells that are counted are as many as the
+/// places that are live, and at each call as many call frames stand. It is a law, and does nothing.
+pub fn counted_cells_are_the_live_places()
+    ensures { (setting : CoreSetting) (constructors : List ConstructorTree) (weight : CoreState → ℕ) (input : List ℕ)
+        → IsInsertable setting.positions setting.code
+        → NeverStuck constructors weight setting input
+        → FindsAsMany setting input }
+{}

@@ -1,0 +1,8 @@
+//! The insertion of dups and drops: from the core form to the counted form. It is a function on code in specs/, with laws.
+#![tactic(auto)]
+
+mod law;
+
+pub use law::{
+    counted_cells_are_the_live_places, inserted_code_is_spent, inserted_code_keeps_meaning,
+};
