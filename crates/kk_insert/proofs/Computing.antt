@@ -376,7 +376,8 @@ module _ (setting : CoreSetting) (constructors : List ConstructorTree) (promise 
 
     -- the step of each form
     pub form_at : (form : Form) (arguments : List ℕ)
-        → ArgumentsFit constructors setting.code.texts (CallFits constructors setting.code) form (map (value_of environment) arguments) → is_among arguments x ≡ false
+        → ArgumentsFit constructors setting.code.texts (CallFits constructors setting.code) form
+        (map (value_of environment) arguments) → is_among arguments x ≡ false
         → SoundAt setting constructors promise from lent below frames heap store waits x arguments rest environment joins rest_ok
         joins_ok reached form
         → FollowsForm setting constructors promise from lent below frames heap store waits x arguments rest environment joins
@@ -439,7 +440,8 @@ module _ (setting : CoreSetting) (constructors : List ConstructorTree) (promise 
       (compute x form arguments rest)
       → IsSound (values_of environment (own setting.positions lent
       (left_by (left_of setting.positions setting.code.functions lent joins)) (compute x form arguments rest)) ++ below) heap
-      → ArgumentsFit constructors setting.code.texts (CallFits constructors setting.code) form (map (value_of environment) arguments)
+      → ArgumentsFit constructors setting.code.texts (CallFits constructors setting.code) form
+      (map (value_of environment) arguments)
       → Follows setting.positions setting.code.functions (inserted_setting setting) 1
       (form_step setting form (map (value_of environment) arguments) x rest environment joins from) input
       (with_input (conf (insert setting.positions lent (left_by (left_of setting.positions setting.code.functions lent joins))

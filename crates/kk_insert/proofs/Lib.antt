@@ -13,3 +13,4 @@ pub mod Needed
 pub mod Calling
 pub mod Computing
 pub mod Simulating
+pub mod Typed

@@ -47,3 +47,27 @@ pub record IsInsertable (positions : PositionTable) (code : ProgramCode) : Type 
   pub each : (f : ℕ) (function : FunctionCode) → slice_get code.functions f ≡ Some function
       → IsFunctionInsertable positions code.functions f function
   pub main : (function : FunctionCode) × ((slice_get code.functions code.main ≡ Some function) × (function.parameters ≡ 0))
+
+-- ---- what is asked of the positions alone: tail calls lend only what is lent
+
+module _ (positions : PositionTable) (lent : List ℕ) where
+  abbrev mutual
+    pub LendsTails : Code → Type 0
+    LendsTails (give x) = Unit {0}
+    LendsTails (tail_call f arguments) = AllAmong (lends positions (Call f) arguments) lent
+    LendsTails (branch x positive negative) = LendsTails positive × LendsTails negative
+    LendsTails (case x decisions arms) = AllLendTails arms
+    LendsTails (compute x form arguments rest) = LendsTails rest
+    LendsTails (use_of x rest) = LendsTails rest
+    LendsTails (unpack x c fields rest) = LendsTails rest
+    LendsTails (inside x block rest) = LendsTails block × LendsTails rest
+
+    pub AllLendTails : Arms → Type 0
+    AllLendTails no_arm = Unit {0}
+    AllLendTails (arm pattern body rest) = LendsTails body × AllLendTails rest
+
+-- in each function of a program
+abbrev pub TailsLendOn : PositionTable → ProgramCode → Type 0
+TailsLendOn positions code =
+    (f : ℕ) (function : FunctionCode) → slice_get code.functions f ≡ Some function
+    → LendsTails positions (lent_of positions f function) function.body

@@ -1,13 +1,21 @@
 ghost use Rattle.std.specs.Prelude.{ℕ, List};
 ghost use Rattle.kk_syntax.specs.PositionsOf.{PositionTable};
 ghost use Rattle.kk_syntax.specs.Programs.{ConstructorTree};
+ghost use Rattle.kk_syntax.specs.GroundTyping.{Table};
 ghost use Rattle.kk_core.specs.Codes.{ProgramCode};
 ghost use Rattle.kk_core.specs.CoreStates.{CoreSetting, CoreState};
+ghost use Rattle.kk_core.specs.CoreTyping.{IsCoreTyped, IsSmall};
 ghost use Rattle.kk_core.specs.NeverStuck.{NeverStuck};
 ghost use Rattle.kk_counted.specs.Spending.{IsSpent};
 ghost use Rattle.kk_insert.specs.Insertion.{inserted};
 ghost use Rattle.kk_insert.specs.Meaning.{KeepsMeaning, FindsAsMany};
-ghost use Rattle.kk_insert.specs.Promise.{IsInsertable};
+ghost use Rattle.kk_insert.specs.Promise.{IsInsertable, TailsLendOn};
+
+/// A typed program within the limits, whose tail calls lend on only what is lent, may be inserted. It is a law, and does nothing.
+pub fn typed_code_is_insertable()
+    ensures { (positions : PositionTable) (table : Table) (code : ProgramCode)
+        → IsCoreTyped table code → IsSmall code → TailsLendOn positions code → IsInsertable positions code }
+{}
 
 /// Inserted code spends what it owns: so the laws of counted code hold of it, and its heap is sound in each state. It is a law,
 /// and does nothing.

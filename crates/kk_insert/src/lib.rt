@@ -5,4 +5,5 @@ mod law;
 
 pub use law::{
     counted_cells_are_the_live_places, inserted_code_is_spent, inserted_code_keeps_meaning,
+    typed_code_is_insertable,
 };
