@@ -316,7 +316,8 @@ module _ (positions : PositionTable) (source : List FunctionCode) (functions : L
       spends_dups (wants lent (used positions form arguments) (owns lent (lends positions form arguments) (without (x ∷ []) now)))
       [] left (owns lent (used positions form arguments) (owns lent (lends positions form arguments) (without (x ∷ []) now)))
       (Counted.compute x form arguments (back lent (lends positions form arguments) x now rest))
-      (wants_in positions lent (used positions form arguments) (owns lent (lends positions form arguments) (without (x ∷ []) now))) (
+      (wants_in positions lent (used positions form arguments) (owns lent (lends positions form arguments) (without
+      (x ∷ []) now))) (
         owns lent (lends positions form arguments) (without (x ∷ []) now),
         (
           λ weight. wants_even positions lent (used positions form arguments)
