@@ -30,7 +30,7 @@ use Rattle.kk_counted.proofs.SoundSteps.{landed, reached_bound}
 use Rattle.kk_insert.specs.Meaning.{inserted_setting}
 use Rattle.kk_insert.specs.Insertion.{dups, dropping, lent_of, owns, wants, own, back, insert, inserted_function}
 use Rattle.kk_insert.specs.Promise.{IsFunctionInsertable}
-use Rattle.kk_insert.proofs.Sets.{no_both, false_if, among_first, without_clear}
+use Rattle.kk_insert.proofs.Sets.{no_self, no_both, false_if}
 use Rattle.kk_insert.proofs.Owned.{owns_either, own_apart, wants_in, wants_even}
 use Rattle.kk_insert.proofs.Programs.{lent_parameter, is_fine, owned_parameter, numbers_apart}
 use Rattle.kk_insert.proofs.Paths.{conf, with_input, Path, path_here, path_step}
@@ -52,10 +52,6 @@ dups_first setting P environment joins frames below input least events positions
     (λ last cells sound_then. next last cells
     (sound_even environment (wants lent xs after ++ owns lent xs after) (xs ++ after) below last
     (wants_even positions lent xs after) sound_then))
-
-no_self : (x : ℕ) (now : List ℕ) → is_among (without (x ∷ []) now) x ≡ false
-no_self x now = false_if (is_among (without (x ∷ []) now) x)
-    (λ is. no_both ⊥ (is_among (x ∷ []) x) (among_first x []) (without_clear (x ∷ []) now x is))
 
 pub not_held : (positions : PositionTable) (lent given : List ℕ) (x : ℕ) (now : List ℕ) → is_among given x ≡ false
     → is_among (owns lent given (without (x ∷ []) now)) x ≡ false

@@ -171,10 +171,6 @@ never_below : (xs : List ℕ) (n x : ℕ) → AreBelow xs n → n ≤ x → is_a
 never_below xs n x below le = false_if (is_among xs x) (λ is. absurd (omega (arith, below x is, le)))
 
 module _ (lent : List ℕ) where
-  -- up to a number the lent variables of the function are those of a part
-  abbrev Alike : List ℕ → ℕ → Type 0
-  Alike now high = (y : ℕ) → y < high → is_among lent y ≡ is_among now y
-
   fine_fields : (now bound : List ℕ) (low middle high x : ℕ) (fields : List ℕ) (rest : Code) → Rise low fields middle
       → Ordered (fields ++ bound) middle rest high
       → AreBelow bound low → AreBelow now low → is_among bound x ≡ true

@@ -27,12 +27,12 @@ use Rattle.kk_counted.proofs.Reaching.{one_among, same_store, store_fields, reac
 use Rattle.kk_counted.proofs.Looks.{cell_same, chosen_same}
 use Rattle.kk_counted.proofs.SoundSteps.{became_sound}
 use Rattle.kk_insert.specs.Meaning.{inserted_setting}
-use Rattle.kk_insert.specs.Insertion.{before, common, dups, dropping, owns, own, own_arms, insert, insert_arms, opening}
+use Rattle.kk_insert.specs.Insertion.{before, common, dups, dropping, own, own_arms, insert, insert_arms, opening}
 use Rattle.kk_insert.specs.Promise.{LendsOn, AllLendOn}
-use Rattle.kk_insert.proofs.Sets.{no_both, false_if, Part, among_first, among_next, one_only, in_back, filter_in, without_clear, in_without, clear_back, before_front, before_back, clear_fresh, apart_filter, filter_alike, among_filter}
+use Rattle.kk_insert.proofs.Sets.{no_both, false_if, Part, among_next, one_only, in_back, filter_in, without_clear, in_without, clear_back, before_front, before_back, clear_fresh, apart_filter, filter_alike, among_filter}
 use Rattle.kk_insert.proofs.Fine.{FineFields, IsFine, AreFine}
-use Rattle.kk_insert.proofs.Owned.{own_part, own_apart, owns_after, in_owns, rest_part}
-use Rattle.kk_insert.proofs.Spent.{at_tail, lent_arguments, fields_even, owns_kept, owns_new}
+use Rattle.kk_insert.proofs.Owned.{own_part, own_apart, owns_after, rest_part}
+use Rattle.kk_insert.proofs.Spent.{looked_at, at_tail, fields_even, owns_kept, owns_new}
 use Rattle.kk_insert.proofs.Paths.{conf, with_input, Path, path_here, path_step}
 use Rattle.kk_insert.proofs.Settling.{sound_even, either_counted, dups_path, dropping_path}
 use Rattle.kk_insert.proofs.Standing.{left_of, image_joins, CodeOk, JoinsOk, FramesStand, Stands, Follows}
@@ -269,12 +269,6 @@ module _ (setting : CoreSetting) (from : CoreConfiguration) (lent : List ℕ) (b
         good_arm rest bound all row fine.1 on.1 (omega (arith, small))
         (λ y is. part y (before_back (owning body) (own_arms setting.positions lent (left_by left) rest) y is))
 
-    -- a variable that is looked at is lent or owned
-    looked : (x : ℕ) (after : List ℕ) → is_among (lent ++ owns lent (x ∷ []) after) x ≡ true
-    looked x after =
-        lent_arguments lent (owns lent (x ∷ []) after) (x ∷ [])
-        (λ y is unlent. in_owns setting.positions lent (x ∷ []) after y is unlent) x (among_first x [])
-
     pub follows_case : (x : ℕ) (decisions : List NodeTree) (arms : Arms) (row : ℕ) (body : Code) → Ok (case x decisions arms)
         → SoundNow (case x decisions arms)
         → chosen (slice_get from.store) (value_of environment x) decisions ≡ Some row → arm_at arms row ≡ Some body
@@ -312,7 +306,7 @@ module _ (setting : CoreSetting) (from : CoreConfiguration) (lent : List ℕ) (b
             (chosen_same (refs (values_of environment (owning (case x decisions arms)) ++ below)) heap sound.counts
             (value_of environment x)
             (either_counted environment (owning (case x decisions arms)) lent below heap x sound reached_now
-            (looked x (own_arms setting.positions lent (left_by left) arms))) decisions
+            (looked_at setting.positions lent x (own_arms setting.positions lent (left_by left) arms))) decisions
             ∙ (ap (λ (s : Store). chosen (slice_get s) (value_of environment x) decisions) (sym store) ∙ row_is))
             ∙ (arm_is arms (owning (case x decisions arms)) row ∙ ap (inserted_if (owning (case x decisions arms))) body_is)
 
@@ -322,12 +316,6 @@ module _ (setting : CoreSetting) (from : CoreConfiguration) (lent : List ℕ) (b
         (sound : SoundNow (unpack x c fields rest)) (at : ℕ) (vs : List Value)
         (named : value_of environment x ≡ place at) (cell_is : slice_get from.store at ≡ Some (record { made_by = c; fields = vs }))
         (many : length vs ≡ length fields) where
-      abbrev bound_now : Environment
-      bound_now = bind_fields fields vs environment
-
-      abbrev now : List ℕ
-      now = owning rest
-
       rest_ok : Ok rest
       rest_ok =
           record {
@@ -353,7 +341,7 @@ module _ (setting : CoreSetting) (from : CoreConfiguration) (lent : List ℕ) (b
       x_counted : IsCounted heap (value_of environment x)
       x_counted =
           either_counted environment (owning (unpack x c fields rest)) lent below heap x sound reached_now
-          (looked x (without fields (owning rest)))
+          (looked_at setting.positions lent x (without fields (owning rest)))
 
       at_counted_now : 1 ≤ count_at heap at
       at_counted_now = subst (IsCounted heap) named x_counted

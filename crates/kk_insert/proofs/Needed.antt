@@ -129,9 +129,6 @@ module _ (positions : PositionTable) (lent : List ℕ) where
   abbrev pub Covered : List ℕ → List ℕ → Type 0
   Covered xs now = Part xs (lent ++ now)
 
-  wider : (now more : List ℕ) → Part now more → Covered now more
-  wider now more part y is = in_back lent more y (part y is)
-
   covered_wider : (xs now more : List ℕ) → Part now more → Covered xs now → Covered xs more
   covered_wider xs now more part covered y is = elim (in_either lent now y (covered y is))
       [ inl one ↦ in_front lent more y one | inr two ↦ in_back lent more y (part y two) ]

@@ -128,6 +128,12 @@ without_clear bs xs y is = not_true (is_among bs y) (filter_passes (λ x. not (i
 pub in_without : (bs xs : List ℕ) (y : ℕ) → is_among xs y ≡ true → is_among bs y ≡ false → is_among (without bs xs) y ≡ true
 in_without bs xs y is other = in_filter (λ x. not (is_among bs x)) xs y is (is_not (is_among bs y) other)
 
+-- a list without a variable
+pub no_self : (x : ℕ) (xs : List ℕ) → is_among (without (x ∷ []) xs) x ≡ false
+no_self x xs =
+    false_if (is_among (without (x ∷ []) xs) x)
+    (λ is. no_both ⊥ (is_among (x ∷ []) x) (among_first x []) (without_clear (x ∷ []) xs x is))
+
 pub clear_back : (xs ys : List ℕ) → Clear xs ys → Clear ys xs
 clear_back xs ys clear y is = false_if (is_among xs y) (λ there. no_both ⊥ (is_among ys y) is (clear y there))
 

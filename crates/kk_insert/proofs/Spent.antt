@@ -12,7 +12,7 @@ use Rattle.kk_counted.specs.Spending.{total, AreEven, AllAmong, AreFresh, AreApa
 use Rattle.kk_counted.proofs.Order.{spends_even}
 use Rattle.kk_insert.specs.Insertion.{before, common, dups, drops, dropping, used, lends, owns, wants, own, own_arms, back, insert, insert_arms, opening}
 use Rattle.kk_insert.specs.Promise.{TakesAsMany, FormTakes, LendsOn, AllLendOn}
-use Rattle.kk_insert.proofs.Sets.{or_cases, or_left, no_both, false_if, is_not, Part, Clear, among_first, among_next, one_only, in_front, in_back, in_either, among_filter, filter_in, without_clear, in_without, clear_back, before_front, before_back, part_all, clear_fresh, apart_filter, total_append, filter_alike, filter_all, total_one, total_minus, total_common}
+use Rattle.kk_insert.proofs.Sets.{no_self, or_cases, or_left, no_both, false_if, is_not, Part, Clear, among_first, among_next, one_only, in_front, in_back, in_either, among_filter, filter_in, without_clear, in_without, clear_back, before_front, before_back, part_all, clear_fresh, apart_filter, total_append, filter_alike, filter_all, total_one, total_minus, total_common}
 use Rattle.kk_insert.proofs.Fine.{FineFields, IsFine, AreFine}
 use Rattle.kk_insert.proofs.Owned.{used_same, lends_same, lends_part, owns_either, owns_apart, in_owns, owns_after, wants_in, wants_even, own_part, rest_part, own_apart}
 
@@ -30,6 +30,13 @@ lent_arguments lent kept xs into y is = by_test (is_among lent y) refl
     by_test : (t : Bool) → is_among lent y ≡ t → is_among (lent ++ kept) y ≡ true
     by_test true there = in_front lent kept y there
     by_test false there = in_back lent kept y (into y is there)
+
+-- a variable that is looked at is lent or owned
+pub looked_at : (positions : PositionTable) (lent : List ℕ) (x : ℕ) (after : List ℕ)
+    → is_among (lent ++ owns lent (x ∷ []) after) x ≡ true
+looked_at positions lent x after =
+    lent_arguments lent (owns lent (x ∷ []) after) (x ∷ []) (λ y is unlent. in_owns positions lent (x ∷ []) after y is unlent) x
+    (among_first x [])
 
 -- ---- a value comes to a variable, and is dropped where nothing uses it
 
@@ -195,9 +202,6 @@ module _ (positions : PositionTable) (source : List FunctionCode) (functions : L
       (there : is_among bound x ≡ true) (apart_fields : AreApart fields) (fresh : Clear fields bound)
       (fine : FineFields lent x fields)
       (apart : AreApart now) (part : Part now (fields ++ bound)) (s : Spent [] left now rest) where
-    others : List ℕ
-    others = without fields now
-
     not_field : is_among fields x ≡ false
     not_field = clear_back fields bound fresh x there
 
@@ -301,15 +305,6 @@ module _ (positions : PositionTable) (source : List FunctionCode) (functions : L
   fits_form (Construct c) arguments takes = tt
   fits_form (Call f) arguments takes = as_many f arguments takes
 
-  -- one variable that is looked at
-  pub looked_at : (x : ℕ) (after : List ℕ) → is_among (lent ++ owns lent (x ∷ []) after) x ≡ true
-  looked_at x after = lent_arguments lent (owns lent (x ∷ []) after) (x ∷ [])
-      (λ y is unlent. in_owns positions lent (x ∷ []) after y is unlent) x (among_first x [])
-
-  pub no_self : (x : ℕ) (now : List ℕ) → is_among (without (x ∷ []) now) x ≡ false
-  no_self x now = false_if (is_among (without (x ∷ []) now) x)
-      (λ is. no_both ⊥ (is_among (x ∷ []) x) (among_first x []) (without_clear (x ∷ []) now x is))
-
   spends_compute : (x : ℕ) (form : Form) (arguments now bound : List ℕ) (left : Option (List ℕ)) (rest : Counted.Counted)
       → Part arguments bound → is_among bound x ≡ false → is_among lent x ≡ false → FormTakes positions source form arguments
       → AreApart now → Spent [] left now rest
@@ -321,7 +316,8 @@ module _ (positions : PositionTable) (source : List FunctionCode) (functions : L
       spends_dups (wants lent (used positions form arguments) (owns lent (lends positions form arguments) (without (x ∷ []) now)))
       [] left (owns lent (used positions form arguments) (owns lent (lends positions form arguments) (without (x ∷ []) now)))
       (Counted.compute x form arguments (back lent (lends positions form arguments) x now rest))
-      (wants_in positions lent (used positions form arguments) (owns lent (lends positions form arguments) (without (x ∷ []) now))) (
+      (wants_in positions lent (used positions form arguments) (owns lent (lends positions form arguments) (without
+      (x ∷ []) now))) (
         owns lent (lends positions form arguments) (without (x ∷ []) now),
         (
           λ weight. wants_even positions lent (used positions form arguments)
@@ -382,7 +378,8 @@ module _ (positions : PositionTable) (source : List FunctionCode) (functions : L
       (
         λ weight. refl,
         (
-          looked_at x (before (own positions lent (left_by left) positive) (own positions lent (left_by left) negative)),
+          looked_at positions lent x (before (own positions lent (left_by left) positive)
+              (own positions lent (left_by left) negative)),
           (
             spends_dropping (own positions lent (left_by left) (branch x positive negative))
                 (own positions lent (left_by left) positive) left (insert positions lent (left_by left) positive)
@@ -409,7 +406,7 @@ module _ (positions : PositionTable) (source : List FunctionCode) (functions : L
       (
         λ weight. refl,
         (
-          looked_at x (own_arms positions lent (left_by left) arms),
+          looked_at positions lent x (own_arms positions lent (left_by left) arms),
           spends_arms arms bound left (own positions lent (left_by left) (case x decisions arms)) fine.1 on part apart
               (own_apart positions lent (left_by left) (case x decisions arms) apart)
               (owns_after positions lent (x ∷ []) (own_arms positions lent (left_by left) arms)),

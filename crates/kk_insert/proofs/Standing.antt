@@ -1,5 +1,5 @@
 -- When a state of the counted machine stands for one of the core machine.
-use Rattle.std.proofs.Common.{◌≡◌, ℕ, ◌≤◌, false, not, List, [], ◌∷◌, ◌++◌, Option, Some, None}
+use Rattle.std.proofs.Common.{◌≡◌, ℕ, ◌≤◌, false, List, [], ◌∷◌, ◌++◌, Option, Some, None}
 use Rattle.kk_syntax.specs.Shapes.{is_among, without}
 use Rattle.kk_syntax.specs.PositionsOf.{PositionTable}
 use Rattle.kk_source.specs.State.{Value, Store, Environment}
@@ -16,9 +16,8 @@ use Rattle.kk_counted.specs.Keeping.{values_of, AreReached}
 use Rattle.kk_insert.specs.Meaning.{LeavesNone}
 use Rattle.kk_insert.specs.Insertion.{dropping, owns, own, back, insert}
 use Rattle.kk_insert.specs.Promise.{LendsOn}
-use Rattle.kk_insert.proofs.Sets.{Part, among_next, apart_filter}
+use Rattle.kk_insert.proofs.Sets.{Part, among_next}
 use Rattle.kk_insert.proofs.Fine.{IsFine}
-use Rattle.kk_insert.proofs.Owned.{own_part, own_apart, rest_part}
 use Rattle.kk_insert.proofs.Spent.{at_tail}
 use Rattle.kk_insert.proofs.Paths.{conf, Path}
 
@@ -76,18 +75,6 @@ module _ (positions : PositionTable) (source : List FunctionCode) where
           apart = ok.apart;
           small = ok.small;
         }
-
-    -- what a code that waits owns besides its variable
-    pub rest_owned_part : (left : Option (List ℕ)) (x : ℕ) (rest : Code) (ok : RestOk left x rest)
-        → Part (without (x ∷ []) (own positions lent (left_by left) rest)) ok.bound
-    rest_owned_part left x rest ok =
-        rest_part positions lent x (own positions lent (left_by left) rest) ok.bound
-        (own_part positions lent (left_by left) (x ∷ ok.bound) rest ok.fine (λ y is. among_next x y ok.bound (ok.part y is)))
-
-    pub rest_owned_apart : (left : Option (List ℕ)) (x : ℕ) (rest : Code) (ok : RestOk left x rest)
-        → AreApart (without (x ∷ []) (own positions lent (left_by left) rest))
-    rest_owned_apart left x rest ok = apart_filter (λ z. not (is_among (x ∷ []) z)) (own positions lent (left_by left) rest)
-        (own_apart positions lent (left_by left) rest ok.apart)
 
   -- ---- functions that wait
 
