@@ -11,6 +11,7 @@ pub mod HeldValues
 pub mod Keeping
 pub mod KeepingPlain
 pub mod KeepingTyped
+pub mod MatchRows
 pub mod Matches
 pub mod NeededVariables
 pub mod Openings
@@ -30,3 +31,5 @@ pub mod Variables
 pub mod Waits
 pub mod Writing
 pub mod WritingAll
+pub mod WritingMatches
+pub mod WritingOpenings

@@ -6,7 +6,8 @@ use Rattle.std.proofs.lemmas.Option.{slice_get-map, slice_get-get_or, slice_get_
 use Rattle.kk_syntax.specs.declared.ground.Ground.{Ground}
 use Rattle.kk_syntax.specs.declared.ground.Instance.{Instance}
 use Rattle.kk_syntax.specs.GroundPrograms.{ground_types, instance_tree, ground_program}
-use Rattle.kk_syntax.specs.PlainTyping.{signature_of, IsTyped}
+use Rattle.kk_syntax.specs.GroundTyping.{IsGroundTyped}
+use Rattle.kk_syntax.specs.PlainTyping.{signature_of}
 use Rattle.kk_syntax.specs.Programs.{ConstructorTree, FunctionTree}
 use Rattle.kk_core.specs.Codes.{FunctionCode, function_code}
 use Rattle.kk_core.specs.declared.form.CoreFunction.{CoreFunction}
@@ -72,18 +73,18 @@ cores_all constructors made cores xs ys i are all same =
 pub core_done : (constructors : List ConstructorTree) (function : FunctionTree) (core : FunctionCode) (old new : Writer)
     → core.parameters ≡ length function.parameters → old.next ≡ length function.parameters → old.names.items ≡ []
     → core.variables ≡ new.next
-    → WritesBlock true function.body old new core.body → IsCoreOf constructors function core
+    → WritesBlock constructors true function.body old new core.body → IsCoreOf constructors function core
 core_done constructors function core old new parameters number names variables writes =
     record {
       parameters = parameters;
       variables = omega (arith, variables, writes.number, number);
       body = subst (λ (n : ℕ). IsCode constructors (final true) [] n function.body core.body) number
           (subst (λ (some : List Named). IsCode constructors (final true) (names_of some) old.next function.body core.body) names
-          (writes.block_is constructors));
+          writes.block_is);
     }
 
 -- a typed program has a first function
-pub main_in_range : (given : Ground) → IsTyped (ground_program given) → 0 < length (ground_program given).functions
+pub main_in_range : (given : Ground) → IsGroundTyped (ground_program given) → 0 < length (ground_program given).functions
 main_in_range given typed =
     omega (
       arith,

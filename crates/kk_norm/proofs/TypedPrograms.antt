@@ -5,7 +5,7 @@ use Rattle.kk_syntax.specs.PlainTyping.{Signature, signature_of, Scope, with_par
 use Rattle.kk_syntax.specs.Programs.{FunctionTree, ProgramTree}
 use Rattle.kk_core.specs.PlainCoreTyping.{IsCodeTyped, AreCodesTyped, IsPlainCoreTyped}
 use Rattle.kk_core.specs.Sizes.{below, Ordered}
-use Rattle.kk_norm.specs.Normal.{IsWithin, IsNormalForm}
+use Rattle.kk_norm.specs.Normal.{IsWithin, IsPlainNormalForm}
 use Rattle.kk_norm.specs.Normalized.{final, size}
 use Rattle.kk_norm.proofs.PlainCodes.{code, normal_function, normal_program}
 use Rattle.kk_norm.proofs.Scopes.{parameters_are, parameters_named}
@@ -42,7 +42,7 @@ core_typed program typed =
 
 -- ---- all that is promised
 
-pub is_normal_form : (program : ProgramTree) → IsTyped program → IsWithin program → program.main < length program.functions → IsNormalForm program (normal_program program)
+pub is_normal_form : (program : ProgramTree) → IsTyped program → IsWithin program → program.main < length program.functions → IsPlainNormalForm program (normal_program program)
 is_normal_form program typed within in_range =
     record {
       keeps_meaning = keeps_meaning program (normal_program program) (are_plain program typed) (plain_form program (are_plain program typed)) in_range;

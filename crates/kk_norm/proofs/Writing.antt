@@ -4,10 +4,13 @@ use Rattle.std.proofs.Math.Seq.{take-suc, drop-cons}
 use Rattle.std.specs.Prelude.{if◌then◌else◌}
 use Rattle.std.proofs.lemmas.List.{map-append}
 use Rattle.kk_syntax.specs.declared.program.Form.{Form}
-use Rattle.kk_core.specs.Codes.{Code, give, tail_call, branch, Piece, computes, uses, runs, put, plug, ArmCode, last_step, step_step, arm_step, block_step, block_code, last_code, step_piece}
+use Rattle.kk_syntax.specs.Patterns.{Pattern, pattern_tree}
+use Rattle.kk_core.specs.Codes.{Code, give, tail_call, branch, Piece, case, computes, uses, unpacks, runs, put, plug, ArmCode, arms_of, arm_code, last_step, step_step, arm_step, block_step, block_code, last_code, step_piece}
+use Rattle.kk_core.specs.Decisions.{node_tree}
+use Rattle.kk_core.specs.declared.form.Arm.{Arm}
 use Rattle.kk_core.specs.declared.form.Block.{Block}
 use Rattle.kk_core.specs.declared.form.Last.TheVariants as OfLast
-use Rattle.kk_core.specs.declared.form.Last.TheFolds.{fold-roll-Last, fold-roll-Step, fold_out-Block}
+use Rattle.kk_core.specs.declared.form.Last.TheFolds.{fold-roll-Last, fold-roll-Step, fold_out-Block, fold_out-Arm}
 use Rattle.kk_core.specs.declared.form.Step.{Step}
 use Rattle.kk_core.specs.declared.form.Step.TheVariants as OfStep
 use Rattle.kk_norm.specs.declared.naming.Named.{Named}
@@ -55,6 +58,9 @@ let_piece x form arguments = ap step_piece (sym (OfStep.rolls-Let x form argumen
 pub use_piece : (x : ℕ) → step_piece (OfStep.Use x) ≡ uses x
 use_piece x = ap step_piece (sym (OfStep.rolls-Use x)) ∙ fold-roll-Step Code Piece ArmCode Code last_step step_step arm_step block_step _
 
+pub open_piece : (x c : ℕ) (fields : _) → step_piece (OfStep.Open x c fields) ≡ unpacks x c fields.items
+open_piece x c fields = ap step_piece (sym (OfStep.rolls-Open x c fields)) ∙ fold-roll-Step Code Piece ArmCode Code last_step step_step arm_step block_step _
+
 pub inside_piece : (x : ℕ) (block : Block) → step_piece (OfStep.Inside x block) ≡ runs x (block_code block)
 inside_piece x block = ap step_piece (sym (OfStep.rolls-Inside x block)) ∙ fold-roll-Step Code Piece ArmCode Code last_step step_step arm_step block_step _
 
@@ -71,6 +77,21 @@ tail_call_code f arguments = ap last_code (sym (OfLast.rolls-TailCall f argument
 
 pub if_code : (x : ℕ) (positive negative : _) → last_code (OfLast.If x positive negative) ≡ branch x (block_code positive.value) (block_code negative.value)
 if_code x positive negative = ap last_code (sym (OfLast.rolls-If x positive negative)) ∙ fold-roll-Last Code Piece ArmCode Code last_step step_step arm_step block_step _
+
+pub case_code : (x : ℕ) (decisions : _) (arms : _) → last_code (OfLast.Case x decisions arms) ≡ case x (map node_tree decisions.nodes.items) (arms_of (map arm_code arms.items))
+case_code x decisions arms = ap last_code (sym (OfLast.rolls-Case x decisions arms)) ∙ fold-roll-Last Code Piece ArmCode Code last_step step_step arm_step block_step _
+
+pub arm_is : (arm : Arm) → arm_code arm ≡ record { pattern = pattern_tree arm.pattern; body = block_code arm.body }
+arm_is arm = fold_out-Arm Code Piece ArmCode Code last_step step_step arm_step block_step arm
+
+-- one more arm is pushed
+pub arms_pushed : (before after : List Arm) (one : Arm) (pattern : Pattern) → after ≡ before ++ one ∷ [] → pattern_tree one.pattern ≡ pattern
+    → map arm_code after ≡ map arm_code before ++ record { pattern = pattern; body = block_code one.body } ∷ []
+arms_pushed before after one pattern grown is =
+    ap (map arm_code) grown
+    ∙ (map-append arm_code before (one ∷ [])
+    ∙ (ap (λ a. map arm_code before ++ a ∷ []) (arm_is one)
+    ∙ ap (λ (p : Pattern). map arm_code before ++ record { pattern = p; body = block_code one.body } ∷ []) is))
 
 -- ---- what is written, from what was pushed
 

@@ -1,12 +1,13 @@
 -- What is promised of the core form of a typed program that is within the limits.
 use Rattle.std.specs.Prelude.{◌≡◌, ◌+◌, ◌≤◌, ℕ, List, [], ◌∷◌, length}
+use Rattle.kk_syntax.specs.GroundTyping.{table_of}
 use Rattle.kk_syntax.specs.Shapes.{nodes_of}
 use Rattle.kk_syntax.specs.Programs.{FunctionTree, ProgramTree}
 use Rattle.kk_core.specs.Codes.{ProgramCode}
-use Rattle.kk_core.specs.CoreTyping.{IsSmall}
+use Rattle.kk_core.specs.CoreTyping.{IsCoreTyped, IsSmall}
 use Rattle.kk_core.specs.PlainCoreTyping.{IsPlainCoreTyped}
 use Rattle.kk_core.specs.Sizes.{most_parameters, most_nodes, most_instances, most_program_nodes}
-use Rattle.kk_norm.specs.Meaning.{KeepsMeaning}
+use Rattle.kk_norm.specs.Meaning.{KeepsMeaning, KeepsMeaningByCells}
 
 -- a function has few parameters, and its body few nodes
 pub record IsFunctionWithin (function : FunctionTree) : Type 0 where
@@ -32,6 +33,12 @@ pub record IsWithin (program : ProgramTree) : Type 0 where
 
 -- A code is a core form of a program: it keeps the program's meaning, it is typed, its variables in order, and it is small.
 pub record IsNormalForm (program : ProgramTree) (code : ProgramCode) : Type 0 where
+  pub keeps_meaning : KeepsMeaningByCells program code
+  pub typed : IsCoreTyped (table_of program) code
+  pub small : IsSmall code
+
+-- the same of a program without matches and cells: it opens no cells, and is typed by the rules of such programs
+pub record IsPlainNormalForm (program : ProgramTree) (code : ProgramCode) : Type 0 where
   pub keeps_meaning : KeepsMeaning program code
   pub typed : IsPlainCoreTyped code
   pub small : IsSmall code

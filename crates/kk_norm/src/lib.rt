@@ -5,6 +5,7 @@
 mod expression;
 mod law;
 mod naming;
+mod opening;
 mod program;
 mod writer;
 

@@ -1,16 +1,18 @@
-use Rattle.std.proofs.Common.{arith, map}
+use Rattle.std.proofs.Common.{arith, map, subst}
 use Rattle.std.proofs.lemmas.List.{length-map}
 use Rattle.kk_syntax.specs.GroundPrograms.{ground_types, instance_tree, ground_program}
+use Rattle.kk_syntax.specs.Programs.{constructor_tree}
 use Rattle.kk_syntax.specs.Types.{type_at}
 use Rattle.kk_core.specs.Codes.{function_code}
 use Rattle.kk_norm.specs.Normal.{IsFunctionWithin}
+use Rattle.kk_norm.specs.Normalized.{IsCoreOf}
 use Rattle.kk_norm.proofs.Programs.{function_at, within_at, cores_more, cores_all}
 use Rattle.kk_norm.proofs.program.all_functions.Goals as goal
 
-pub core_function-requires-clause-plain : goal.core_function-requires-clause-plain
-core_function-requires-clause-plain c =
-    (c.requires.plain c.loop-instance.instance-index (instance_tree (ground_types c.args.given.now.types.items) c.instance-item.result)
-    (function_at c.args.given.now c.deref-instance-items.result.now c.loop-instance.instance-index c.instance-item.result c.deref-instance-items.ensures.value c.instance-item.is c.loop-instance-test.true)).no_matches
+pub core_function-requires-clause-rows : goal.core_function-requires-clause-rows
+core_function-requires-clause-rows c =
+    c.requires.rows c.loop-instance.instance-index (instance_tree (ground_types c.args.given.now.types.items) c.instance-item.result)
+    (function_at c.args.given.now c.deref-instance-items.result.now c.loop-instance.instance-index c.instance-item.result c.deref-instance-items.ensures.value c.instance-item.is c.loop-instance-test.true)
 
 pub core_function-requires-clause-few : goal.core_function-requires-clause-few
 core_function-requires-clause-few c =
@@ -25,11 +27,11 @@ core_function-requires-clause-small c =
     (function_at c.args.given.now c.deref-instance-items.result.now c.loop-instance.instance-index c.instance-item.result c.deref-instance-items.ensures.value c.instance-item.is c.loop-instance-test.true)).nodes
 
 pub loop-instance-preserved : goal.loop-instance-preserved
-loop-instance-preserved c = λ constructors.
-    cores_more constructors (instance_tree (ground_types c.args.given.now.types.items)) c.loop-instance.cores.items c.push.new.self.items c.in_ok-core.core c.deref-instance-items.result.now
-    c.loop-instance.instance-index c.instance-item.result c.in_ok-push.ensures.items (c.loop-instance.invariant constructors) (c.in_ok-core.ensures constructors (ground_types c.args.given.now.types.items)) c.instance-item.is c.loop-instance-test.true
+loop-instance-preserved c =
+    cores_more (map constructor_tree c.args.given.now.constructors.items) (instance_tree (ground_types c.args.given.now.types.items)) c.loop-instance.cores.items c.push.new.self.items c.in_ok-core.core c.deref-instance-items.result.now
+    c.loop-instance.instance-index c.instance-item.result c.in_ok-push.ensures.items c.loop-instance.invariant (subst (λ cs. IsCoreOf (map constructor_tree cs) (instance_tree (ground_types c.args.given.now.types.items) c.instance-item.result) (function_code c.in_ok-core.core)) c.deref.ensures.value (c.in_ok-core.ensures (ground_types c.args.given.now.types.items))) c.instance-item.is c.loop-instance-test.true
 
 pub returns : goal.returns
-returns c = λ constructors.
-    cores_all constructors (instance_tree (ground_types c.args.given.now.types.items)) (map function_code c.loop-instance.cores.items) c.deref-instance-items.result.now c.args.given.now.instances.items
-    c.loop-instance.instance-index (c.loop-instance.invariant constructors) c.loop-instance-test.false c.deref-instance-items.ensures.value
+returns c =
+    cores_all (map constructor_tree c.args.given.now.constructors.items) (instance_tree (ground_types c.args.given.now.types.items)) (map function_code c.loop-instance.cores.items) c.deref-instance-items.result.now c.args.given.now.instances.items
+    c.loop-instance.instance-index c.loop-instance.invariant c.loop-instance-test.false c.deref-instance-items.ensures.value

@@ -3,37 +3,43 @@ use Rattle.std.proofs.lemmas.List.{length-map}
 use Rattle.kk_syntax.specs.GroundPrograms.{ground_program}
 use Rattle.kk_syntax.specs.Programs.{ProgramTree}
 use Rattle.kk_core.specs.Codes.{ProgramCode, function_code}
-use Rattle.kk_norm.specs.Normal.{IsNormalForm}
+use Rattle.kk_norm.specs.Normal.{IsPlainNormalForm}
 use Rattle.kk_norm.specs.Normalized.{IsCoreForm}
-use Rattle.kk_norm.proofs.Forms.{as_many}
+use Rattle.kk_norm.proofs.CoreTypedPrograms.{core_form_typed}
+use Rattle.kk_norm.proofs.Forms.{as_many, is_small}
+use Rattle.kk_norm.proofs.KeepingTyped.{typed_keeps_meaning}
+use Rattle.kk_norm.proofs.MatchRows.{functions_have_rows}
 use Rattle.kk_norm.proofs.Plain.{are_plain}
 use Rattle.kk_norm.proofs.PlainForms.{only_form}
 use Rattle.kk_norm.proofs.Programs.{main_in_range}
 use Rattle.kk_norm.proofs.TypedPrograms.{is_normal_form}
 use Rattle.kk_norm.proofs.program.normal.Goals as goal
 
-pub all_functions-requires-clause-plain : goal.all_functions-requires-clause-plain
-all_functions-requires-clause-plain c = are_plain (ground_program c.args.given.now) c.requires.typed
+pub all_functions-requires-clause-rows : goal.all_functions-requires-clause-rows
+all_functions-requires-clause-rows c = functions_have_rows (ground_program c.args.given.now) c.requires.typed
 
 pub returns-clause-form : goal.returns-clause-form
 returns-clause-form c =
-    record {
-      functions = c.in_ok-functions.ensures (ground_program c.args.given.now).constructors;
-      texts = c.in_ok-texts.ensures ∙ c.deref.ensures.value;
-      main = refl;
-    }
+    record { functions = c.in_ok-functions.ensures; texts = c.in_ok-texts.ensures ∙ c.deref.ensures.value; main = refl }
 
 pub returns-clause-means : goal.returns-clause-means
 returns-clause-means c =
     let program : ProgramTree = ground_program c.args.given.now in
     let form : IsCoreForm program _
-    = record {
-      functions = c.in_ok-functions.ensures program.constructors;
-      texts = c.in_ok-texts.ensures ∙ c.deref.ensures.value;
-      main = refl;
-    } in
-    subst (λ (code : ProgramCode). IsNormalForm program code) (sym (only_form program _ (are_plain program c.requires.typed) form))
-    (is_normal_form program c.requires.typed c.requires.small (main_in_range c.args.given.now c.requires.typed))
+    = record { functions = c.in_ok-functions.ensures; texts = c.in_ok-texts.ensures ∙ c.deref.ensures.value; main = refl } in
+    record {
+      keeps_meaning = typed_keeps_meaning program _ c.requires.typed form;
+      typed = core_form_typed program _ c.requires.typed form;
+      small = is_small program _ form c.requires.small;
+    }
+
+pub returns-clause-plain : goal.returns-clause-plain
+returns-clause-plain c = λ typed.
+    let program : ProgramTree = ground_program c.args.given.now in
+    let form : IsCoreForm program _
+    = record { functions = c.in_ok-functions.ensures; texts = c.in_ok-texts.ensures ∙ c.deref.ensures.value; main = refl } in
+    subst (λ (code : ProgramCode). IsPlainNormalForm program code) (sym (only_form program _ (are_plain program typed) form))
+    (is_normal_form program typed c.requires.small (main_in_range c.args.given.now c.requires.typed))
 
 pub invariant_of-result : goal.invariant_of-result
 invariant_of-result c =
@@ -41,7 +47,7 @@ invariant_of-result c =
     record {
       main_in = omega (
         arith,
-        as_many program.constructors program.functions _ (c.in_ok-functions.ensures program.constructors),
+        as_many program.constructors program.functions _ c.in_ok-functions.ensures,
         length-map c.in_ok-functions.functions.items function_code,
         main_in_range c.args.given.now c.requires.typed,
         c.in_ok-functions.functions.ok.0,
