@@ -5,6 +5,7 @@ ghost use Rattle.std.specs.Prelude.{IfOk, IfErr};
 ghost use Rattle.kk_base.specs.Sizes.{AreSizes};
 ghost use Rattle.kk_syntax.specs.PositionsOf.{PositionTable};
 ghost use Rattle.kk_syntax.specs.GroundPrograms.{ground_program};
+ghost use Rattle.kk_syntax.specs.GroundTyping.{IsGroundTyped};
 ghost use Rattle.kk_syntax.specs.PlainTyping.{IsTyped};
 ghost use Rattle.kk_front.specs.Judgement.{Refuses};
 ghost use Rattle.kk_norm.specs.Normal.{IsWithin};
@@ -44,7 +45,8 @@ pub fn build(alloc: Global, text: &[u8], cells: u32, depth: u32) -> Result<Bytes
 
 /// The file of the image of a program of instances.
 fn file_of(alloc: Global, given: &Ground, cells: u32, depth: u32) -> Result<Bytes, NoMemory>
-    requires typed { IsTyped (ground_program given.now) }
+    requires typed { IsGroundTyped (ground_program given.now) }
+    requires plain { IsTyped (ground_program given.now) }
     requires small { IsWithin (ground_program given.now) }
     requires sizes { AreSizes cells depth }
     ensures image { IfOk result IsImageFile }

@@ -6,6 +6,14 @@ use Rattle.kk_build.proofs.build.Goals as goal
 
 pub file_of-requires-clause-typed : goal.file_of-requires-clause-typed
 file_of-requires-clause-typed c =
+    let checked =
+    c.accepted_programs_are_typed.ensures.checked c.args.text.now (program_tree c.in_ok-accepted.accepted.typed.program) _ c.in_ok-accepted.ensures.program
+    c.in_ok-accepted.ensures.principal in
+    (c.instances_mean_the_program.ensures (program_tree c.in_ok-accepted.accepted.typed.program) (ground_program c.in_ok-accepted.accepted.instances) _ _ checked
+    c.in_ok-accepted.ensures.instances.instances).typed
+
+pub file_of-requires-clause-plain : goal.file_of-requires-clause-plain
+file_of-requires-clause-plain c =
     let typed = c.accepted_programs_are_typed.ensures.typed _ _ c.in_ok-accepted.ensures.program in
     c.instances_of_plain_programs_are_plain.ensures _ _ _ _ typed c.in_ok-accepted.ensures.instances.instances
 
