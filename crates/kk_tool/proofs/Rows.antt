@@ -200,9 +200,9 @@ module _ (first second : StoreState) (kept : KeepsFiles first second) (file text
 
   pub program_evaluated : (end : RunEnd) → HasRun program cells depth steps (Ok end) input input' output output'
       → Answers (outside first input output image) (outside second input' output' image) (Some (eval file cells depth steps)) (Ran end cells depth steps)
-  program_evaluated end ran = evaluated file text cells depth steps end program ran.0 has is_program ran.1 ran.2 kept refl
+  program_evaluated end done = evaluated file text cells depth steps end program done.0 has is_program done.1 done.2 kept refl
 
-  pub program_cut_short : (refused : OutOfMemory) → HasRun program cells depth steps (Err refused) input input' output output'
+  pub program_cut_short : (want : OutOfMemory) → HasRun program cells depth steps (Err want) input input' output output'
       → Answers (outside first input output image) (outside second input' output' image) (Some (eval file cells depth steps)) NoMemory
-  program_cut_short refused (inl unchanged) = no_memory (Some (eval file cells depth steps)) kept (record { input = unchanged.0; out = unchanged.1 }) (inl refl)
-  program_cut_short refused (inr ran) = cut_short file text cells depth steps program ran.0 has is_program ran.1 ran.2 kept refl
+  program_cut_short want (inl unchanged) = no_memory (Some (eval file cells depth steps)) kept (record { input = unchanged.0; out = unchanged.1 }) (inl refl)
+  program_cut_short want (inr done) = cut_short file text cells depth steps program done.0 has is_program done.1 done.2 kept refl
