@@ -1,5 +1,5 @@
-fun read-byte(): int32 { 7 }
+fun next-byte(): int32 { 7 }
 fun total(x': int32): total int32 { x' }
 fun div(): div int32
-  total(read-byte() -1)
+  total(next-byte() -1)
 fun main(): <>() println(div())
