@@ -9,6 +9,7 @@ use Rattle.kk_syntax.specs.PlainTyping.{Signature}
 use Rattle.kk_syntax.specs.Types.{TypeTree}
 use Rattle.kk_syntax.specs.Typing.{bool}
 use Rattle.kk_source.specs.Live.{value_of}
+use Rattle.kk_source.specs.NeverStuck.{IsBound}
 use Rattle.kk_source.specs.Matching.{fields_made_by, fields_under}
 use Rattle.kk_source.specs.State.{Value, integer, unit, constant, place, Cell, Store, Environment}
 use Rattle.kk_source.specs.ValueTypes.{IsOf, AreOf}
@@ -19,9 +20,9 @@ use Rattle.kk_core.specs.CoreMachine.{fields_opened}
 use Rattle.kk_core.specs.CoreStates.{CoreSetting, Join, CallFrame, CoreControl, running, stopped, CoreConfiguration}
 use Rattle.kk_core.specs.CoreTyping.{Has, HaveTypes, IsCodeTyped, AreCodesTyped, IsCoreTyped}
 use Rattle.kk_core.specs.Decisions.{NodeTree, chosen}
-use Rattle.kk_core.specs.NeverStuck.{CallFits, ResultFits, CodeFits, ControlFits, StateFits}
+use Rattle.kk_core.specs.NeverStuck.{AreBound, read_by, CallFits, ResultFits, CodeFits, ControlFits, StateFits}
 use Rattle.kk_core.proofs.ChosenArms.{covered_row, patterns_typed, ArmTaken, arm_taken}
-use Rattle.kk_core.proofs.Stands.{TakeEach, typed_value, typed_values}
+use Rattle.kk_core.proofs.Stands.{TakeEach, typed_value, typed_values, typed_bound}
 use Rattle.kk_core.proofs.TypedStates.{JoinsWait, FramesWait, Runs, ControlTyped, IsStateTyped}
 
 -- a function of a signature is there
@@ -114,6 +115,15 @@ module _ (table : Table) (setting : CoreSetting) (typed : IsCoreTyped table sett
     values_typed code runs xs ts have =
         typed_values table.constructors from.store runs.facts environment runs.low runs.stand xs ts have
 
+    there_of : (code : Code) (runs : Runs table from.store code environment joins r) (x : ℕ) (t : TypeTree)
+        → Has runs.facts x t → IsBound environment x
+    there_of code runs x t has = runs.stand.there x (record { type = t; pattern = has.0 }) has.1
+
+    all_there : (code : Code) (runs : Runs table from.store code environment joins r) (xs : List ℕ) (ts : List TypeTree)
+        → HaveTypes runs.facts xs ts → AreBound environment xs
+    all_there code runs xs ts have =
+        typed_bound table.constructors from.store runs.facts environment runs.low runs.stand xs ts have
+
     -- the arm of a case
     pub taken : (x : ℕ) (decisions : List NodeTree) (arms : Arms)
         (runs : Runs table from.store (case x decisions arms) environment joins r)
@@ -175,9 +185,26 @@ module _ (table : Table) (setting : CoreSetting) (typed : IsCoreTyped table sett
         )
     code_fits (inside x block rest) runs = tt
 
+    -- the variables that a code reads are bound
+    pub code_bound : (code : Code) → Runs table from.store code environment joins r → AreBound environment (read_by code)
+    code_bound (give x) runs = (there_of (give x) runs x runs.type runs.typed, tt)
+    code_bound (tail_call f arguments) runs =
+        all_there (tail_call f arguments) runs arguments runs.typed.1 runs.typed.2
+    code_bound (branch x positive negative) runs = (there_of (branch x positive negative) runs x bool runs.typed.0, tt)
+    code_bound (case x decisions arms) runs = (there_of (case x decisions arms) runs x runs.typed.0 runs.typed.1, tt)
+    code_bound (compute x form arguments rest) runs =
+        all_there (compute x form arguments rest) runs arguments runs.typed.1 runs.typed.2
+    code_bound (use_of x rest) runs = tt
+    code_bound (unpack x c fields rest) runs = (
+      runs.stand.there x (record { type = runs.typed.0; pattern = constructor c (part runs.typed.2 runs.typed.3) }) runs.typed.4,
+      tt,
+    )
+    code_bound (inside x block rest) runs = tt
+
   pub control_fits : (control : CoreControl) (c : CoreConfiguration) → ControlTyped table control c.store c.frames
       → ControlFits table.constructors setting.code control c
-  control_fits (running code environment joins) c at = code_fits c environment joins at.0 at.2 code at.1
+  control_fits (running code environment joins) c at =
+      (code_bound c environment joins at.0 at.2 code at.1, code_fits c environment joins at.0 at.2 code at.1)
   control_fits (stopped by) c at = tt
 
   pub state_fits : (c : CoreConfiguration) → IsStateTyped table c → StateFits table.constructors setting.code c

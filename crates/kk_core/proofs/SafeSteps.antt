@@ -23,7 +23,7 @@ use Rattle.kk_core.specs.CoreTyping.{Facts, typing, typing_parameters, knowing, 
 use Rattle.kk_core.specs.Sizes.{below, Ordered}
 use Rattle.kk_core.proofs.ChosenArms.{ordered_le}
 use Rattle.kk_core.proofs.Safe.{code_there, value_typed, values_typed, taken, opened_cell}
-use Rattle.kk_core.proofs.Stands.{Stand, of_type, stand_none, stand_move, stand_bound, stand_known, parameters_stand, fields_stand, rise_le, same_bound, same_fields, stand_longer}
+use Rattle.kk_core.proofs.Stands.{Stand, unchanged, of_type, stand_none, stand_move, stand_bound, stand_known, parameters_stand, fields_stand, rise_le, same_bound, same_fields, stand_longer}
 use Rattle.kk_core.proofs.TypedStates.{JoinsWait, FrameWaits, FramesWait, Runs, ControlTyped, IsStateTyped, joins_move, joins_longer, frames_longer}
 
 module _ (table : Table) where
@@ -176,13 +176,13 @@ module _ (table : Table) (setting : CoreSetting) (typed : IsCoreTyped table sett
           high = runs.high;
           tail = runs.tail;
           type = runs.type;
-          stand = stand_move table.constructors from.store runs.facts environment environment runs.low x (λ y less. refl)
+          stand = stand_move table.constructors from.store runs.facts environment environment runs.low x (unchanged _ _)
               runs.ordered.1 runs.stand;
           ordered = runs.ordered.2;
           typed = runs.typed.4;
           alone = runs.alone;
           wait = joins_move table from.store environment environment runs.low x runs.high runs.high joins runs.type r
-              (λ y less. refl) runs.ordered.1 (omega arith) runs.wait;
+              (unchanged _ _) runs.ordered.1 (omega arith) runs.wait;
         } in
         subst (λ found. LeadsTo (IsStateTyped table)
         (call_step setting f found vs
@@ -235,7 +235,7 @@ module _ (table : Table) (setting : CoreSetting) (typed : IsCoreTyped table sett
         typed = runs.typed.1;
         alone = runs.alone;
         wait = joins_move table from.store environment environment runs.low runs.low runs.high middle joins runs.type r
-            (λ y less. refl) (omega arith) (ordered_le runs.names middle negative runs.high runs.ordered.3) runs.wait;
+            (unchanged _ _) (omega arith) (ordered_le runs.names middle negative runs.high runs.ordered.3) runs.wait;
       }
   branch_runs x positive negative runs false =
       let middle : ℕ = runs.ordered.0 in
@@ -247,13 +247,13 @@ module _ (table : Table) (setting : CoreSetting) (typed : IsCoreTyped table sett
         high = runs.high;
         tail = runs.tail;
         type = runs.type;
-        stand = stand_move table.constructors from.store runs.facts environment environment runs.low middle (λ y less. refl) le
+        stand = stand_move table.constructors from.store runs.facts environment environment runs.low middle (unchanged _ _) le
             runs.stand;
         ordered = runs.ordered.3;
         typed = runs.typed.2;
         alone = runs.alone;
         wait = joins_move table from.store environment environment runs.low middle runs.high runs.high joins runs.type r
-            (λ y less. refl) le (omega arith) runs.wait;
+            (unchanged _ _) le (omega arith) runs.wait;
       }
 
   pub code_safe : (code : Code) → Runs table from.store code environment joins r
@@ -288,7 +288,7 @@ module _ (table : Table) (setting : CoreSetting) (typed : IsCoreTyped table sett
           type = runs.type;
           stand =
               stand_move table.constructors from.store (knowing x runs.typed.0 inner.pattern runs.facts) environment environment
-              runs.low inner.from (λ y less. refl) inner.low_is
+              runs.low inner.from (unchanged _ _) inner.low_is
               (stand_known table.constructors from.store runs.facts environment runs.low x
               (record { type = runs.typed.0; pattern = runs.typed.1.0 }) (record { type = runs.typed.0; pattern = inner.pattern })
               runs.typed.1.1
@@ -301,7 +301,7 @@ module _ (table : Table) (setting : CoreSetting) (typed : IsCoreTyped table sett
           typed = inner.typed;
           alone = runs.alone;
           wait = joins_move table from.store environment environment runs.low inner.from runs.high inner.to joins runs.type r
-              (λ y less. refl) inner.low_is inner.high_is runs.wait;
+              (unchanged _ _) inner.low_is inner.high_is runs.wait;
         },
         older,
       )

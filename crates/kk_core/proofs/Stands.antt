@@ -1,11 +1,12 @@
 -- The facts on variables, and the values that an environment binds to them: they stay true in a longer store, and where more is
 -- bound.
-use Rattle.std.proofs.Common.{◌≡◌, ℕ, suc, ◌+◌, ◌<◌, ◌≤◌, ◌==◌, Bool, true, false, List, [], ◌∷◌, ◌++◌, length, Option, Some, None, refl, sym, ap, subst, ◌∙◌, arith, add-one}
+use Rattle.std.proofs.Common.{◌≡◌, ℕ, suc, ◌+◌, ◌<◌, ◌≤◌, ◌==◌, Bool, true, false, List, [], ◌∷◌, ◌++◌, ◌⊎◌, inl, inr, length, Option, Some, None, refl, sym, ap, subst, ◌∙◌, arith, add-one}
 use Rattle.std.specs.Prelude.{if◌then◌else◌, is_some, map, slice_get}
 use Rattle.std.proofs.lemmas.Bool.{eqb-true}
 use Rattle.kk_syntax.specs.Patterns.{Pattern, anything, variable, exactly, constructor, Patterns, no_part, part}
 use Rattle.kk_syntax.specs.Programs.{ConstructorTree}
 use Rattle.kk_syntax.specs.Types.{TypeTree}
+use Rattle.kk_source.specs.NeverStuck.{IsBound}
 use Rattle.kk_source.specs.State.{Value, integer, unit, constant, place, Cell, Store, Environment}
 use Rattle.kk_source.specs.Live.{value_of}
 use Rattle.kk_source.specs.Matching.{is_integer, fields_made_by, fields_under, and_then, matched, matched_all}
@@ -15,6 +16,7 @@ use Rattle.kk_source.proofs.Values.{get_longer, of_longer}
 use Rattle.kk_core.specs.Choosing.{matches}
 use Rattle.kk_core.specs.CoreMachine.{bind_fields}
 use Rattle.kk_core.specs.CoreTyping.{Fact, Facts, fact_in, knowing, typing, typing_parameters, knowing_fields, Has, HaveTypes}
+use Rattle.kk_core.specs.NeverStuck.{AreBound}
 use Rattle.kk_core.specs.Sizes.{Rise}
 
 -- ---- patterns that values match
@@ -107,15 +109,20 @@ pub record IsAs (constructors : List ConstructorTree) (store : Store) (fact : Fa
 pub record Stand (constructors : List ConstructorTree) (store : Store) (facts : Facts) (environment : Environment) (low : ℕ) : Type
     0 where
   pub each : (x : ℕ) (fact : Fact) → fact_in facts x ≡ Some fact → IsAs constructors store fact (value_of environment x)
+  pub there : (x : ℕ) (fact : Fact) → fact_in facts x ≡ Some fact → IsBound environment x
   pub below : (x : ℕ) (fact : Fact) → fact_in facts x ≡ Some fact → x < low
 
--- the variables below a number have the same values
+-- the variables below a number have the same values, and stay bound
 abbrev pub SameBelow : ℕ → Environment → Environment → Type 0
-SameBelow low environment later = (x : ℕ) → x < low → value_of later x ≡ value_of environment x
+SameBelow low environment later =
+    (x : ℕ) → x < low → (value_of later x ≡ value_of environment x) × (IsBound environment x → IsBound later x)
+
+pub unchanged : (low : ℕ) (environment : Environment) → SameBelow low environment environment
+unchanged low environment = λ x less. (refl, λ bound. bound)
 
 pub same_bound : (low x : ℕ) (v : Value) (environment : Environment) → low ≤ x
     → SameBelow low environment (record { variable = x; value = v } ∷ environment)
-same_bound low x v environment le = λ y less. by_test y less (x == y) refl
+same_bound low x v environment le = λ y less. (by_test y less (x == y) refl, λ bound. inr bound)
   where
     by_test : (y : ℕ) → y < low → (same : Bool) → (x == y) ≡ same
         → (if same then v else value_of environment y) ≡ value_of environment y
@@ -128,13 +135,14 @@ module _ (constructors : List ConstructorTree) (store : Store) where
   of_type t v of = record { of = of; takes = tt }
 
   pub stand_none : (environment : Environment) (low : ℕ) → Stand constructors store [] environment low
-  stand_none environment low = record { each = λ x fact is. absurd (cc); below = λ x fact is. absurd (cc) }
+  stand_none environment low = record { each = λ x fact is. absurd (cc); there = λ x fact is. absurd (cc); below = λ x fact is. absurd (cc) }
 
   pub stand_move : (facts : Facts) (environment later : Environment) (low high : ℕ) → SameBelow low environment later → low ≤ high
       → Stand constructors store facts environment low → Stand constructors store facts later high
   stand_move facts environment later low high same le stand =
       record {
-        each = λ x fact is. subst (IsAs constructors store fact) (sym (same x (stand.below x fact is))) (stand.each x fact is);
+        each = λ x fact is. subst (IsAs constructors store fact) (sym (same x (stand.below x fact is)).0) (stand.each x fact is);
+        there = λ x fact is. (same x (stand.below x fact is)).1 (stand.there x fact is);
         below = λ x fact is. let less = stand.below x fact is in omega (arith, less, le);
       }
 
@@ -144,8 +152,17 @@ module _ (constructors : List ConstructorTree) (store : Store) where
       → Stand constructors store (record { variable = x; fact = fact } ∷ facts) (record { variable = x; value = v } ∷ environment)
       (x + 1)
   stand_bound facts environment low x fact v le good stand =
-      record { each = λ y other is. each_one y other (x == y) refl is; below = λ y other is. below_one y other (x == y) refl is }
+      record {
+        each = λ y other is. each_one y other (x == y) refl is;
+        there = λ y other is. there_one y other (x == y) refl is;
+        below = λ y other is. below_one y other (x == y) refl is;
+      }
     where
+      there_one : (y : ℕ) (other : Fact) (same : Bool) → (x == y) ≡ same
+          → (if same then Some fact else fact_in facts y) ≡ Some other → (x ≡ y) ⊎ IsBound environment y
+      there_one y other true same is = inl (eqb-true x y same)
+      there_one y other false same is = inr (stand.there y other is)
+
       each_one : (y : ℕ) (other : Fact) (same : Bool) → (x == y) ≡ same → (if same then Some fact else fact_in facts y) ≡ Some other
           → IsAs constructors store other (if same then v else value_of environment y)
       each_one y other true same is = let one : fact ≡ other = cc in subst (λ f. IsAs constructors store f v) one good
@@ -161,8 +178,17 @@ module _ (constructors : List ConstructorTree) (store : Store) where
       → IsAs constructors store known (value_of environment x) → Stand constructors store facts environment low
       → Stand constructors store (record { variable = x; fact = known } ∷ facts) environment low
   stand_known facts environment low x fact known is good stand =
-      record { each = λ y other at. each_one y other (x == y) refl at; below = λ y other at. below_one y other (x == y) refl at }
+      record {
+        each = λ y other at. each_one y other (x == y) refl at;
+        there = λ y other at. there_one y other (x == y) refl at;
+        below = λ y other at. below_one y other (x == y) refl at;
+      }
     where
+      there_one : (y : ℕ) (other : Fact) (same : Bool) → (x == y) ≡ same
+          → (if same then Some known else fact_in facts y) ≡ Some other → IsBound environment y
+      there_one y other true same at = subst (IsBound environment) (eqb-true x y same) (stand.there x fact is)
+      there_one y other false same at = stand.there y other at
+
       each_one : (y : ℕ) (other : Fact) (same : Bool) → (x == y) ≡ same
           → (if same then Some known else fact_in facts y) ≡ Some other → IsAs constructors store other (value_of environment y)
       each_one y other true same at =
@@ -181,7 +207,7 @@ module _ (constructors : List ConstructorTree) (store : Store) where
       → AreOf constructors store ts vs → Stand constructors store facts environment next
       → Stand constructors store (typing_parameters next ts facts) (bind_parameters next vs environment) (next + length ts)
   parameters_stand next [] [] facts environment of stand =
-      stand_move facts environment environment next (next + 0) (λ x less. refl) (omega arith) stand
+      stand_move facts environment environment next (next + 0) (unchanged next environment) (omega arith) stand
   parameters_stand next [] (v ∷ vs) facts environment of stand = absurd of
   parameters_stand next (t ∷ ts) [] facts environment of stand = absurd of
   parameters_stand next (t ∷ ts) (v ∷ vs) facts environment of stand =
@@ -198,7 +224,7 @@ module _ (constructors : List ConstructorTree) (store : Store) where
       → Rise low xs high → Stand constructors store facts environment low
       → Stand constructors store (knowing_fields xs ts ps facts) (bind_fields xs vs environment) high
   fields_stand [] ts ps vs facts environment low high many of takes rise stand =
-      stand_move facts environment environment low high (λ x less. refl) rise stand
+      stand_move facts environment environment low high (unchanged low environment) rise stand
   fields_stand (x ∷ xs) [] ps vs facts environment low high many of takes rise stand = absurd (cc)
   fields_stand (x ∷ xs) (t ∷ ts) ps [] facts environment low high many of takes rise stand = absurd of
   fields_stand (x ∷ xs) (t ∷ ts) no_part (v ∷ vs) facts environment low high many of takes rise stand = absurd takes
@@ -215,12 +241,13 @@ rise_le low high (x ∷ xs) rise = let more = rise_le (x + 1) high xs rise.1 in 
 
 pub same_fields : (low high : ℕ) (xs : List ℕ) (vs : List Value) (environment : Environment) → Rise low xs high
     → SameBelow low environment (bind_fields xs vs environment)
-same_fields low high [] vs environment rise = λ y less. refl
-same_fields low high (x ∷ xs) [] environment rise = λ y less. refl
+same_fields low high [] vs environment rise = unchanged low environment
+same_fields low high (x ∷ xs) [] environment rise = unchanged low environment
 same_fields low high (x ∷ xs) (v ∷ vs) environment rise = λ y less.
     let later =
     same_fields (x + 1) high xs vs (record { variable = x; value = v } ∷ environment) rise.1 y (omega (arith, less, rise.0)) in
-    later ∙ same_bound low x v environment rise.0 y less
+    let one = same_bound low x v environment rise.0 y less in
+    (later.0 ∙ one.0, λ bound. later.1 (one.1 bound))
 
 module _ (constructors : List ConstructorTree) (store more : Store) where
   pub stand_longer : (facts : Facts) (environment : Environment) (low : ℕ) → Stand constructors store facts environment low
@@ -233,6 +260,7 @@ module _ (constructors : List ConstructorTree) (store more : Store) where
               takes = takes_longer store
                   more fact.pattern (value_of environment x) good.takes;
             };
+        there = stand.there;
         below = stand.below;
       }
 
@@ -249,3 +277,10 @@ module _ (constructors : List ConstructorTree) (store : Store) (facts : Facts) (
   typed_values [] (t ∷ ts) have = absurd have
   typed_values (x ∷ xs) [] have = absurd have
   typed_values (x ∷ xs) (t ∷ ts) have = (typed_value x t have.0, typed_values xs ts have.1)
+
+  pub typed_bound : (xs : List ℕ) (ts : List TypeTree) → HaveTypes facts xs ts → AreBound environment xs
+  typed_bound [] [] have = tt
+  typed_bound [] (t ∷ ts) have = absurd have
+  typed_bound (x ∷ xs) [] have = absurd have
+  typed_bound (x ∷ xs) (t ∷ ts) have =
+      (stand.there x (record { type = t; pattern = have.0.0 }) have.0.1, typed_bound xs ts have.1)

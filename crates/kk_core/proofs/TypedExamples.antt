@@ -256,4 +256,4 @@ at_nil = record {
 }
 
 nil_is_no_cons : StateFits constructors program at_nil → ⊥
-nil_is_no_cons fits = let none : constant 2 ≡ place fits.0 = fits.2 in absurd (cc)
+nil_is_no_cons fits = let none : constant 2 ≡ place fits.1.0 = fits.1.2 in absurd (cc)

@@ -6,9 +6,9 @@ ghost use Rattle.kk_core.specs.CoreTyping.{IsCoreTyped};
 ghost use Rattle.kk_core.specs.NeverStuck.{NeverStuck};
 ghost use Rattle.kk_core.specs.PlainCoreTyping.{ArePlainCodes, IsPlainCoreTyped};
 
-/// A typed program is never stuck: in each state of each run, decisions choose a row that has an arm, an opening finds a cell of
-/// its constructor with as many fields, a call finds a function with as many parameters, and the other forms find arguments of
-/// their types. It is a law, and does nothing.
+/// A typed program is never stuck: in each state of each run, the variables that the step reads are bound, decisions choose a row
+/// that has an arm, an opening finds a cell of its constructor with as many fields, a call finds a function with as many
+/// parameters, and the other forms find arguments of their types. It is a law, and does nothing.
 pub fn typed_code_is_never_stuck()
     ensures { (table : Table) (setting : CoreSetting) (weight : CoreState → ℕ) (input : List ℕ)
         → IsCoreTyped table setting.code → NeverStuck table.constructors weight setting input }

@@ -188,7 +188,7 @@ module _ (setting : CoreSetting) (constructors : List ConstructorTree) (promise 
         (StandsFor (performed (code_step setting code environment joins s.machine) s.input).1) (with_input t.machine i))
         (sym inputs)
         (code_follows code environment joins s.machine t.machine s.input active
-        (subst (λ (control : CoreControl). ControlFits constructors setting.code control s.machine) at (sane 0))))
+        (subst (λ (control : CoreControl). ControlFits constructors setting.code control s.machine) at (sane 0)).1))
         (λ n. subst (λ (next : List Note × CoreState). StateFits constructors setting.code (state upper n next.1).machine) step_is
         (sane (suc n)))
         (uses_less code environment joins s.machine s.input) waits)
