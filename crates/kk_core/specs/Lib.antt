@@ -1,5 +1,6 @@
 pub mod Choosing
 pub mod Codes
+pub mod ConstructorShapes
 pub mod CoreMachine
 pub mod CoreStates
 pub mod CoreTyping

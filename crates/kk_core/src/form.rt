@@ -1,6 +1,7 @@
 ghost use Rattle.std.specs.Prelude.{◌<◌, vec_len};
 
 use crate::decisions::Decisions;
+use crate::shape::ConstructorShape;
 use kk_syntax::{Form, Pat, StringLiteral};
 
 /// A program in core form.
@@ -8,10 +9,16 @@ use kk_syntax::{Form, Pat, StringLiteral};
 pub struct Core {
     /// The functions, in the order of the program that it was made of: a call names one by its number, from 0.
     pub functions: Vec<CoreFunction>,
+    /// The ground constructors: a construction, an opening and a pattern name one by its number, from 0.
+    pub constructors: Vec<ConstructorShape>,
     /// The string literals that are printed: a print of one names it by its number, from 0.
     pub texts: Vec<StringLiteral>,
     /// The number of `main`.
     pub main: u32,
+    /// The most nodes of a function of the text, whether `main` comes to it or not.
+    pub greatest_body: u64,
+    /// The nodes of all instances.
+    pub all_nodes: u64,
     pub ghost main_in: { main < vec_len functions },
 }
 
@@ -21,6 +28,10 @@ pub struct Core {
 pub struct CoreFunction {
     /// The number of its parameters: parameter `i` is variable `i`.
     pub parameters: u32,
+    /// Of each parameter, whether its type has cells.
+    pub parameters_have_cells: Vec<bool>,
+    /// Whether the type of its result has cells.
+    pub result_has_cells: bool,
     /// A number above all of its variables.
     pub variables: u32,
     pub body: Block,

@@ -11,7 +11,7 @@ use Rattle.kk_core.specs.Decisions.{NodeTree}
 use Rattle.kk_counted.specs.declared.shape.Parameter.{Parameter}
 use Rattle.kk_counted.specs.declared.work.Work.{Work}
 use Rattle.kk_counted.specs.declared.shape.InstanceShape.{InstanceShape}
-use Rattle.kk_counted.specs.declared.shape.ConstructorShape.{ConstructorShape}
+use Rattle.kk_core.specs.declared.shape.ConstructorShape.{ConstructorShape}
 use Rattle.std.proofs.lemmas.List.{length-map}
 use Rattle.kk_counted.specs.Shaping.{passed_to, positions_in, fields_in}
 use Rattle.kk_counted.specs.CountedCodes.{Counted, CountedFunction, tail_call}

@@ -1,21 +1,9 @@
 -- What is known of instances and constructors before code is counted.
-use Rattle.std.specs.Prelude.{◌≡◌, ℕ, ◌==◌, ◌&&◌, Bool, not, List, map, length, take, count_by, Some, slice_get}
-use Rattle.std.specs.List.{list_any}
+use Rattle.std.specs.Prelude.{List, map}
 use Rattle.kk_syntax.specs.declared.positions.Ownership.{Ownership}
 use Rattle.kk_syntax.specs.PositionsOf.{PositionTable}
+pub use Rattle.kk_core.specs.ConstructorShapes.{has_fields, AreConsistent, fields_in}
 use Rattle.kk_counted.specs.declared.shape.InstanceShape.{InstanceShape}
-use Rattle.kk_counted.specs.declared.shape.ConstructorShape.{ConstructorShape}
-
-abbrev pub has_fields : ConstructorShape → Bool
-has_fields constructor = not (length constructor.fields.items == 0)
-
--- The constructors of a type have the tags 0, 1, 2 and so on in their order: a tag is the number of those before. And a type
--- has cells exactly where one of its constructors has a field.
-pub record AreConsistent (constructors : List ConstructorShape) : Type 0 where
-  pub tags : (i : ℕ) (one : ConstructorShape) → slice_get constructors i ≡ Some one
-      → one.tag ≡ count_by (λ other. other.of_type == one.of_type) (take i constructors)
-  pub cells : (i : ℕ) (one : ConstructorShape) → slice_get constructors i ≡ Some one
-      → one.has_cells ≡ list_any (λ other. (other.of_type == one.of_type) && has_fields other) constructors
 
 -- by an instance's number and a parameter's, whether it is owned or lent
 abbrev pub passed_to : InstanceShape → List Ownership
@@ -23,7 +11,3 @@ passed_to instance = map (λ parameter. parameter.ownership) instance.parameters
 
 abbrev pub positions_in : List InstanceShape → PositionTable
 positions_in instances = map passed_to instances
-
--- by a constructor's number, how many fields it has
-abbrev pub fields_in : List ConstructorShape → List ℕ
-fields_in constructors = map (λ constructor. length constructor.fields.items) constructors

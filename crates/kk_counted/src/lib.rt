@@ -21,4 +21,4 @@ pub use law::{
     judged_code_keeps_its_heap_sound, judged_code_leaves_no_cell, judged_code_uses_counted_cells,
     sound_heaps_are_functions,
 };
-pub use shape::{ConstructorShape, InstanceShape, Parameter, Shape};
+pub use shape::{InstanceShape, Parameter, Shape};

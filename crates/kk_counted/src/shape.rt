@@ -1,6 +1,7 @@
 ghost use Rattle.std.specs.Prelude.{◌≡◌};
 ghost use Rattle.kk_counted.specs.Shaping.{AreConsistent};
 
+use kk_core::ConstructorShape;
 use kk_syntax::Ownership;
 
 /// A parameter of an instance. Parameter `i` is variable `i` of its function.
@@ -17,19 +18,6 @@ pub struct InstanceShape {
     pub parameters: Vec<Parameter>,
     /// Whether the type of its result has cells.
     pub result_has_cells: bool,
-}
-
-/// What is known of a ground constructor.
-#[derive(Debug, Drop)]
-pub struct ConstructorShape {
-    /// The number of its ground type.
-    pub of_type: u32,
-    /// Its place among the constructors of that type, from 0.
-    pub tag: u32,
-    /// Whether its type has cells.
-    pub has_cells: bool,
-    /// Of each field, whether its type has cells.
-    pub fields: Vec<bool>,
 }
 
 /// What the functions of a program are called with, and what its constructors hold. The constructors of a type have the
