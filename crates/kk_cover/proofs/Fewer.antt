@@ -1,13 +1,13 @@
 -- The search ends: what a problem comes down to weighs less than the problem.
 use Rattle.std.proofs.Common.{◌≡◌, ◌<◌, ◌≤◌, inl, inr, ℕ, zero, suc, ◌+◌, ◌==◌, Bool, true, false, cond, List, [], ◌∷◌, ◌++◌, length, map, Option, None, Some, get_or, refl, sym, ap, ◌∙◌, subst, arith}
 use Rattle.std.proofs.lemmas.List.{get_or_past}
-use Rattle.kk_syntax.specs.Programs.{ConstructorTree, ProgramTree}
+use Rattle.kk_syntax.specs.Programs.{ConstructorTree, ProgramTree, no_constructor}
 use Rattle.kk_cover.specs.declared.problem.Asked.{Asked}
 use Rattle.kk_cover.specs.declared.problem.Asked.TheVariants as OfAsked
 use Rattle.kk_syntax.specs.Outlines.{Outline, any, exactly, made, Outlines, no_outline, outline}
 use Rattle.kk_cover.specs.Turned.{rotated, first_leading, turned}
 use Rattle.kk_cover.specs.Narrowing.{join, front, back, anys, kept, narrow, narrowed, open_row, opened}
-use Rattle.kk_cover.specs.Problems.{OpenProblem, asked, or_else, first_asked, no_constructor, owner, arity, made_child, children, StepsTo, Settles}
+use Rattle.kk_cover.specs.Problems.{OpenProblem, asked, or_else, first_asked, owner, arity, made_child, children, StepsTo, Settles}
 use Rattle.kk_cover.proofs.Keeping.{IfKept, if_so_from}
 
 times : ℕ → ℕ → ℕ

@@ -5,10 +5,10 @@ use Rattle.std.proofs.lemmas.List.{length-map}
 use Rattle.std.proofs.lemmas.Option.{slice_get_within, slice_get-get_or, get_or_from_slice_get}
 use Rattle.std.specs.List.{slice_get}
 use Rattle.kk_syntax.specs.Types.{TypeTree, int32, unit_type, type_variable, named, TypeTrees}
-use Rattle.kk_syntax.specs.Programs.{ConstructorTree, ProgramTree}
+use Rattle.kk_syntax.specs.Programs.{ConstructorTree, ProgramTree, no_constructor}
 use Rattle.kk_syntax.specs.OfType.{values_of, fields_of, field_types, with_arguments, is_int32}
 use Rattle.kk_syntax.proofs.PatternTypes.{fields_made}
-use Rattle.kk_cover.specs.Problems.{no_constructor, owner, arity}
+use Rattle.kk_cover.specs.Problems.{owner, arity}
 use Rattle.kk_cover.proofs.Deciding.{Knows}
 
 record Declared (o : Option ConstructorTree) (by : ℕ) (arguments : TypeTrees) (us : List TypeTree) : Type 0 where

@@ -2,7 +2,7 @@
 use Rattle.std.specs.Prelude.{◌≡◌, ◌≢◌, ◌<◌, ◌≤◌, ◌⊎◌, ℕ, ◌+◌, ◌^◌, ◌==◌, zero, suc, ℤ, pos, Bool, true, false, List, [], ◌∷◌, ◌++◌, length, map, slice_index_or, cond}
 use Rattle.std.specs.List.{list_any}
 use Rattle.kk_syntax.specs.declared.program.Pat.{Pat}
-use Rattle.kk_syntax.specs.Programs.{ConstructorTree, ProgramTree}
+use Rattle.kk_syntax.specs.Programs.{ProgramTree, no_constructor}
 use Rattle.kk_cover.specs.declared.problem.Slot.{Slot}
 use Rattle.kk_cover.specs.declared.problem.Slot.TheVariants as OfSlot
 use Rattle.kk_cover.specs.declared.problem.Head.{Head}
@@ -100,9 +100,6 @@ first_asked [] = Nothing
 first_asked (row ∷ rows) = or_else (asked row) (first_asked rows)
 
 -- the constructors of a program, by their numbers: how many there are, of which type one is, and how many fields it has
-abbrev pub no_constructor : ConstructorTree
-no_constructor = record { name = []; at = 0; of_type = 0; tag = 0; fields = [] }
-
 abbrev pub owner : ProgramTree → ℕ → ℕ
 owner program c = (slice_index_or program.constructors c no_constructor).of_type
 

@@ -1,9 +1,8 @@
 -- How an example is written.
 use Rattle.std.specs.Prelude.{ℕ, List, [], ◌++◌, codes, slice_index_or}
 use Rattle.std.specs.Fmt.{signed_decimal}
-use Rattle.kk_syntax.specs.Programs.{ProgramTree}
+use Rattle.kk_syntax.specs.Programs.{ProgramTree, no_constructor}
 use Rattle.kk_syntax.specs.Outlines.{Outline, any, exactly, made, Outlines, no_outline, outline}
-use Rattle.kk_cover.specs.Problems.{no_constructor}
 
 abbrev pub constructor_name : ProgramTree → ℕ → List ℕ
 constructor_name program c = (slice_index_or program.constructors c no_constructor).name

@@ -29,7 +29,6 @@ pub record AreBuilt (program : Program) (keys : List KeyTree) (looked : List Loo
 -- the program of instances
 pub record IsBuilt (program : Program) (found : Found) (given : Ground) : Type 0 where
   pub declarations : given.declarations.items ≡ program.types.items
-  pub constructors : map constructor_tree given.constructors.items ≡ map constructor_tree program.constructors.items
   pub texts : given.texts.items ≡ program.texts.items
   pub types : given.types.items ≡ found.types.nodes.keys
   pub instances : AreBuilt program (keys_in found.keys) found.looked.items given.instances.items

@@ -9,7 +9,7 @@ use crate::labels::Labels;
 use crate::search::{Found, Looked};
 use kk_base::NoMemory;
 use kk_syntax::{
-    Fun, Ground, Instance, Program, copied_constructors, copied_declarations, copied_texts,
+    Fun, Ground, Instance, Program, copied_declarations, copied_texts,
 };
 use std::alloc::Global;
 
@@ -32,7 +32,9 @@ pub fn ground(alloc: Global, program: &Program, found: Found) -> Result<Ground, 
     }
     Ok(Ground {
         declarations: copied_declarations(alloc, &program.types)?,
-        constructors: copied_constructors(alloc, &program.constructors)?,
+        constructors: Vec::new(alloc),
+        greatest_nodes: 0,
+        summed_nodes: 0,
         texts: copied_texts(alloc, &program.texts)?,
         types: types.into_nodes(alloc)?,
         instances,

@@ -29,7 +29,7 @@ abbrev pub bool_type : TypeDecl
 bool_type = record { name = codes "bool"; at = 0; variables = 0; first_constructor = 0; constructor_count = 2 }
 
 abbrev pub bool_constructor : List ℕ → ℕ → ConstructorTree
-bool_constructor name tag = record { name = name; at = 0; of_type = 0; tag = tag; fields = [] }
+bool_constructor name tag = record { name = name; at = 0; of_type = 0; arguments = None; tag = tag; fields = [] }
 
 -- what stands before a function's body: its parameters, and the string literals that the functions before it print
 abbrev pub before_body : List (List ℕ) → List WrittenParameter → Before

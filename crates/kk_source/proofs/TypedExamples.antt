@@ -24,7 +24,7 @@ abbrev list : TypeTree
 list = named 1 no_type
 
 abbrev declared : ℕ → ℕ → List TypeTree → ConstructorTree
-declared of_type tag fields = record { name = []; at = 0; of_type = of_type; tag = tag; fields = fields }
+declared of_type tag fields = record { name = []; at = 0; of_type = of_type; arguments = None; tag = tag; fields = fields }
 
 abbrev constructors : List ConstructorTree
 constructors = declared 0 0 [] ∷ declared 0 1 [] ∷ declared 1 0 [] ∷ declared 1 1 (int32 ∷ list ∷ []) ∷ []

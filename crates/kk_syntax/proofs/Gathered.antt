@@ -9,9 +9,9 @@ module _ {A : Type 0} (from : Gathers A) where
   gathered_each [] = refl
   gathered_each (e ∷ es) = ap (λ (l : List A). gathered from e ++ l) (gathered_each es)
 
-  pub gathered_each_row : (rs : List RowTree) → gathered_rows from (rows_of rs) ≡ flat_map (λ r. gathered from r.body) rs
+  pub gathered_each_row : (rs : List RowTree) → gathered_rows from (rows_of rs) ≡ flat_map (λ r. from.at_pattern r.pattern ++ gathered from r.body) rs
   gathered_each_row [] = refl
-  gathered_each_row (r ∷ rs) = ap (λ (l : List A). gathered from r.body ++ l) (gathered_each_row rs)
+  gathered_each_row (r ∷ rs) = ap (λ (l : List A). (from.at_pattern r.pattern ++ gathered from r.body) ++ l) (gathered_each_row rs)
 
   pub gathered_block : (ss : List StatementTree) (last : Tree) → gathered from (block_of ss last) ≡ flat_map (λ s. gathered from s.value) ss ++ gathered from last
   gathered_block [] last = refl

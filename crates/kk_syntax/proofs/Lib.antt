@@ -11,6 +11,7 @@ pub mod PatternTypes
 pub mod PatternViews
 pub mod PositionTables
 pub mod Putting
+pub mod SameTypes
 pub mod TailCalls
 pub mod TypeViews
 pub mod Views

@@ -4,20 +4,21 @@ use Rattle.std.proofs.lemmas.Bool.{eq-eqb}
 use Rattle.std.proofs.lemmas.List.{map-append, take_more, take_all}
 use Rattle.std.specs.List.{slice_get}
 use Rattle.kk_syntax.specs.Covered.{Each, asked_by}
-use Rattle.kk_syntax.specs.OfType.{IsPatternOf, ArePatternsOf, with_arguments, fields_of, field_types, is_int32, values_of}
+use Rattle.kk_syntax.specs.OfType.{IsPatternOf, ArePatternsOf, with_arguments, fields_with, fields_of, field_types, is_int32, values_of}
 use Rattle.kk_syntax.specs.Outlines.{outline_of, outlines_of}
 use Rattle.kk_syntax.specs.Patterns.{Pattern, anything, variable as pattern_variable, exactly, constructor, Patterns, no_part, part}
-use Rattle.kk_syntax.specs.Programs.{ConstructorTree, ProgramTree}
+use Rattle.kk_syntax.specs.Programs.{ConstructorTree, ProgramTree, if_declared, declared_in}
 use Rattle.kk_syntax.specs.Trees.{Rows, no_row, row}
 use Rattle.kk_syntax.specs.Types.{TypeTree, unit_type, type_variable, named, TypeTrees, types_of, type_list, put, put_each, type_at, variables_below}
 use Rattle.kk_syntax.specs.Typing.{Scope, Scheme, Choice, variables_of_type, scheme_in, constructor_scheme, IsPatternTyped, ArePatternsTyped, AreRowsTypedBy}
 
--- the fields of a constructor, where it is one of the type
+-- the fields of a declared constructor, where it is one of the type
 pub fields_made : (o : Option ConstructorTree) (declared : ConstructorTree) (by : ℕ) (arguments : TypeTrees) → o ≡ Some declared
-    → declared.of_type ≡ by → fields_of o by arguments ≡ Some (map (with_arguments arguments) declared.fields)
-fields_made o declared by arguments there owned =
+    → declared.arguments ≡ None → declared.of_type ≡ by → fields_of o by arguments ≡ Some (map (with_arguments arguments) declared.fields)
+fields_made o declared by arguments there any owned =
     ap (λ x. fields_of x by arguments) there
-    ∙ ap (λ b. cond b (Some (map (with_arguments arguments) declared.fields)) None) (eq-eqb declared.of_type by owned)
+    ∙ (ap (λ b. cond b (fields_with declared.arguments declared.fields arguments) None) (eq-eqb declared.of_type by owned)
+    ∙ ap (λ own. fields_with own declared.fields arguments) any)
 
 -- the first type variables are the first of the types that are put in their place
 pub variables_put : (ts : List TypeTree) (n : ℕ) → n ≤ length ts → map (put (type_at ts)) (variables_below n) ≡ take n ts
@@ -42,13 +43,32 @@ record Fields (found : Option ConstructorTree) (t : TypeTree) (us : List TypeTre
   is : t ≡ named by arguments
   fields : fields_of found by arguments ≡ Some us
 
+-- a declared constructor with its scheme
+pub record Declared (program : ProgramTree) (found : Option ConstructorTree) (of : Scheme) : Type 0 where
+  pub made : ConstructorTree
+  pub there : found ≡ Some made
+  pub any : made.arguments ≡ None
+  pub scheme : scheme_in program made ≡ of
+
 module _ (program : ProgramTree) where
+  -- a constructor that has a scheme is a declared one
+  pub is_declared : (found : Option ConstructorTree) (of : Scheme) → option_map (scheme_in program) (declared_in found) ≡ Some of
+      → Declared program found of
+  is_declared None of is = absurd (cc)
+  is_declared (Some made) of is = by_arguments made.arguments refl is
+    where
+      by_arguments : (own : Option TypeTrees) → made.arguments ≡ own → option_map (scheme_in program) (if_declared made own) ≡ Some of
+          → Declared program (Some made) of
+      by_arguments None any is = record { made = made; there = refl; any = any; scheme = cc }
+      by_arguments (Some arguments) any is = absurd (cc)
+
   fields_chosen : (found : Option ConstructorTree) (of : Scheme) (at : List TypeTree)
-      → option_map (scheme_in program) found ≡ Some of → length at ≡ of.variables
+      → option_map (scheme_in program) (declared_in found) ≡ Some of → length at ≡ of.variables
       → Fields found (put (type_at at) of.result) (map (put (type_at at)) of.parameters)
-  fields_chosen None of at is long = absurd (cc)
-  fields_chosen (Some made) of at is long =
-      let same : scheme_in program made ≡ of = cc in
+  fields_chosen found of at is long =
+      let known = is_declared found of is in
+      let made = known.made in
+      let same = known.scheme in
       let count = variables_of_type (slice_get program.types made.of_type) in
       let arguments = put_each (type_at at) (types_of (variables_below count)) in
       let all : length at ≡ count = long ∙ ap (λ (s : Scheme). s.variables) (sym same) in
@@ -57,7 +77,7 @@ module _ (program : ProgramTree) where
         arguments = arguments;
         is = ap (λ (s : Scheme). put (type_at at) s.result) (sym same);
         fields =
-            fields_made (Some made) made made.of_type arguments refl refl
+            fields_made found made made.of_type arguments known.there known.any refl
             ∙ (ap (λ ts. Some (map (put (type_at ts)) made.fields)) (arguments_are at count all)
             ∙ ap (λ (s : Scheme). Some (map (put (type_at at)) s.parameters)) same);
       }

@@ -1,14 +1,16 @@
--- Types put in place of variables: twice, in the fields of constructors, and in the types of patterns.
+-- Types put in place of variables: twice, in the fields of declared constructors, and in the types of patterns.
 use Rattle.std.proofs.Common.{◌≡◌, ℕ, zero, suc, Bool, true, false, List, [], ◌∷◌, length, map, Option, Some, None, refl, sym, ap, ◌∙◌, arith}
 use Rattle.std.specs.Prelude.{if◌then◌else◌, ◌==◌, slice_get}
 use Rattle.std.proofs.lemmas.List.{take_all}
-use Rattle.kk_syntax.specs.Covered.{Each}
-use Rattle.kk_syntax.specs.OfType.{IsPatternOf, ArePatternsOf, with_arguments, fields_of, field_types, is_int32, values_of}
-use Rattle.kk_syntax.specs.Outlines.{Outline, any, exactly, made, Outlines, no_outline, outline}
-use Rattle.kk_syntax.specs.Programs.{ConstructorTree}
+use Rattle.kk_syntax.specs.Covered.{Each, asked_by}
+use Rattle.kk_syntax.specs.OfType.{IsPatternOf, ArePatternsOf, with_arguments, fields_with, fields_of, field_types, is_int32, values_of}
+use Rattle.kk_syntax.specs.Outlines.{outline_of, outlines_of}
+use Rattle.kk_syntax.specs.Patterns.{Pattern, anything, variable as pattern_variable, exactly, constructor, Patterns, no_part, part}
+use Rattle.kk_syntax.specs.Programs.{ConstructorTree, ProgramTree}
+use Rattle.kk_syntax.specs.Trees.{Rows, no_row, row}
 use Rattle.kk_syntax.specs.Types.{TypeTree, TypeTrees, int32, unit_type, type_variable, named, no_type, type, type_list, put, put_each, type_at, variables_below}
-use Rattle.kk_syntax.proofs.Elements.{each_weaker}
-use Rattle.kk_syntax.proofs.PatternTypes.{variables_put}
+use Rattle.kk_syntax.specs.Typing.{Scope, Scheme, Choice, constructor_scheme, IsPatternTyped, ArePatternsTyped, AreRowsTypedBy}
+use Rattle.kk_syntax.proofs.PatternTypes.{variables_put, is_declared, fields_found}
 
 -- ---- twice
 
@@ -62,50 +64,75 @@ listed : (s : ℕ → TypeTree) (ts : TypeTrees) → type_list (put_each s ts) �
 listed s no_type = refl
 listed s (type first rest) = ap (λ us. put s first ∷ us) (listed s rest)
 
-fields_of_put : (found : Option ConstructorTree) (by : ℕ) (s : ℕ → TypeTree) (arguments : TypeTrees) (us : List TypeTree)
-    → fields_of found by arguments ≡ Some us → fields_of found by (put_each s arguments) ≡ Some (map (put s) us)
-fields_of_put None by s arguments us is = absurd (cc)
-fields_of_put (Some constructor) by s arguments us is = by_test (constructor.of_type == by) is
+-- the types of the fields of a declared constructor
+fields_of_put : (found : Option ConstructorTree) (made : ConstructorTree) (by : ℕ) (s : ℕ → TypeTree) (arguments : TypeTrees)
+    (us : List TypeTree) → found ≡ Some made → made.arguments ≡ None → fields_of found by arguments ≡ Some us
+    → fields_of found by (put_each s arguments) ≡ Some (map (put s) us)
+fields_of_put found made by s arguments us there any is =
+    ap (λ o. fields_of o by (put_each s arguments)) there
+    ∙ by_arguments made.arguments any (made.of_type == by) (ap (λ o. fields_of o by arguments) (sym there) ∙ is)
   where
-    by_test : (b : Bool) → (if b then Some (map (with_arguments arguments) constructor.fields) else None) ≡ Some us
-        → (if b then Some (map (with_arguments (put_each s arguments)) constructor.fields) else None) ≡ Some (map (put s) us)
+    by_test : (b : Bool) → (if b then Some (map (with_arguments arguments) made.fields) else None) ≡ Some us
+        → (if b then Some (map (with_arguments (put_each s arguments)) made.fields) else None) ≡ Some (map (put s) us)
     by_test true is =
-        let same : map (with_arguments arguments) constructor.fields ≡ us = cc in
-        ap (λ (ts : List TypeTree). Some (map (put (type_at ts)) constructor.fields)) (listed s arguments)
+        let same : map (with_arguments arguments) made.fields ≡ us = cc in
+        ap (λ (ts : List TypeTree). Some (map (put (type_at ts)) made.fields)) (listed s arguments)
         ∙ ap (λ (ts : List TypeTree). Some ts)
-        (sym (put_all_at_types s (type_list arguments) constructor.fields) ∙ ap (map (put s)) same)
+        (sym (put_all_at_types s (type_list arguments) made.fields) ∙ ap (map (put s)) same)
     by_test false is = absurd (cc)
 
-module _ (constructors : List ConstructorTree) (s : ℕ → TypeTree) where
-  pub fields_put : (t : TypeTree) (c : ℕ) (us : List TypeTree) → field_types constructors t c ≡ Some us
-      → field_types constructors (put s t) c ≡ Some (map (put s) us)
-  fields_put int32 c us is = absurd (cc)
-  fields_put unit_type c us is = absurd (cc)
-  fields_put (type_variable of) c us is = absurd (cc)
-  fields_put (named by arguments) c us is = fields_of_put (slice_get constructors c) by s arguments us is
+    by_arguments : (own : Option TypeTrees) → own ≡ None → (b : Bool) → (if b then fields_with own made.fields arguments else None) ≡ Some us
+        → (if b then fields_with own made.fields (put_each s arguments) else None) ≡ Some (map (put s) us)
+    by_arguments None any b is = by_test b is
+    by_arguments (Some arguments) any b is = absurd (cc)
 
-  numbers_put : (t : TypeTree) → is_int32 t ≡ true → is_int32 (put s t) ≡ true
-  numbers_put int32 is = refl
-  numbers_put unit_type is = is
-  numbers_put (type_variable of) is = absurd (cc)
-  numbers_put (named by arguments) is = is
+numbers_put : (s : ℕ → TypeTree) (t : TypeTree) → is_int32 t ≡ true → is_int32 (put s t) ≡ true
+numbers_put s int32 is = refl
+numbers_put s unit_type is = is
+numbers_put s (type_variable of) is = absurd (cc)
+numbers_put s (named by arguments) is = is
+
+pub fields_put : (constructors : List ConstructorTree) (s : ℕ → TypeTree) (t : TypeTree) (c : ℕ) (made : ConstructorTree) (us : List TypeTree)
+    → slice_get constructors c ≡ Some made → made.arguments ≡ None → field_types constructors t c ≡ Some us
+    → field_types constructors (put s t) c ≡ Some (map (put s) us)
+fields_put constructors s int32 c made us there any is = absurd (cc)
+fields_put constructors s unit_type c made us there any is = absurd (cc)
+fields_put constructors s (type_variable of) c made us there any is = absurd (cc)
+fields_put constructors s (named by arguments) c made us there any is =
+    fields_of_put (slice_get constructors c) made by s arguments us there any is
+
+-- Patterns that are typed are of their type where types are put in place of its variables.
+module _ (program : ProgramTree) (s : ℕ → TypeTree) where
+  pub found_put : (c : ℕ) (of : Scheme) (at : List TypeTree) (t : TypeTree) → constructor_scheme program c ≡ Some of
+      → length at ≡ of.variables → t ≡ put (type_at at) of.result
+      → field_types program.constructors (put s t) c ≡ Some (map (put s) (map (put (type_at at)) of.parameters))
+  found_put c of at t is long gives =
+      let known = is_declared program (slice_get program.constructors c) of is in
+      fields_put program.constructors s t c known.made (map (put (type_at at)) of.parameters) known.there known.any
+      (fields_found program c of at t is long gives)
 
   mutual
-    pub pattern_put : (t : TypeTree) (p : Outline) → IsPatternOf (values_of constructors) t p
-        → IsPatternOf (values_of constructors) (put s t) p
-    pattern_put t any of = tt
-    pattern_put t (exactly n) of = numbers_put t of
-    pattern_put t (made c parts) (us, is, of) = (map (put s) us, fields_put t c us is, patterns_put us parts of)
+    pub pattern_put : (scope : Scope) (p : Pattern) (t : TypeTree) (choices : List Choice)
+        → IsPatternTyped program scope p t choices → IsPatternOf (values_of program.constructors) (put s t) (outline_of p)
+    pattern_put scope anything t choices typed = tt
+    pattern_put scope (pattern_variable x) t choices typed = tt
+    pattern_put scope (exactly value) t choices typed = numbers_put s t (ap is_int32 typed.0)
+    pattern_put scope (constructor c parts) t choices uses =
+        let fields = map (put (type_at uses.at)) uses.of.parameters in
+        (map (put s) fields, found_put c uses.of uses.at t uses.is uses.each uses.gives,
+        patterns_put scope parts fields uses.rest uses.arguments)
 
-    patterns_put : (ts : List TypeTree) (ps : Outlines) → ArePatternsOf (values_of constructors) ts ps
-        → ArePatternsOf (values_of constructors) (map (put s) ts) ps
-    patterns_put [] no_outline of = tt
-    patterns_put [] (outline p ps) of = absurd of
-    patterns_put (t ∷ ts) no_outline of = absurd of
-    patterns_put (t ∷ ts) (outline p ps) of = (pattern_put t p of.0, patterns_put ts ps of.1)
+    pub patterns_put : (scope : Scope) (ps : Patterns) (ts : List TypeTree) (choices : List Choice)
+        → ArePatternsTyped program scope ps ts choices → ArePatternsOf (values_of program.constructors) (map (put s) ts) (outlines_of ps)
+    patterns_put scope no_part [] choices typed = tt
+    patterns_put scope no_part (t ∷ ts) choices typed = absurd typed
+    patterns_put scope (part first rest) [] choices typed = absurd typed
+    patterns_put scope (part first rest) (t ∷ ts) choices typed =
+        (pattern_put scope first t typed.0 typed.3, patterns_put scope rest ts typed.1 typed.4)
 
-  pub each_pattern_put : (t : TypeTree) (rows : List Outline) → Each (IsPatternOf (values_of constructors) t) rows
-      → Each (IsPatternOf (values_of constructors) (put s t)) rows
-  each_pattern_put t rows each =
-      each_weaker (IsPatternOf (values_of constructors) t) (IsPatternOf (values_of constructors) (put s t))
-      (pattern_put t) rows each
+  pub rows_put : (scope : Scope) (rows : Rows) (u t : TypeTree) (choices : List Choice)
+      → AreRowsTypedBy program scope rows u t choices → Each (IsPatternOf (values_of program.constructors) (put s u)) (asked_by rows)
+  rows_put scope no_row u t choices typed = tt
+  rows_put scope (row pattern body rest) u t choices typed =
+      let parts = typed.3.inside in
+      (pattern_put _ pattern u parts.0 parts.3, rows_put scope rest u t typed.1 typed.4)

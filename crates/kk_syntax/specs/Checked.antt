@@ -18,7 +18,7 @@ printed_by _ = []
 
 -- the string literals that an expression prints, each by its number, in the order of the text
 abbrev pub of_texts : Gathers ℕ
-of_texts = record { at_form = printed_by; at_rows = λ rows. [] }
+of_texts = record { at_form = printed_by; at_rows = λ rows. []; at_pattern = λ pattern. [] }
 
 abbrev pub printed : Tree → List ℕ
 printed e = gathered of_texts e

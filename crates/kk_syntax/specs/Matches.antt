@@ -11,7 +11,7 @@ use Rattle.kk_syntax.specs.Types.{TypeTree}
 -- The matches of an expression, each as its rows, in the order of the text: a match before those in its scrutinee, and
 -- these before those in its rows.
 abbrev pub of_matches : Gathers (List Outline)
-of_matches = record { at_form = λ form. []; at_rows = λ rows. asked_by rows ∷ [] }
+of_matches = record { at_form = λ form. []; at_rows = λ rows. asked_by rows ∷ []; at_pattern = λ pattern. [] }
 
 abbrev pub matches : Tree → List (List Outline)
 matches e = gathered of_matches e

@@ -1,19 +1,22 @@
 -- A resolved program as mathematics.
-use Rattle.std.specs.Prelude.{ℕ, List, [], map, slice_index_or}
+use Rattle.std.specs.Prelude.{◌≡◌, ℕ, List, [], map, Option, Some, None, slice_get, slice_index_or}
 use Rattle.kk_syntax.specs.declared.program.TypeDecl.{TypeDecl}
 use Rattle.kk_syntax.specs.declared.program.Constructor.{Constructor}
 use Rattle.kk_syntax.specs.declared.program.Fun.{Fun}
 use Rattle.kk_syntax.specs.declared.program.Program.{Program}
-use Rattle.kk_syntax.specs.Types.{TypeTree, unit_type, type_tree}
+use Rattle.kk_syntax.specs.Types.{TypeTree, TypeTrees, unit_type, type_tree}
 use Rattle.kk_syntax.specs.declared.program.Form.TheVariants.{Unit as Nothing}
 use Rattle.kk_syntax.specs.Trees.{Tree, apply, no_tree, expr_tree}
 
--- A constructor: its name, the byte where that stands in the text, the number of its type, its place among the
--- constructors of that type, from 0, and the types of its fields.
+-- A constructor: its name, the byte where that stands in the text, the number of its type, the arguments of that type, its
+-- place among the constructors of its type, from 0, and the types of its fields. A declared constructor makes values of its
+-- type at any arguments: it has none of its own, and the variables of its type stand in its fields. A ground constructor
+-- makes values of its type at its own arguments alone, and its fields have types without variables.
 pub record ConstructorTree : Type 0 where
   pub name : List ℕ
   pub at : ℕ
   pub of_type : ℕ
+  pub arguments : Option TypeTrees
   pub tag : ℕ
   pub fields : List TypeTree
 
@@ -41,6 +44,7 @@ constructor_tree constructor = record {
   name = constructor.name;
   at = constructor.at;
   of_type = constructor.of_type;
+  arguments = None;
   tag = constructor.tag;
   fields = map type_tree constructor.fields.items;
 }
@@ -67,6 +71,27 @@ program_tree program = record {
 -- what stands behind the last function, where no program looks
 abbrev pub no_function : FunctionTree
 no_function = record { name = []; at = 0; variables = 0; parameters = []; result = unit_type; body = apply Nothing no_tree }
+
+-- what stands behind the last constructor, where no program looks
+abbrev pub no_constructor : ConstructorTree
+no_constructor = record { name = []; at = 0; of_type = 0; arguments = None; tag = 0; fields = [] }
+
+-- a constructor by its number
+abbrev pub constructor_in : ProgramTree → ℕ → ConstructorTree
+constructor_in program number = slice_index_or program.constructors number no_constructor
+
+-- each constructor is a declared one
+abbrev pub AreDeclared : List ConstructorTree → Type 0
+AreDeclared constructors = (c : ℕ) (constructor : ConstructorTree) → slice_get constructors c ≡ Some constructor → constructor.arguments ≡ None
+
+-- a constructor, if it is a declared one
+abbrev pub if_declared : ConstructorTree → Option TypeTrees → Option ConstructorTree
+if_declared constructor None = Some constructor
+if_declared constructor (Some arguments) = None
+
+abbrev pub declared_in : Option ConstructorTree → Option ConstructorTree
+declared_in None = None
+declared_in (Some constructor) = if_declared constructor constructor.arguments
 
 -- the body of a function by its number
 abbrev pub body_of : ProgramTree → ℕ → Tree

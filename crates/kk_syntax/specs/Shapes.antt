@@ -138,10 +138,11 @@ abbrev pub tails : Tree → List Tail
 tails body = tails_inside [] body
 
 -- What is gathered from an expression in the order of the text: at a form from the form, before its arguments; at a match
--- from its rows, before its parts. Calls and matches are gathered so.
+-- from its rows, before its parts; at a row from its pattern, before its body. Calls and matches are gathered so.
 pub record Gathers (A : Type 0) : Type 0 where
   pub at_form : Form → List A
   pub at_rows : Rows → List A
+  pub at_pattern : Pattern → List A
 
 abbrev mutual
   pub gathered : {A : Type 0} → Gathers A → Tree → List A
@@ -157,4 +158,4 @@ abbrev mutual
 
   pub gathered_rows : {A : Type 0} → Gathers A → Rows → List A
   gathered_rows from no_row = []
-  gathered_rows from (row pattern body rest) = gathered from body ++ gathered_rows from rest
+  gathered_rows from (row pattern body rest) = (from.at_pattern pattern ++ gathered from body) ++ gathered_rows from rest

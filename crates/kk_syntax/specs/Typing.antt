@@ -11,7 +11,7 @@ use Rattle.kk_syntax.specs.declared.program.Form.{Form}
 use Rattle.kk_syntax.specs.declared.program.Form.TheVariants.{Number, Unit as Nothing, ReadByte, PrintText, Unary, Binary, Print, Construct, Call}
 use Rattle.kk_syntax.specs.declared.program.TypeDecl.{TypeDecl}
 use Rattle.kk_syntax.specs.Patterns.{Pattern, anything, variable as pattern_variable, exactly, constructor, Patterns, no_part, part}
-use Rattle.kk_syntax.specs.Programs.{ConstructorTree, FunctionTree, ProgramTree}
+use Rattle.kk_syntax.specs.Programs.{ConstructorTree, FunctionTree, ProgramTree, declared_in}
 use Rattle.kk_syntax.specs.Shapes.{bound}
 use Rattle.kk_syntax.specs.Trees.{Tree, variable, apply, branch, match, sequence, Trees, no_tree, tree, Rows, no_row, row}
 use Rattle.kk_syntax.specs.Types.{TypeTree, int32, unit_type, type_variable, named, no_type, types_of, put, type_at, variables_below}
@@ -83,14 +83,15 @@ abbrev pub variables_of_type : Option TypeDecl → ℕ
 variables_of_type None = 0
 variables_of_type (Some declaration) = declaration.variables
 
--- a constructor takes its fields, and gives its type at the variables of that type
+-- A declared constructor takes its fields, and gives its type at the variables of that type. A ground one is used at one type
+-- alone, so it has no scheme.
 abbrev pub scheme_in : ProgramTree → ConstructorTree → Scheme
 scheme_in program made =
     let count = variables_of_type (slice_get program.types made.of_type) in
     record { variables = count; parameters = made.fields; result = named made.of_type (types_of (variables_below count)) }
 
 abbrev pub constructor_scheme : ProgramTree → ℕ → Option Scheme
-constructor_scheme program c = option_map (scheme_in program) (slice_get program.constructors c)
+constructor_scheme program c = option_map (scheme_in program) (declared_in (slice_get program.constructors c))
 
 -- what a form takes and gives, if there is such a constructor or function
 abbrev pub form_scheme : ProgramTree → Form → Option Scheme

@@ -1,19 +1,25 @@
 use crate::literal::StringLiteral;
-use crate::program::{Constructor, Expr, TypeDecl};
+use crate::program::{Expr, TypeDecl};
 use crate::typed::Taken;
 
 /// The instances of a program: all that `main` comes to, at types without variables.
 #[derive(Debug, Drop)]
 pub struct Ground {
-    /// The types and the constructors of the program, as they are declared.
+    /// The types of the program, as they are declared.
     pub declarations: Vec<TypeDecl>,
-    pub constructors: Vec<Constructor>,
     /// The string literals that the program prints.
     pub texts: Vec<StringLiteral>,
-    /// The types without variables that the instances take, each once.
+    /// The types without variables that the instances take, and those of the fields of their constructors, each once.
     pub types: Vec<GroundType>,
+    /// `False`, `True`, and then the constructors of the other types with whose constructors an instance builds or matches:
+    /// those of a type together, in the order of their declaration.
+    pub constructors: Vec<GroundConstructor>,
     /// `main`'s is the first.
     pub instances: Vec<Instance>,
+    /// The greatest number of nodes of a function's body in the program, be it an instance or not.
+    pub greatest_nodes: u64,
+    /// The nodes of the bodies of the instances, summed.
+    pub summed_nodes: u64,
 }
 
 /// A type without variables, as a node among others: its arguments are nodes before it, by their numbers.
@@ -24,6 +30,19 @@ pub enum GroundType {
     Unit,
     /// A type by its number in the program, and its arguments.
     Named(u32, Vec<u32>),
+}
+
+/// A constructor at types without variables: it makes values of one type alone.
+#[derive(Debug, Drop)]
+pub struct GroundConstructor {
+    /// The number of its constructor in the program.
+    pub constructor: u32,
+    /// The type of the values that it makes.
+    pub of_type: u32,
+    /// Its place among the constructors of that type, from 0.
+    pub tag: u32,
+    /// The types of its fields.
+    pub fields: Vec<u32>,
 }
 
 /// A function at types without variables.
@@ -37,8 +56,8 @@ pub struct Instance {
     pub parameters: Vec<u32>,
     /// The type of its result.
     pub result: u32,
-    /// The types that are taken in its body, in the order of the text; here a call names the function.
+    /// The types that are taken in its body, in the order of the text; here functions and constructors are the program's.
     pub taken: Vec<Taken>,
-    /// The function's body, in which a call names an instance.
+    /// The function's body, in which a call names an instance, and a construction and a pattern name a ground constructor.
     pub body: Expr,
 }

@@ -18,7 +18,7 @@ pub use copy::{
     copied_constructors, copied_declarations, copied_pattern, copied_texts, copied_type,
     copied_types,
 };
-pub use ground::{Ground, GroundType, Instance};
+pub use ground::{Ground, GroundConstructor, GroundType, Instance};
 pub use literal::StringLiteral;
 pub use operator::{BinaryOperator, PrintForm, UnaryOperator};
 pub use positions::{Ownership, Position, Positions};
