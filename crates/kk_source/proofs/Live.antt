@@ -173,7 +173,7 @@ same_test true b there back = sym (there refl)
 same_test false true there back = back refl
 same_test false false there back = refl
 
-counted_alike : (p q : ℕ → Bool) (n : ℕ) → ((at : ℕ) → p at ≡ q at) → counted p n ≡ counted q n
+pub counted_alike : (p q : ℕ → Bool) (n : ℕ) → ((at : ℕ) → p at ≡ q at) → counted p n ≡ counted q n
 counted_alike p q zero same = refl
 counted_alike p q (suc n) same =
     ap (λ m. m + (if p n then 1 else 0)) (counted_alike p q n same) ∙ ap (λ b. counted q n + (if b then 1 else 0)) (same n)
