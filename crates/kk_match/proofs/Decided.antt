@@ -1,12 +1,11 @@
 -- What turned nodes decide: those of a graph, and those of rows that are tried one after the other.
 use Rattle.std.proofs.Common.{◌≡◌, ℕ, suc, ◌+◌, ◌-◌, ◌<◌, ◌≤◌, Bool, false, Result, Ok, Err, List, [], ◌∷◌, ◌++◌, length, map, refl, sym, ap, ◌∙◌, subst, arith, append_assoc, true}
 use Rattle.std.specs.Prelude.{count_by, IfOk}
-use Rattle.kk_syntax.specs.declared.program.Constructor.{Constructor as Declared}
 use Rattle.kk_syntax.specs.Patterns.{Pattern}
-use Rattle.kk_syntax.specs.Programs.{ConstructorTree, constructor_tree}
+use Rattle.kk_syntax.specs.Programs.{ConstructorTree}
 use Rattle.kk_core.specs.Choosing.{Decides}
 use Rattle.kk_core.specs.Decisions.{NodeTree, AreOrderly}
-use Rattle.kk_match.specs.Parts.{types_of, parts_of}
+use Rattle.kk_match.specs.Parts.{parts_of, AreTypeNumbers}
 use Rattle.kk_match.specs.Graphs.{StateTree, lines_of, lines_from, HasTests, HasMoreTests, testing}
 use Rattle.kk_match.specs.Built.{InRow, no_state}
 use Rattle.kk_match.specs.Decided.{is_test, most_tests, IsFormed}
@@ -17,7 +16,6 @@ use Rattle.kk_match.proofs.After.{AreBelow}
 use Rattle.kk_match.proofs.Exact.{starts_last, has_tests, tests_right, tests_turned, rows_test, reached_below}
 use Rattle.kk_match.proofs.Growth.{reached_at}
 use Rattle.kk_match.proofs.InTurn.{RowsDone, rows_done, states_of_rows, rows_below}
-use Rattle.kk_match.proofs.Made.{types_in}
 use Rattle.kk_match.proofs.Matching.{rows_hold}
 use Rattle.kk_match.proofs.Places.{place_of}
 use Rattle.kk_match.proofs.Running.{IsSound, as_long, are_sound, Stands, length_turned, first_chosen, are_orderly}
@@ -33,10 +31,6 @@ pub also_all : {T E : Type 0} (result : Result T E) {P Q R S : T → Type 0} →
 also_all (Ok x) one other third then = then x one other third
 also_all (Err e) one other third then = one
 
-pub types_same : (constructors : List Declared) → types_of constructors ≡ types_in (map constructor_tree constructors)
-types_same [] = refl
-types_same (c ∷ constructors) = ap (λ (types : List ℕ). c.of_type ∷ types) (types_same constructors)
-
 pub lines_same : {A : Type 0} (types : List ℕ) (view : A → Pattern) (k : ℕ) (xs : List A) → lines_of k (map (λ x. parts_of types [] (view x)) xs) ≡ lines_from types k (map view xs)
 lines_same types view k [] = refl
 lines_same types view k (x ∷ xs) = ap (λ (lines : StateTree). record { row = k; left = parts_of types [] (view x) } ∷ lines) (lines_same types view (k + 1) xs)
@@ -49,13 +43,12 @@ lines_below types rows k (p ∷ ps) some within = (omega (arith, within), lines_
 
 -- ---- what is decided
 
-sound_decides : (constructors : List ConstructorTree) (types : List ℕ) (ps : List Pattern) (states : List StateTree) (nodes : List NodeTree) (last : ℕ) → types ≡ types_in constructors
+sound_decides : (constructors : List ConstructorTree) (types : List ℕ) (ps : List Pattern) (states : List StateTree) (nodes : List NodeTree) (last : ℕ) → AreTypeNumbers constructors types
     → InRow (IsSound types) states nodes → suc last ≡ length nodes → Stands states 0 (lines_from types 0 ps) → Decides constructors ps (turned last nodes)
 sound_decides constructors types ps states nodes last same sound count stands = λ t store v row typed of matches.
-    let ready = rows_hold constructors store t v 0 ps of typed in
+    let ready = rows_hold constructors types same store t v 0 ps of typed in
     let turns = length_turned last nodes in
-    first_chosen (types_in constructors) states nodes last store v (subst (λ ts. InRow (IsSound ts) states nodes) same sound) count (length (turned last nodes)) 0 (lines_from (types_in constructors) 0 ps) row
-    (subst (λ ts. Stands states 0 (lines_from ts 0 ps)) same stands) (omega (arith, turns)) ready.0 (ready.1 ∙ matches)
+    first_chosen types states nodes last store v sound count (length (turned last nodes)) 0 (lines_from types 0 ps) row stands (omega (arith, turns)) ready.0 (ready.1 ∙ matches)
 
 module _ (types : List ℕ) (most : ℕ) (ps : List Pattern) (nodes : List NodeTree) (last : ℕ) (graph : IsGraphOf types most (lines_from types 0 ps) nodes) (count : suc last ≡ length nodes) where
   pub graph_orderly : 0 < length ps → AreOrderly (turned last nodes) (length ps)
@@ -63,7 +56,7 @@ module _ (types : List ℕ) (most : ℕ) (ps : List Pattern) (nodes : List NodeT
       are_orderly types (length ps) graph.states nodes last (are_sound types graph.states nodes graph.right) count
       (λ k state named. reached_below types (length ps) (lines_from types 0 ps) state (lines_below types (length ps) 0 ps some (omega arith)) (reached_at types (lines_from types 0 ps) graph.states k state graph.reached named))
 
-  pub graph_decides : (constructors : List ConstructorTree) → types ≡ types_in constructors → Decides constructors ps (turned last nodes)
+  pub graph_decides : (constructors : List ConstructorTree) → AreTypeNumbers constructors types → Decides constructors ps (turned last nodes)
   graph_decides constructors same =
       sound_decides constructors types ps graph.states nodes last same (are_sound types graph.states nodes graph.right) count
       (record { place = graph.number; sum = (let is = starts_last types most (lines_from types 0 ps) nodes graph in omega (arith, is)); named = graph.starts })
@@ -98,7 +91,7 @@ module _ (types : List ℕ) (p : Pattern) (ps : List Pattern) where
         are_orderly types (length (p ∷ ps)) (states_of_rows (lines_from types 0 (p ∷ ps))) (with_rows (lines_from types 0 (p ∷ ps)) []) last in_turn.sound count
         (rows_below (length (p ∷ ps)) (lines_from types 0 (p ∷ ps)) (lines_below types (length (p ∷ ps)) 0 (p ∷ ps) (omega arith) (omega arith)))
 
-    pub in_turn_decides : (constructors : List ConstructorTree) → types ≡ types_in constructors → Decides constructors (p ∷ ps) (turned last (with_rows (lines_from types 0 (p ∷ ps)) []))
+    pub in_turn_decides : (constructors : List ConstructorTree) → AreTypeNumbers constructors types → Decides constructors (p ∷ ps) (turned last (with_rows (lines_from types 0 (p ∷ ps)) []))
     in_turn_decides constructors same =
         let long = as_long (IsSound types) (states_of_rows (lines_from types 0 (p ∷ ps))) (with_rows (lines_from types 0 (p ∷ ps)) []) in_turn.sound in
         let some = in_turn.some in
@@ -116,7 +109,7 @@ module _ (types : List ℕ) (nodes : List NodeTree) where
     turn_orderly [] some is = absurd (omega (arith, some))
     turn_orderly (p ∷ ps) some is = subst (λ ns. AreOrderly (turned last ns) (length (p ∷ ps))) (sym is) (in_turn_orderly types p ps last (count ∙ ap length is))
 
-    pub turn_decides : (ps : List Pattern) → 0 < length ps → nodes ≡ with_rows (lines_from types 0 ps) [] → (constructors : List ConstructorTree) → types ≡ types_in constructors
+    pub turn_decides : (ps : List Pattern) → 0 < length ps → nodes ≡ with_rows (lines_from types 0 ps) [] → (constructors : List ConstructorTree) → AreTypeNumbers constructors types
         → Decides constructors ps (turned last nodes)
     turn_decides [] some is constructors same = absurd (omega (arith, some))
     turn_decides (p ∷ ps) some is constructors same =

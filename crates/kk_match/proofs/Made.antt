@@ -4,7 +4,7 @@ use Rattle.std.specs.Prelude.{slice_get, count_by, cond, if◌then◌else◌, �
 use Rattle.std.proofs.lemmas.Bool.{eqb-true, eq-eqb, ltb-false}
 use Rattle.std.proofs.lemmas.List.Sums.{sum_by-cons}
 use Rattle.std.proofs.lemmas.Option.{none-some, same_Some, slice_get-map}
-use Rattle.kk_syntax.specs.OfType.{field_types, fields_of, with_arguments}
+use Rattle.kk_syntax.specs.OfType.{field_types}
 use Rattle.kk_syntax.specs.Programs.{ConstructorTree}
 use Rattle.kk_syntax.specs.Types.{TypeTree, TypeTrees, int32, unit_type, type_variable, named}
 use Rattle.kk_source.specs.Matching.{fields_under, fields_made_by}
@@ -12,11 +12,7 @@ use Rattle.kk_source.specs.State.{Value, Cell, Store}
 use Rattle.kk_source.specs.ValueTypes.{Content, amount, nothing, built, Contents, no_content, content, IsMadeBy, HasContent, HaveContents, IsContentOf, AreContentsOf, IsOf, AreOf}
 use Rattle.kk_core.specs.declared.decisions.Answer.TheVariants.{Constructor}
 use Rattle.kk_core.specs.Decisions.{fields_shown, answer_of}
-use Rattle.kk_match.specs.Parts.{are_several, has_several, both_same, IsKind}
-
--- the type of each constructor
-abbrev pub types_in : List ConstructorTree → List ℕ
-types_in constructors = map (λ (c : ConstructorTree). c.of_type) constructors
+use Rattle.kk_match.specs.Parts.{are_several, has_several, both_same, IsKind, AreOfOne}
 
 -- ---- the value
 
@@ -71,35 +67,6 @@ made_under store v c d [] made = ap (fields_under store c) made
 made_under store v c d (w ∷ ws) made = ap (fields_under store c) made.1 ∙ ap (fields_made_by c) made.2
 
 -- ---- constructors of one type
-
--- two constructors are of one type
-pub record AreOfOne (types : List ℕ) (c d : ℕ) : Type 0 where
-  pub of : ℕ
-  pub first : slice_get types c ≡ Some of
-  pub second : slice_get types d ≡ Some of
-
-type_is : (constructors : List ConstructorTree) (by : ℕ) (arguments : TypeTrees) (c : ℕ) (us : List TypeTree) → fields_of (slice_get constructors c) by arguments ≡ Some us
-    → slice_get (types_in constructors) c ≡ Some by
-type_is constructors by arguments c us is = slice_get-map (λ (k : ConstructorTree). k.of_type) constructors c ∙ at (slice_get constructors c) is
-  where
-    test : (k : ConstructorTree) (b : Bool) → (k.of_type == by) ≡ b → (if b then Some (map (with_arguments arguments) k.fields) else None) ≡ Some us → k.of_type ≡ by
-    test k true same is = eqb-true k.of_type by same
-    test k false same is = absurd (none-some us is)
-
-    at : (k : Option ConstructorTree) → fields_of k by arguments ≡ Some us → option_map (λ (k : ConstructorTree). k.of_type) k ≡ Some by
-    at None is = absurd (none-some us is)
-    at (Some k) is = ap Some (test k (k.of_type == by) refl is)
-
-pub are_of_one : (constructors : List ConstructorTree) (t : TypeTree) (c d : ℕ) (us ws : List TypeTree) → field_types constructors t c ≡ Some us → field_types constructors t d ≡ Some ws
-    → AreOfOne (types_in constructors) c d
-are_of_one constructors int32 c d us ws one other = absurd (none-some us one)
-are_of_one constructors unit_type c d us ws one other = absurd (none-some us one)
-are_of_one constructors (type_variable of) c d us ws one other = absurd (none-some us one)
-are_of_one constructors (named by arguments) c d us ws one other = record {
-  of = by;
-  first = type_is constructors by arguments c us one;
-  second = type_is constructors by arguments d ws other;
-}
 
 pub one_kind : (types : List ℕ) (c d : ℕ) → AreOfOne types c d → IsKind types (Constructor c) (Constructor d)
 one_kind types c d one =

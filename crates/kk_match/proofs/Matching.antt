@@ -16,10 +16,10 @@ use Rattle.kk_source.specs.ValueTypes.{Content, amount, nothing, built, HasConte
 use Rattle.kk_core.specs.declared.decisions.Answer.TheVariants.{Number, Constructor}
 use Rattle.kk_core.specs.Choosing.{first_row}
 use Rattle.kk_core.specs.Decisions.{fields_shown, value_at, answer_of, found_at, is_answer}
-use Rattle.kk_match.specs.Parts.{Part, has_several, parts_of, parts_of_all, IsKind}
+use Rattle.kk_match.specs.Parts.{AreTypeNumbers, Part, has_several, parts_of, parts_of_all, IsKind}
 use Rattle.kk_match.specs.Graphs.{agrees, lines_from}
 use Rattle.kk_match.proofs.Fitting.{fits, first_fit, IsReady, AreReady}
-use Rattle.kk_match.proofs.Made.{types_in, WasMade, was_made, made_shows, made_answers, made_under, are_of_one, one_kind, alone}
+use Rattle.kk_match.proofs.Made.{WasMade, was_made, made_shows, made_answers, made_under, one_kind, alone}
 
 -- ---- positions
 
@@ -74,14 +74,14 @@ holds_both types store w ps qs first second one other = (
 
 -- ---- a number
 
-number_holds : (constructors : List ConstructorTree) (store : Store) (w : Value) (n : ℤ) (at : List ℕ) (t : TypeTree) (v : Value) → value_at (slice_get store) at w ≡ Some v
-    → IsOf constructors store t v → IsTrue (is_int32 t) → Holds (types_in constructors) store w (record { at = at; asked = Number n } ∷ []) (matched store (exactly n) v)
-number_holds constructors store w n at t v is of typed = by of.what of.has of.typed
+number_holds : (constructors : List ConstructorTree) (types : List ℕ) (numbers : AreTypeNumbers constructors types) (store : Store) (w : Value) (n : ℤ) (at : List ℕ) (t : TypeTree) (v : Value) → value_at (slice_get store) at w ≡ Some v
+    → IsOf constructors store t v → IsTrue (is_int32 t) → Holds types store w (record { at = at; asked = Number n } ∷ []) (matched store (exactly n) v)
+number_holds constructors types numbers store w n at t v is of typed = by of.what of.has of.typed
   where
     q : Part
     q = record { at = at; asked = Number n }
 
-    by : (what : Content) → HasContent store v what → IsContentOf constructors t what → Holds (types_in constructors) store w (record { at = at; asked = Number n } ∷ []) (matched store (exactly n) v)
+    by : (what : Content) → HasContent store v what → IsContentOf constructors t what → Holds types store w (record { at = at; asked = Number n } ∷ []) (matched store (exactly n) v)
     by (amount m) has content =
         let found : found_at (slice_get store) at w ≡ Some (Number m) = ap (λ (o : Option Value). and_then o (answer_of (slice_get store))) (is ∙ ap Some has) in (
           (record { found = Number m; there = found; kind = refl }, λ agreed. tt),
@@ -134,18 +134,15 @@ module _ (types : List ℕ) (store : Store) (w v : Value) (at : List ℕ) (c d :
         ap (λ (o : Option (List Value)). is_some (and_then o (λ vs. matches vs environment))) (under ∙ ap (λ (b : Bool). if b then Some vs else None) same) ∙ fields.1 environment,
   )
 
-constructor_holds : (constructors : List ConstructorTree) (store : Store) (w : Value) (c : ℕ) (parts : Patterns) (at : List ℕ) (t : TypeTree) (v : Value) (us : List TypeTree)
+constructor_holds : (constructors : List ConstructorTree) (types : List ℕ) (numbers : AreTypeNumbers constructors types) (store : Store) (w : Value) (c : ℕ) (parts : Patterns) (at : List ℕ) (t : TypeTree) (v : Value) (us : List TypeTree)
     → value_at (slice_get store) at w ≡ Some v → IsOf constructors store t v → field_types constructors t c ≡ Some us
     → ((vs : List Value) → ((i : ℕ) (x : Value) → slice_get vs i ≡ Some x → value_at (slice_get store) (at ++ (0 + i) ∷ []) w ≡ Some x) → AreOf constructors store us vs
-    → Holds (types_in constructors) store w (parts_of_all (types_in constructors) at 0 parts) (matched_all store parts vs))
-    → Holds (types_in constructors) store w (parts_of (types_in constructors) at (constructor c parts)) (matched store (constructor c parts) v)
-constructor_holds constructors store w c parts at t v us is of fields each =
+    → Holds types store w (parts_of_all types at 0 parts) (matched_all store parts vs))
+    → Holds types store w (parts_of types at (constructor c parts)) (matched store (constructor c parts) v)
+constructor_holds constructors types numbers store w c parts at t v us is of fields each =
     by (was_made constructors store t v c us of fields)
   where
-    types : List ℕ
-    types = types_in constructors
-
-    by : WasMade constructors store t v → Holds (types_in constructors) store w (parts_of (types_in constructors) at (constructor c parts)) (matched store (constructor c parts) v)
+    by : WasMade constructors store t v → Holds types store w (parts_of types at (constructor c parts)) (matched store (constructor c parts) v)
     by m = test (m.by == c) refl
       where
         found : found_at (slice_get store) at w ≡ Some (Constructor m.by)
@@ -154,42 +151,42 @@ constructor_holds constructors store w c parts at t v us is of fields each =
         under : fields_under store c v ≡ (if m.by == c then Some m.values else None)
         under = made_under store v c m.by m.values m.made
 
-        test : (same : Bool) → (m.by == c) ≡ same → Holds (types_in constructors) store w (parts_of (types_in constructors) at (constructor c parts)) (matched store (constructor c parts) v)
+        test : (same : Bool) → (m.by == c) ≡ same → Holds types store w (parts_of types at (constructor c parts)) (matched store (constructor c parts) v)
         test true same =
-            same_made (types_in constructors) store w v at c m.by m.values (parts_of_all (types_in constructors) at 0 parts) (λ vs. matched_all store parts vs) (has_several (types_in constructors) c) same found under
-            (one_kind (types_in constructors) c m.by (are_of_one constructors t c m.by us m.types fields m.of_type))
+            same_made types store w v at c m.by m.values (parts_of_all types at 0 parts) (λ vs. matched_all store parts vs) (has_several types c) same found under
+            (one_kind types c m.by (numbers t c m.by us m.types fields m.of_type))
             (each m.values
             (λ i x got. field_at (slice_get store) w v at m.values (0 + i) x is (made_shows store v m.by m.values m.made) (let zero_plus : i ≡ 0 + i = omega arith in subst (λ n. slice_get m.values n ≡ Some x) zero_plus got))
             (subst (λ ts. AreOf constructors store ts m.values)
             (same_Some m.types us (sym m.of_type ∙ (ap (field_types constructors t) (eqb-true m.by c same) ∙ fields))) m.are))
         test false other =
-            other_made (types_in constructors) store w v at c m.by m.values (parts_of_all (types_in constructors) at 0 parts) (λ vs. matched_all store parts vs) (has_several (types_in constructors) c) refl other found under
-            (one_kind (types_in constructors) c m.by (are_of_one constructors t c m.by us m.types fields m.of_type))
-            (alone (types_in constructors) c m.by (are_of_one constructors t c m.by us m.types fields m.of_type))
+            other_made types store w v at c m.by m.values (parts_of_all types at 0 parts) (λ vs. matched_all store parts vs) (has_several types c) refl other found under
+            (one_kind types c m.by (numbers t c m.by us m.types fields m.of_type))
+            (alone types c m.by (numbers t c m.by us m.types fields m.of_type))
 
 -- ---- patterns
 
 mutual
-  pub holds : (constructors : List ConstructorTree) (store : Store) (w : Value) (p : Pattern) (at : List ℕ) (t : TypeTree) (v : Value) → value_at (slice_get store) at w ≡ Some v
-      → IsOf constructors store t v → IsPatternOf (values_of constructors) t (outline_of p) → Holds (types_in constructors) store w (parts_of (types_in constructors) at p) (matched store p v)
-  holds constructors store w anything at t v is of typed = (tt, λ environment. refl)
-  holds constructors store w (variable x) at t v is of typed = (tt, λ environment. refl)
-  holds constructors store w (exactly n) at t v is of typed = number_holds constructors store w n at t v is of typed
-  holds constructors store w (constructor c parts) at t v is of typed =
-      constructor_holds constructors store w c parts at t v typed.0 is of typed.1 (λ vs there are. holds_all constructors store w parts at 0 typed.0 vs there are typed.2)
+  pub holds : (constructors : List ConstructorTree) (types : List ℕ) (numbers : AreTypeNumbers constructors types) (store : Store) (w : Value) (p : Pattern) (at : List ℕ) (t : TypeTree) (v : Value) → value_at (slice_get store) at w ≡ Some v
+      → IsOf constructors store t v → IsPatternOf (values_of constructors) t (outline_of p) → Holds types store w (parts_of types at p) (matched store p v)
+  holds constructors types numbers store w anything at t v is of typed = (tt, λ environment. refl)
+  holds constructors types numbers store w (variable x) at t v is of typed = (tt, λ environment. refl)
+  holds constructors types numbers store w (exactly n) at t v is of typed = number_holds constructors types numbers store w n at t v is of typed
+  holds constructors types numbers store w (constructor c parts) at t v is of typed =
+      constructor_holds constructors types numbers store w c parts at t v typed.0 is of typed.1 (λ vs there are. holds_all constructors types numbers store w parts at 0 typed.0 vs there are typed.2)
 
-  holds_all : (constructors : List ConstructorTree) (store : Store) (w : Value) (ps : Patterns) (at : List ℕ) (field : ℕ) (ts : List TypeTree) (vs : List Value)
+  holds_all : (constructors : List ConstructorTree) (types : List ℕ) (numbers : AreTypeNumbers constructors types) (store : Store) (w : Value) (ps : Patterns) (at : List ℕ) (field : ℕ) (ts : List TypeTree) (vs : List Value)
       → ((i : ℕ) (x : Value) → slice_get vs i ≡ Some x → value_at (slice_get store) (at ++ (field + i) ∷ []) w ≡ Some x) → AreOf constructors store ts vs
-      → ArePatternsOf (values_of constructors) ts (outlines_of ps) → Holds (types_in constructors) store w (parts_of_all (types_in constructors) at field ps) (matched_all store ps vs)
-  holds_all constructors store w no_part at field [] [] there are typed = (tt, λ environment. refl)
-  holds_all constructors store w no_part at field [] (v ∷ vs) there are typed = absurd are
-  holds_all constructors store w no_part at field (t ∷ ts) vs there are typed = absurd typed
-  holds_all constructors store w (part p ps) at field [] vs there are typed = absurd typed
-  holds_all constructors store w (part p ps) at field (t ∷ ts) [] there are typed = absurd are
-  holds_all constructors store w (part p ps) at field (t ∷ ts) (v ∷ vs) there are typed =
-      holds_both (types_in constructors) store w (parts_of (types_in constructors) (at ++ field ∷ []) p) (parts_of_all (types_in constructors) at (field + 1) ps) (matched store p v) (matched_all store ps vs)
-      (holds constructors store w p (at ++ field ∷ []) t v (subst (λ n. value_at (slice_get store) (at ++ n ∷ []) w ≡ Some v) (add-zero field) (there 0 v refl)) are.0 typed.0)
-      (holds_all constructors store w ps at (field + 1) ts vs
+      → ArePatternsOf (values_of constructors) ts (outlines_of ps) → Holds types store w (parts_of_all types at field ps) (matched_all store ps vs)
+  holds_all constructors types numbers store w no_part at field [] [] there are typed = (tt, λ environment. refl)
+  holds_all constructors types numbers store w no_part at field [] (v ∷ vs) there are typed = absurd are
+  holds_all constructors types numbers store w no_part at field (t ∷ ts) vs there are typed = absurd typed
+  holds_all constructors types numbers store w (part p ps) at field [] vs there are typed = absurd typed
+  holds_all constructors types numbers store w (part p ps) at field (t ∷ ts) [] there are typed = absurd are
+  holds_all constructors types numbers store w (part p ps) at field (t ∷ ts) (v ∷ vs) there are typed =
+      holds_both types store w (parts_of types (at ++ field ∷ []) p) (parts_of_all types at (field + 1) ps) (matched store p v) (matched_all store ps vs)
+      (holds constructors types numbers store w p (at ++ field ∷ []) t v (subst (λ n. value_at (slice_get store) (at ++ n ∷ []) w ≡ Some v) (add-zero field) (there 0 v refl)) are.0 typed.0)
+      (holds_all constructors types numbers store w ps at (field + 1) ts vs
       (λ i x got. let next : field + suc i ≡ (field + 1) + i = omega arith in subst (λ n. value_at (slice_get store) (at ++ n ∷ []) w ≡ Some x) next (there (suc i) x got))
       are.1 typed.1)
 
@@ -198,13 +195,13 @@ abbrev pub AreOfType : List ConstructorTree → TypeTree → List Pattern → Ty
 AreOfType constructors t patterns = Each (IsPatternOf (values_of constructors) t) (map outline_of patterns)
 
 -- the first row that fits is the first that matches
-pub rows_hold : (constructors : List ConstructorTree) (store : Store) (t : TypeTree) (v : Value) (k : ℕ) (ps : List Pattern) → IsOf constructors store t v → AreOfType constructors t ps
-    → AreReady (types_in constructors) store v (lines_from (types_in constructors) k ps) × (first_fit store v (lines_from (types_in constructors) k ps) ≡ first_row store k ps v)
-rows_hold constructors store t v k [] of typed = (tt, refl)
-rows_hold constructors store t v k (p ∷ ps) of typed =
-    let here = holds constructors store v p [] t v refl of typed.0 in
-    let rest = rows_hold constructors store t v (k + 1) ps of typed.1 in (
+pub rows_hold : (constructors : List ConstructorTree) (types : List ℕ) (numbers : AreTypeNumbers constructors types) (store : Store) (t : TypeTree) (v : Value) (k : ℕ) (ps : List Pattern) → IsOf constructors store t v → AreOfType constructors t ps
+    → AreReady types store v (lines_from types k ps) × (first_fit store v (lines_from types k ps) ≡ first_row store k ps v)
+rows_hold constructors types numbers store t v k [] of typed = (tt, refl)
+rows_hold constructors types numbers store t v k (p ∷ ps) of typed =
+    let here = holds constructors types numbers store v p [] t v refl of typed.0 in
+    let rest = rows_hold constructors types numbers store t v (k + 1) ps of typed.1 in (
       (here.0, rest.0),
-      ap (λ (b : Bool). if b then Some k else first_fit store v (lines_from (types_in constructors) (k + 1) ps)) (sym (here.1 []))
+      ap (λ (b : Bool). if b then Some k else first_fit store v (lines_from types (k + 1) ps)) (sym (here.1 []))
           ∙ ap (λ (r : Option ℕ). if is_some (matched store p v []) then Some k else r) rest.1,
     )

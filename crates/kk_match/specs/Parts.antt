@@ -1,6 +1,9 @@
 -- What patterns ask, and at which positions.
 use Rattle.std.specs.Prelude.{◌≡◌, ℕ, ◌+◌, ◌==◌, nat_lt, Bool, false, true, List, [], ◌∷◌, ◌++◌, map, Option, None, Some, slice_get, count_by, if◌then◌else◌}
-use Rattle.kk_syntax.specs.declared.program.Constructor.{Constructor as Declared}
+use Rattle.kk_syntax.specs.declared.ground.GroundConstructor.{GroundConstructor}
+use Rattle.kk_syntax.specs.OfType.{field_types}
+use Rattle.kk_syntax.specs.Programs.{ConstructorTree}
+use Rattle.kk_syntax.specs.Types.{TypeTree}
 use Rattle.kk_syntax.specs.Patterns.{Pattern, anything, variable, exactly, constructor, Patterns, no_part, part}
 use Rattle.kk_core.specs.declared.decisions.Answer.{Answer}
 use Rattle.kk_core.specs.declared.decisions.Answer.TheVariants.{Number, Constructor}
@@ -12,7 +15,7 @@ pub record Part : Type 0 where
   pub asked : Answer
 
 -- the type of each constructor, by the constructor's number
-abbrev pub types_of : List Declared → List ℕ
+abbrev pub types_of : List GroundConstructor → List ℕ
 types_of constructors = map (λ c. c.of_type) constructors
 
 -- whether a type has several constructors
@@ -51,3 +54,17 @@ is_kind types _ _ = false
 
 abbrev pub IsKind : List ℕ → Answer → Answer → Type 0
 IsKind types asked found = is_kind types asked found ≡ true
+
+-- ---- numbers of types
+
+-- two constructors are of one type, by its number
+pub record AreOfOne (types : List ℕ) (c d : ℕ) : Type 0 where
+  pub of : ℕ
+  pub first : slice_get types c ≡ Some of
+  pub second : slice_get types d ≡ Some of
+
+-- A number for each constructor says its type: constructors that make values of one type have one number.
+abbrev pub AreTypeNumbers : List ConstructorTree → List ℕ → Type 0
+AreTypeNumbers constructors types =
+    (t : TypeTree) (c d : ℕ) (us vs : List TypeTree) → field_types constructors t c ≡ Some us → field_types constructors t d ≡ Some vs
+    → AreOfOne types c d

@@ -1,7 +1,6 @@
 -- Questions, states and graphs of the program as mathematics.
 use Rattle.std.specs.Prelude.{ℕ, List, map}
 use Rattle.kk_syntax.specs.Patterns.{Pattern, pattern_tree}
-use Rattle.kk_syntax.specs.Programs.{ConstructorTree, constructor_tree}
 use Rattle.kk_core.specs.declared.decisions.Decisions.{Decisions}
 use Rattle.kk_core.specs.Decisions.{NodeTree, node_tree}
 use Rattle.kk_match.specs.declared.deciding.Rows.{Rows}
@@ -35,9 +34,6 @@ abbrev pub types_given : Given → List ℕ
 types_given given = types_of given.constructors.now
 
 -- ---- the rows of a match, and what decides them
-
-abbrev pub constructors_in : Rows → List ConstructorTree
-constructors_in rows = map constructor_tree rows.constructors.now
 
 abbrev pub types_in : Rows → List ℕ
 types_in rows = types_of rows.constructors.now

@@ -1,13 +1,14 @@
-ghost use Rattle.std.specs.Prelude.{◌≡◌, ◌<◌, ◌-◌, [], length, map, option_map, count_by, IfOk};
+ghost use Rattle.std.specs.Prelude.{◌≡◌, ◌<◌, ◌-◌, List, [], length, map, option_map, count_by, IfOk};
 ghost use Rattle.kk_core.specs.Choosing.{Decides};
 ghost use Rattle.kk_core.specs.Decisions.{node_tree, AreOrderly};
 ghost use Rattle.kk_match.specs.Decided.{IsFormed, is_test};
 ghost use Rattle.kk_match.specs.Graphs.{lines_of};
 ghost use Rattle.kk_match.specs.Growing.{IsGraph};
-ghost use Rattle.kk_match.specs.Parts.{types_of, parts_of};
+ghost use Rattle.kk_match.specs.Parts.{types_of, parts_of, AreTypeNumbers};
 ghost use Rattle.kk_match.specs.Turned.{turned};
-ghost use Rattle.kk_match.specs.Views.{part_of, line_tree, state_tree, constructors_in, types_in, patterns_in, nodes_in};
+ghost use Rattle.kk_match.specs.Views.{part_of, line_tree, state_tree, types_in, patterns_in, nodes_in};
 ghost use Rattle.kk_syntax.specs.Patterns.{pattern_tree};
+ghost use Rattle.kk_syntax.specs.Programs.{ConstructorTree};
 
 use crate::graph::{Given, Graph, number_of, tests_in};
 use crate::in_turn::in_turn;
@@ -17,14 +18,14 @@ use crate::state::{Line, State};
 use crate::turned::turned;
 use kk_base::NoMemory;
 use kk_core::{Decisions, Node};
-use kk_syntax::{Constructor, Pat};
+use kk_syntax::{GroundConstructor, Pat};
 use std::alloc::Global;
 
 /// The rows of a match.
 #[derive(Drop)]
 pub struct Rows<'a> {
-    /// The constructors of the program, by their numbers.
-    pub constructors: &'a [Constructor],
+    /// The ground constructors of the program, by their numbers.
+    pub constructors: &'a [GroundConstructor],
     /// The pattern of each row, in their order.
     pub patterns: Vec<&'a Pat>,
 }
@@ -34,7 +35,8 @@ pub struct Rows<'a> {
 /// there is one.
 pub fn decide(alloc: Global, rows: &Rows<'_>) -> Result<Decisions, NoMemory>
     requires { 0 < length rows.now.patterns.items }
-    ensures decides { IfOk result (λ found. Decides (constructors_in rows.now) (patterns_in rows.now) (nodes_in found)) }
+    ensures decides { (constructors : List ConstructorTree) → AreTypeNumbers constructors (types_in rows.now)
+        → IfOk result (λ found. Decides constructors (patterns_in rows.now) (nodes_in found)) }
     ensures formed { IfOk result (λ found.
         IsFormed (types_in rows.now) (patterns_in rows.now) (nodes_in found) found.tests found.by_rows) }
     ensures tests { IfOk result (λ found. found.tests ≡ count_by is_test (nodes_in found)) }
@@ -93,7 +95,7 @@ fn line(alloc: Global, row: u32, questions: &[Question]) -> Result<Line<'_>, NoM
 // The nodes of the graph of a state, each behind those that it names. None where more states than may test.
 fn graph(
     alloc: Global,
-    constructors: &[Constructor],
+    constructors: &[GroundConstructor],
     most: usize,
     start: State<'_>,
 ) -> Result<Option<Vec<Node>>, NoMemory>

@@ -13,7 +13,7 @@ use crate::state::State;
 use indexmap::IndexSet;
 use kk_base::NoMemory;
 use kk_core::{Answer, Edge, Node};
-use kk_syntax::Constructor;
+use kk_syntax::GroundConstructor;
 use std::alloc::Global;
 
 /// What the building of a graph reads.
@@ -21,7 +21,7 @@ use std::alloc::Global;
 pub struct Given<'g> {
     pub alloc: Global,
     /// The constructors of the program, by their numbers.
-    pub constructors: &'g [Constructor],
+    pub constructors: &'g [GroundConstructor],
     /// How many states may test.
     pub most: usize,
 }

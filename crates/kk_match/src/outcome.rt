@@ -8,11 +8,11 @@ use crate::question::Question;
 use crate::state::State;
 use kk_base::NoMemory;
 use kk_core::Answer;
-use kk_syntax::Constructor;
+use kk_syntax::GroundConstructor;
 use std::alloc::Global;
 
 // Whether an answer may stand where one is asked for: both are numbers, or constructors of one type.
-fn is_kind(constructors: &[Constructor], asked: Answer, found: Answer) -> bool
+fn is_kind(constructors: &[GroundConstructor], asked: Answer, found: Answer) -> bool
     ensures { result ≡ is_kind (types_of constructors.now) asked found }
 {
     match (asked, found) {
@@ -49,7 +49,7 @@ fn is_listed(answers: &[Answer], found: Answer) -> bool
 /// The answers that a state asks where a test stands and that may stand there, each once.
 pub fn asked(
     alloc: Global,
-    constructors: &[Constructor],
+    constructors: &[GroundConstructor],
     test: &Question,
     state: &State,
 ) -> Result<Vec<Answer>, NoMemory>
@@ -64,7 +64,7 @@ pub fn asked(
 }
 
 fn add_asked(
-    constructors: &[Constructor],
+    constructors: &[GroundConstructor],
     test: &Question,
     questions: &[&Question],
     answers: &mut Vec<Answer>,
@@ -86,7 +86,7 @@ fn add_asked(
 /// What leads on by none of the answers that are asked: another number, which None stands for, or a constructor that is not
 /// asked for. There may be no such constructor.
 pub fn unlisted(
-    constructors: &[Constructor],
+    constructors: &[GroundConstructor],
     asked: Answer,
     answers: &[Answer],
 ) -> Result<Option<Option<Answer>>, NoMemory>
@@ -99,7 +99,7 @@ pub fn unlisted(
 }
 
 fn unlisted_constructor(
-    constructors: &[Constructor],
+    constructors: &[GroundConstructor],
     of: u32,
     answers: &[Answer],
 ) -> Result<Option<Option<Answer>>, NoMemory>
@@ -118,7 +118,7 @@ fn unlisted_constructor(
 }
 
 // Whether a constructor is of the type of one of a number, and not listed.
-fn is_unlisted(constructors: &[Constructor], of: u32, answers: &[Answer], number: u32) -> bool
+fn is_unlisted(constructors: &[GroundConstructor], of: u32, answers: &[Answer], number: u32) -> bool
     ensures { result ≡ (is_kind (types_of constructors.now) (Answer.Constructor of) (Answer.Constructor number)
         && not (is_listed answers.now (Answer.Constructor number))) }
 {

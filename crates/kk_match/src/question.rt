@@ -5,7 +5,7 @@ ghost use Rattle.kk_match.specs.Views.{part_of};
 
 use kk_base::NoMemory;
 use kk_core::Answer;
-use kk_syntax::{Constructor, Pat};
+use kk_syntax::{GroundConstructor, Pat};
 use std::alloc::Global;
 
 /// What a row asks at a position.
@@ -17,7 +17,7 @@ pub struct Question {
 }
 
 // The type of a constructor, if there is that constructor.
-fn type_of(constructors: &[Constructor], of: u32) -> Option<u32>
+fn type_of(constructors: &[GroundConstructor], of: u32) -> Option<u32>
     ensures { result ≡ option_map (λ c. c.of_type) (slice_get constructors.now of) }
 {
     match constructors.get(of as usize) {
@@ -27,14 +27,14 @@ fn type_of(constructors: &[Constructor], of: u32) -> Option<u32>
 }
 
 // How many constructors a type has.
-fn constructor_count(constructors: &[Constructor], of_type: u32) -> usize
+fn constructor_count(constructors: &[GroundConstructor], of_type: u32) -> usize
     ensures { result ≡ count_by (λ c. c.of_type == of_type) constructors.now }
 {
     constructors.iter().filter(|c| c.of_type == of_type).count()
 }
 
 // Whether the type of a constructor has several.
-fn has_several(constructors: &[Constructor], of: u32) -> bool
+fn has_several(constructors: &[GroundConstructor], of: u32) -> bool
     ensures { result ≡ has_several (types_of constructors.now) of }
 {
     match type_of(constructors, of) {
@@ -46,7 +46,7 @@ fn has_several(constructors: &[Constructor], of: u32) -> bool
 /// The questions of a pattern, outer before inner and left before right.
 pub fn questions(
     alloc: Global,
-    constructors: &[Constructor],
+    constructors: &[GroundConstructor],
     pattern: &Pat,
 ) -> Result<Vec<Question>, NoMemory>
     ensures { IfOk result (λ found. map part_of found.items
@@ -61,7 +61,7 @@ pub fn questions(
 #[cycle(adding)]
 fn add_questions(
     alloc: Global,
-    constructors: &[Constructor],
+    constructors: &[GroundConstructor],
     pattern: &Pat,
     at: &[u32],
     found: &mut Vec<Question>,
@@ -85,7 +85,7 @@ fn add_questions(
 #[cycle(adding)]
 fn add_parts(
     alloc: Global,
-    constructors: &[Constructor],
+    constructors: &[GroundConstructor],
     parts: &[Pat],
     at: &[u32],
     found: &mut Vec<Question>,

@@ -1,6 +1,7 @@
 pub mod Checked
 pub mod Covered
 pub mod GroundPrograms
+pub mod GroundTypes
 pub mod GroundTyping
 pub mod OfType
 pub mod Matches

@@ -1,3 +1,6 @@
+ghost use Rattle.std.proofs.Props.{props};
+ghost use Rattle.kk_syntax.specs.GroundTypes.{AreNumbered};
+
 use crate::literal::StringLiteral;
 use crate::program::{Expr, TypeDecl};
 use crate::typed::Taken;
@@ -20,6 +23,7 @@ pub struct Ground {
     pub greatest_nodes: u64,
     /// The nodes of the bodies of the instances, summed.
     pub summed_nodes: u64,
+    pub ghost numbered: { AreNumbered types.items constructors.items } by { Prim.hlevel props },
 }
 
 /// A type without variables, as a node among others: its arguments are nodes before it, by their numbers.

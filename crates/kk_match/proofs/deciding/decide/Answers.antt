@@ -1,7 +1,6 @@
 use Rattle.std.proofs.Common.{◌≡◌, ◌<◌, ◌-◌, suc, [], length, map, option_map, false, sym, ap, ◌∙◌, subst, arith, true}
 use Rattle.std.proofs.lemmas.List.{length-map}
 use Rattle.kk_syntax.specs.Patterns.{pattern_tree}
-use Rattle.kk_syntax.specs.Programs.{constructor_tree}
 use Rattle.kk_core.specs.Choosing.{Decides}
 use Rattle.kk_core.specs.Decisions.{node_tree, AreOrderly}
 use Rattle.kk_match.specs.Decided.{most_tests}
@@ -11,7 +10,7 @@ use Rattle.kk_match.specs.InTurn.{with_rows}
 use Rattle.kk_match.specs.Parts.{types_of}
 use Rattle.kk_match.specs.Turned.{turned}
 use Rattle.kk_match.specs.Views.{part_of, state_tree}
-use Rattle.kk_match.proofs.Decided.{also, also_all, types_same, lines_same, graph_some, graph_orderly, graph_decides, graph_formed, turn_some, turn_orderly, turn_decides, turn_formed, formed_as}
+use Rattle.kk_match.proofs.Decided.{also, also_all, lines_same, graph_some, graph_orderly, graph_decides, graph_formed, turn_some, turn_orderly, turn_decides, turn_formed, formed_as}
 use Rattle.kk_match.proofs.deciding.decide.Goals as goal
 
 pub finished-requires : goal.finished-requires
@@ -36,7 +35,7 @@ finished-requires c =
     (graph_orderly types c.in_ok-most.most ps nodes (length c.in-Some.nodes.items - 1) graph count (omega (arith, wide, given)))
 
 pub returns-in-Some-clause-decides : goal.returns-in-Some-clause-decides
-returns-in-Some-clause-decides c =
+returns-in-Some-clause-decides c = λ constructors numbers.
     let rows = c.args.rows.now in
     let types = types_of rows.constructors.now in
     let ps = map (λ p. pattern_tree p.now) rows.patterns.items in
@@ -48,10 +47,9 @@ returns-in-Some-clause-decides c =
     let long : length nodes ≡ length c.in-Some.nodes.items = length-map c.in-Some.nodes.items node_tree in
     let some = graph_some types c.in_ok-most.most (lines_from types 0 ps) nodes graph in
     let count : suc (length c.in-Some.nodes.items - 1) ≡ length nodes = omega (arith, long, some) in
-    let constructors = map constructor_tree rows.constructors.now in
     also c.finished.result c.finished.ensures.nodes
     (λ found is. subst (Decides constructors ps) (sym is)
-    (graph_decides types c.in_ok-most.most ps nodes (length c.in-Some.nodes.items - 1) graph count constructors (types_same rows.constructors.now)))
+    (graph_decides types c.in_ok-most.most ps nodes (length c.in-Some.nodes.items - 1) graph count constructors numbers))
 
 pub returns-in-Some-clause-formed : goal.returns-in-Some-clause-formed
 returns-in-Some-clause-formed c =
@@ -92,7 +90,7 @@ finished-requires-in-None c =
     (turn_orderly types nodes (length c.in_ok-nodes-in-None.nodes.items - 1) count ps there is)
 
 pub returns-clause-decides : goal.returns-clause-decides
-returns-clause-decides c =
+returns-clause-decides c = λ constructors numbers.
     let rows = c.args.rows.now in
     let types = types_of rows.constructors.now in
     let ps = map (λ p. pattern_tree p.now) rows.patterns.items in
@@ -105,10 +103,9 @@ returns-clause-decides c =
     let long : length nodes ≡ length c.in_ok-nodes-in-None.nodes.items = length-map c.in_ok-nodes-in-None.nodes.items node_tree in
     let some = turn_some types nodes ps there is in
     let count : suc (length c.in_ok-nodes-in-None.nodes.items - 1) ≡ length nodes = omega (arith, long, some) in
-    let constructors = map constructor_tree rows.constructors.now in
     also c.finished-in-None.result c.finished-in-None.ensures.nodes
     (λ found same. subst (Decides constructors ps) (sym same)
-    (turn_decides types nodes (length c.in_ok-nodes-in-None.nodes.items - 1) count ps there is constructors (types_same rows.constructors.now)))
+    (turn_decides types nodes (length c.in_ok-nodes-in-None.nodes.items - 1) count ps there is constructors numbers))
 
 pub returns-clause-formed : goal.returns-clause-formed
 returns-clause-formed c =
