@@ -1,3 +1,4 @@
+pub mod CellTypes
 pub mod Choosing
 pub mod Codes
 pub mod ConstructorShapes

@@ -15,10 +15,10 @@ pub struct Core {
     pub texts: Vec<StringLiteral>,
     /// The number of `main`.
     pub main: u32,
-    /// The most nodes of a function of the text, whether `main` comes to it or not.
-    pub greatest_body: u64,
-    /// The nodes of all instances.
-    pub all_nodes: u64,
+    /// The greatest number of nodes of a function's body in the program, be it an instance or not.
+    pub greatest_nodes: u64,
+    /// The nodes of the bodies of the instances, summed.
+    pub summed_nodes: u64,
     pub ghost main_in: { main < vec_len functions },
 }
 

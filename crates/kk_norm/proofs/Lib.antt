@@ -1,4 +1,5 @@
 pub mod Bounds
+pub mod CellTables
 pub mod Closed
 pub mod CoreTyped
 pub mod CoreTypedPrograms
@@ -25,6 +26,7 @@ pub mod Programs
 pub mod Scopes
 pub mod Simulation
 pub mod Steps
+pub mod TypeNumbers
 pub mod TypedCodes
 pub mod TypedPrograms
 pub mod Variables

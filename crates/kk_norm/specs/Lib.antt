@@ -1,3 +1,4 @@
+pub mod CellTables
 pub mod MatchRows
 pub mod Meaning
 pub mod Names

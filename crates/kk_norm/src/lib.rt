@@ -2,6 +2,7 @@
 //! writes it.
 #![tactic(auto)]
 
+mod cells;
 mod expression;
 mod law;
 mod naming;

@@ -2,6 +2,7 @@ pub mod Blocks
 pub mod Closed
 pub mod Elements
 pub mod Gathered
+pub mod GroundTypes
 pub mod LeastTables
 pub mod Lists
 pub mod MoreOwned

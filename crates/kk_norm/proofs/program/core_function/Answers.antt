@@ -1,7 +1,6 @@
 use Rattle.std.proofs.Common.{◌≡◌, length, map, refl, sym, arith}
 use Rattle.std.proofs.lemmas.List.{length-map}
-use Rattle.kk_syntax.specs.GroundPrograms.{instance_tree}
-use Rattle.kk_syntax.specs.Programs.{constructor_tree}
+use Rattle.kk_syntax.specs.GroundPrograms.{instance_tree, ground_program}
 use Rattle.kk_syntax.specs.Types.{type_at}
 use Rattle.kk_syntax.specs.Trees.{expr_tree}
 use Rattle.kk_norm.proofs.Forms.{size_small}
@@ -12,8 +11,8 @@ pub block-requires-clause-room : goal.block-requires-clause-room
 block-requires-clause-room c =
     omega (arith, c.new-writer.ensures.number, c.len-parameters.ensures, c.requires.few, c.requires.small, size_small (expr_tree c.args.instance.now.body))
 
-pub returns : goal.returns
-returns c = λ types.
+pub returns-clause-form : goal.returns-clause-form
+returns-clause-form c = λ types.
     let parameters : length c.args.instance.now.parameters.items ≡ length (map (type_at types) c.args.instance.now.parameters.items) = sym (length-map c.args.instance.now.parameters.items (type_at types)) in
-    core_done (map constructor_tree c.args.constructors.now) (instance_tree types c.args.instance.now) _ c.new-writer.result c.block.new.self
+    core_done (ground_program c.args.given.now).constructors (instance_tree types c.args.instance.now) _ c.new-writer.result c.block.new.self
     (omega (arith, c.len-parameters.ensures, parameters)) (omega (arith, c.new-writer.ensures.number, c.len-parameters.ensures, parameters)) c.new-writer.ensures.names refl c.in_ok-body.ensures

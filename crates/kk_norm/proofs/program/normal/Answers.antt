@@ -3,8 +3,10 @@ use Rattle.std.proofs.lemmas.List.{length-map}
 use Rattle.kk_syntax.specs.GroundPrograms.{ground_program}
 use Rattle.kk_syntax.specs.Programs.{ProgramTree}
 use Rattle.kk_core.specs.Codes.{ProgramCode, function_code}
+use Rattle.kk_norm.specs.CellTables.{AreShapesOf, TellCells}
 use Rattle.kk_norm.specs.Normal.{IsPlainNormalForm}
 use Rattle.kk_norm.specs.Normalized.{IsCoreForm}
+use Rattle.kk_norm.proofs.CellTables.{tells_cells}
 use Rattle.kk_norm.proofs.CoreTypedPrograms.{core_form_typed}
 use Rattle.kk_norm.proofs.Forms.{as_many, is_small}
 use Rattle.kk_norm.proofs.KeepingTyped.{typed_keeps_meaning}
@@ -20,13 +22,13 @@ all_functions-requires-clause-rows c = functions_have_rows (ground_program c.arg
 
 pub returns-clause-form : goal.returns-clause-form
 returns-clause-form c =
-    record { functions = c.in_ok-functions.ensures; texts = c.in_ok-texts.ensures ∙ c.deref.ensures.value; main = refl }
+    record { functions = c.in_ok-functions.ensures.form; texts = c.in_ok-texts.ensures ∙ c.deref-3.ensures.value; main = refl }
 
 pub returns-clause-means : goal.returns-clause-means
 returns-clause-means c =
     let program : ProgramTree = ground_program c.args.given.now in
     let form : IsCoreForm program _
-    = record { functions = c.in_ok-functions.ensures; texts = c.in_ok-texts.ensures ∙ c.deref.ensures.value; main = refl } in
+    = record { functions = c.in_ok-functions.ensures.form; texts = c.in_ok-texts.ensures ∙ c.deref-3.ensures.value; main = refl } in
     record {
       keeps_meaning = typed_keeps_meaning program _ c.requires.typed form;
       typed = core_form_typed program _ c.requires.typed form;
@@ -37,7 +39,7 @@ pub returns-clause-plain : goal.returns-clause-plain
 returns-clause-plain c = λ typed.
     let program : ProgramTree = ground_program c.args.given.now in
     let form : IsCoreForm program _
-    = record { functions = c.in_ok-functions.ensures; texts = c.in_ok-texts.ensures ∙ c.deref.ensures.value; main = refl } in
+    = record { functions = c.in_ok-functions.ensures.form; texts = c.in_ok-texts.ensures ∙ c.deref-3.ensures.value; main = refl } in
     subst (λ (code : ProgramCode). IsPlainNormalForm program code) (sym (only_form program _ (are_plain program typed) form))
     (is_normal_form program typed c.requires.small (main_in_range c.args.given.now c.requires.typed))
 
@@ -47,9 +49,16 @@ invariant_of-result c =
     record {
       main_in = omega (
         arith,
-        as_many program.constructors program.functions _ c.in_ok-functions.ensures,
+        as_many program.constructors program.functions _ c.in_ok-functions.ensures.form,
         length-map c.in_ok-functions.functions.items function_code,
         main_in_range c.args.given.now c.requires.typed,
         c.in_ok-functions.functions.ok.0,
       );
     }
+
+pub returns-clause-cells : goal.returns-clause-cells
+returns-clause-cells c = tells_cells c.args.given.now c.in_ok-table.table.items c.in_ok-table.ensures _
+    (subst (λ table. AreShapesOf table c.args.given.now.constructors.items c.in_ok-constructors.constructors.items)
+    c.deref-2.ensures.value c.in_ok-constructors.ensures)
+    (subst (λ table. TellCells table c.args.given.now.instances.items c.in_ok-functions.functions.items) c.deref.ensures.value
+    c.in_ok-functions.ensures.cells)

@@ -5,7 +5,7 @@ use Rattle.std.proofs.lemmas.Result.{IfOk-weaker}
 use Rattle.kk_syntax.specs.declared.program.Expr.TheViews.{the_lemmas}
 use Rattle.kk_syntax.specs.declared.program.Row.{Row}
 use Rattle.kk_syntax.specs.Patterns.{pattern_tree}
-use Rattle.kk_syntax.specs.Programs.{constructor_tree}
+use Rattle.kk_syntax.specs.GroundPrograms.{ground_program}
 use Rattle.kk_syntax.specs.Trees.{StatementTree, Trees, Rows, expr_tree, row_tree, rows_of, statement_tree, trees_of}
 use Rattle.kk_core.specs.Codes.{Code, branch, runs, plug, step_piece, block_code, last_code, ArmCode, arm_code}
 use Rattle.kk_core.specs.declared.form.Arm.{Arm}
@@ -59,7 +59,7 @@ statements-loop-statement-preserved t c =
     let all = map statement_tree c.args.statements.now in
     let s : StatementTree = record { binder = c.statement-item.result.binder; value = expr_tree c.statement-item.result.value } in
     statements_more c.args.self.now c.loop-statement.self c.value.new.self c.bind.new.self s left all c.in_ok-variable.variable
-    (subst (λ (ss : List StatementTree). StatementsSoFar (map constructor_tree c.args.constructors.now) c.args.self.now c.loop-statement.self ss all) (next_statement c.args.statements.now c.loop-statement.statement-index c.statement-item.result c.statement-item.is c.loop-statement-test.true) c.loop-statement.invariant)
+    (subst (λ (ss : List StatementTree). StatementsSoFar (ground_program c.args.given.now).constructors c.args.self.now c.loop-statement.self ss all) (next_statement c.args.statements.now c.loop-statement.statement-index c.statement-item.result c.statement-item.is c.loop-statement-test.true) c.loop-statement.invariant)
     c.in_ok-variable.ensures c.in_ok-bind.ensures.number c.in_ok-bind.ensures.steps c.in_ok-bind.ensures.names c.in_ok-bind.ensures.longer c.in_ok-bind.ensures.kept
 
 pub value-statements-requires : goal.value-statements-requires
@@ -178,20 +178,20 @@ pub arms-returns : goal.arms-returns
 arms-returns t c =
     let all = rows_of (map row_tree c.args.rows.now) in
     arms_done c.args.tail c.args.on c.args.self.now c.loop-row.self all (map arm_code c.loop-row.arms.items)
-    (subst (λ (left : List Row). ArmsSoFar (map constructor_tree c.args.constructors.now) c.args.tail c.args.on c.args.self.now c.loop-row.self (rows_of (map row_tree left)) all (map arm_code c.loop-row.arms.items))
+    (subst (λ (left : List Row). ArmsSoFar (ground_program c.args.given.now).constructors c.args.tail c.args.on c.args.self.now c.loop-row.self (rows_of (map row_tree left)) all (map arm_code c.loop-row.arms.items))
     (drop_all c.loop-row.row-index c.args.rows.now c.loop-row-test.false) c.loop-row.invariant)
 
 pub arms-arm-requires : goal.arms-arm-requires
 arms-arm-requires t c = (
   search (rules, the_lemmas),
-  arm_asked {constructors = map constructor_tree c.args.constructors.now} c.args.tail c.args.on c.args.self.now c.loop-row.self (rows_of (map row_tree (drop c.loop-row.row-index c.args.rows.now))) (rows_of (map row_tree c.args.rows.now)) (map arm_code c.loop-row.arms.items)
+  arm_asked {constructors = (ground_program c.args.given.now).constructors} c.args.tail c.args.on c.args.self.now c.loop-row.self (rows_of (map row_tree (drop c.loop-row.row-index c.args.rows.now))) (rows_of (map row_tree c.args.rows.now)) (map arm_code c.loop-row.arms.items)
       (pattern_tree c.row-item.result.pattern) (expr_tree c.row-item.result.body) (rows_of (map row_tree (drop (c.loop-row.row-index + 1) c.args.rows.now)))
       c.loop-row.invariant (next_row c.args.rows.now c.loop-row.row-index c.row-item.result c.row-item.is c.loop-row-test.true) c.requires.room,
 )
 
 pub arms-loop-row-preserved : goal.arms-loop-row-preserved
 arms-loop-row-preserved t c =
-    let constructors = map constructor_tree c.args.constructors.now in
+    let constructors = (ground_program c.args.given.now).constructors in
     let left = rows_of (map row_tree (drop (c.loop-row.row-index + 1) c.args.rows.now)) in
     let all = rows_of (map row_tree c.args.rows.now) in
     let one : Arm = record { pattern = c.in_ok-pattern.pattern; body = c.in_ok-body.body } in
@@ -215,7 +215,7 @@ pub values-loop-expr-preserved : goal.values-loop-expr-preserved
 values-loop-expr-preserved t c =
     let left = trees_of (map expr_tree (drop (c.loop-expr.expr-index + 1) c.args.exprs.now)) in
     let all = trees_of (map expr_tree c.args.exprs.now) in
-    subst (λ (xs : List ℕ). ValuesSoFar (map constructor_tree c.args.constructors.now) c.args.self.now c.value.new.self left all xs) (sym c.in_ok-push.ensures.items)
+    subst (λ (xs : List ℕ). ValuesSoFar (ground_program c.args.given.now).constructors c.args.self.now c.value.new.self left all xs) (sym c.in_ok-push.ensures.items)
     (values_more c.args.self.now c.loop-expr.self c.value.new.self (expr_tree c.expr-item.result) left all c.loop-expr.variables.items c.in_ok-variable.variable
-    (subst (λ (es : Trees). ValuesSoFar (map constructor_tree c.args.constructors.now) c.args.self.now c.loop-expr.self es all c.loop-expr.variables.items) (next_expr c.args.exprs.now c.loop-expr.expr-index c.expr-item.result c.expr-item.is c.loop-expr-test.true) c.loop-expr.invariant)
+    (subst (λ (es : Trees). ValuesSoFar (ground_program c.args.given.now).constructors c.args.self.now c.loop-expr.self es all c.loop-expr.variables.items) (next_expr c.args.exprs.now c.loop-expr.expr-index c.expr-item.result c.expr-item.is c.loop-expr-test.true) c.loop-expr.invariant)
     c.in_ok-variable.ensures)

@@ -2,7 +2,7 @@
 -- one that writes a value.
 use Rattle.std.proofs.Common.{◌+◌, ◌*◌, max, map, drop}
 use Rattle.kk_syntax.specs.declared.program.Expr.{size-Expr}
-use Rattle.kk_syntax.specs.Programs.{constructor_tree}
+use Rattle.kk_syntax.specs.GroundPrograms.{ground_program}
 use Rattle.kk_syntax.specs.Trees.{expr_tree, row_tree, rows_of, statement_tree, trees_of}
 use Rattle.kk_core.specs.Codes.{arm_code}
 use Rattle.kk_norm.proofs.WritingAll.{ValuesSoFar, StatementsSoFar}
@@ -37,10 +37,10 @@ abbrev pub decreases-statements : goal.decreases-statements
 decreases-statements l = 4 * goal.size-statements l + 3
 
 abbrev pub invariant-values-loop-expr : goal.invariant-values-loop-expr
-invariant-values-loop-expr l = ValuesSoFar (map constructor_tree l.constructors) l.fn.self l.self (trees_of (map expr_tree (drop l.expr-index l.exprs))) (trees_of (map expr_tree l.exprs)) l.variables.items
+invariant-values-loop-expr l = ValuesSoFar (ground_program l.given).constructors l.fn.self l.self (trees_of (map expr_tree (drop l.expr-index l.exprs))) (trees_of (map expr_tree l.exprs)) l.variables.items
 
 abbrev pub invariant-statements-loop-statement : goal.invariant-statements-loop-statement
-invariant-statements-loop-statement l = StatementsSoFar (map constructor_tree l.constructors) l.fn.self l.self (map statement_tree (drop l.statement-index l.statements)) (map statement_tree l.statements)
+invariant-statements-loop-statement l = StatementsSoFar (ground_program l.given).constructors l.fn.self l.self (map statement_tree (drop l.statement-index l.statements)) (map statement_tree l.statements)
 
 abbrev pub invariant-arms-loop-row : goal.invariant-arms-loop-row
-invariant-arms-loop-row l = ArmsSoFar (map constructor_tree l.constructors) l.tail l.on l.fn.self l.self (rows_of (map row_tree (drop l.row-index l.rows))) (rows_of (map row_tree l.rows)) (map arm_code l.arms.items)
+invariant-arms-loop-row l = ArmsSoFar (ground_program l.given).constructors l.tail l.on l.fn.self l.self (rows_of (map row_tree (drop l.row-index l.rows))) (rows_of (map row_tree l.rows)) (map arm_code l.arms.items)
