@@ -1,7 +1,7 @@
 -- The row of a match that is taken stays the same where constructors are by other numbers. Patterns and values of one type
 -- are compared alone, and the constructors of one type keep their numbers apart.
-use Rattle.std.proofs.Common.{◌≡◌, ℕ, ℤ, Bool, true, false, List, [], ◌∷◌, map, Option, Some, None, option_map, refl, sym, ap, ◌∙◌, subst}
-use Rattle.std.specs.Prelude.{if◌then◌else◌, ◌==◌, slice_get}
+use Rattle.std.proofs.Common.{◌≡◌, ℕ, ℤ, Bool, true, false, List, [], ◌∷◌, Option, Some, None, option_map, refl, sym, ap, ◌∙◌, subst}
+use Rattle.std.specs.Prelude.{if◌then◌else◌, ◌==◌}
 use Rattle.std.proofs.lemmas.Bool.{eqb-true, eq-eqb, eqb-false, ne_eqb}
 use Rattle.std.proofs.lemmas.Option.{slice_get-map}
 use Rattle.kk_syntax.specs.Covered.{Each, asked_by}
@@ -9,9 +9,9 @@ use Rattle.kk_syntax.specs.OfType.{IsPatternOf, ArePatternsOf, field_types, valu
 use Rattle.kk_syntax.specs.Outlines.{outline_of, outlines_of}
 use Rattle.kk_syntax.specs.Patterns.{Pattern, anything, variable, exactly, constructor, Patterns, no_part, part}
 use Rattle.kk_syntax.specs.Programs.{ConstructorTree}
-use Rattle.kk_syntax.specs.Trees.{Tree, Rows, no_row, row}
+use Rattle.kk_syntax.specs.Trees.{Rows, no_row, row}
 use Rattle.kk_syntax.specs.Types.{TypeTree}
-use Rattle.kk_source.specs.Matching.{is_integer, fields_under, and_then, matched, matched_all, Chosen, chosen_or, first_match}
+use Rattle.kk_source.specs.Matching.{is_integer, and_then, matched, matched_all, Chosen, chosen_or, first_match}
 use Rattle.kk_source.specs.State.{Value, integer, unit, constant, place, Store, Environment}
 use Rattle.kk_source.specs.ValueTypes.{Content, amount, nothing, built, Contents, no_content, content, IsMadeBy, HasContent, HaveContents, IsContentOf, AreContentsOf, IsOf}
 use Rattle.kk_source.proofs.Values.{fields_of_made}

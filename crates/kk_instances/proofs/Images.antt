@@ -1,12 +1,12 @@
 -- Values whose constructors are by other numbers: the images of values, of cells and of environments. Nothing else changes,
 -- so the same places are live.
 use Rattle.std.proofs.Common.{◌≡◌, ℕ, zero, suc, Bool, true, false, ◌||◌, List, [], ◌∷◌, ◌++◌, length, map, Option, Some, None, option_map, refl, sym, ap, ◌∙◌}
-use Rattle.std.specs.Prelude.{if◌then◌else◌, ◌==◌, slice_get, slice_index_or}
+use Rattle.std.specs.Prelude.{if◌then◌else◌, ◌==◌, slice_get}
 use Rattle.std.specs.List.{list_any}
 use Rattle.std.proofs.lemmas.List.{map-append, length-map}
 use Rattle.std.proofs.lemmas.Option.{slice_get-map}
 use Rattle.kk_source.specs.FormEffects.{argument}
-use Rattle.kk_source.specs.Live.{value_of, fields_in, fields_at, is_place, fields_of, fields_of_all, is_found, is_live, counted, live}
+use Rattle.kk_source.specs.Live.{value_of, fields_in, is_place, fields_of, fields_of_all, is_found, is_live, counted, live}
 use Rattle.kk_source.specs.State.{Value, integer, unit, constant, place, Cell, Store, Binding, Environment}
 use Rattle.kk_source.specs.Step.{bind, bind_parameters, lent_places}
 use Rattle.kk_source.proofs.Live.{counted_alike}

@@ -1,9 +1,9 @@
 -- Expressions whose calls and constructors are by other numbers: their free variables stay.
-use Rattle.std.proofs.Common.{◌≡◌, List, [], ◌∷◌, ◌++◌, refl, ap}
+use Rattle.std.proofs.Common.{◌≡◌, refl}
 use Rattle.kk_syntax.specs.Patterns.{Pattern, anything, variable as pattern_variable, exactly, constructor, Patterns, no_part, part}
 use Rattle.kk_syntax.specs.Shapes.{bound, bound_all, free, free_all, free_rows}
 use Rattle.kk_syntax.specs.Trees.{Tree, variable, apply, branch, match, sequence, Trees, no_tree, tree, Rows, no_row, row}
-use Rattle.kk_mono.specs.Instances.{Renaming, renamed, renamed_all, renamed_rows, renamed_form, renamed_pattern, renamed_patterns}
+use Rattle.kk_mono.specs.Instances.{Renaming, renamed, renamed_all, renamed_rows, renamed_pattern, renamed_patterns}
 
 module _ (new : Renaming) where
   mutual

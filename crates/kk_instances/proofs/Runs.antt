@@ -1,6 +1,6 @@
 -- Runs of a program's instances and of the program, side by side: at each step the program is at the image of what the
 -- instances are at, where calls, constructors and values are by the numbers of the program.
-use Rattle.std.proofs.Common.{◌≡◌, ℕ, zero, suc, Bool, true, false, List, [], ◌∷◌, ◌++◌, Option, Some, None, length, map, option_map, refl, sym, ap, ◌∙◌, subst}
+use Rattle.std.proofs.Common.{◌≡◌, ℕ, zero, suc, Bool, true, false, List, [], ◌∷◌, ◌++◌, Option, Some, None, length, map, option_map, refl, sym, ap, ◌∙◌}
 use Rattle.std.specs.Prelude.{ℤ, not, nat_le, if◌then◌else◌, slice_get, slice_index_or}
 use Rattle.std.specs.Fmt.{signed_decimal}
 use Rattle.std.proofs.lemmas.List.{map-append, length-map}
@@ -26,8 +26,8 @@ use Rattle.kk_source.specs.Matching.{Chosen, first_match}
 use Rattle.kk_source.specs.Arithmetic.{negation_of}
 use Rattle.kk_source.specs.Actions.{Action, goes, puts, takes, builds, calls as counts_calls, print_step, build_step, enter_step, performed}
 use Rattle.kk_source.specs.FormEffects.{truth, is_true, integer_of, number_result, argument, piece_of, byte_value, FormEffect, gives, prints, reads, makes, enters, form_effect, effect_step}
-use Rattle.kk_source.specs.NeverStuck.{CallFits, FormFits, ExpressionFits, ValueFits, ControlFits, StateFits}
-use Rattle.kk_source.specs.Step.{at_expression, at_value, at_end, at_new_place, lent_places, bind, bind_parameters, call_frames, construct_step, push_step, call_step, form_step, expression_step, choice_step, value_step, step_at, step_of}
+use Rattle.kk_source.specs.NeverStuck.{CallFits, FormFits, ExpressionFits, ValueFits, ControlFits}
+use Rattle.kk_source.specs.Step.{at_expression, at_value, at_end, at_new_place, lent_places, bind_parameters, call_frames, construct_step, push_step, call_step, form_step, expression_step, choice_step, value_step, step_at, step_of}
 use Rattle.kk_source.specs.ValueTypes.{IsOf}
 use Rattle.kk_source.specs.SourceAfter.{step, ending_of, store_machine, State}
 use Rattle.kk_source.proofs.Bindings.{rows_of_type}
@@ -214,7 +214,7 @@ module _ (program made : ProgramTree) (texts : program.texts ≡ made.texts) (ty
     (cells depth : ℕ) (new : Renaming) (first : new.constructors 0 ≡ 0) (second : new.constructors 1 ≡ 1) (apart : AreApart made.constructors new.constructors)
     (there : (f : ℕ) (function : FunctionTree) → slice_get made.functions f ≡ Some function → IsAlike program new f function)
     (lent : (f : ℕ) (function : FunctionTree) → slice_get made.functions f ≡ Some function
-        → slice_index_or other (new.functions f) [] ≡ slice_index_or table f []) where
+    → slice_index_or other (new.functions f) [] ≡ slice_index_or table f []) where
   abbrev made_setting : Setting
   made_setting = setting_of made table cells depth
 
