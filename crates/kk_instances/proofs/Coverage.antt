@@ -48,7 +48,8 @@ module _ (program made : ProgramTree) (typings : List (List Choice)) (instances 
     outlines_image deep (outline first rest) = outline (if deep then outline_image first else any) (outlines_image deep rest)
 
   wide_typed : (us ws : List TypeTree) (parts : Outlines) → length ws ≡ length us
-      → ArePatternsOf (values_of made.constructors) us parts → ArePatternsOf (values_of program.constructors) ws (outlines_image false parts)
+      → ArePatternsOf (values_of made.constructors) us parts
+      → ArePatternsOf (values_of program.constructors) ws (outlines_image false parts)
   wide_typed [] [] no_outline long of = tt
   wide_typed [] [] (outline e es) long of = absurd of
   wide_typed [] (w ∷ ws) parts long of = absurd (omega (arith, long))
@@ -84,7 +85,8 @@ module _ (program made : ProgramTree) (typings : List (List Choice)) (instances 
           known.types,
           known.fields,
           parts_typed (is_any (new.constructors g)) of.0 known.types parts
-              (λ deep. known.same (none_is known.declared.arguments (sym (declared_at (new.constructors g) known.declared known.there) ∙ deep)))
+              (λ deep. known.same (none_is known.declared.arguments
+              (sym (declared_at (new.constructors g) known.declared known.there) ∙ deep)))
               known.long of.2 (all_outlines_typed of.0 parts of.2),
         )
 

@@ -38,7 +38,8 @@ same_place xs i j x once first second =
     let j_is = get_or_from_slice_get xs j x x second in
     elim (cases_lt i j) [
       | inl lt ↦ absurd (once i j x lt j_in (i_is ∙ sym j_is))
-      | inr le ↦ elim (cases_lt j i) [ inl lt ↦ absurd (once j i x lt i_in (j_is ∙ sym i_is)) | inr other ↦ omega (arith, le, other) ]
+      | inr le ↦ elim (cases_lt j i)
+          [ inl lt ↦ absurd (once j i x lt i_in (j_is ∙ sym i_is)) | inr other ↦ omega (arith, le, other) ]
     ]
 
 -- what is seen for the first time is seen
@@ -63,7 +64,8 @@ module _ (by : ℕ) (arguments : TypeTrees) where
   makers_make all first [] same = tt
   makers_make all first (c ∷ cs) same =
       by_fields (fields_of (Some c) by arguments) refl
-      (makers_make all (first + 1) cs (λ k. let next : (first + 1) + k ≡ first + suc k = omega arith in ap (slice_get all) next ∙ same (suc k)))
+      (makers_make all (first + 1) cs
+      (λ k. let next : (first + 1) + k ≡ first + suc k = omega arith in ap (slice_get all) next ∙ same (suc k)))
     where
       by_fields : (o : Option (List TypeTree)) → fields_of (Some c) by arguments ≡ o
           → Each (IsMaker all by arguments) (makers_from (first + 1) cs by arguments)
@@ -91,9 +93,11 @@ makers_of_bool : (constructors : List ConstructorTree) → HasTruths constructor
 makers_of_bool [] truths = let no_false = truths.truths 0 (omega arith) in absurd (cc)
 makers_of_bool (c ∷ []) truths = let no_true = truths.truths 1 (omega arith) in absurd (cc)
 makers_of_bool (c ∷ d ∷ rest) truths =
-    ap (λ (o : Option (List TypeTree)). if is_some o then 0 ∷ makers_from 1 (d ∷ rest) 0 no_type else makers_from 1 (d ∷ rest) 0 no_type)
+    ap (λ (o : Option (List TypeTree)).
+    if is_some o then 0 ∷ makers_from 1 (d ∷ rest) 0 no_type else makers_from 1 (d ∷ rest) 0 no_type)
     (truths.truths 0 (omega arith))
-    ∙ (ap (λ (o : Option (List TypeTree)). 0 ∷ (if is_some o then 1 ∷ makers_from 2 rest 0 no_type else makers_from 2 rest 0 no_type))
+    ∙ (ap (λ (o : Option (List TypeTree)).
+    0 ∷ (if is_some o then 1 ∷ makers_from 2 rest 0 no_type else makers_from 2 rest 0 no_type))
     (truths.truths 1 (omega arith))
     ∙ ap (λ cs. 0 ∷ 1 ∷ cs)
     (no_makers 0 no_type 2 rest (λ k us is. let low = truths.no_others (suc (suc k)) us is in absurd (omega (arith, low)))))
@@ -124,14 +128,20 @@ own_fields declared by arguments us is = by_test (declared.of_type == by) refl i
 each_ground : (program : ProgramTree) (by : ℕ) (at : List TypeTree) → Each (IsGround program) (ground_constructors program by at)
 each_ground program by at =
     grounds (makers program.constructors by (types_of at))
-    (makers_make by (types_of at) program.constructors 0 program.constructors (λ k. let same : 0 + k ≡ k = omega arith in ap (slice_get program.constructors) same))
+    (makers_make by (types_of at) program.constructors 0 program.constructors
+    (λ k. let same : 0 + k ≡ k = omega arith in ap (slice_get program.constructors) same))
   where
     grounds : (cs : List ℕ) → Each (IsMaker program.constructors by (types_of at)) cs
         → Each (IsGround program) (map (λ c. record { constructor = c; at = at }) cs)
     grounds [] each = tt
     grounds (c ∷ cs) each =
         let one = each.0 in (
-          record { declared = one.declared; there = one.there; types = one.types; fields = (own_fields one.declared by (types_of at) one.types one.fields).1 },
+          record {
+            declared = one.declared;
+            there = one.there;
+            types = one.types;
+            fields = (own_fields one.declared by (types_of at) one.types one.fields).1;
+          },
           grounds cs each.1,
         )
 
@@ -148,7 +158,8 @@ false_ground = record { constructor = 0; at = [] }
 abbrev pub true_ground : GroundConstructorTree
 true_ground = record { constructor = 1; at = [] }
 
-module _ (program : ProgramTree) (typings : List (List Choice)) (instances : List InstanceTree) (grounds : List GroundConstructorTree)
+module _ (program : ProgramTree) (typings : List (List Choice)) (instances : List InstanceTree)
+    (grounds : List GroundConstructorTree)
     (truths : HasTruths program.constructors) (are : AreGroundConstructors program typings instances grounds) where
   truths_first : ground_constructors program 0 [] ≡ false_ground ∷ true_ground ∷ []
   truths_first =
@@ -172,15 +183,20 @@ module _ (program : ProgramTree) (typings : List (List Choice)) (instances : Lis
       none_once = λ i j d lt within. absurd (omega (arith, within))
 
       other_truths : false_ground ≢ true_ground
-      other_truths same = let equal : 0 ≡ 1 = ap (λ (x : GroundConstructorTree). x.constructor) same in absurd (omega (arith, equal))
+      other_truths same =
+          let equal : 0 ≡ 1 = ap (λ (x : GroundConstructorTree). x.constructor) same in absurd (omega (arith, equal))
 
       two_once : AllPairs (λ one other. one ≢ other) (false_ground ∷ true_ground ∷ [])
-      two_once = sights_once {seen = []} none_once (new_one (λ there. absurd (let lt = there.1 in omega (arith, lt))) (new_one (λ there. other_truths (only_one false_ground true_ground there)) none_left))
+      two_once =
+          sights_once {seen = []} none_once
+          (new_one (λ there. absurd (let lt = there.1 in omega (arith, lt)))
+          (new_one (λ there. other_truths (only_one false_ground true_ground there)) none_left))
 
 -- ---- the constructors of the made program
 
 -- where a ground constructor makes values of a type
-pub record IsMade (program : ProgramTree) (grounds : List GroundConstructorTree) (t : TypeTree) (g : ℕ) (us : List TypeTree) : Type 0 where
+pub record IsMade (program : ProgramTree) (grounds : List GroundConstructorTree) (t : TypeTree) (g : ℕ)
+    (us : List TypeTree) : Type 0 where
   pub ground : GroundConstructorTree
   pub there : slice_get grounds g ≡ Some ground
   pub known : IsGround program ground
@@ -195,6 +211,10 @@ module _ (program made : ProgramTree) (typings : List (List Choice)) (instances 
   made_at : (g : ℕ) → slice_get made.constructors g ≡ option_map (ground_constructor program) (slice_get grounds g)
   made_at g =
       ap (λ cs. slice_get cs g) is.constructors ∙ slice_get-map (ground_constructor program) grounds g
+
+  ground_at : (g : ℕ) (x : GroundConstructorTree) → slice_get grounds g ≡ Some x → IsGround program x
+  ground_at g x there =
+      each_at (IsGround program) grounds g x (each_is_ground program typings instances grounds truths is.grounds_are) there
 
   -- a ground constructor makes values of its type, from fields of the declared types with its own put in
   pub fields_at : (g : ℕ) (x : GroundConstructorTree) (declared : ConstructorTree) → slice_get grounds g ≡ Some x
@@ -244,21 +264,25 @@ module _ (program made : ProgramTree) (typings : List (List Choice)) (instances 
 
       by_type : (x : GroundConstructorTree) (known : IsGround program x) → slice_get grounds g ≡ Some x
           → (same : Bool) → (known.declared.of_type == by) ≡ same
-          → (if same then fields_with (Some (types_of x.at)) (map (put (type_at x.at)) known.declared.fields) arguments else None) ≡ Some us
+          → (if same then fields_with (Some (types_of x.at)) (map (put (type_at x.at)) known.declared.fields) arguments else None)
+          ≡ Some us
           → IsMade program grounds (named by arguments) g us
       by_type x known there false other found = absurd (cc)
       by_type x known there true same found =
           by_arguments x known there (eqb-true known.declared.of_type by same) (same_types (types_of x.at) arguments) refl found
 
       by_ground : (o : Option GroundConstructorTree) → slice_get grounds g ≡ o
-          → fields_of (option_map (ground_constructor program) o) by arguments ≡ Some us → IsMade program grounds (named by arguments) g us
+          → fields_of (option_map (ground_constructor program) o) by arguments ≡ Some us
+          → IsMade program grounds (named by arguments) g us
       by_ground None there found = absurd (cc)
       by_ground (Some x) there found =
-          let known = each_at (IsGround program) grounds g x (each_is_ground program typings instances grounds truths is.grounds_are) there in
+          let known = ground_at g x there in
           let declared_is = get_or_from_slice_get program.constructors x.constructor known.declared no_constructor known.there in
           by_type x known there (known.declared.of_type == by) refl
           (subst
-          (λ (c : ConstructorTree). (if c.of_type == by then fields_with (Some (types_of x.at)) (map (put (type_at x.at)) c.fields) arguments else None) ≡ Some us)
+          (λ (c : ConstructorTree).
+          (if c.of_type == by then fields_with (Some (types_of x.at)) (map (put (type_at x.at)) c.fields) arguments else None)
+          ≡ Some us)
           declared_is found)
 
   abbrev pub origin : ℕ → ℕ
@@ -266,7 +290,8 @@ module _ (program made : ProgramTree) (typings : List (List Choice)) (instances 
 
   pub origin_is : (g : ℕ) (x : GroundConstructorTree) → slice_get grounds g ≡ Some x → origin g ≡ x.constructor
   origin_is g x there =
-      ap (λ (y : GroundConstructorTree). y.constructor) (get_or_from_slice_get grounds g x (record { constructor = 0; at = [] }) there)
+      ap (λ (y : GroundConstructorTree). y.constructor)
+      (get_or_from_slice_get grounds g x (record { constructor = 0; at = [] }) there)
 
   once : AllPairs (λ one other. one ≢ other) grounds
   once = grounds_once program typings instances grounds truths is.grounds_are
@@ -285,7 +310,8 @@ module _ (program made : ProgramTree) (typings : List (List Choice)) (instances 
   apart t g h us ws g_fields h_fields same =
       let one = is_made t g us g_fields in
       let other = is_made t h ws h_fields in
-      let types : named other.known.declared.of_type (types_of other.ground.at) ≡ named one.known.declared.of_type (types_of one.ground.at) =
+      let types : named other.known.declared.of_type (types_of other.ground.at)
+      ≡ named one.known.declared.of_type (types_of one.ground.at) =
       sym other.type_is ∙ one.type_is in
       let at_is : other.ground.at ≡ one.ground.at = types_only other.ground.at one.ground.at (ap arguments_of_type types) in
       let constructor_is : other.ground.constructor ≡ one.ground.constructor =
@@ -321,7 +347,7 @@ module _ (program made : ProgramTree) (typings : List (List Choice)) (instances 
   truth_made : (g : ℕ) (x : GroundConstructorTree) → slice_get grounds g ≡ Some x → x.at ≡ [] → x.constructor ≤ 1
       → field_types made.constructors bool g ≡ Some []
   truth_made g x there at_is low =
-      let known = each_at (IsGround program) grounds g x (each_is_ground program typings instances grounds truths is.grounds_are) there in
+      let known = ground_at g x there in
       let of_bool : fields_of (Some known.declared) 0 no_type ≡ Some [] =
       ap (λ o. fields_of o 0 no_type) (sym known.there) ∙ truths.truths x.constructor low in
       let own = own_fields known.declared 0 no_type [] of_bool in
@@ -341,7 +367,8 @@ module _ (program made : ProgramTree) (typings : List (List Choice)) (instances 
   is_truth g x there at_is low = by_constructor x.constructor low refl
     where
       is_at : (c : ℕ) → x.constructor ≡ c → x ≡ record { constructor = c; at = [] }
-      is_at c same = ap (λ ts. record { constructor = x.constructor; at = ts }) at_is ∙ ap (λ d. record { constructor = d; at = [] }) same
+      is_at c same =
+          ap (λ ts. record { constructor = x.constructor; at = ts }) at_is ∙ ap (λ d. record { constructor = d; at = [] }) same
 
       by_constructor : (c : ℕ) → c ≤ 1 → x.constructor ≡ c → g ≡ c
       by_constructor zero le same =
@@ -385,7 +412,8 @@ module _ (program made : ProgramTree) (typings : List (List Choice)) (instances 
     types = one.known.types;
     fields = fields;
     long = long;
-    same = λ any. same_Some one.known.types us (sym one.known.fields ∙ (fields_made (Some one.known.declared) one.known.declared one.known.declared.of_type (types_of one.ground.at) refl any refl ∙ ap (λ ts. Some ts) (put_back ∙ sym one.fields_are)));
+    same = λ any. same_Some one.known.types us
+        (sym one.known.fields ∙ (of_declared any ∙ ap (λ ts. Some ts) (put_back ∙ sym one.fields_are)));
   }
     where
       one : IsMade program grounds t g us
@@ -405,7 +433,15 @@ module _ (program made : ProgramTree) (typings : List (List Choice)) (instances 
           let declared_is = same_Some found.0 one.known.declared (sym found.1 ∙ there) in
           found.2
           ∙ (ap (λ (c : ConstructorTree). length c.fields) declared_is
-          ∙ (sym (length-map one.known.declared.fields (put (type_at one.ground.at))) ∙ ap (λ (ts : List TypeTree). length ts) (sym one.fields_are)))
+          ∙ (sym (length-map one.known.declared.fields (put (type_at one.ground.at)))
+          ∙ ap (λ (ts : List TypeTree). length ts) (sym one.fields_are)))
 
-      put_back : map (with_arguments (types_of one.ground.at)) one.known.declared.fields ≡ map (put (type_at one.ground.at)) one.known.declared.fields
+      put_back : map (with_arguments (types_of one.ground.at)) one.known.declared.fields
+          ≡ map (put (type_at one.ground.at)) one.known.declared.fields
       put_back = ap (λ ts. map (put (type_at ts)) one.known.declared.fields) (types_back one.ground.at)
+
+      of_declared : one.known.declared.arguments ≡ None
+          → fields_of (Some one.known.declared) one.known.declared.of_type (types_of one.ground.at)
+          ≡ Some (map (with_arguments (types_of one.ground.at)) one.known.declared.fields)
+      of_declared any =
+          fields_made (Some one.known.declared) one.known.declared one.known.declared.of_type (types_of one.ground.at) refl any refl

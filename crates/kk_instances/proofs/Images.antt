@@ -10,19 +10,20 @@ use Rattle.kk_source.specs.Live.{value_of, fields_in, is_place, fields_of, field
 use Rattle.kk_source.specs.State.{Value, integer, unit, constant, place, Cell, Store, Binding, Environment}
 use Rattle.kk_source.specs.Step.{bind, bind_parameters, lent_places}
 use Rattle.kk_source.proofs.Live.{counted_alike}
+use Rattle.kk_mono.specs.Instances.{Renaming}
 
-module _ (new : ℕ → ℕ) where
+module _ (new : Renaming) where
   abbrev pub image : Value → Value
   image (integer n) = integer n
   image unit = unit
-  image (constant c) = constant (new c)
+  image (constant c) = constant (new.constructors c)
   image (place at) = place at
 
   abbrev pub images : List Value → List Value
   images vs = map image vs
 
   abbrev pub cell_image : Cell → Cell
-  cell_image cell = record { made_by = new cell.made_by; fields = images cell.fields }
+  cell_image cell = record { made_by = new.constructors cell.made_by; fields = images cell.fields }
 
   abbrev pub store_image : Store → Store
   store_image store = map cell_image store
@@ -45,11 +46,13 @@ module _ (new : ℕ → ℕ) where
       by_test true later = refl
       by_test false later = later
 
-  pub image_of_variables : (env : Environment) (xs : List ℕ) → map (value_of (environment_image env)) xs ≡ images (map (value_of env) xs)
+  pub image_of_variables : (env : Environment) (xs : List ℕ) → map (value_of (environment_image env)) xs
+      ≡ images (map (value_of env) xs)
   image_of_variables env [] = refl
   image_of_variables env (x ∷ xs) = rw (image_of_variable env x, image_of_variables env xs) refl
 
-  pub image_of_bound : (x : Option ℕ) (v : Value) (env : Environment) → bind x (image v) (environment_image env) ≡ environment_image (bind x v env)
+  pub image_of_bound : (x : Option ℕ) (v : Value) (env : Environment) → bind x (image v) (environment_image env)
+      ≡ environment_image (bind x v env)
   image_of_bound None v env = refl
   image_of_bound (Some x) v env = refl
 
@@ -63,7 +66,8 @@ module _ (new : ℕ → ℕ) where
   image_of_argument (v ∷ vs) zero = refl
   image_of_argument (v ∷ vs) (suc i) = image_of_argument vs i
 
-  pub image_of_lent : (lent : ℕ → Bool) (next : ℕ) (vs : List Value) → lent_places lent next (images vs) ≡ images (lent_places lent next vs)
+  pub image_of_lent : (lent : ℕ → Bool) (next : ℕ) (vs : List Value) → lent_places lent next (images vs)
+      ≡ images (lent_places lent next vs)
   image_of_lent lent next [] = refl
   image_of_lent lent next (integer n ∷ vs) = image_of_lent lent (suc next) vs
   image_of_lent lent next (unit ∷ vs) = image_of_lent lent (suc next) vs
@@ -88,7 +92,8 @@ module _ (new : ℕ → ℕ) where
   image_of_fields store (constant c) = refl
   image_of_fields store (place at) = ap fields_in (slice_get-map cell_image store at) ∙ fields_in_image (slice_get store at)
 
-  image_of_all_fields : (store : Store) (vs : List Value) → fields_of_all (store_image store) (images vs) ≡ images (fields_of_all store vs)
+  image_of_all_fields : (store : Store) (vs : List Value) → fields_of_all (store_image store) (images vs)
+      ≡ images (fields_of_all store vs)
   image_of_all_fields store [] = refl
   image_of_all_fields store (v ∷ vs) =
       ap (λ ws. ws ++ fields_of_all (store_image store) (images vs)) (image_of_fields store v)
@@ -109,7 +114,8 @@ module _ (new : ℕ → ℕ) where
       → is_found rounds (store_image store) (images vs) goal ≡ is_found rounds store vs goal
   found_image zero store vs goal = any_image goal vs
   found_image (suc rounds) store vs goal =
-      ap (λ (here : Bool). here || is_found rounds (store_image store) (fields_of_all (store_image store) (images vs)) goal) (any_image goal vs)
+      ap (λ (here : Bool). here || is_found rounds (store_image store) (fields_of_all (store_image store) (images vs)) goal)
+      (any_image goal vs)
       ∙ ap (λ (there : Bool). list_any (is_place goal) vs || there)
       (ap (λ (ws : List Value). is_found rounds (store_image store) ws goal) (image_of_all_fields store vs)
       ∙ found_image rounds store (fields_of_all store vs) goal)

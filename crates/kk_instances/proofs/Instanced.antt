@@ -169,7 +169,8 @@ module _ (program made : ProgramTree) (typings : List (List Choice)) (instances 
   form_is form scheme made ts is typed =
       let same : made ≡ scheme = cc in subst (λ (s : Scheme). IsFormTyped table form (taken s ts) (given s ts)) same typed
 
-  call_there : (n : ℕ) (function : FunctionTree) (ts : List TypeTree) → slice_get program.functions (new.functions n) ≡ Some function
+  call_there : (n : ℕ) (function : FunctionTree) (ts : List TypeTree) → slice_get program.functions (new.functions n)
+      ≡ Some function
       → slice_get instances n ≡ Some (record { function = new.functions n; at = map ground ts })
       → IsFormTyped table (Call n) (taken (function_scheme function) ts) (given (function_scheme function) ts)
   call_there n function ts there instance =
@@ -195,17 +196,20 @@ module _ (program made : ProgramTree) (typings : List (List Choice)) (instances 
       → t ≡ put (type_at ts) scheme.result → Each (λ text. text < length program.texts) (printed_by (renamed_form new form))
       → AreNamed (chosen_at (renamed_form new form) ts ++ choices) (called_by form ++ ns) (built_by form ++ gs)
       → IsFormTyped table form (taken scheme ts) (given scheme ts)
-  form_at (Number value) scheme ts t choices ns gs is_scheme long gives texts named = form_is (Number value) scheme _ ts is_scheme (refl, refl)
+  form_at (Number value) scheme ts t choices ns gs is_scheme long gives texts named =
+      form_is (Number value) scheme _ ts is_scheme (refl, refl)
   form_at Nothing scheme ts t choices ns gs is_scheme long gives texts named = form_is Nothing scheme _ ts is_scheme (refl, refl)
   form_at ReadByte scheme ts t choices ns gs is_scheme long gives texts named = form_is ReadByte scheme _ ts is_scheme (refl, refl)
   form_at (PrintText form text) scheme ts t choices ns gs is_scheme long gives texts named =
-      form_is (PrintText form text) scheme _ ts is_scheme (refl, refl, subst (λ (all : List (List ℕ)). text < length all) (sym is.texts) texts.0)
+      form_is (PrintText form text) scheme _ ts is_scheme
+      (refl, refl, subst (λ (all : List (List ℕ)). text < length all) (sym is.texts) texts.0)
   form_at (Unary operator) scheme ts t choices ns gs is_scheme long gives texts named =
       form_is (Unary operator) scheme _ ts is_scheme
       (ap (λ (u : TypeTree). u ∷ []) (unary_put (type_at at) (type_at ts) operator), unary_put (type_at at) (type_at ts) operator)
   form_at (Binary operator) scheme ts t choices ns gs is_scheme long gives texts named =
       form_is (Binary operator) scheme _ ts is_scheme (refl, binary_put (type_at at) (type_at ts) operator)
-  form_at (Print form) scheme ts t choices ns gs is_scheme long gives texts named = form_is (Print form) scheme _ ts is_scheme (refl, refl)
+  form_at (Print form) scheme ts t choices ns gs is_scheme long gives texts named =
+      form_is (Print form) scheme _ ts is_scheme (refl, refl)
   form_at (Construct g) scheme ts t choices ns gs is_scheme long gives texts named =
       let constructed = named.1 in
       fields_used program made typings instances truths is at g scheme ts is_scheme long (cc)
@@ -271,7 +275,7 @@ module _ (program made : ProgramTree) (typings : List (List Choice)) (instances 
         form_typed form uses.of uses.at t (uses.rest ++ more) (calls_of_all es ++ ns) (constructors_in_all es ++ gs) uses.is
         uses.each uses.gives both.0.there here in
         ((map ground us, rest.0, taken_is), rest.1)
-    tree_typed (branch e positive negative) scope inner t choices more ns gs stands (one, other, is_both, e_typed, rest) sound named =
+    tree_typed (branch e positive negative) scope inner t choices more ns gs stands (one, other, whole, e_typed, rest) sound named =
         let both =
         parts (matches_in e) (matches_in positive ++ matches_in negative) (printed_in e)
         (printed_in positive ++ printed_in negative) sound in
@@ -280,7 +284,7 @@ module _ (program made : ProgramTree) (typings : List (List Choice)) (instances 
         tree_typed e scope inner bool one (other ++ more) ((calls positive ++ calls negative) ++ ns)
         ((constructors_in positive ++ constructors_in negative) ++ gs) stands e_typed both.0
         (split choices one other more (calls e) (calls positive ++ calls negative) ns (constructors_in e)
-        (constructors_in positive ++ constructors_in negative) gs is_both named) in
+        (constructors_in positive ++ constructors_in negative) gs whole named) in
         let second =
         tree_typed positive scope inner t rest.0 (rest.1 ++ more) (calls negative ++ ns) (constructors_in negative ++ gs) stands
         rest.3 either.0
@@ -330,12 +334,12 @@ module _ (program made : ProgramTree) (typings : List (List Choice)) (instances 
     trees_typed no_tree scope inner [] choices more ns gs stands none sound named = (tt, along choices [] more ns gs none named)
     trees_typed no_tree scope inner (t ∷ ts) choices more ns gs stands typed sound named = absurd typed
     trees_typed (tree e rest) scope inner [] choices more ns gs stands typed sound named = absurd typed
-    trees_typed (tree e rest) scope inner (t ∷ ts) choices more ns gs stands (one, other, is_both, e_typed, rest_typed) sound named =
+    trees_typed (tree e rest) scope inner (t ∷ ts) choices more ns gs stands (one, other, whole, e_typed, rest_typed) sound named =
         let both = parts (matches_in e) (matches_in_all rest) (printed_in e) (printed_in_all rest) sound in
         let first =
         tree_typed e scope inner t one (other ++ more) (calls_of_all rest ++ ns) (constructors_in_all rest ++ gs) stands e_typed
         both.0
-        (split choices one other more (calls e) (calls_of_all rest) ns (constructors_in e) (constructors_in_all rest) gs is_both
+        (split choices one other more (calls e) (calls_of_all rest) ns (constructors_in e) (constructors_in_all rest) gs whole
         named) in
         let second = trees_typed rest scope inner ts other more ns gs stands rest_typed both.1 first.1 in
         ((first.0, second.0), second.1)
@@ -346,13 +350,13 @@ module _ (program made : ProgramTree) (typings : List (List Choice)) (instances 
         → AreNamed (choices ++ more) (calls_of_rows rows ++ ns) (constructors_in_rows rows ++ gs)
         → AreRowsTyped table inner rows (ground u) (ground t) × AreNamed more ns gs
     rows_typed no_row scope inner u t choices more ns gs stands none sound named = (tt, along choices [] more ns gs none named)
-    rows_typed (row p body rest) scope inner u t choices more ns gs stands (one, other, is_both, binds, rest_typed) sound named =
+    rows_typed (row p body rest) scope inner u t choices more ns gs stands (one, other, whole, binds, rest_typed) sound named =
         let typed = binds.inside in
         let bound_scope = with_bound (bound (renamed_pattern new p)) binds.at scope in
         let both = parts (matches_in body) (matches_in_rows rest) (printed_in body) (printed_in_rows rest) sound in
         let split_here =
         split choices one other more (calls body) (calls_of_rows rest) ns (tested p ++ constructors_in body)
-        (constructors_in_rows rest) gs is_both named in
+        (constructors_in_rows rest) gs whole named in
         let here =
         row_named binds.at one binds.rest typed.0 typed.1 (other ++ more) (calls body ++ (calls_of_rows rest ++ ns))
         ((tested p ++ constructors_in body) ++ (constructors_in_rows rest ++ gs)) binds.choices_are typed.2 split_here in

@@ -30,7 +30,8 @@ module _ (program made : ProgramTree) (typings : List (List Choice)) (instances 
       let known = found_at program made typings instances is n instance.0 found instance.1 found_is in
       record {
         other = known.function;
-        there = ap (slice_get program.functions) (origin_is program made typings instances is n instance.0 instance.1) ∙ known.there;
+        there = ap (slice_get program.functions) (origin_is program made typings instances is n instance.0 instance.1)
+            ∙ known.there;
         body = sym known.at_types.body;
       }
 
@@ -75,21 +76,26 @@ module _ (program made : ProgramTree) (typings : List (List Choice)) (instances 
 
       same_start : begins ≡ state_image new instances_begin
       same_start =
-          ap (λ (body : Tree). record { machine = record { control = expression body []; frames = call [] ∷ []; store = [] }; input = input })
+          ap (λ (body : Tree).
+          record { machine = record { control = expression body []; frames = call [] ∷ []; store = [] }; input = input })
           same_body
 
       both : (n : ℕ) → SameRun program made (sym is.texts) typed (positions_in instances table) table cells depth new
-          (false_first program made typings instances checked.truths is) (true_second program made typings instances checked.truths is)
+          (false_first program made typings instances checked.truths is)
+          (true_second program made typings instances checked.truths is)
           (apart program made typings instances checked.truths is) there (lent table) n instances_begin
       both n =
           same_run program made (sym is.texts) typed (positions_in instances table) table cells depth new
-          (false_first program made typings instances checked.truths is) (true_second program made typings instances checked.truths is)
-          (apart program made typings instances checked.truths is) there (lent table) n instances_begin (start_typed made_setting typed)
+          (false_first program made typings instances checked.truths is)
+          (true_second program made typings instances checked.truths is)
+          (apart program made typings instances checked.truths is) there (lent table) n instances_begin
+          (start_typed made_setting typed)
 
       same_trace : (n : ℕ) → trace (store_machine made_setting) n instances_begin ≡ trace (store_machine setting) n begins
       same_trace n = sym (ap (trace (store_machine setting) n) same_start ∙ (both n).trace_is)
 
-      same_end : (n : ℕ) → ending_after (store_machine made_setting) n instances_begin ≡ ending_after (store_machine setting) n begins
+      same_end : (n : ℕ) → ending_after (store_machine made_setting) n instances_begin
+          ≡ ending_after (store_machine setting) n begins
       same_end n =
           sym (ap (ending_after (store_machine setting) n) same_start
           ∙ (ap ending_of (both n).state_is ∙ same_ending new (state (store_machine made_setting) n instances_begin)))

@@ -90,7 +90,8 @@ module _ (program made : ProgramTree) (typings : List (List Choice)) (instances 
   -- the fields of a ground constructor are those of its scheme, in the instance
   pub fields_used : (g : ℕ) (of : Scheme) (ts : List TypeTree) → constructor_scheme program (new.constructors g) ≡ Some of
       → length ts ≡ of.variables → slice_get is.grounds g ≡ Some (used (new.constructors g) ts)
-      → field_types made.constructors (ground (put (type_at ts) of.result)) g ≡ Some (map ground (map (put (type_at ts)) of.parameters))
+      → field_types made.constructors (ground (put (type_at ts) of.result)) g
+      ≡ Some (map ground (map (put (type_at ts)) of.parameters))
   fields_used g of ts scheme long there =
       ap (λ t. field_types made.constructors t g) type_is
       ∙ (fields_at program made typings instances truths is g (used (new.constructors g) ts) known.made there known.there
@@ -116,7 +117,8 @@ module _ (program made : ProgramTree) (typings : List (List Choice)) (instances 
 
       fields_are : map ground (map (put (type_at ts)) of.parameters) ≡ map (put (type_at us)) known.made.fields
       fields_are =
-          put_all_at_types (type_at at) ts of.parameters ∙ ap (λ (s : Scheme). map (put (type_at us)) s.parameters) (sym known.scheme)
+          put_all_at_types (type_at at) ts of.parameters
+          ∙ ap (λ (s : Scheme). map (put (type_at us)) s.parameters) (sym known.scheme)
 
   -- ---- what patterns bind
 
@@ -161,7 +163,8 @@ module _ (program made : ProgramTree) (typings : List (List Choice)) (instances 
   chosen choices others more gs same constructed = subst (λ cs. AreConstructed (cs ++ more) gs) same constructed
 
   -- the first of them, and the others
-  first_used : (g c : ℕ) (ts : List TypeTree) (rest : List Choice) (gs : List ℕ) → AreConstructed (constructing c ts ∷ rest) (g ∷ gs)
+  first_used : (g c : ℕ) (ts : List TypeTree) (rest : List Choice) (gs : List ℕ)
+      → AreConstructed (constructing c ts ∷ rest) (g ∷ gs)
       → (slice_get is.grounds g ≡ Some (used c ts)) × AreConstructed rest gs
   first_used g c ts rest gs constructed = (cc, cc)
 
@@ -249,12 +252,15 @@ module _ (program made : ProgramTree) (typings : List (List Choice)) (instances 
         }
 
   -- what a pattern binds stands in the instance as in the function, and the pattern is of its type there
-  pub record StandsBehind (p : Pattern) (u : TypeTree) (scope before : Scope) (ts : List TypeTree) (more : List Choice) (gs : List ℕ) : Type 0 where
+  pub record StandsBehind (p : Pattern) (u : TypeTree) (scope before : Scope) (ts : List TypeTree) (more : List Choice)
+      (gs : List ℕ) : Type 0 where
     pub of : IsPatternOf (values_of made.constructors) (ground u) (outline_of p)
-    pub stands : Stands (type_at at) (with_bound (bound (renamed_pattern new p)) ts scope) (with_pattern made.constructors p (ground u) before)
+    pub stands : Stands (type_at at) (with_bound (bound (renamed_pattern new p)) ts scope)
+        (with_pattern made.constructors p (ground u) before)
     pub constructed : AreConstructed more gs
 
-  pub pattern_stands : (p : Pattern) (u : TypeTree) (scope before : Scope) (ts : List TypeTree) (choices more : List Choice) (gs : List ℕ)
+  pub pattern_stands : (p : Pattern) (u : TypeTree) (scope before : Scope) (ts : List TypeTree) (choices more : List Choice)
+      (gs : List ℕ)
       → Stands (type_at at) scope before
       → IsPatternTyped program (with_bound (bound (renamed_pattern new p)) ts scope) (renamed_pattern new p) u choices
       → AreConstructed (choices ++ more) (tested p ++ gs) → StandsBehind p u scope before ts more gs
@@ -277,4 +283,5 @@ module _ (program made : ProgramTree) (typings : List (List Choice)) (instances 
       by x t is_there (inr other) =
           other.1
           ∙ stands x t
-          (sym (bound_looks (bound (renamed_pattern new p)) ts scope x (subst (λ xs. IsNone xs x) (sym (same_bound new p)) other.0)) ∙ is_there)
+          (sym (bound_looks (bound (renamed_pattern new p)) ts scope x
+          (subst (λ xs. IsNone xs x) (sym (same_bound new p)) other.0)) ∙ is_there)

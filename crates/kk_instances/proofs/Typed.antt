@@ -123,7 +123,8 @@ module _ (program made : ProgramTree) (typings : List (List Choice)) (instances 
           ap (map (slice_get instances)) (append-nil (calls found.body))
               ∙ (known.called ∙ ap (λ (cs : List Choice). map Some (called_at instance.at cs)) (sym (append-nil choices))),
           ap (map (slice_get is.grounds)) (append-nil (constructors_in found.body))
-              ∙ (known.constructed ∙ ap (λ (cs : List Choice). map Some (constructed_at instance.at cs)) (sym (append-nil choices))),
+              ∙ (known.constructed
+              ∙ ap (λ (cs : List Choice). map Some (constructed_at instance.at cs)) (sym (append-nil choices))),
         )
 
     -- the parameters, by the function's own type variables and at the instance's types
