@@ -1,11 +1,11 @@
 -- An accepted program is checked.
-use Rattle.std.proofs.Common.{ℕ, List}
+use Rattle.std.proofs.Common.{ℕ, List, ap, ◌∙◌}
 use Rattle.kk_syntax.specs.Checked.{HasMainFunction, IsChecked}
 use Rattle.kk_syntax.specs.Covered.{Each}
 use Rattle.kk_syntax.specs.Matches.{IsFunctionCovered}
 use Rattle.kk_syntax.specs.PlainTyping.{IsPlainProgram}
 use Rattle.kk_syntax.specs.Programs.{ProgramTree}
-use Rattle.kk_syntax.specs.Typing.{Choice, ArePrincipal}
+use Rattle.kk_syntax.specs.Typing.{Choice, variables_of_type, ArePrincipal}
 use Rattle.kk_names.specs.Names.{HasMain, HasTruthsAndTexts, ResolvedProgramsHaveMain, ResolvedProgramsArePlain, ResolvedProgramsHaveTruthsAndTexts}
 use Rattle.kk_front.specs.Judgement.{IsProgramOf}
 use Rattle.kk_front.proofs.Accepting.{found}
@@ -29,6 +29,7 @@ module _ (program : ProgramTree) (plain : IsPlainProgram program) where
         typed = λ f function choices there chosen. (are.each f function choices there chosen).typing;
         covered = covered;
         texts = whole.texts;
+        bool = ap variables_of_type plain.bool_is ∙ plain.no_variables;
         truths = whole.truths;
         main = main_function main;
       }

@@ -1,23 +1,24 @@
 -- What is known of an instance by its number.
-use Rattle.std.proofs.Common.{◌≡◌, ℕ, List, [], refl, sym, ap, ◌∙◌}
+use Rattle.std.proofs.Common.{◌≡◌, ℕ, List, [], sym, ap, ◌∙◌}
 use Rattle.std.specs.Prelude.{Some, slice_get, slice_index_or}
 use Rattle.std.proofs.lemmas.Option.{get_or_from_slice_get}
 use Rattle.kk_syntax.specs.Covered.{Each}
 use Rattle.kk_syntax.specs.Programs.{FunctionTree, ProgramTree}
 use Rattle.kk_syntax.specs.Typing.{Choice}
-use Rattle.kk_mono.specs.Instances.{InstanceTree, main_instance, called_at, calls, origin_in, IsAtTypes, IsInstanceProgram}
+use Rattle.kk_mono.specs.Instances.{InstanceTree, main_instance, called_at, calls, function_of, IsAtTypes, IsInstanceProgram}
 use Rattle.kk_instances.proofs.Called.{IsThere, there_too, each_found}
 
 module _ (program made : ProgramTree) (typings : List (List Choice)) (instances : List InstanceTree)
     (is : IsInstanceProgram program typings instances made) where
+  -- the function of an instance, by the instance's number
   abbrev origin : ℕ → ℕ
-  origin = origin_in instances
+  origin = function_of instances
 
   -- what is known of an instance by its number
   pub record IsFound (n : ℕ) (instance : InstanceTree) (found : FunctionTree) : Type 0 where
     pub function : FunctionTree
     pub there : slice_get program.functions instance.function ≡ Some function
-    pub at_types : IsAtTypes instances instance.at (slice_index_or typings instance.function []) function found
+    pub at_types : IsAtTypes instances is.grounds instance.at (slice_index_or typings instance.function []) function found
 
   pub found_at : (n : ℕ) (instance : InstanceTree) (found : FunctionTree) → slice_get instances n ≡ Some instance
       → slice_get made.functions n ≡ Some found → IsFound n instance found
@@ -25,7 +26,6 @@ module _ (program made : ProgramTree) (typings : List (List Choice)) (instances 
       let each = is.each n instance found instance_is found_is in
       record { function = each.0; there = each.1; at_types = each.2 }
 
-  -- the function of an instance, by the instance's number
   pub origin_is : (n : ℕ) (instance : InstanceTree) → slice_get instances n ≡ Some instance → origin n ≡ instance.function
   origin_is n instance at = ap (λ (i : InstanceTree). i.function) (get_or_from_slice_get instances n instance (main_instance 0) at)
 

@@ -1,5 +1,9 @@
 pub mod Called
+pub mod Choices
+pub mod Coverage
 pub mod Found
+pub mod Grounds
+pub mod Images
 pub mod Instanced
 pub mod Meaning
 pub mod Plain

@@ -1,260 +1,343 @@
--- Runs of a program's instances and of the program, side by side: at each step the program is at what the instances are at,
--- where each call names a function by its number there.
-use Rattle.std.proofs.Common.{◌≡◌, ℕ, zero, suc, Bool, true, false, List, [], ◌∷◌, ◌++◌, Option, Some, None, map, refl, sym, ap, ◌∙◌, subst}
-use Rattle.std.specs.Prelude.{option_map, nat_le, if◌then◌else◌, slice_get, slice_index_or}
+-- Runs of a program's instances and of the program, side by side: at each step the program is at the image of what the
+-- instances are at, where calls, constructors and values are by the numbers of the program.
+use Rattle.std.proofs.Common.{◌≡◌, ℕ, zero, suc, Bool, true, false, List, [], ◌∷◌, ◌++◌, Option, Some, None, length, map, option_map, refl, sym, ap, ◌∙◌}
+use Rattle.std.specs.Prelude.{ℤ, not, nat_le, if◌then◌else◌, slice_get, slice_index_or}
+use Rattle.std.specs.Fmt.{signed_decimal}
+use Rattle.std.proofs.lemmas.List.{map-append, length-map}
+use mathlib.Core.Path.{fun_ext}
 use Rattle.kk_base.specs.Machines.{step_unless, trace, state}
 use Rattle.kk_base.proofs.Machines.{trace_ended, state_ended}
+use Rattle.kk_syntax.specs.declared.operator.UnaryOperator.TheVariants.{Negate, Not}
+use Rattle.kk_syntax.specs.declared.operator.BinaryOperator.{BinaryOperator}
+use Rattle.kk_syntax.specs.declared.operator.BinaryOperator.TheVariants.{Add, Subtract, Multiply, Divide, Remainder, Equal, NotEqual, Less, LessEqual, Greater, GreaterEqual}
 use Rattle.kk_syntax.specs.declared.program.Form.{Form}
-use Rattle.kk_syntax.specs.declared.program.Form.TheVariants.{Construct, Call}
+use Rattle.kk_syntax.specs.declared.program.Form.TheVariants.{Number, Unit as Nothing, ReadByte, PrintText, Unary, Binary, Print, Construct, Call}
 use Rattle.kk_syntax.specs.declared.positions.Ownership.{Ownership}
 use Rattle.kk_syntax.specs.declared.positions.Ownership.TheVariants.{Owned}
-use Rattle.kk_syntax.specs.Covered.{Each}
+use Rattle.kk_syntax.specs.GroundTyping.{table_of, IsGroundTyped}
 use Rattle.kk_syntax.specs.PositionsOf.{PositionTable, lends}
-use Rattle.kk_syntax.specs.Trees.{Tree, variable, apply, branch, match, sequence, no_tree, tree, Rows, no_row, row}
+use Rattle.kk_syntax.specs.Trees.{Tree, variable, apply, branch, match, sequence, no_tree, tree}
 use Rattle.kk_syntax.specs.Programs.{FunctionTree, ProgramTree}
-use Rattle.kk_syntax.proofs.Elements.{each_parts}
-use Rattle.kk_source.specs.State.{Setting, Value, unit, Store, Environment, Frame, arguments, branches, rows, statement, call, End, heap_full, stack_full, Control, expression, value, stopped, end_at, Configuration}
+use Rattle.kk_syntax.specs.Types.{TypeTree}
+use Rattle.kk_source.specs.State.{Setting, Value, integer, unit, constant, place, Cell, Store, Environment, Frame, arguments, branches, rows, statement, call, End, heap_full, stack_full, Control, expression, value, stopped, end_at, Configuration}
 use Rattle.kk_source.specs.Notes.{Note}
 use Rattle.kk_source.specs.Live.{value_of, held, held_by_all, live}
-use Rattle.kk_source.specs.Matching.{Chosen, matched, chosen_or, first_match}
+use Rattle.kk_source.specs.Matching.{Chosen, first_match}
+use Rattle.kk_source.specs.Arithmetic.{negation_of}
 use Rattle.kk_source.specs.Actions.{Action, goes, puts, takes, builds, calls as counts_calls, print_step, build_step, enter_step, performed}
-use Rattle.kk_source.specs.FormEffects.{is_true, FormEffect, gives, prints, reads, makes, enters, form_effect, effect_step}
+use Rattle.kk_source.specs.FormEffects.{truth, is_true, integer_of, number_result, argument, piece_of, byte_value, FormEffect, gives, prints, reads, makes, enters, form_effect, effect_step}
+use Rattle.kk_source.specs.NeverStuck.{CallFits, FormFits, ExpressionFits, ValueFits, ControlFits}
 use Rattle.kk_source.specs.Step.{at_expression, at_value, at_end, at_new_place, lent_places, bind_parameters, call_frames, construct_step, push_step, call_step, form_step, expression_step, choice_step, value_step, step_at, step_of}
+use Rattle.kk_source.specs.ValueTypes.{IsOf}
 use Rattle.kk_source.specs.SourceAfter.{step, ending_of, store_machine, State}
-use Rattle.kk_source.proofs.Sound.{LeadsTo}
-use Rattle.kk_mono.specs.Instances.{called_by, calls, calls_of_all, calls_of_rows, renamed, renamed_all, renamed_rows, renamed_form}
+use Rattle.kk_source.proofs.Bindings.{rows_of_type}
+use Rattle.kk_source.proofs.Kept.{performed_keeps}
+use Rattle.kk_source.proofs.Safe.{IsStateTyped, ControlTyped, FramesWait, state_fits, step_safe}
 use Rattle.kk_instances.specs.Meaning.{setting_of}
+use Rattle.kk_instances.proofs.Choices.{AreApart, choice_image, chosen_image}
+use Rattle.kk_mono.specs.Instances.{Renaming, renamed, renamed_all, renamed_rows, renamed_form}
+use Rattle.kk_instances.proofs.Images.{image, images, cell_image, store_image, environment_image, image_of_variable, image_of_variables, image_of_bound, image_of_parameters, image_of_argument, image_of_lent, live_image}
 use Rattle.kk_instances.proofs.Renamed.{same_free, same_free_all, same_free_rows}
 
--- ---- states whose calls are by new numbers
+-- ---- images of states
 
-module _ (new : ℕ → ℕ) where
-  abbrev pub renamed_frame : Frame → Frame
-  renamed_frame (arguments form values left environment) = arguments (renamed_form new form) values (renamed_all new left) environment
-  renamed_frame (branches positive negative environment) = branches (renamed new positive) (renamed new negative) environment
-  renamed_frame (rows of environment) = rows (renamed_rows new of) environment
-  renamed_frame (statement awaited rest environment) = statement awaited (renamed new rest) environment
-  renamed_frame (call lent) = call lent
+module _ (new : Renaming) where
+  abbrev pub frame_image : Frame → Frame
+  frame_image (arguments form values left env) =
+      arguments (renamed_form new form) (images new values) (renamed_all new left) (environment_image new env)
+  frame_image (branches positive negative env) =
+      branches (renamed new positive) (renamed new negative) (environment_image new env)
+  frame_image (rows of env) = rows (renamed_rows new of) (environment_image new env)
+  frame_image (statement awaited rest env) = statement awaited (renamed new rest) (environment_image new env)
+  frame_image (call lent) = call (images new lent)
 
-  abbrev pub renamed_frames : List Frame → List Frame
-  renamed_frames [] = []
-  renamed_frames (frame ∷ older) = renamed_frame frame ∷ renamed_frames older
+  abbrev pub frames_image : List Frame → List Frame
+  frames_image frames = map frame_image frames
 
-  abbrev pub renamed_control : Control → Control
-  renamed_control (expression e environment) = expression (renamed new e) environment
-  renamed_control (value v) = value v
-  renamed_control (stopped by) = stopped by
+  abbrev pub control_image : Control → Control
+  control_image (expression e env) = expression (renamed new e) (environment_image new env)
+  control_image (value v) = value (image new v)
+  control_image (stopped by) = stopped by
 
-  abbrev pub renamed_machine : Configuration → Configuration
-  renamed_machine c = record { control = renamed_control c.control; frames = renamed_frames c.frames; store = c.store }
+  abbrev pub machine_image : Configuration → Configuration
+  machine_image c =
+      record { control = control_image c.control; frames = frames_image c.frames; store = store_image new c.store }
 
-  abbrev pub renamed_state : State → State
-  renamed_state s = record { machine = renamed_machine s.machine; input = s.input }
+  abbrev pub state_image : State → State
+  state_image s = record { machine = machine_image s.machine; input = s.input }
 
-  abbrev pub renamed_action : Action Configuration → Action Configuration
-  renamed_action (goes to) = goes (renamed_machine to)
-  renamed_action (puts piece to) = puts piece (renamed_machine to)
-  renamed_action (takes to) = takes (λ byte. renamed_machine (to byte))
-  renamed_action (builds found to) = builds found (renamed_machine to)
-  renamed_action (counts_calls found to) = counts_calls found (renamed_machine to)
+  abbrev pub action_image : Action Configuration → Action Configuration
+  action_image (goes to) = goes (machine_image to)
+  action_image (puts piece to) = puts piece (machine_image to)
+  action_image (takes to) = takes (λ byte. machine_image (to byte))
+  action_image (builds found to) = builds found (machine_image to)
+  action_image (counts_calls found to) = counts_calls found (machine_image to)
 
-  -- an effect differs at a call alone
-  abbrev renamed_effect : FormEffect → FormEffect
-  renamed_effect (enters f values) = enters (new f) values
-  renamed_effect effect = effect
+  abbrev pub effect_image : FormEffect → FormEffect
+  effect_image (gives v) = gives (image new v)
+  effect_image (prints piece) = prints piece
+  effect_image reads = reads
+  effect_image (makes c fields) = makes (new.constructors c) (images new fields)
+  effect_image (enters f values) = enters (new.functions f) (images new values)
 
-  same_effect : (texts : List (List ℕ)) (form : Form) (values : List Value) → form_effect texts (renamed_form new form) values ≡ renamed_effect (form_effect texts form values)
-  same_effect texts (Construct c) [] = refl
-  same_effect texts (Construct c) (v ∷ vs) = refl
-  same_effect texts _ values = refl
+  -- what is held has images, and as many calls wait
+  held_image : (frame : Frame) → held (frame_image frame) ≡ images new (held frame)
+  held_image (arguments form values left env) =
+      ap (λ xs. images new values ++ map (value_of (environment_image new env)) xs) (same_free_all new left)
+      ∙ (ap (λ vs. images new values ++ vs) (image_of_variables new env _) ∙ sym (map-append (image new) values _))
+  held_image (branches positive negative env) =
+      ap (λ xs. map (value_of (environment_image new env)) xs) (rw (same_free new positive, same_free new negative) refl)
+      ∙ image_of_variables new env _
+  held_image (rows of env) =
+      ap (λ xs. map (value_of (environment_image new env)) xs) (same_free_rows new of) ∙ image_of_variables new env _
+  held_image (statement awaited rest env) =
+      ap (λ xs. map (value_of (environment_image new env)) xs) (rw (same_free new rest) refl) ∙ image_of_variables new env _
+  held_image (call lent) = refl
 
-  abbrev renamed_choice : Chosen → Chosen
-  renamed_choice chosen = record { body = renamed new chosen.body; environment = chosen.environment }
+  held_by_all_image : (frames : List Frame) → held_by_all (frames_image frames) ≡ images new (held_by_all frames)
+  held_by_all_image [] = refl
+  held_by_all_image (frame ∷ older) =
+      ap (λ vs. vs ++ held_by_all (frames_image older)) (held_image frame)
+      ∙ (ap (λ vs. images new (held frame) ++ vs) (held_by_all_image older)
+      ∙ sym (map-append (image new) (held frame) (held_by_all older)))
 
-  -- what is held, and how many calls wait, stays
-  same_held : (frame : Frame) → held (renamed_frame frame) ≡ held frame
-  same_held (arguments form values left environment) = ap (λ xs. values ++ map (value_of environment) xs) (same_free_all new left)
-  same_held (branches positive negative environment) = rw (same_free new positive, same_free new negative) refl
-  same_held (rows of environment) = rw (same_free_rows new of) refl
-  same_held (statement awaited rest environment) = rw (same_free new rest) refl
-  same_held (call lent) = refl
-
-  same_held_by_all : (frames : List Frame) → held_by_all (renamed_frames frames) ≡ held_by_all frames
-  same_held_by_all [] = refl
-  same_held_by_all (frame ∷ older) = rw (same_held frame, same_held_by_all older) refl
-
-  same_call_frames : (frames : List Frame) → call_frames (renamed_frames frames) ≡ call_frames frames
+  same_call_frames : (frames : List Frame) → call_frames (frames_image frames) ≡ call_frames frames
   same_call_frames [] = refl
+  same_call_frames (arguments form values left env ∷ older) = same_call_frames older
+  same_call_frames (branches positive negative env ∷ older) = same_call_frames older
+  same_call_frames (rows of env ∷ older) = same_call_frames older
+  same_call_frames (statement awaited rest env ∷ older) = same_call_frames older
   same_call_frames (call lent ∷ older) = ap suc (same_call_frames older)
-  same_call_frames (frame ∷ older) = same_call_frames older
 
-  -- the row that is taken stays
-  same_choice : (store : Store) (of : Rows) (v : Value) (environment : Environment) → first_match store (renamed_rows new of) v environment ≡ option_map renamed_choice (first_match store of v environment)
-  same_choice store no_row v environment = refl
-  same_choice store (row pattern body rest) v environment = by_match (matched store pattern v environment) (same_choice store rest v environment)
+  pub same_ending : (s : State) → ending_of (state_image s) ≡ ending_of s
+  same_ending s = elim s.machine.control as (λ control. end_at (control_image control) ≡ end_at control)
+      [ expression e env ↦ refl | value v ↦ refl | stopped by ↦ refl ]
+
+  either_image : (test : Bool) (a b : Configuration) → (if test then machine_image a else machine_image b)
+      ≡ machine_image (if test then a else b)
+  either_image true a b = refl
+  either_image false a b = refl
+
+  branch_image : (test : Bool) (a b : Tree) → (if test then renamed new a else renamed new b) ≡ renamed new (if test then a else b)
+  branch_image true a b = refl
+  branch_image false a b = refl
+
+  -- a new place
+  new_place_image : (c : ℕ) (vs : List Value) (to : Configuration)
+      → at_new_place (new.constructors c) (images new vs) (machine_image to) ≡ machine_image (at_new_place c vs to)
+  new_place_image c vs to =
+      ap (λ at. placed at (store_image new to.store ++ cell_image new (cell c vs) ∷ [])) (length-map to.store (cell_image new))
+      ∙ ap (placed (length to.store)) (sym (map-append (cell_image new) to.store (cell c vs ∷ [])))
     where
-      by_match : (bound : Option Environment) → first_match store (renamed_rows new rest) v environment ≡ option_map renamed_choice (first_match store rest v environment) → chosen_or (renamed new body) bound (first_match store (renamed_rows new rest) v environment) ≡ option_map renamed_choice (chosen_or body bound (first_match store rest v environment))
-      by_match None later = later
-      by_match (Some bound) later = refl
+      cell : ℕ → List Value → Cell
+      cell d fields = record { made_by = d; fields = fields }
 
-  pub same_ending : (s : State) → ending_of (renamed_state s) ≡ ending_of s
-  same_ending s = elim s.machine.control as (λ control. end_at (renamed_control control) ≡ end_at control)
-      [ expression e environment ↦ refl | value v ↦ refl | stopped by ↦ refl ]
+      placed : ℕ → Store → Configuration
+      placed at store = record { control = value (place at); frames = frames_image to.frames; store = store }
 
-  same_test : (test : Bool) (a b : Configuration) → (if test then renamed_machine a else renamed_machine b) ≡ renamed_machine (if test then a else b)
-  same_test true a b = refl
-  same_test false a b = refl
+  -- what a step tells and leads to
+  same_performed : (action : Action Configuration) (input : List ℕ) → performed (action_image action) input
+      ≡ ((performed action input).0, state_image (performed action input).1)
+  same_performed (goes to) input = refl
+  same_performed (puts piece to) input = refl
+  same_performed (takes to) [] = refl
+  same_performed (takes to) (byte ∷ input) = refl
+  same_performed (builds found to) input = refl
+  same_performed (counts_calls found to) input = refl
 
-  same_branch : (test : Bool) (a b : Tree) → (if test then renamed new a else renamed new b) ≡ renamed new (if test then a else b)
-  same_branch true a b = refl
-  same_branch false a b = refl
+-- ---- forms
 
--- ---- states that call only functions with a property
+module _ (new : Renaming) (first : new.constructors 0 ≡ 0) (second : new.constructors 1 ≡ 1) where
+  truth_image : (t : Bool) → image new (truth t) ≡ truth t
+  truth_image false = ap (λ c. constant c) first
+  truth_image true = ap (λ c. constant c) second
 
-module _ (P : ℕ → Type 0) where
-  abbrev pub FrameCalls : Frame → Type 0
-  FrameCalls (arguments form values left environment) = Each P (called_by form) × Each P (calls_of_all left)
-  FrameCalls (branches positive negative environment) = Each P (calls positive) × Each P (calls negative)
-  FrameCalls (rows of environment) = Each P (calls_of_rows of)
-  FrameCalls (statement awaited rest environment) = Each P (calls rest)
-  FrameCalls (call lent) = Unit {0}
+  test_image : (t : Bool) (v : Value) → v ≡ truth t → is_true (image new v) ≡ is_true v
+  test_image t v is = ap (λ w. is_true (image new w)) is ∙ (ap is_true (truth_image t) ∙ sym (ap is_true is))
 
-  abbrev pub FramesCall : List Frame → Type 0
-  FramesCall [] = Unit {0}
-  FramesCall (frame ∷ older) = FrameCalls frame × FramesCall older
+  integer_image : (v : Value) → integer_of (image new v) ≡ integer_of v
+  integer_image (integer n) = refl
+  integer_image unit = refl
+  integer_image (constant c) = refl
+  integer_image (place at) = refl
 
-  abbrev pub ControlCalls : Control → Type 0
-  ControlCalls (expression e environment) = Each P (calls e)
-  ControlCalls (value v) = Unit {0}
-  ControlCalls (stopped by) = Unit {0}
+  number_image : (operator : BinaryOperator) (x y : ℤ) → number_result operator x y ≡ image new (number_result operator x y)
+  number_image Add x y = refl
+  number_image Subtract x y = refl
+  number_image Multiply x y = refl
+  number_image Divide x y = refl
+  number_image Remainder x y = refl
+  number_image Equal x y = sym (truth_image _)
+  number_image NotEqual x y = sym (truth_image _)
+  number_image Less x y = sym (truth_image _)
+  number_image LessEqual x y = sym (truth_image _)
+  number_image Greater x y = sym (truth_image _)
+  number_image GreaterEqual x y = sym (truth_image _)
 
-  pub record MachineCalls (c : Configuration) : Type 0 where
-    pub control : ControlCalls c.control
-    pub frames : FramesCall c.frames
+  byte_image : (byte : Option ℕ) → byte_value byte ≡ image new (byte_value byte)
+  byte_image None = refl
+  byte_image (Some byte) = refl
 
-  abbrev ChoiceCalls : Option Chosen → Type 0
-  ChoiceCalls None = Unit {0}
-  ChoiceCalls (Some chosen) = Each P (calls chosen.body)
+  integer_argument : (vs : List Value) (i : ℕ) → integer_of (argument i (images new vs)) ≡ integer_of (argument i vs)
+  integer_argument vs i = ap integer_of (image_of_argument new vs i) ∙ integer_image (argument i vs)
 
-  choice_calls : (store : Store) (of : Rows) (v : Value) (environment : Environment) → Each P (calls_of_rows of) → ChoiceCalls (first_match store of v environment)
-  choice_calls store no_row v environment only = tt
-  choice_calls store (row pattern body rest) v environment only =
-      let parts = each_parts P (calls body) (calls_of_rows rest) only in
-      by_match (matched store pattern v environment) parts.0 (choice_calls store rest v environment parts.1)
-    where
-      by_match : (bound : Option Environment) → Each P (calls body) → ChoiceCalls (first_match store rest v environment) → ChoiceCalls (chosen_or body bound (first_match store rest v environment))
-      by_match None here later = later
-      by_match (Some bound) here later = here
-
-  -- a form that calls only such functions has only such effects
-  abbrev EffectCalls : FormEffect → Type 0
-  EffectCalls (enters f values) = P f
-  EffectCalls _ = Unit {0}
-
-  effect_calls : (texts : List (List ℕ)) (form : Form) (values : List Value) → Each P (called_by form) → EffectCalls (form_effect texts form values)
-  effect_calls texts (Call f) values only = only.0
-  effect_calls texts (Construct c) [] only = tt
-  effect_calls texts (Construct c) (v ∷ vs) only = tt
-  effect_calls texts _ values only = tt
-
-  test_calls : (test : Bool) (a b : Configuration) → MachineCalls a → MachineCalls b → MachineCalls (if test then a else b)
-  test_calls true a b first second = first
-  test_calls false a b first second = second
-
-  branch_calls : (test : Bool) (a b : Tree) → Each P (calls a) → Each P (calls b) → Each P (calls (if test then a else b))
-  branch_calls true a b first second = first
-  branch_calls false a b first second = second
-
-  performed_calls : (action : Action Configuration) (input : List ℕ) → LeadsTo MachineCalls action → MachineCalls (performed action input).1.machine
-  performed_calls (goes to) input only = only
-  performed_calls (puts piece to) input only = only
-  performed_calls (takes to) [] only = only None
-  performed_calls (takes to) (byte ∷ input) only = only (Some byte)
-  performed_calls (builds found to) input only = only
-  performed_calls (counts_calls found to) input only = only
-
--- what a step tells and leads to, where it does the same by the new numbers
-same_performed : (new : ℕ → ℕ) (action : Action Configuration) (input : List ℕ) → performed (renamed_action new action) input ≡ ((performed action input).0, renamed_state new (performed action input).1)
-same_performed new (goes to) input = refl
-same_performed new (puts piece to) input = refl
-same_performed new (takes to) [] = refl
-same_performed new (takes to) (byte ∷ input) = refl
-same_performed new (builds found to) input = refl
-same_performed new (counts_calls found to) input = refl
+  form_image : (program : ProgramTree) (texts : List (List ℕ)) (form : Form) (vs : List Value) → FormFits program form vs
+      → form_effect texts (renamed_form new form) (images new vs) ≡ effect_image new (form_effect texts form vs)
+  form_image program texts (Number n) vs fits = refl
+  form_image program texts Nothing vs fits = refl
+  form_image program texts ReadByte vs fits = refl
+  form_image program texts (PrintText form text) vs fits = refl
+  form_image program texts (Unary Negate) vs fits =
+      ap (λ n. gives (integer (negation_of n))) (integer_argument vs 0)
+  form_image program texts (Unary Not) vs fits =
+      ap (λ v. gives (truth (not (is_true v)))) (image_of_argument new vs 0)
+      ∙ (ap (λ t. gives (truth (not t))) (test_image fits.0 (argument 0 vs) (ap (argument 0) fits.1))
+      ∙ ap gives (sym (truth_image (not (is_true (argument 0 vs))))))
+  form_image program texts (Binary operator) vs fits =
+      ap (λ n. gives (number_result operator n (integer_of (argument 1 (images new vs))))) (integer_argument vs 0)
+      ∙ (ap (λ n. gives (number_result operator (integer_of (argument 0 vs)) n)) (integer_argument vs 1)
+      ∙ ap gives (number_image operator (integer_of (argument 0 vs)) (integer_of (argument 1 vs))))
+  form_image program texts (Print form) vs fits =
+      ap (λ n. prints (piece_of form (signed_decimal n))) (integer_argument vs 0)
+  form_image program texts (Construct c) [] fits = refl
+  form_image program texts (Construct c) (v ∷ vs) fits = refl
+  form_image program texts (Call f) vs fits = refl
 
 -- ---- the steps
 
--- a function of each program, whose bodies differ in the numbers of their calls alone
-pub record IsAlike (program instances : ProgramTree) (new : ℕ → ℕ) (f : ℕ) : Type 0 where
-  pub function : FunctionTree
-  pub is : slice_get instances.functions f ≡ Some function
+-- a function of the program, whose body differs from that of an instance in calls and constructors alone
+pub record IsAlike (program : ProgramTree) (new : Renaming) (f : ℕ) (function : FunctionTree) : Type 0 where
   pub other : FunctionTree
-  pub other_is : slice_get program.functions (new f) ≡ Some other
+  pub there : slice_get program.functions (new.functions f) ≡ Some other
   pub body : other.body ≡ renamed new function.body
 
--- The programs print the same string literals. The functions with the property are there under both numbers, their bodies
--- call only functions with the property, and their positions are lent alike.
-module _ (program instances : ProgramTree) (texts : program.texts ≡ instances.texts) (table other : PositionTable) (cells depth : ℕ) (new : ℕ → ℕ) (P : ℕ → Type 0) (there : (f : ℕ) → P f → IsAlike program instances new f) (bodies : (f : ℕ) (function : FunctionTree) → P f → slice_get instances.functions f ≡ Some function → Each P (calls function.body)) (lent : (f : ℕ) → P f → slice_index_or other (new f) [] ≡ slice_index_or table f []) where
-  abbrev old_setting : Setting
-  old_setting = setting_of instances table cells depth
+-- The programs print the same string literals. The functions of the typed one, the instances, are there under both numbers,
+-- and their positions are lent alike. The constructors of one type keep their numbers apart.
+module _ (program made : ProgramTree) (texts : program.texts ≡ made.texts) (typed : IsGroundTyped made)
+    (table other : PositionTable)
+    (cells depth : ℕ) (new : Renaming) (first : new.constructors 0 ≡ 0) (second : new.constructors 1 ≡ 1)
+    (apart : AreApart made.constructors new.constructors)
+    (there : (f : ℕ) (function : FunctionTree) → slice_get made.functions f ≡ Some function → IsAlike program new f function)
+    (lent : (f : ℕ) (function : FunctionTree) → slice_get made.functions f ≡ Some function
+    → slice_index_or other (new.functions f) [] ≡ slice_index_or table f []) where
+  abbrev made_setting : Setting
+  made_setting = setting_of made table cells depth
 
-  abbrev new_setting : Setting
-  new_setting = setting_of program other cells depth
+  abbrev setting : Setting
+  setting = setting_of program other cells depth
 
-  -- both do the same, and what comes then calls only functions with the property
-  record Follows (a b : Action Configuration) : Type 0 where
-    is : a ≡ renamed_action new b
-    only : LeadsTo (MachineCalls P) b
+  -- the program does the image of what the instances do
+  abbrev Follows : Action Configuration → Action Configuration → Type 0
+  Follows a b = a ≡ action_image new b
 
-  construct_follows : (c : ℕ) (vs : List Value) (older : List Frame) (from : Configuration) → FramesCall P older → MachineCalls P from → Follows (construct_step new_setting c vs (renamed_frames new older) (renamed_machine new from)) (construct_step old_setting c vs older from)
-  construct_follows c vs older from frames machine =
-      let found = live from.store (vs ++ held_by_all older) in
-      record {
-        is =
-            ap (λ (held : List Value). build_step cells (live from.store (vs ++ held)) (at_end heap_full (renamed_machine new from)) (at_new_place c vs (renamed_machine new (record from { frames = older })))) (same_held_by_all new older)
-            ∙ ap (builds found) (same_test new (nat_le cells found) (at_end heap_full from) (at_new_place c vs (record from { frames = older })));
-        only =
-            test_calls P (nat_le cells found) (at_end heap_full from) (at_new_place c vs (record from { frames = older }))
-            (record { control = tt; frames = machine.frames }) (record { control = tt; frames = frames });
-      }
+  construct_follows : (c : ℕ) (vs : List Value) (older : List Frame) (from : Configuration)
+      → Follows
+      (construct_step setting (new.constructors c) (images new vs) (frames_image new older) (machine_image new from))
+      (construct_step made_setting c vs older from)
+  construct_follows c vs older from =
+      ap (λ n. build_step cells n (at_end heap_full (machine_image new from))
+      (at_new_place (new.constructors c) (images new vs) from_image)) found
+      ∙ (ap (λ made_place. build_step cells (live from.store held_here) (at_end heap_full (machine_image new from)) made_place)
+      (new_place_image new c vs (record from { frames = older }))
+      ∙ ap (builds (live from.store held_here))
+      (either_image new (nat_le cells (live from.store held_here)) (at_end heap_full from)
+      (at_new_place c vs (record from { frames = older }))))
+    where
+      held_here : List Value
+      held_here = vs ++ held_by_all older
+
+      from_image : Configuration
+      from_image = machine_image new (record from { frames = older })
+
+      found : live (store_image new from.store) (images new vs ++ held_by_all (frames_image new older))
+          ≡ live from.store held_here
+      found =
+          ap (λ ws. live (store_image new from.store) (images new vs ++ ws)) (held_by_all_image new older)
+          ∙ (ap (live (store_image new from.store)) (sym (map-append (image new) vs (held_by_all older)))
+          ∙ live_image new from.store held_here)
+
+  -- a function's body, its parameters bound
+  entered_image : (body : Tree) (vs : List Value) (to : Configuration)
+      → at_expression (renamed new body) (bind_parameters 0 (images new vs) []) (machine_image new to)
+      ≡ machine_image new (at_expression body (bind_parameters 0 vs []) to)
+  entered_image body vs to =
+      ap (λ env. at_expression (renamed new body) env (machine_image new to)) (image_of_parameters new 0 vs [])
 
   -- the machine that a call pushes a frame in, with the positions that its function lends
   abbrev pushed : Tree → List Value → List Frame → Configuration → List Ownership → Configuration
-  pushed body vs older from lending = at_expression body (bind_parameters 0 vs []) (record from { frames = call (lent_places (λ i. lends (slice_index_or lending i Owned)) 0 vs) ∷ older })
+  pushed body vs older from lending =
+      at_expression body (bind_parameters 0 vs [])
+      (record from { frames = call (lent_places (λ i. lends (slice_index_or lending i Owned)) 0 vs) ∷ older })
 
-  push_follows : (f : ℕ) (function made : FunctionTree) (vs : List Value) (older : List Frame) (from : Configuration) → P f → made.body ≡ renamed new function.body → Each P (calls function.body) → FramesCall P older → MachineCalls P from → Follows (push_step new_setting (new f) made vs (renamed_frames new older) (renamed_machine new from)) (push_step old_setting f function vs older from)
-  push_follows f function made vs older from instance same body frames machine =
-      let found = call_frames older in
-      let lending = slice_index_or table f [] in
-      record {
-        is =
-            ap (λ (row : List Ownership). enter_step depth (call_frames (renamed_frames new older)) (at_end stack_full (renamed_machine new from)) (pushed made.body vs (renamed_frames new older) (renamed_machine new from) row)) (lent f instance)
-            ∙ (ap (λ (n : ℕ). enter_step depth n (at_end stack_full (renamed_machine new from)) (pushed made.body vs (renamed_frames new older) (renamed_machine new from) lending)) (same_call_frames new older)
-            ∙ (ap (λ (b : Tree). enter_step depth found (at_end stack_full (renamed_machine new from)) (pushed b vs (renamed_frames new older) (renamed_machine new from) lending)) same
-            ∙ ap (counts_calls found) (same_test new (nat_le depth found) (at_end stack_full from) (pushed function.body vs older from lending))));
-        only =
-            test_calls P (nat_le depth found) (at_end stack_full from) (pushed function.body vs older from lending)
-            (record { control = tt; frames = machine.frames }) (record { control = body; frames = (tt, frames) });
-      }
+  pushed_image : (body : Tree) (vs : List Value) (older : List Frame) (from : Configuration) (lending : List Ownership)
+      → pushed (renamed new body) (images new vs) (frames_image new older) (machine_image new from) lending
+      ≡ machine_image new (pushed body vs older from lending)
+  pushed_image body vs older from lending =
+      let lends_at : ℕ → Bool = λ i. lends (slice_index_or lending i Owned) in
+      ap (λ places. at_expression (renamed new body) (bind_parameters 0 (images new vs) [])
+      (record (machine_image new from) { frames = call places ∷ frames_image new older }))
+      (image_of_lent new lends_at 0 vs)
+      ∙ entered_image body vs (record from { frames = call (lent_places lends_at 0 vs) ∷ older })
 
-  entry_follows : (f : ℕ) (function made : FunctionTree) (vs : List Value) (older : List Frame) (from : Configuration) → P f → made.body ≡ renamed new function.body → Each P (calls function.body) → FramesCall P older → MachineCalls P from → Follows (call_step new_setting (new f) (Some made) vs (renamed_frames new older) (renamed_machine new from)) (call_step old_setting f (Some function) vs older from)
-  entry_follows f function made vs (call lent ∷ older) from instance same body frames machine = record {
-    is = ap (λ (b : Tree). goes (at_expression b (bind_parameters 0 vs []) (renamed_machine new (record from { frames = call lent ∷ older })))) same;
-    only = record { control = body; frames = frames };
-  }
-  entry_follows f function made vs older from instance same body frames machine = push_follows f function made vs older from instance same body frames machine
+  push_follows : (f : ℕ) (function made_one : FunctionTree) (vs : List Value) (older : List Frame) (from : Configuration)
+      → slice_get made.functions f ≡ Some made_one → function.body ≡ renamed new made_one.body
+      → Follows
+      (push_step setting (new.functions f) function (images new vs) (frames_image new older) (machine_image new from))
+      (push_step made_setting f made_one vs older from)
+  push_follows f function made_one vs older from is same =
+      ap (λ (row : List Ownership). enter_step depth (call_frames (frames_image new older)) full
+      (pushed function.body (images new vs) (frames_image new older) (machine_image new from) row)) (lent f made_one is)
+      ∙ (ap (λ (n : ℕ). enter_step depth n full
+      (pushed function.body (images new vs) (frames_image new older) (machine_image new from) lending)) (same_call_frames new older)
+      ∙ (ap (λ (b : Tree). enter_step depth found full
+      (pushed b (images new vs) (frames_image new older) (machine_image new from) lending)) same
+      ∙ (ap (enter_step depth found full) (pushed_image made_one.body vs older from lending)
+      ∙ ap (counts_calls found)
+      (either_image new (nat_le depth found) (at_end stack_full from) (pushed made_one.body vs older from lending)))))
+    where
+      found : ℕ
+      found = call_frames older
 
-  call_follows : (f : ℕ) (vs : List Value) (older : List Frame) (from : Configuration) → P f → FramesCall P older → MachineCalls P from → Follows (call_step new_setting (new f) (slice_get program.functions (new f)) vs (renamed_frames new older) (renamed_machine new from)) (call_step old_setting f (slice_get instances.functions f) vs older from)
-  call_follows f vs older from instance frames machine =
-      let alike = there f instance in
-      let at_functions : Option FunctionTree → Option FunctionTree → Type 0 = λ one another. Follows (call_step new_setting (new f) one vs (renamed_frames new older) (renamed_machine new from)) (call_step old_setting f another vs older from) in
-      subst (λ (o : Option FunctionTree). at_functions o (slice_get instances.functions f)) (sym alike.other_is)
-      (subst (at_functions (Some alike.other)) (sym alike.is)
-      (entry_follows f alike.function alike.other vs older from instance alike.body (bodies f alike.function instance alike.is) frames machine))
+      lending : List Ownership
+      lending = slice_index_or table f []
 
-  print_follows : (piece : List ℕ) (to : Configuration) → MachineCalls P to → Follows (print_step piece (renamed_machine new to)) (print_step piece to)
-  print_follows [] to only = record { is = refl; only = only }
-  print_follows (byte ∷ bytes) to only = record { is = refl; only = only }
+      full : Configuration
+      full = at_end stack_full (machine_image new from)
+
+  entry_follows : (f : ℕ) (function made_one : FunctionTree) (vs : List Value) (older : List Frame) (from : Configuration)
+      → slice_get made.functions f ≡ Some made_one → function.body ≡ renamed new made_one.body
+      → Follows
+      (call_step setting (new.functions f) (Some function) (images new vs) (frames_image new older) (machine_image new from))
+      (call_step made_setting f (Some made_one) vs older from)
+  entry_follows f function made_one vs (call kept ∷ older) from is same =
+      let to : Configuration = record from { frames = call kept ∷ older } in
+      ap (λ (b : Tree). goes (at_expression b (bind_parameters 0 (images new vs) []) (machine_image new to))) same
+      ∙ ap goes (entered_image made_one.body vs to)
+  entry_follows f function made_one vs [] from is same = push_follows f function made_one vs [] from is same
+  entry_follows f function made_one vs (arguments form values left env ∷ older) from is same =
+      push_follows f function made_one vs (arguments form values left env ∷ older) from is same
+  entry_follows f function made_one vs (branches p q env ∷ older) from is same =
+      push_follows f function made_one vs (branches p q env ∷ older) from is same
+  entry_follows f function made_one vs (rows rs env ∷ older) from is same =
+      push_follows f function made_one vs (rows rs env ∷ older) from is same
+  entry_follows f function made_one vs (statement x rest env ∷ older) from is same =
+      push_follows f function made_one vs (statement x rest env ∷ older) from is same
+
+  call_follows : (f : ℕ) (vs : List Value) (older : List Frame) (from : Configuration) → CallFits made f vs
+      → Follows
+      (call_step setting (new.functions f) (slice_get program.functions (new.functions f)) (images new vs) (frames_image new older)
+      (machine_image new from))
+      (call_step made_setting f (slice_get made.functions f) vs older from)
+  call_follows f vs older from fits =
+      let alike = there f fits.0 fits.1 in
+      ap (λ found. call_step setting (new.functions f) found (images new vs) (frames_image new older) (machine_image new from))
+      alike.there
+      ∙ (entry_follows f alike.other fits.0 vs older from fits.1 alike.body
+      ∙ ap (λ found. action_image new (call_step made_setting f found vs older from)) (sym fits.1))
+
+  print_follows : (piece : List ℕ) (to : Configuration) → Follows (print_step piece (machine_image new to)) (print_step piece to)
+  print_follows [] to = refl
+  print_follows (byte ∷ bytes) to = refl
 
   -- what an effect does
   abbrev effect_at : Setting → FormEffect → List Frame → Configuration → Action Configuration
@@ -262,100 +345,141 @@ module _ (program instances : ProgramTree) (texts : program.texts ≡ instances.
       effect_step (λ v. at_value v (record from { frames = older })) (λ c fields. construct_step setting c fields older from)
       (λ f values. call_step setting f (slice_get setting.program.functions f) values older from) effect
 
-  effect_follows : (effect : FormEffect) (older : List Frame) (from : Configuration) → EffectCalls P effect → FramesCall P older → MachineCalls P from → Follows (effect_at new_setting (renamed_effect new effect) (renamed_frames new older) (renamed_machine new from)) (effect_at old_setting effect older from)
-  effect_follows (gives v) older from only frames machine = record { is = refl; only = record { control = tt; frames = frames } }
-  effect_follows (prints piece) older from only frames machine = print_follows piece (at_value unit (record from { frames = older })) (record { control = tt; frames = frames })
-  effect_follows reads older from only frames machine = record { is = refl; only = λ byte. record { control = tt; frames = frames } }
-  effect_follows (makes c fields) older from only frames machine = construct_follows c fields older from frames machine
-  effect_follows (enters f values) older from only frames machine = call_follows f values older from only frames machine
+  -- a call is of a function that is there
+  abbrev EffectFits : FormEffect → Type 0
+  EffectFits (enters f values) = CallFits made f values
+  EffectFits _ = Unit {0}
 
-  form_follows : (form : Form) (vs : List Value) (older : List Frame) (from : Configuration) → Each P (called_by form) → FramesCall P older → MachineCalls P from → Follows (form_step new_setting (renamed_form new form) vs (renamed_frames new older) (renamed_machine new from)) (form_step old_setting form vs older from)
-  form_follows form vs older from only frames machine =
-      let follows = effect_follows (form_effect instances.texts form vs) older from (effect_calls P instances.texts form vs only) frames machine in
-      let same : form_effect program.texts (renamed_form new form) vs ≡ renamed_effect new (form_effect instances.texts form vs) =
-      ap (λ (all : List (List ℕ)). form_effect all (renamed_form new form) vs) texts ∙ same_effect new instances.texts form vs in
-      record { is = ap (λ (effect : FormEffect). effect_at new_setting effect (renamed_frames new older) (renamed_machine new from)) same ∙ follows.is; only = follows.only }
+  effect_fits : (form : Form) (vs : List Value) → FormFits made form vs → EffectFits (form_effect made.texts form vs)
+  effect_fits (Number n) vs fits = tt
+  effect_fits Nothing vs fits = tt
+  effect_fits ReadByte vs fits = tt
+  effect_fits (PrintText form text) vs fits = tt
+  effect_fits (Unary operator) vs fits = tt
+  effect_fits (Binary operator) vs fits = tt
+  effect_fits (Print form) vs fits = tt
+  effect_fits (Construct c) [] fits = tt
+  effect_fits (Construct c) (v ∷ vs) fits = tt
+  effect_fits (Call f) vs fits = fits
 
-  expression_follows : (e : Tree) (environment : Environment) (c : Configuration) → Each P (calls e) → MachineCalls P c → Follows (expression_step new_setting (renamed new e) environment (renamed_machine new c)) (expression_step old_setting e environment c)
-  expression_follows (variable x) environment c only machine = record { is = refl; only = record { control = tt; frames = machine.frames } }
-  expression_follows (apply form no_tree) environment c only machine = form_follows form [] c.frames c (each_parts P (called_by form) [] only).0 machine.frames machine
-  expression_follows (apply form (tree first rest)) environment c only machine =
-      let parts = each_parts P (called_by form) (calls first ++ calls_of_all rest) only in
-      let those = each_parts P (calls first) (calls_of_all rest) parts.1 in
-      record { is = refl; only = record { control = those.0; frames = ((parts.0, those.1), machine.frames) } }
-  expression_follows (branch condition positive negative) environment c only machine =
-      let parts = each_parts P (calls condition) (calls positive ++ calls negative) only in
-      record { is = refl; only = record { control = parts.0; frames = (each_parts P (calls positive) (calls negative) parts.1, machine.frames) } }
-  expression_follows (match scrutinee of) environment c only machine =
-      let parts = each_parts P (calls scrutinee) (calls_of_rows of) only in
-      record { is = refl; only = record { control = parts.0; frames = (parts.1, machine.frames) } }
-  expression_follows (sequence binder first rest) environment c only machine =
-      let parts = each_parts P (calls first) (calls rest) only in
-      record { is = refl; only = record { control = parts.0; frames = (parts.1, machine.frames) } }
+  effect_follows : (effect : FormEffect) (older : List Frame) (from : Configuration) → EffectFits effect
+      → Follows (effect_at setting (effect_image new effect) (frames_image new older) (machine_image new from))
+      (effect_at made_setting effect older from)
+  effect_follows (gives v) older from fits = refl
+  effect_follows (prints piece) older from fits = print_follows piece (at_value unit (record from { frames = older }))
+  effect_follows reads older from fits =
+      ap (λ to. takes to)
+      (fun_ext (λ byte. ap (λ v. at_value v (machine_image new (record from { frames = older })))
+      (byte_image new first second byte)))
+  effect_follows (makes c fields) older from fits = construct_follows c fields older from
+  effect_follows (enters f values) older from fits = call_follows f values older from fits
 
-  choice_follows : (chosen : Option Chosen) (older : List Frame) (from : Configuration) → ChoiceCalls P chosen → FramesCall P older → MachineCalls P from → Follows (choice_step new_setting (option_map (renamed_choice new) chosen) (renamed_frames new older) (renamed_machine new from)) (choice_step old_setting chosen older from)
-  choice_follows None older from only frames machine = record { is = refl; only = machine }
-  choice_follows (Some chosen) older from only frames machine = record { is = refl; only = record { control = only; frames = frames } }
+  form_follows : (form : Form) (vs : List Value) (older : List Frame) (from : Configuration) → FormFits made form vs
+      → Follows
+      (form_step setting (renamed_form new form) (images new vs) (frames_image new older) (machine_image new from))
+      (form_step made_setting form vs older from)
+  form_follows form vs older from fits =
+      ap (λ effect. effect_at setting effect (frames_image new older) (machine_image new from))
+      (ap (λ all. form_effect all (renamed_form new form) (images new vs)) texts
+      ∙ form_image new first second made made.texts form vs fits)
+      ∙ effect_follows (form_effect made.texts form vs) older from (effect_fits form vs fits)
 
-  value_follows : (v : Value) (fs : List Frame) (c : Configuration) → FramesCall P fs → MachineCalls P c → Follows (value_step new_setting v (renamed_frames new fs) (renamed_machine new c)) (value_step old_setting v fs c)
-  value_follows v (arguments form values (tree next left) environment ∷ older) c frames machine =
-      let those = each_parts P (calls next) (calls_of_all left) frames.0.1 in
-      record { is = refl; only = record { control = those.0; frames = ((frames.0.0, those.1), frames.1) } }
-  value_follows v (arguments form values no_tree environment ∷ older) c frames machine = form_follows form (values ++ v ∷ []) older c frames.0.0 frames.1 machine
-  value_follows v (branches positive negative environment ∷ older) c frames machine = record {
-    is = ap (λ (e : Tree). goes (at_expression e environment (renamed_machine new (record c { frames = older })))) (same_branch new (is_true v) positive negative);
-    only = record { control = branch_calls P (is_true v) positive negative frames.0.0 frames.0.1; frames = frames.1 };
-  }
-  value_follows v (rows of environment ∷ older) c frames machine =
-      let follows = choice_follows (first_match c.store of v environment) older c (choice_calls P c.store of v environment frames.0) frames.1 machine in
-      record {
-        is = ap (λ (chosen : Option Chosen). choice_step new_setting chosen (renamed_frames new older) (renamed_machine new c)) (same_choice new c.store of v environment) ∙ follows.is;
-        only = follows.only;
-      }
-  value_follows v (statement awaited rest environment ∷ older) c frames machine = record { is = refl; only = record { control = frames.0; frames = frames.1 } }
-  value_follows v (call lent ∷ next ∷ older) c frames machine = record { is = refl; only = record { control = tt; frames = frames.1 } }
-  value_follows v (call lent ∷ []) c frames machine = record { is = refl; only = record { control = tt; frames = tt } }
-  value_follows v [] c frames machine = record { is = refl; only = record { control = tt; frames = machine.frames } }
+  expression_follows : (e : Tree) (env : Environment) (c : Configuration) → ExpressionFits made e env
+      → Follows (expression_step setting (renamed new e) (environment_image new env) (machine_image new c))
+      (expression_step made_setting e env c)
+  expression_follows (variable x) env c fits = ap (λ v. goes (at_value v (machine_image new c))) (image_of_variable new env x)
+  expression_follows (apply form no_tree) env c fits = form_follows form [] c.frames c fits
+  expression_follows (apply form (tree e rest)) env c fits = refl
+  expression_follows (branch condition positive negative) env c fits = refl
+  expression_follows (match scrutinee of) env c fits = refl
+  expression_follows (sequence binder e rest) env c fits = refl
 
-  step_follows : (control : Control) (c : Configuration) → ControlCalls P control → MachineCalls P c → Follows (step_at new_setting (renamed_control new control) (renamed_machine new c)) (step_at old_setting control c)
-  step_follows (expression e environment) c only machine = expression_follows e environment c only machine
-  step_follows (value v) c only machine = value_follows v c.frames c machine.frames machine
-  step_follows (stopped by) c only machine = record { is = refl; only = machine }
+  choice_follows : (chosen : Option Chosen) (older : List Frame) (from : Configuration)
+      → Follows (choice_step setting (option_map (choice_image made.constructors new apart from.store) chosen)
+      (frames_image new older) (machine_image new from)) (choice_step made_setting chosen older from)
+  choice_follows None older from = refl
+  choice_follows (Some chosen) older from = refl
+
+  value_follows : (v : Value) (fs : List Frame) (c : Configuration) (t : TypeTree) → IsOf made.constructors c.store t v
+      → FramesWait (table_of made) c.store fs t → ValueFits made c.store v fs
+      → Follows (value_step setting (image new v) (frames_image new fs) (machine_image new c)) (value_step made_setting v fs c)
+  value_follows v (arguments form values (tree next left) env ∷ older) c t of waits fits =
+      let bound = environment_image new env in
+      ap (λ vs. goes (at_expression (renamed new next) bound (record (machine_image new c) {
+        frames = arguments (renamed_form new form) vs (renamed_all new left) bound ∷ frames_image new older;
+      })))
+      (sym (map-append (image new) values (v ∷ [])))
+  value_follows v (arguments form values no_tree env ∷ older) c t of waits fits =
+      ap (λ vs. form_step setting (renamed_form new form) vs (frames_image new older) (machine_image new c))
+      (sym (map-append (image new) values (v ∷ [])))
+      ∙ form_follows form (values ++ v ∷ []) older c fits
+  value_follows v (branches positive negative env ∷ older) c t of waits fits =
+      ap (λ test. goes (at_expression (if test then renamed new positive else renamed new negative) (environment_image new env)
+      (record (machine_image new c) { frames = frames_image new older })))
+      (test_image new first second fits.0 v fits.1)
+      ∙ ap (λ e. goes (at_expression e (environment_image new env)
+      (record (machine_image new c) { frames = frames_image new older })))
+      (branch_image new (is_true v) positive negative)
+  value_follows v (rows rs env ∷ older) c t of waits fits =
+      ap (λ chosen. choice_step setting chosen (frames_image new older) (machine_image new c))
+      (chosen_image made.constructors new apart c.store rs t v env
+      (rows_of_type (table_of made) waits.1.1.scope rs t waits.0 waits.1.1.inside) of)
+      ∙ choice_follows (first_match c.store rs v env) older c
+  value_follows v (statement awaited rest env ∷ older) c t of waits fits =
+      ap (λ bound. goes (at_expression (renamed new rest) bound (record (machine_image new c) { frames = frames_image new older })))
+      (image_of_bound new awaited v env)
+  value_follows v (call kept ∷ next ∷ older) c t of waits fits = refl
+  value_follows v (call kept ∷ []) c t of waits fits = refl
+  value_follows v [] c t of waits fits = refl
+
+  step_follows : (control : Control) (c : Configuration) → ControlTyped (table_of made) control c → ControlFits made control c
+      → Follows (step_at setting (control_image new control) (machine_image new c)) (step_at made_setting control c)
+  step_follows (expression e env) c waits fits = expression_follows e env c fits
+  step_follows (value v) c waits fits = value_follows v c.frames c waits.0 waits.1 waits.2 fits
+  step_follows (stopped by) c waits fits = refl
 
   -- ---- the runs
 
-  pub record SameRun (n : ℕ) (s : State) : Type 0 where
-    pub trace_is : trace (store_machine new_setting) n (renamed_state new s) ≡ trace (store_machine old_setting) n s
-    pub state_is : state (store_machine new_setting) n (renamed_state new s) ≡ renamed_state new (state (store_machine old_setting) n s)
+  abbrev IsStateSafe : Configuration → Type 0
+  IsStateSafe c = IsStateTyped (table_of made) c
 
-  same_next : (n : ℕ) (s next : State) (notes : List Note) → (store_machine old_setting).step s ≡ (notes, next) → (store_machine new_setting).step (renamed_state new s) ≡ (notes, renamed_state new next) → SameRun n next → SameRun (suc n) s
-  same_next n s next notes old_is new_is later = record {
+  pub record SameRun (n : ℕ) (s : State) : Type 0 where
+    pub trace_is : trace (store_machine setting) n (state_image new s) ≡ trace (store_machine made_setting) n s
+    pub state_is : state (store_machine setting) n (state_image new s) ≡ state_image new (state (store_machine made_setting) n s)
+
+  same_next : (n : ℕ) (s next : State) (notes : List Note) → (store_machine made_setting).step s ≡ (notes, next)
+      → (store_machine setting).step (state_image new s) ≡ (notes, state_image new next) → SameRun n next → SameRun (suc n) s
+  same_next n s next notes made_is is later = record {
     trace_is =
-        ap (λ (p : List Note × State). p.0 ++ trace (store_machine new_setting) n p.1) new_is
-        ∙ (ap (λ (l : List Note). notes ++ l) later.trace_is ∙ sym (ap (λ (p : List Note × State). p.0 ++ trace (store_machine old_setting) n p.1) old_is));
+        ap (λ (p : List Note × State). p.0 ++ trace (store_machine setting) n p.1) is
+        ∙ (ap (λ (l : List Note). notes ++ l) later.trace_is
+        ∙ sym (ap (λ (p : List Note × State). p.0 ++ trace (store_machine made_setting) n p.1) made_is));
     state_is =
-        ap (λ (p : List Note × State). state (store_machine new_setting) n p.1) new_is
-        ∙ (later.state_is ∙ sym (ap (λ (p : List Note × State). renamed_state new (state (store_machine old_setting) n p.1)) old_is));
+        ap (λ (p : List Note × State). state (store_machine setting) n p.1) is
+        ∙ (later.state_is
+        ∙ sym (ap (λ (p : List Note × State). state_image new (state (store_machine made_setting) n p.1)) made_is));
   }
 
-  pub same_run : (n : ℕ) (s : State) → MachineCalls P s.machine → SameRun n s
-  same_run zero s only = record { trace_is = refl; state_is = refl }
-  same_run (suc n) s only = by_end (ending_of s) refl (λ next only. same_run n next only)
+  pub same_run : (n : ℕ) (s : State) → IsStateSafe s.machine → SameRun n s
+  same_run zero s safe = record { trace_is = refl; state_is = refl }
+  same_run (suc n) s safe = by_end (ending_of s) refl (λ next safe. same_run n next safe)
     where
-      by_end : (how : Option End) → ending_of s ≡ how → ((next : State) → MachineCalls P next.machine → SameRun n next) → SameRun (suc n) s
+      by_end : (how : Option End) → ending_of s ≡ how → ((next : State) → IsStateSafe next.machine → SameRun n next)
+          → SameRun (suc n) s
       by_end (Some w) e later = record {
         trace_is =
-            trace_ended (store_machine new_setting) (suc n) (renamed_state new s) w (same_ending new s ∙ e)
-            ∙ sym (trace_ended (store_machine old_setting) (suc n) s w e);
+            trace_ended (store_machine setting) (suc n) (state_image new s) w (same_ending new s ∙ e)
+            ∙ sym (trace_ended (store_machine made_setting) (suc n) s w e);
         state_is =
-            state_ended (store_machine new_setting) (suc n) (renamed_state new s) w (same_ending new s ∙ e)
-            ∙ ap (renamed_state new) (sym (state_ended (store_machine old_setting) (suc n) s w e));
+            state_ended (store_machine setting) (suc n) (state_image new s) w (same_ending new s ∙ e)
+            ∙ ap (state_image new) (sym (state_ended (store_machine made_setting) (suc n) s w e));
       }
       by_end None e later =
-          let action = step_of old_setting s.machine in
-          let follows = step_follows s.machine.control s.machine only.control only in
+          let action = step_of made_setting s.machine in
+          let follows = step_follows s.machine.control s.machine safe (state_fits made typed.truths s.machine safe) in
           same_next n s (performed action s.input).1 (performed action s.input).0
-          (ap (λ how. step_unless how s (step old_setting s)) e)
-          (ap (λ how. step_unless how (renamed_state new s) (step new_setting (renamed_state new s))) (same_ending new s ∙ e)
-          ∙ (ap (λ (a : Action Configuration). performed a s.input) follows.is ∙ same_performed new action s.input))
-          (later (performed action s.input).1 (performed_calls P action s.input follows.only))
+          (ap (λ how. step_unless how s (step made_setting s)) e)
+          (ap (λ how. step_unless how (state_image new s) (step setting (state_image new s))) (same_ending new s ∙ e)
+          ∙ (ap (λ (a : Action Configuration). performed a s.input) follows ∙ same_performed new action s.input))
+          (later (performed action s.input).1
+          (performed_keeps IsStateSafe action s.input (step_safe made_setting typed s.machine safe)))

@@ -1,5 +1,5 @@
 -- The instances of a checked program are typed, and their matches are covered.
-use Rattle.std.proofs.Common.{◌≡◌, ◌<◌, ◌≤◌, ℕ, List, [], ◌∷◌, ◌++◌, length, map, Contains, Some, None, All, append-nil, inl, inr, refl, sym, ap, ◌∙◌, subst, arith}
+use Rattle.std.proofs.Common.{◌≡◌, ◌<◌, ℕ, List, [], ◌++◌, length, map, Contains, Some, append-nil, inl, inr, sym, ap, ◌∙◌, subst, arith}
 use Rattle.std.specs.Prelude.{option_map, slice_get, slice_index_or}
 use Rattle.std.proofs.lemmas.Bool.{cases_lt}
 use Rattle.std.proofs.lemmas.List.{get_or_past}
@@ -7,27 +7,27 @@ use Rattle.std.proofs.lemmas.List.Elements.{All-get_or}
 use Rattle.std.proofs.lemmas.Option.{slice_get-map, slice_get-get_or, slice_get_within, get_or_from_slice_get, same_Some}
 use Rattle.kk_syntax.specs.Checked.{printed, PrintsTexts, IsChecked}
 use Rattle.kk_syntax.specs.Covered.{Each}
-use Rattle.kk_syntax.specs.GroundTyping.{Table, table_of, HasType, IsFunctionTyped, HasTruths, IsGroundTyped}
+use Rattle.kk_syntax.specs.GroundTyping.{table_of, HasType, IsFunctionTyped, IsGroundTyped}
 use Rattle.kk_syntax.specs.Matches.{matches, IsMatchCovered, IsFunctionCovered}
 use Rattle.kk_syntax.specs.PlainTyping.{Signature, signature_of}
-use Rattle.kk_syntax.specs.Programs.{ConstructorTree, FunctionTree, ProgramTree, no_function}
+use Rattle.kk_syntax.specs.Programs.{FunctionTree, ProgramTree, no_function}
 use Rattle.kk_syntax.specs.Trees.{Tree}
 use Rattle.kk_syntax.specs.Types.{TypeTree, unit_type, put, type_at, variables_below}
 use Rattle.kk_syntax.specs.Typing.{Choice, Scope, IsTypedBy, IsTyping, with_parameters}
 use Rattle.kk_syntax.proofs.Elements.{each_at}
 use Rattle.kk_syntax.proofs.Putting.{own_put, own_put_all}
-use Rattle.kk_mono.specs.Instances.{InstanceTree, main_instance, called_at, calls, IsInstance, main_is as is_first, called_is, renamed, origin_in, IsInstanceProgram}
+use Rattle.kk_mono.specs.Instances.{InstanceTree, main_instance, called_at, calls, constructed_at, constructors_in, IsInstance, main_is as is_first, called_is, Renaming, renamed, origin_in, IsInstanceProgram}
 use Rattle.kk_mono.proofs.Callees.{typing_calls}
 use Rattle.kk_mono.proofs.Renamings.{IsWhole, called_whole}
 use Rattle.kk_instances.proofs.Found.{found_at, function_at, instance_at, main_is}
-use Rattle.kk_instances.proofs.Instanced.{signature_at, AreSigned, table_with, IsSound, AreCalled, tree_typed}
-use Rattle.kk_instances.proofs.Renamed.{same_matches, same_printed}
+use Rattle.kk_instances.proofs.Grounds.{made_truths}
+use Rattle.kk_instances.proofs.Instanced.{signature_at, AreSigned, IsSound, AreNamed, tree_typed}
 use Rattle.kk_instances.proofs.Scopes.{Stands, stands_parameters}
 
 -- ---- each instance has as many types as its function has type variables
 
 module _ (program : ProgramTree) (typings : List (List Choice)) (checked : IsChecked program typings) where
-  typing_at : (f : ℕ) (function : FunctionTree) → slice_get program.functions f ≡ Some function
+  pub typing_at : (f : ℕ) (function : FunctionTree) → slice_get program.functions f ≡ Some function
       → IsTyping program function (slice_index_or typings f [])
   typing_at f function found =
       let below = slice_get_within program.functions f function found in
@@ -83,20 +83,13 @@ module _ (program made : ProgramTree) (typings : List (List Choice)) (instances 
       known.at_types.result
       ∙ ap (λ (g : FunctionTree). Some (signature_at g ts)) same)))
 
-  table_is : table_with program signatures ≡ table_of made
-  table_is =
-      ap (λ (cs : List ConstructorTree). record { constructors = cs; functions = signatures; texts = length program.texts })
-      (sym is.constructors)
-      ∙ ap (λ (all : List (List ℕ)). record { constructors = made.constructors; functions = signatures; texts = length all })
-      (sym is.texts)
-
   -- ---- bodies
 
   -- a function's body, at the types of an instance of it
   module _ (n : ℕ) (instance : InstanceTree) (found : FunctionTree) (instance_is : slice_get instances n ≡ Some instance)
       (found_is : slice_get made.functions n ≡ Some found) where
-    abbrev origin : ℕ → ℕ
-    origin = origin_in instances
+    abbrev new : Renaming
+    new = origin_in instances is.grounds
 
     abbrev function : FunctionTree
     function = (found_at program made typings instances is n instance found instance_is found_is).function
@@ -110,24 +103,29 @@ module _ (program made : ProgramTree) (typings : List (List Choice)) (instances 
     there : slice_get program.functions instance.function ≡ Some function
     there = (found_at program made typings instances is n instance found instance_is found_is).there
 
-    body_is : function.body ≡ renamed origin found.body
+    body_is : function.body ≡ renamed new found.body
     body_is = sym (found_at program made typings instances is n instance found instance_is found_is).at_types.body
 
-    sound : IsSound program (matches found.body) (printed found.body)
+    sound : IsSound program (matches (renamed new found.body)) (printed (renamed new found.body))
     sound = record {
       covered =
-          subst (Each (IsMatchCovered program)) (ap matches body_is ∙ same_matches origin found.body)
+          subst (λ (body : Tree). Each (IsMatchCovered program) (matches body)) body_is
           (each_at (IsFunctionCovered program) program.functions instance.function function checked.covered there);
       there =
-          subst (Each (λ text. text < length program.texts)) (ap printed body_is ∙ same_printed origin found.body)
+          subst (λ (body : Tree). Each (λ text. text < length program.texts) (printed body)) body_is
           (each_at (PrintsTexts program) program.functions instance.function function checked.texts there);
     }
 
-    called : AreCalled program instances signatures signed instance.at (choices ++ []) (calls found.body ++ [])
-    called =
-        ap (map (slice_get instances)) (append-nil (calls found.body))
-        ∙ ((found_at program made typings instances is n instance found instance_is found_is).at_types.called
-        ∙ ap (λ (cs : List Choice). map Some (called_at instance.at cs)) (sym (append-nil choices)))
+    named : AreNamed program made typings instances checked.truths is signed instance.at (choices ++ []) (calls found.body ++ [])
+        (constructors_in found.body ++ [])
+    named =
+        let known = (found_at program made typings instances is n instance found instance_is found_is).at_types in (
+          ap (map (slice_get instances)) (append-nil (calls found.body))
+              ∙ (known.called ∙ ap (λ (cs : List Choice). map Some (called_at instance.at cs)) (sym (append-nil choices))),
+          ap (map (slice_get is.grounds)) (append-nil (constructors_in found.body))
+              ∙ (known.constructed
+              ∙ ap (λ (cs : List Choice). map Some (constructed_at instance.at cs)) (sym (append-nil choices))),
+        )
 
     -- the parameters, by the function's own type variables and at the instance's types
     abbrev outer : Scope
@@ -139,15 +137,15 @@ module _ (program made : ProgramTree) (typings : List (List Choice)) (instances 
     stands : Stands (type_at instance.at) outer inner
     stands = stands_parameters (type_at instance.at) (map own function.parameters) 0 [] [] (λ x t none. absurd (cc))
 
-    outer_typed : IsTypedBy program outer (renamed origin found.body) (own function.result) choices
+    outer_typed : IsTypedBy program outer (renamed new found.body) (own function.result) choices
     outer_typed =
         subst (λ (body : Tree). IsTypedBy program outer body (own function.result) choices) body_is
         (typing_at program typings checked instance.function function there)
 
-    typed : HasType (table_with program signatures) inner found.body (put (type_at instance.at) (own function.result))
+    typed : HasType (table_of made) inner found.body (put (type_at instance.at) (own function.result))
     typed =
-        (tree_typed program instances signatures signed instance.at found.body outer inner (own function.result) choices [] []
-        stands outer_typed sound called).0
+        (tree_typed program made typings instances checked.truths is signed instance.at found.body outer inner
+        (own function.result) choices [] [] [] stands outer_typed sound named).0
 
     long : length instance.at ≡ function.variables
     long = whole_at n instance instance_is function there
@@ -163,13 +161,12 @@ module _ (program made : ProgramTree) (typings : List (List Choice)) (instances 
         ∙ sym (found_at program made typings instances is n instance found instance_is found_is).at_types.result
 
     abbrev HasBodyType : List TypeTree → TypeTree → Type 0
-    HasBodyType ts t = HasType (table_with program signatures) (with_parameters 0 ts []) found.body t
+    HasBodyType ts t = HasType (table_of made) (with_parameters 0 ts []) found.body t
 
     function_typed : IsFunctionTyped (table_of made) found
     function_typed =
-        subst (λ (table : Table). IsFunctionTyped table found) table_is
-        (subst (HasBodyType found.parameters) result_is
-        (subst (λ (ts : List TypeTree). HasBodyType ts (put (type_at instance.at) (own function.result))) parameters_are typed))
+        subst (HasBodyType found.parameters) result_is
+        (subst (λ (ts : List TypeTree). HasBodyType ts (put (type_at instance.at) (own function.result))) parameters_are typed)
 
   main_signed : slice_get signatures made.main ≡ Some (record { parameters = []; result = unit_type })
   main_signed =
@@ -186,5 +183,5 @@ module _ (program made : ProgramTree) (typings : List (List Choice)) (instances 
         let instance = instance_at program made typings instances is n found at in
         function_typed n instance.0 found instance.1 at;
     main = main_signed;
-    truths = subst HasTruths (sym is.constructors) checked.truths;
+    truths = made_truths program made typings instances checked.truths is;
   }

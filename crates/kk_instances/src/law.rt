@@ -10,13 +10,13 @@ ghost use Rattle.kk_instances.specs.Meaning.{MeansTheSame};
 /// input they have the same events, the same numbers of live cells and of call frames, and the same ending, step by step. It
 /// is a law, and does nothing.
 pub fn instances_mean_the_program()
-    ensures { (program made : ProgramTree) (typings : List (List Choice)) (instances : List InstanceTree) → IsChecked program typings
-        → IsInstanceProgram program typings instances made → MeansTheSame program made }
+    ensures { (program made : ProgramTree) (typings : List (List Choice)) (instances : List InstanceTree)
+        → IsChecked program typings → IsInstanceProgram program typings instances made → MeansTheSame program made }
 {}
 
-/// The instances of a program without type variables, matches and cells have none either, and are typed by the rules of
-/// such programs. It is a law, and does nothing.
+/// The instances of a checked program without type variables, matches and cells have none either, and are typed by the rules
+/// of such programs. It is a law, and does nothing.
 pub fn instances_of_plain_programs_are_plain()
     ensures { (program made : ProgramTree) (typings : List (List Choice)) (instances : List InstanceTree) → IsTyped program
-        → IsInstanceProgram program typings instances made → IsTyped made }
+        → IsChecked program typings → IsInstanceProgram program typings instances made → IsTyped made }
 {}

@@ -9,7 +9,7 @@ use Rattle.kk_syntax.specs.Programs.{FunctionTree, ProgramTree}
 use Rattle.kk_syntax.specs.Shapes.{Gathers, gathered}
 use Rattle.kk_syntax.specs.Trees.{Tree}
 use Rattle.kk_syntax.specs.Types.{unit_type}
-use Rattle.kk_syntax.specs.Typing.{Choice, IsTyping}
+use Rattle.kk_syntax.specs.Typing.{Choice, IsTyping, variables_of_type}
 
 -- the string literal that a form prints
 abbrev pub printed_by : Form → List ℕ
@@ -36,12 +36,13 @@ pub record HasMainFunction (program : ProgramTree) : Type 0 where
   pub result : function.result ≡ unit_type
 
 -- Each function of a program has one of these typings, its matches are covered, and it prints literals of the program;
--- `bool` is as it must be, and so is `main`.
+-- `bool` is as it must be, without type variables, and so is `main`.
 pub record IsChecked (program : ProgramTree) (typings : List (List Choice)) : Type 0 where
   pub as_many : length typings ≡ length program.functions
   pub typed : (f : ℕ) (function : FunctionTree) (choices : List Choice) → slice_get program.functions f ≡ Some function
       → slice_get typings f ≡ Some choices → IsTyping program function choices
   pub covered : Each (IsFunctionCovered program) program.functions
   pub texts : Each (PrintsTexts program) program.functions
+  pub bool : variables_of_type (slice_get program.types 0) ≡ 0
   pub truths : HasTruths program.constructors
   pub main : HasMainFunction program

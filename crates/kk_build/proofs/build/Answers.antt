@@ -15,7 +15,10 @@ file_of-requires-clause-typed c =
 pub file_of-requires-clause-plain : goal.file_of-requires-clause-plain
 file_of-requires-clause-plain c =
     let typed = c.accepted_programs_are_typed.ensures.typed _ _ c.in_ok-accepted.ensures.program in
-    c.instances_of_plain_programs_are_plain.ensures _ _ _ _ typed c.in_ok-accepted.ensures.instances.instances
+    let checked =
+    c.accepted_programs_are_typed.ensures.checked c.args.text.now (program_tree c.in_ok-accepted.accepted.typed.program) _ c.in_ok-accepted.ensures.program
+    c.in_ok-accepted.ensures.principal in
+    c.instances_of_plain_programs_are_plain.ensures _ _ _ _ typed checked c.in_ok-accepted.ensures.instances.instances
 
 pub file_of-requires-clause-small : goal.file_of-requires-clause-small
 file_of-requires-clause-small c =
