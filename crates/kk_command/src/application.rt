@@ -1,8 +1,8 @@
 //! The line of the program, for clap.
 ghost use Rattle.std.specs.Prelude.{◌≡◌, false, codes, IfOk};
-ghost use Rattle.clap.specs.Words.{app_of, rule_of, with_subcommand};
+ghost use Rattle.clap.specs.Words.{app_of, rule_of, with_rule, with_subcommand};
 ghost use Rattle.clap.specs.declared.builder.command.Command.TheViews.{out-Command as fields_of};
-ghost use Rattle.kk_command.specs.Requests.{required, optional, flag, file_rule, image_rule, steps_rule, out_rule, check_app, with_sizes, build_app, run_app, sim_app, eval_app, bare_app, line_app};
+ghost use Rattle.kk_command.specs.Requests.{optional, flag, file_rule, image_rule, out_rule, check_app, with_sizes, build_app, run_app, sim_app, eval_app, bare_app, line_app};
 
 use clap::{Arg, ArgAction, Command as App};
 use std::alloc::{AllocError, Global};
@@ -39,14 +39,6 @@ fn number_option<'a>(alloc: Global, name: &'a str) -> Arg<'a>
     Arg::new(alloc, name).long(name)
 }
 
-/// The option `--steps N`.
-fn steps<'a>(alloc: Global) -> Arg<'a>
-    ensures rule { rule_of result ≡ steps_rule }
-    ensures local { result.global ≡ false }
-{
-    number_option(alloc, "steps")
-}
-
 /// The flag `--stats`.
 fn stats<'a>(alloc: Global) -> Arg<'a>
     ensures rule { rule_of result ≡ flag (codes "stats") }
@@ -57,11 +49,21 @@ fn stats<'a>(alloc: Global) -> Arg<'a>
         .action(ArgAction::SetTrue)
 }
 
+/// Adds an argument to a command without global arguments.
+fn with<'a>(command: App<'a>, argument: Arg<'a>) -> Result<App<'a>, AllocError>
+    requires command { (fields_of command).has_globals ≡ false }
+    requires argument { argument.global ≡ false }
+    ensures app { IfOk result (λ c. app_of c ≡ with_rule (app_of command.entry) (rule_of argument.entry)) }
+    ensures local { IfOk result (λ c. (fields_of c).has_globals ≡ false) }
+{
+    command.arg(argument)
+}
+
 fn check_command<'a>(alloc: Global) -> Result<App<'a>, AllocError>
     ensures app { IfOk result (λ c. app_of c ≡ check_app) }
     ensures local { IfOk result (λ c. (fields_of c).has_globals ≡ false) }
 {
-    App::new(alloc, "check").arg(file(alloc))
+    with(App::new(alloc, "check"), file(alloc))
 }
 
 /// Adds the sizes that an image is built with.
@@ -70,16 +72,16 @@ fn with_size_options<'a>(alloc: Global, command: App<'a>) -> Result<App<'a>, All
     ensures app { IfOk result (λ c. app_of c ≡ with_sizes (app_of command.entry)) }
     ensures local { IfOk result (λ c. (fields_of c).has_globals ≡ false) }
 {
-    command
-        .arg(number_option(alloc, "cells"))?
-        .arg(number_option(alloc, "depth"))
+    let command = with(command, number_option(alloc, "cells"))?;
+    with(command, number_option(alloc, "depth"))
 }
 
 fn build_command<'a>(alloc: Global) -> Result<App<'a>, AllocError>
     ensures app { IfOk result (λ c. app_of c ≡ build_app) }
     ensures local { IfOk result (λ c. (fields_of c).has_globals ≡ false) }
 {
-    let command = App::new(alloc, "build").arg(file(alloc))?.arg(out(alloc))?;
+    let command = with(App::new(alloc, "build"), file(alloc))?;
+    let command = with(command, out(alloc))?;
     with_size_options(alloc, command)
 }
 
@@ -87,25 +89,27 @@ fn run_command<'a>(alloc: Global) -> Result<App<'a>, AllocError>
     ensures app { IfOk result (λ c. app_of c ≡ run_app) }
     ensures local { IfOk result (λ c. (fields_of c).has_globals ≡ false) }
 {
-    let command = App::new(alloc, "run").arg(file(alloc))?;
-    with_size_options(alloc, command)?
-        .arg(steps(alloc))?
-        .arg(stats(alloc))
+    let command = with(App::new(alloc, "run"), file(alloc))?;
+    let command = with_size_options(alloc, command)?;
+    let command = with(command, number_option(alloc, "steps"))?;
+    with(command, stats(alloc))
 }
 
 fn sim_command<'a>(alloc: Global) -> Result<App<'a>, AllocError>
     ensures app { IfOk result (λ c. app_of c ≡ sim_app) }
     ensures local { IfOk result (λ c. (fields_of c).has_globals ≡ false) }
 {
-    App::new(alloc, "sim").arg(image(alloc))?.arg(steps(alloc))
+    let command = with(App::new(alloc, "sim"), image(alloc))?;
+    with(command, number_option(alloc, "steps"))
 }
 
 fn eval_command<'a>(alloc: Global) -> Result<App<'a>, AllocError>
     ensures app { IfOk result (λ c. app_of c ≡ eval_app) }
     ensures local { IfOk result (λ c. (fields_of c).has_globals ≡ false) }
 {
-    let command = App::new(alloc, "eval").arg(file(alloc))?;
-    with_size_options(alloc, command)?.arg(steps(alloc))
+    let command = with(App::new(alloc, "eval"), file(alloc))?;
+    let command = with_size_options(alloc, command)?;
+    with(command, number_option(alloc, "steps"))
 }
 
 /// The program before its commands: no help and no version, and one of its commands has to be there.

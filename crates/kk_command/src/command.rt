@@ -1,7 +1,7 @@
 ghost use Rattle.kk_base.specs.Sizes.{AreSizes};
 
 /// The sizes that a program is run with.
-#[derive(Clone, Copy, Debug, PartialEq, Eq)]
+#[derive(Clone, Copy)]
 pub struct Sizes {
     /// The cells of its heap.
     pub cells: u32,
@@ -11,7 +11,7 @@ pub struct Sizes {
 }
 
 /// How a program is run.
-#[derive(Clone, Copy, Debug, PartialEq, Eq)]
+#[derive(Clone, Copy)]
 pub struct RunOptions {
     /// The sizes that its image is built with.
     pub sizes: Sizes,
@@ -22,7 +22,7 @@ pub struct RunOptions {
 }
 
 /// What the words of the line ask for.
-#[derive(Clone, Copy, Debug, PartialEq, Eq)]
+#[derive(Clone, Copy)]
 pub enum Command<'a> {
     /// `check FILE`: judge the text in the file.
     Check {

@@ -1,6 +1,5 @@
 -- Free variables, without those that are bound around them.
-use Rattle.std.proofs.Common.{◌≡◌, ℕ, Bool, true, false, not, ◌||◌, ◌==◌, List, [], ◌∷◌, ◌++◌, refl, sym, ap, ◌∙◌, append_assoc, cond, get_or, drop, take, length, ◌<◌, ◌+◌, zero, suc, add-one, arith, Result, Ok, Err, OnOk}
-use Rattle.std.proofs.Math.Seq.{drop-cons}
+use Rattle.std.proofs.Common.{◌≡◌, ℕ, Bool, true, false, not, ◌||◌, ◌==◌, List, [], ◌∷◌, ◌++◌, refl, sym, ap, ◌∙◌, append_assoc, cond, ◌+◌, Result, Ok, Err, OnOk}
 use Rattle.std.proofs.lemmas.List.Elements.{filter-append}
 use Rattle.std.proofs.lemmas.List.Folds.{list_any-append}
 use Rattle.kk_syntax.specs.Trees.{Tree, StatementTree, block_of}
@@ -35,10 +34,6 @@ free_of_block (s ∷ ss) last =
     ∙ ap (λ (l : List ℕ). without (bound_by s.binder) (free_of_statements ss) ++ l) (without_both (bound_by s.binder) (bound_by_statements ss) (free last))))
     ∙ sym (append_assoc (free s.value) (without (bound_by s.binder) (free_of_statements ss)) (without (bound_by s.binder ++ bound_by_statements ss) (free last)))
 
--- what is left of a list from an index on
-pub rest_at : {X : Type 0} (xs : List X) (i : ℕ) (x : X) → i < length xs → x ≡ get_or xs i x → drop i xs ≡ x ∷ drop (i + 1) xs
-rest_at xs i x lt is = drop-cons xs i x lt ∙ (ap (λ y. y ∷ drop (suc i) xs) (sym is) ∙ ap (λ k. x ∷ drop k xs) (sym (add-one i)))
-
 -- those of one part are found, and those of the others are left
 pub found_one : (found more bs xs ys whole : List ℕ) → more ≡ found ++ without bs xs → found ++ without bs (xs ++ ys) ≡ whole → more ++ without bs ys ≡ whole
 found_one found more bs xs ys whole is before =
@@ -64,20 +59,6 @@ found_block found middle now bs fs cs xs middle_is now_is =
     ∙ (append_assoc found (without bs fs) (without (bs ++ cs) xs)
     ∙ ap (λ (l : List ℕ). found ++ l)
     (ap (λ (l : List ℕ). without bs fs ++ l) (sym (without_both bs cs xs)) ∙ sym (without-append bs fs (without cs xs)))))
-
--- the front of a list, by its length
-pub front_again : {X : Type 0} (xs ys zs : List X) (n : ℕ) → n ≡ length xs → zs ≡ xs ++ ys → take n zs ≡ xs
-front_again xs ys zs n len is = ap (take n) is ∙ front xs ys n len
-  where
-    front : {X : Type 0} (xs ys : List X) (n : ℕ) → n ≡ length xs → take n (xs ++ ys) ≡ xs
-    front [] ys zero len = by_list ys
-      where
-        by_list : {X : Type 0} (ys : List X) → take zero ys ≡ []
-        by_list [] = refl
-        by_list (y ∷ ys) = refl
-    front [] ys (suc n) len = absurd (omega arith)
-    front (x ∷ xs) ys zero len = absurd (omega arith)
-    front {X = X} (x ∷ xs) ys (suc n) len = ap (λ (l : List X). x ∷ l) (front xs ys n (omega arith))
 
 -- with nothing found before and nothing bound around
 pub found_plain : (none outside found xs : List ℕ) → none ≡ [] → outside ≡ [] → found ≡ none ++ without outside xs → found ≡ xs

@@ -8,4 +8,3 @@ pub mod Patterns
 pub mod Popped
 pub mod Results
 pub mod Stepped
-pub mod TailCalls

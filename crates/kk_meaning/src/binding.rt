@@ -7,14 +7,14 @@ use kk_base::NoMemory;
 use std::alloc::Global;
 
 /// A variable, by its number, bound to a value.
-#[derive(Clone, Copy, Debug)]
+#[derive(Clone, Copy)]
 pub struct Bound {
     pub variable: usize,
     pub value: Value,
 }
 
 /// A binding among others.
-#[derive(Clone, Copy, Debug)]
+#[derive(Clone, Copy)]
 pub struct Link {
     bound: Bound,
     /// How many of the bindings before it are not of its environment.
@@ -23,7 +23,7 @@ pub struct Link {
 
 /// The bindings of all environments. An environment is a number: that of the bindings up to its newest one, or 0 where
 /// nothing is bound. So environments share what they have in common, and none is ever copied.
-#[derive(Debug, Drop)]
+#[derive(Drop)]
 pub struct Bindings {
     links: Vec<Link>,
 }

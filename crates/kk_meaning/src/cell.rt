@@ -9,7 +9,7 @@ use kk_base::NoMemory;
 use std::alloc::Global;
 
 /// A cell of the store: the constructor that made it, by its number, and the values of its fields.
-#[derive(Debug, Drop)]
+#[derive(Drop)]
 pub struct Cell {
     pub made_by: u32,
     pub fields: Vec<Value>,

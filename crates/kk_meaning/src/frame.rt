@@ -2,14 +2,14 @@ use crate::value::Value;
 use kk_syntax::{Expr, Form, Row, Statement};
 
 /// A block, or what is left of one behind its first statements.
-#[derive(Clone, Copy, Debug)]
+#[derive(Clone, Copy)]
 pub struct Block<'a> {
     pub statements: &'a [Statement],
     pub value: &'a Expr,
 }
 
 /// What waits for a value. Environments are those of `Bindings`.
-#[derive(Debug, Drop)]
+#[derive(Drop)]
 pub enum Frame<'a> {
     /// A form waits for an argument. It has the values of those before it; those behind it are left.
     Arguments {

@@ -12,7 +12,7 @@ use kk_syntax::{Binder, Expr, Pat, Row, Statement};
 use std::alloc::Global;
 
 /// The free variables of expressions, as often as they occur.
-#[derive(Debug, Drop)]
+#[derive(Drop)]
 pub struct FreeVariables {
     pub found: Vec<u32>,
     /// The variables that are bound where the search is.

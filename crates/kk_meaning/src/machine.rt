@@ -20,7 +20,7 @@ use kk_syntax::{Expr, Form, Positions, Program};
 use std::alloc::Global;
 
 /// How the machine has come to its end.
-#[derive(Clone, Copy, Debug)]
+#[derive(Clone, Copy)]
 pub enum Stop {
     Ended,
     HeapFull,
@@ -28,7 +28,7 @@ pub enum Stop {
 }
 
 /// What the machine is at: an expression, or what is left of a block, with its environment; a value; or its end.
-#[derive(Clone, Copy, Debug)]
+#[derive(Clone, Copy)]
 pub enum Control<'a> {
     Expression(&'a Expr, usize),
     Rest(Block<'a>, usize),
@@ -37,7 +37,7 @@ pub enum Control<'a> {
 }
 
 /// The store machine of a program.
-#[derive(Debug, Drop)]
+#[derive(Drop)]
 pub struct Machine<'a> {
     pub alloc: Global,
     pub program: &'a Program,

@@ -13,7 +13,7 @@ use kk_syntax::{Expr, Pat, Row};
 use std::alloc::Global;
 
 /// The body of a row, and the variables that its pattern binds, in order.
-#[derive(Debug, Drop)]
+#[derive(Drop)]
 pub struct Chosen<'a> {
     pub body: &'a Expr,
     pub bound: Vec<Bound>,

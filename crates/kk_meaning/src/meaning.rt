@@ -12,15 +12,15 @@ ghost use Rattle.kk_meaning.specs.declared.turn.Turn.TheVariants.{WantsInput};
 use crate::binding::Bindings;
 use crate::frame::Frame;
 use crate::machine::{Control, Machine};
-use crate::owned::owned_positions;
 use crate::turn::Turn;
 use crate::value::Value;
 use kk_base::NoMemory;
+use kk_owned::owned_positions;
 use kk_syntax::Accepted;
 use std::alloc::Global;
 
 /// The store machine of a program, somewhere in a run.
-#[derive(Debug, Drop)]
+#[derive(Drop)]
 pub struct Meaning<'a> {
     machine: Machine<'a>,
     ghost fits: { Fits machine } by { Prim.hlevel (props, ControlFits-prop, FramesFit-prop) },

@@ -4,7 +4,7 @@ ghost use Rattle.kk_meaning.specs.Turns.{print_turn};
 use kk_base::Text;
 
 /// What a step was seen to do.
-#[derive(Debug, Drop)]
+#[derive(Drop)]
 pub enum Turn {
     /// Nothing.
     Went,

@@ -5,7 +5,7 @@ ghost use Rattle.kk_source.specs.FormEffects.{argument as argument_of, byte_valu
 use kk_syntax::Program;
 
 /// What an expression comes to.
-#[derive(Clone, Copy, Debug, PartialEq, Eq)]
+#[derive(Clone, Copy, PartialEq, Eq)]
 pub enum Value {
     Integer(i32),
     /// `()`

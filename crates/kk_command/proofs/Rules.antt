@@ -1,0 +1,32 @@
+-- What the arguments of the line and its command are for clap, setting by setting.
+use Rattle.std.proofs.Common.{◌≡◌, ℕ, true, Some, ap, ◌∙◌}
+use Rattle.std.specs.Borrow.{Bor}
+use Rattle.clap.specs.Words.{App, Rule, Text, app_of, rule_of}
+use Rattle.clap.specs.Simple.{app_of_fields}
+use Rattle.clap.specs.declared.builder.action.ArgAction.{ArgAction}
+use Rattle.clap.specs.declared.builder.arg.Arg.{Arg}
+use Rattle.clap.specs.declared.builder.command.Command.{Command}
+use Rattle.clap.specs.declared.builder.command.Command.TheViews.{out-Command as fields_of}
+
+module _ (before after : Arg) (rule : Rule) (is : rule_of before ≡ rule) where
+  pub now_required : after ≡ record before { required = true } → rule_of after ≡ record rule { required = true }
+  now_required set = ap rule_of set ∙ ap (λ (r : Rule). record r { required = true }) is
+
+  pub now_short : (name : ℕ) → after ≡ record before { short = Some name } → rule_of after ≡ record rule { short = Some name }
+  now_short name set = ap rule_of set ∙ ap (λ (r : Rule). record r { short = Some name }) is
+
+  pub now_long : (name : Bor Text) → after ≡ record before { long = Some name } → rule_of after ≡ record rule { long = Some name.now }
+  now_long name set = ap rule_of set ∙ ap (λ (r : Rule). record r { long = Some name.now }) is
+
+  pub now_acting : (action : ArgAction) → after ≡ record before { action = Some action } → rule_of after ≡ record rule { action = Some action }
+  now_acting action set = ap rule_of set ∙ ap (λ (r : Rule). record r { action = Some action }) is
+
+module _ (before after : Command) (app : App) (is : app_of before ≡ app) where
+  pub without_help : fields_of after ≡ record (fields_of before) { disable_help_flag = true } → app_of after ≡ record app { top = record app.top { disable_help_flag = true } }
+  without_help set = ap app_of_fields set ∙ ap (λ (a : App). record a { top = record a.top { disable_help_flag = true } }) is
+
+  pub without_help_command : fields_of after ≡ record (fields_of before) { disable_help_subcommand = true } → app_of after ≡ record app { top = record app.top { disable_help_subcommand = true } }
+  without_help_command set = ap app_of_fields set ∙ ap (λ (a : App). record a { top = record a.top { disable_help_subcommand = true } }) is
+
+  pub with_command : fields_of after ≡ record (fields_of before) { subcommand_required = true } → app_of after ≡ record app { top = record app.top { subcommand_required = true } }
+  with_command set = ap app_of_fields set ∙ ap (λ (a : App). record a { top = record a.top { subcommand_required = true } }) is
