@@ -2,6 +2,8 @@ pub mod Examples
 mod Spent
 pub mod Counting
 pub mod Heaps
+pub mod Easing
+pub mod Pooling
 pub mod Variables
 pub mod Order
 pub mod Reaching

@@ -1,0 +1,102 @@
+-- What is true of the tokens in each state of a run of code that spends them: each cell is free, a token or counted, each token
+-- belongs to one slot, and the chain lists the held slots that are not null.
+use Rattle.std.specs.Prelude.{◌≡◌, ℕ, ◌+◌, ◌≤◌, ◌<◌, Bool, true, List, [], ◌∷◌, map, length, if◌then◌else◌}
+use Rattle.kk_base.specs.Machines.{state}
+use Rattle.kk_syntax.specs.Shapes.{is_among}
+use Rattle.kk_source.specs.Live.{value_of}
+use Rattle.kk_counted.specs.Heaps.{Heap, count_at, fields_held, busy}
+use Rattle.kk_counted.specs.Spending.{AreApart}
+use Rattle.kk_counted.specs.TokenedCodes.{Tokened}
+use Rattle.kk_counted.specs.Tokens.{Slot, spent, token, is_unspent, is_token, plain, token_of, Link, Tokens, marked}
+use Rattle.kk_counted.specs.TokenStates.{TokenSetting, TokenJoin, TokenFrame, TokenControl, TokenConfiguration, TokenState, token_first_state}
+use Rattle.kk_counted.specs.TokenMachine.{filled, token_machine}
+use Rattle.kk_counted.specs.TokenSpending.{SpendsTokens}
+
+-- A slot has the token of a cell exactly where that cell's mark is of this slot. A cell that is a token is there and not counted.
+-- Those that are counted and those that are tokens are together no more than there are cells.
+pub record ArePooled (cells : ℕ) (heap : Heap) (tokens : Tokens) : Type 0 where
+  pub marks : (f y p : ℕ) → tokens.slots f y ≡ token p → tokens.marks p ≡ token_of f y
+  pub slots : (f y p : ℕ) → tokens.marks p ≡ token_of f y → tokens.slots f y ≡ token p
+  pub uncounted : (f y p : ℕ) → tokens.marks p ≡ token_of f y → count_at heap p ≡ 0
+  pub there : (f y p : ℕ) → tokens.marks p ≡ token_of f y → p < length heap
+  pub room : busy heap + marked tokens.marks (length heap) ≤ cells
+
+-- the held slots of a frame that have a token, the newest first, before other links
+abbrev pub links_of : (ℕ → Slot) → ℕ → List ℕ → List Link → List Link
+links_of slots f [] older = older
+links_of slots f (y ∷ ys) older =
+    if is_token (slots y) then record { frame = f; slot = y } ∷ links_of slots f ys older else links_of slots f ys older
+
+-- the same of all frames, by the held slots of each, the newest frame first
+abbrev pub chain_of : (ℕ → ℕ → Slot) → List (List ℕ) → List Link
+chain_of slots [] = []
+chain_of slots (held ∷ older) = links_of (slots (length older)) (length older) held (chain_of slots older)
+
+-- The tokens of a state, by the held slots of each frame. No slot beyond the running frame has a token.
+pub record AreTokens (cells : ℕ) (heap : Heap) (tokens : Tokens) (helds : List (List ℕ)) : Type 0 where
+  pub pooled : ArePooled cells heap tokens
+  pub chain : tokens.chain ≡ chain_of tokens.slots helds
+  pub beyond : (f y : ℕ) → length helds ≤ f → tokens.slots f y ≡ spent
+
+-- the code behind the innermost block spends what that block leaves, and so on; the body of a function leaves nothing
+abbrev pub WaitTokens : List ℕ → List TokenJoin → Type 0
+WaitTokens left [] = left ≡ []
+WaitTokens left (join ∷ joins) = (outer : List ℕ) × (SpendsTokens outer left [] join.rest × WaitTokens outer joins)
+
+-- the unspent slots of a frame
+abbrev pub AreUnspent : (ℕ → Slot) → List ℕ → Type 0
+AreUnspent slots unspent = (y : ℕ) → is_unspent (slots y) ≡ is_among unspent y
+
+-- A function that waits for a call: its rest spends its tokens, which are all held.
+pub record IsHeldFrame (slots : ℕ → Slot) (held : List ℕ) (frame : TokenFrame) : Type 0 where
+  pub left : List ℕ
+  pub unspent : List ℕ
+  pub spends : SpendsTokens left unspent held frame.rest
+  pub waits : WaitTokens left frame.joins
+  pub slots_are : AreUnspent slots unspent
+  pub all_held : (y : ℕ) → is_among unspent y ≡ true → is_among held y ≡ true
+  pub apart : AreApart held
+
+abbrev pub AreHeldFrames : (ℕ → ℕ → Slot) → List (List ℕ) → List TokenFrame → Type 0
+AreHeldFrames slots [] [] = Unit {0}
+AreHeldFrames slots (held ∷ helds) (frame ∷ frames) =
+    IsHeldFrame (slots (length helds)) held frame × AreHeldFrames slots helds frames
+AreHeldFrames slots _ _ = ⊥
+
+-- A function that runs, at a code inside of blocks, by its lists: the slots that the block leaves, those that are unspent, those
+-- that are held, and those that older frames hold.
+pub record IsJudged (cells : ℕ) (left unspent held : List ℕ) (older : List (List ℕ)) (code : Tokened) (joins : List TokenJoin) (c : TokenConfiguration) : Type 0 where
+  pub spends : SpendsTokens left unspent held code
+  pub waits : WaitTokens left joins
+  pub slots_are : AreUnspent (c.tokens.slots (length older)) unspent
+  pub apart : AreApart held
+  pub frames : AreHeldFrames c.tokens.slots older c.frames
+  pub tokens : AreTokens cells c.heap c.tokens (held ∷ older)
+
+abbrev pub AreKeptAt : ℕ → TokenConfiguration → TokenControl → Type 0
+AreKeptAt cells c (TokenControl.running code environment joins) =
+    (left : List ℕ) × ((unspent : List ℕ) × ((held : List ℕ) × ((older : List (List ℕ))
+    × IsJudged cells left unspent held older code joins c)))
+AreKeptAt cells c _ = (helds : List (List ℕ)) × AreTokens cells c.heap c.tokens helds
+
+-- the tokens of a state are kept
+abbrev pub AreKept : ℕ → TokenConfiguration → Type 0
+AreKept cells c = AreKeptAt cells c c.control
+
+-- ---- constructions that leave fields
+
+-- Where a construction fills a token's cell, leaving the fields that it is to keep gives what writing all of them gives.
+abbrev pub FillsAt : Bool → TokenConfiguration → TokenControl → Type 0
+FillsAt leaves c (TokenControl.running (Tokened.fill x y k first arguments kept others rest) environment joins) =
+    (p : ℕ) → c.tokens.slots (length c.frames) y ≡ token p
+    → filled leaves kept (fields_held c.heap p) (map (value_of environment) (first ∷ arguments))
+    ≡ map (value_of environment) (first ∷ arguments)
+FillsAt leaves c _ = Unit {0}
+
+-- the machine after so many steps of a run
+abbrev pub token_after : (TokenState → ℕ) → TokenSetting → List ℕ → ℕ → TokenConfiguration
+token_after weight setting input n = (state (token_machine weight setting) n (token_first_state setting input)).machine
+
+abbrev pub FillsAlways : (TokenState → ℕ) → TokenSetting → List ℕ → Type 0
+FillsAlways weight setting input =
+    (n : ℕ) → FillsAt setting.leaves (token_after weight setting input n) (token_after weight setting input n).control
