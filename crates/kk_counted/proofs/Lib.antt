@@ -4,6 +4,9 @@ pub mod Counting
 pub mod Heaps
 pub mod Easing
 pub mod Pooling
+pub mod Chaining
+pub mod Requesting
+pub mod TokenForms
 pub mod Variables
 pub mod Order
 pub mod Reaching

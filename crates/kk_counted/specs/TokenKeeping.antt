@@ -65,18 +65,18 @@ AreHeldFrames slots _ _ = ⊥
 
 -- A function that runs, at a code inside of blocks, by its lists: the slots that the block leaves, those that are unspent, those
 -- that are held, and those that older frames hold.
-pub record IsJudged (cells : ℕ) (left unspent held : List ℕ) (older : List (List ℕ)) (code : Tokened) (joins : List TokenJoin) (c : TokenConfiguration) : Type 0 where
+pub record IsJudged (cells : ℕ) (left unspent held : List ℕ) (older : List (List ℕ)) (code : Tokened) (joins : List TokenJoin) (frames : List TokenFrame) (heap : Heap) (tokens : Tokens) : Type 0 where
   pub spends : SpendsTokens left unspent held code
   pub waits : WaitTokens left joins
-  pub slots_are : AreUnspent (c.tokens.slots (length older)) unspent
+  pub slots_are : AreUnspent (tokens.slots (length older)) unspent
   pub apart : AreApart held
-  pub frames : AreHeldFrames c.tokens.slots older c.frames
-  pub tokens : AreTokens cells c.heap c.tokens (held ∷ older)
+  pub waiting : AreHeldFrames tokens.slots older frames
+  pub are : AreTokens cells heap tokens (held ∷ older)
 
 abbrev pub AreKeptAt : ℕ → TokenConfiguration → TokenControl → Type 0
 AreKeptAt cells c (TokenControl.running code environment joins) =
     (left : List ℕ) × ((unspent : List ℕ) × ((held : List ℕ) × ((older : List (List ℕ))
-    × IsJudged cells left unspent held older code joins c)))
+    × IsJudged cells left unspent held older code joins c.frames c.heap c.tokens)))
 AreKeptAt cells c _ = (helds : List (List ℕ)) × AreTokens cells c.heap c.tokens helds
 
 -- the tokens of a state are kept
