@@ -7,6 +7,7 @@ pub mod Pooling
 pub mod Chaining
 pub mod Requesting
 pub mod TokenForms
+pub mod TokenSteps
 pub mod Variables
 pub mod Order
 pub mod Reaching
