@@ -8,6 +8,8 @@ pub mod Chaining
 pub mod Requesting
 pub mod TokenForms
 pub mod TokenSteps
+pub mod StillForms
+pub mod TokenRuns
 pub mod Variables
 pub mod Order
 pub mod Reaching

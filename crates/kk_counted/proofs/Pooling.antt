@@ -89,7 +89,7 @@ apart_marks f y g z apart is =
     let both : ((g == f) && (z == y)) ≡ true = rw first (rw second (rw (itself g) (itself z))) in
     absurd (cc)
 
-plain_is_none : (g z : ℕ) → plain ≡ token_of g z → ⊥
+pub plain_is_none : (g z : ℕ) → plain ≡ token_of g z → ⊥
 plain_is_none g z is = absurd (cc)
 
 apart_tokens : (p q : ℕ) → (q == p) ≡ false → token p ≡ token q → ⊥

@@ -26,6 +26,7 @@ use Rattle.kk_counted.specs.Tokens.{Slot, spent, null, token, is_unspent, Tokens
 use Rattle.kk_counted.specs.TokenStates.{TokenSetting, TokenJoin, TokenFrame, TokenControl, TokenConfiguration, bare_join, bare_frame, bare_configuration, bare_setting}
 use Rattle.kk_counted.specs.TokenMachine.{at_code, bound_to, token_at_end, token_at_stuck, to_heap, to_tokens, frame_of, tokened_arm_at, token_case_step, token_give_step, in_body, token_tail_step, token_read_step, to_opened, token_open_step, to_made, make_step, filled, fill_step, token_call_step, token_form_step, token_code_step}
 use Rattle.kk_counted.specs.TokenSpending.{AreSame, AtForm, SpendsTokens, SpendAllTokens, AreTokensSpent}
+use Rattle.kk_counted.specs.TokenRuns.{is_quiet}
 use Rattle.kk_counted.specs.TokenKeeping.{AreTokens, WaitTokens, IsHeldFrame, IsJudged, AreKeptAt, AreKept, FillsAt}
 use Rattle.kk_counted.proofs.Counting.{same}
 use Rattle.kk_counted.proofs.Easing.{Eased, EasedTo, eased_same, eased_dup, eased_drop, eased_opening, eased_unique}
@@ -58,13 +59,13 @@ pub record IsFollowed (cells : ℕ) (action : Action TokenConfiguration) (below 
 -- ---- judged states
 
 module _ (cells : ℕ) where
-  judged_now : (left unspent : List ℕ) (older : List (List ℕ)) (code : Tokened) (joins : List TokenJoin) (frames : List TokenFrame) (heap : Heap) (tokens : Tokens)
+  pub judged_now : (left unspent : List ℕ) (older : List (List ℕ)) (code : Tokened) (joins : List TokenJoin) (frames : List TokenFrame) (heap : Heap) (tokens : Tokens)
       → SpendsTokens left unspent [] code → WaitTokens left joins → AreNow cells unspent older frames heap tokens
       → IsJudged cells left unspent [] older code joins frames heap tokens
   judged_now left unspent older code joins frames heap tokens spends waits now =
       record { spends = spends; waits = waits; slots_are = now.slots_are; apart = tt; waiting = now.waiting; are = now.are }
 
-  now_of : (left unspent held : List ℕ) (older : List (List ℕ)) (code : Tokened) (joins : List TokenJoin) (frames : List TokenFrame) (heap : Heap) (tokens : Tokens)
+  pub now_of : (left unspent held : List ℕ) (older : List (List ℕ)) (code : Tokened) (joins : List TokenJoin) (frames : List TokenFrame) (heap : Heap) (tokens : Tokens)
       → held ≡ [] → IsJudged cells left unspent held older code joins frames heap tokens → AreNow cells unspent older frames heap tokens
   now_of left unspent held older code joins frames heap tokens none judged =
       record {
@@ -346,15 +347,6 @@ module _ (setting : TokenSetting) (program_spends : AreTokensSpent setting.progr
         by_row (TokenedArms.arm body others) (suc row) spends = by_row others row spends.1
 
   -- ---- one step
-
-  abbrev pub is_quiet : Tokened → Bool
-  is_quiet (Tokened.free y rest) = true
-  is_quiet (Tokened.null y rest) = true
-  is_quiet (Tokened.move to of rest) = true
-  is_quiet (Tokened.hold y rest) = true
-  is_quiet (Tokened.unhold y rest) = true
-  is_quiet (Tokened.if_token y there absent) = true
-  is_quiet _ = false
 
   pub follows : (code : Tokened) (environment : Environment) (joins : List TokenJoin) (from : TokenConfiguration)
       → AreKeptAt setting.cells from (TokenControl.running code environment joins) → FillsAt setting.leaves from (TokenControl.running code environment joins) → is_quiet code ≡ false

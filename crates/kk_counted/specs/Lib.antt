@@ -15,6 +15,7 @@ pub mod Shaping
 pub mod Spending
 pub mod TokenKeeping
 pub mod TokenMachine
+pub mod TokenRuns
 pub mod TokenSpending
 pub mod TokenStates
 pub mod TokenedCodes

@@ -1,0 +1,34 @@
+-- Runs of code with tokens and of its bare form do the same.
+use Rattle.std.specs.Prelude.{ℕ, ◌+◌, Bool, true, false, List, if◌then◌else◌}
+use Rattle.kk_base.specs.Agreements.{Agree}
+use Rattle.kk_counted.specs.CountedStates.{CountedState, counted_first_state}
+use Rattle.kk_counted.specs.CountedMachine.{counted_machine}
+use Rattle.kk_counted.specs.TokenedCodes.{Tokened}
+use Rattle.kk_counted.specs.TokenStates.{TokenSetting, TokenControl, TokenState, token_first_state, bare_state, bare_setting}
+use Rattle.kk_counted.specs.TokenMachine.{token_machine, TokenNotStuck}
+use Rattle.kk_counted.specs.TokenKeeping.{AreKept, token_after}
+
+-- a form that its bare form does not have
+abbrev pub is_quiet : Tokened → Bool
+is_quiet (Tokened.free y rest) = true
+is_quiet (Tokened.null y rest) = true
+is_quiet (Tokened.move to of rest) = true
+is_quiet (Tokened.hold y rest) = true
+is_quiet (Tokened.unhold y rest) = true
+is_quiet (Tokened.if_token y there absent) = true
+is_quiet _ = false
+
+abbrev pub is_quiet_at : TokenControl → Bool
+is_quiet_at (TokenControl.running code environment joins) = is_quiet code
+is_quiet_at _ = false
+
+-- a step weighs what its bare form does, and nothing where the bare form does not have it
+abbrev pub bare_weight : (CountedState → ℕ) → TokenState → ℕ
+bare_weight weight s = if is_quiet_at s.machine.control then 0 else weight (bare_state s)
+
+-- Both machines tell the same notes and end alike. In each state of the machine with tokens these are kept, and it is not stuck.
+pub record IsSameRun (weight : CountedState → ℕ) (setting : TokenSetting) (input : List ℕ) : Type 0 where
+  pub agrees : Agree (counted_machine weight (bare_setting setting)) (token_machine (bare_weight weight) setting) 0 (λ m. m + 1)
+      (counted_first_state (bare_setting setting) input) (token_first_state setting input)
+  pub kept : (n : ℕ) → AreKept setting.cells (token_after (bare_weight weight) setting input n)
+  pub never_stuck : (n : ℕ) → TokenNotStuck (token_after (bare_weight weight) setting input n).control
