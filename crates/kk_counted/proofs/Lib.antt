@@ -10,6 +10,8 @@ pub mod TokenForms
 pub mod TokenSteps
 pub mod StillForms
 pub mod TokenRuns
+pub mod Filling
+pub mod TokenExamples
 pub mod Variables
 pub mod Order
 pub mod Reaching

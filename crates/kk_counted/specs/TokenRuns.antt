@@ -1,10 +1,12 @@
 -- Runs of code with tokens and of its bare form do the same.
-use Rattle.std.specs.Prelude.{ℕ, ◌+◌, Bool, true, false, List, if◌then◌else◌}
+use Rattle.std.specs.Prelude.{◌≡◌, ℕ, ◌+◌, ◌==◌, ◌&&◌, Bool, true, false, List, length, if◌then◌else◌}
 use Rattle.kk_base.specs.Agreements.{Agree}
+use Rattle.kk_counted.specs.Heaps.{busy}
 use Rattle.kk_counted.specs.CountedStates.{CountedState, counted_first_state}
 use Rattle.kk_counted.specs.CountedMachine.{counted_machine}
 use Rattle.kk_counted.specs.TokenedCodes.{Tokened}
-use Rattle.kk_counted.specs.TokenStates.{TokenSetting, TokenControl, TokenState, token_first_state, bare_state, bare_setting}
+use Rattle.kk_counted.specs.Tokens.{spent, marked}
+use Rattle.kk_counted.specs.TokenStates.{TokenSetting, TokenControl, TokenConfiguration, TokenState, token_first_state, bare_state, bare_setting}
 use Rattle.kk_counted.specs.TokenMachine.{token_machine, TokenNotStuck}
 use Rattle.kk_counted.specs.TokenKeeping.{AreKept, token_after}
 
@@ -32,3 +34,10 @@ pub record IsSameRun (weight : CountedState → ℕ) (setting : TokenSetting) (i
       (counted_first_state (bare_setting setting) input) (token_first_state setting input)
   pub kept : (n : ℕ) → AreKept setting.cells (token_after (bare_weight weight) setting input n)
   pub never_stuck : (n : ℕ) → TokenNotStuck (token_after (bare_weight weight) setting input n).control
+
+-- A construction in the cell of the token of a slot takes no cell from anywhere else: as many cells as before are counted or are
+-- tokens, no other slot changes, and the chain is the same.
+pub record TakesNoCell (f y : ℕ) (from to : TokenConfiguration) : Type 0 where
+  pub cells : busy to.heap + marked to.tokens.marks (length to.heap) ≡ busy from.heap + marked from.tokens.marks (length from.heap)
+  pub slots : (g z : ℕ) → to.tokens.slots g z ≡ (if (g == f) && (z == y) then spent else from.tokens.slots g z)
+  pub chain : to.tokens.chain ≡ from.tokens.chain
