@@ -47,7 +47,7 @@ takes_no_cell setting x y c first p arguments kept others rest environment joins
     )
   where
     pooled : ArePooled setting.cells from.heap from.tokens
-    pooled = are.1.1.1.1.are.pooled
+    pooled = are.1.are.pooled
 
     values : List Value
     values = map (value_of environment) (first ∷ arguments)

@@ -18,10 +18,10 @@ use Rattle.kk_counted.specs.Tokens.{spent, token, is_token, Tokens, no_tokens}
 use Rattle.kk_counted.specs.TokenStates.{TokenSetting, TokenJoin, TokenFrame, TokenControl, TokenConfiguration, TokenState, no_tokened, token_start, token_first_state, token_end_at, bare_join, bare_frame, bare_control, bare_configuration, bare_state, bare_setting}
 use Rattle.kk_counted.specs.TokenMachine.{at_code, token_code_step, token_machine, TokenNotStuck}
 use Rattle.kk_counted.specs.TokenSpending.{SpendsTokens, AreTokensSpent}
-use Rattle.kk_counted.specs.TokenKeeping.{AreTokens, AreKeptAt, AreKept, FillsAt, FillsAlways, token_after}
-use Rattle.kk_counted.specs.TokenRuns.{is_quiet, is_quiet_at, bare_weight, IsSameRun}
+use Rattle.kk_counted.specs.TokenKeeping.{AreTokens, AreKeptAt, AreKept, IsJudged, Lists, ListsAfter, AreKeptByAt, AreKeptBy, FillsAt, FillsAlways, token_after}
+use Rattle.kk_counted.specs.TokenRuns.{bare_action, AllLead, IsFollowed, is_quiet, is_quiet_at, bare_weight, IsSameRun}
 use Rattle.kk_counted.proofs.Pooling.{plain_is_none}
-use Rattle.kk_counted.proofs.TokenSteps.{bare_action, AllLead, IsFollowed, follows}
+use Rattle.kk_counted.proofs.TokenSteps.{follows}
 use Rattle.kk_counted.proofs.StillForms.{IsStill, free_still, null_still, move_still, hold_still, unhold_still, there_still, absent_still}
 
 -- ---- what is performed
@@ -49,6 +49,12 @@ led_kept P (takes to) [] kept = kept None
 led_kept P (takes to) (byte ∷ input) kept = kept (Some byte)
 led_kept P (builds found to) input kept = kept
 led_kept P (calls found to) input kept = kept
+
+-- a state that is kept by some lists is kept
+weaker : (cells : ℕ) (P : Lists → Type 0) (c : TokenConfiguration) (control : TokenControl) → AreKeptByAt cells P c control → AreKeptAt cells c control
+weaker cells P c (TokenControl.running code environment joins) kept = (kept.0, kept.1.1)
+weaker cells P c (TokenControl.stopped by) kept = kept
+weaker cells P c TokenControl.stuck kept = kept
 
 end_alike : (control : TokenControl) → token_end_at control ≡ counted_end_at (bare_control control)
 end_alike (TokenControl.running code environment joins) = refl
@@ -107,12 +113,12 @@ module _ (weight : CountedState → ℕ) (setting : TokenSetting) (program_spend
       → Reached credit idle (bare_state (at rest environment joins (record from { tokens = tokens }) input)) (at rest environment joins (record from { tokens = tokens }) input)
 
   -- a step that the bare form does not have
-  still : (code rest : Tokened) (environment : Environment) (joins : List TokenJoin) (from : TokenConfiguration) (input : List ℕ) (credit idle : ℕ) → is_quiet code ≡ true → bare rest ≡ bare code
-      → IsStill setting.cells (token_code_step setting code environment joins (at_code code environment joins from)) rest environment joins (at_code code environment joins from)
+  still : (P : Lists → Type 0) (code rest : Tokened) (environment : Environment) (joins : List TokenJoin) (from : TokenConfiguration) (input : List ℕ) (credit idle : ℕ) → is_quiet code ≡ true → bare rest ≡ bare code
+      → IsStill setting.cells P (token_code_step setting code environment joins (at_code code environment joins from)) rest environment joins (at_code code environment joins from)
       → Stands (bare_state (at code environment joins from input)) (at code environment joins from input)
       → Later rest environment joins from input credit idle
       → Reached credit idle (bare_state (at code environment joins from input)) (at code environment joins from input)
-  still code rest environment joins from input credit idle quiet same is stands later =
+  still P code rest environment joins from input credit idle quiet same is stands later =
       record {
         steps = suc after.steps;
         credit_after = after.credit_after;
@@ -143,7 +149,7 @@ module _ (weight : CountedState → ℕ) (setting : TokenSetting) (program_spend
       stands_next =
           record {
             is = refl;
-            kept = is.kept;
+            kept = weaker setting.cells P (record (at_code code environment joins from) { tokens = is.tokens }) (TokenControl.running rest environment joins) is.kept;
             fills = λ k. subst (λ (p : List Note × TokenState). FillsAt setting.leaves (state lower k p.1).machine (state lower k p.1).machine.control) step_is (stands.fills (suc k));
             never_stuck = λ k. subst (λ body. NotStuck (state upper k (bare_at body)).machine.control) (sym same) (stands.never_stuck k);
           }
@@ -171,7 +177,8 @@ module _ (weight : CountedState → ℕ) (setting : TokenSetting) (program_spend
         passes = λ k less. let first : k ≡ 0 = omega arith in rw first (record { kept = stands.kept; not_stuck = tt });
         related = record {
           is = led_alike action input ∙ ap (λ below. (performed below input).1) followed.does;
-          kept = led_kept (AreKept setting.cells) action input followed.keeps;
+          kept = weaker setting.cells (ListsAfter code joins stands.kept.0) (performed action input).1.machine (performed action input).1.machine.control
+              (led_kept (AreKeptBy setting.cells (ListsAfter code joins stands.kept.0)) action input followed.keeps);
           fills = λ k. stands.fills (suc k);
           never_stuck = λ k. stands.never_stuck (suc k);
         };
@@ -180,27 +187,27 @@ module _ (weight : CountedState → ℕ) (setting : TokenSetting) (program_spend
       action : Action TokenConfiguration
       action = token_code_step setting code environment joins (at_code code environment joins from)
 
-      followed : IsFollowed setting.cells (token_code_step setting code environment joins (at_code code environment joins from))
+      followed : IsFollowed setting.cells (ListsAfter code joins stands.kept.0) (token_code_step setting code environment joins (at_code code environment joins from))
           (counted_code_step (bare_setting setting) (bare code) environment (map bare_join joins) (bare_configuration (at_code code environment joins from)))
-      followed = follows setting program_spends code environment joins (at_code code environment joins from) stands.kept (stands.fills zero) quiet
+      followed = follows setting program_spends stands.kept.0 code environment joins (at_code code environment joins from) stands.kept.1 (stands.fills zero) quiet
 
   reaches : (code : Tokened) (environment : Environment) (joins : List TokenJoin) (from : TokenConfiguration) (input : List ℕ) (credit idle : ℕ)
       → Stands (bare_state (at code environment joins from input)) (at code environment joins from input)
       → Reached credit idle (bare_state (at code environment joins from input)) (at code environment joins from input)
   reaches (Tokened.free y rest) environment joins from input credit idle stands =
-      still (Tokened.free y rest) rest environment joins from input credit idle refl refl (free_still setting environment joins (at_code (Tokened.free y rest) environment joins from) y rest stands.kept) stands
+      still (ListsAfter (Tokened.free y rest) joins stands.kept.0) (Tokened.free y rest) rest environment joins from input credit idle refl refl (free_still setting environment joins (at_code (Tokened.free y rest) environment joins from) stands.kept.0 y rest stands.kept.1) stands
       (λ tokens. reaches rest environment joins (record from { tokens = tokens }) input credit idle)
   reaches (Tokened.null y rest) environment joins from input credit idle stands =
-      still (Tokened.null y rest) rest environment joins from input credit idle refl refl (null_still setting environment joins (at_code (Tokened.null y rest) environment joins from) y rest stands.kept) stands
+      still (ListsAfter (Tokened.null y rest) joins stands.kept.0) (Tokened.null y rest) rest environment joins from input credit idle refl refl (null_still setting environment joins (at_code (Tokened.null y rest) environment joins from) stands.kept.0 y rest stands.kept.1) stands
       (λ tokens. reaches rest environment joins (record from { tokens = tokens }) input credit idle)
   reaches (Tokened.move to of rest) environment joins from input credit idle stands =
-      still (Tokened.move to of rest) rest environment joins from input credit idle refl refl (move_still setting environment joins (at_code (Tokened.move to of rest) environment joins from) to of rest stands.kept) stands
+      still (ListsAfter (Tokened.move to of rest) joins stands.kept.0) (Tokened.move to of rest) rest environment joins from input credit idle refl refl (move_still setting environment joins (at_code (Tokened.move to of rest) environment joins from) stands.kept.0 to of rest stands.kept.1) stands
       (λ tokens. reaches rest environment joins (record from { tokens = tokens }) input credit idle)
   reaches (Tokened.hold y rest) environment joins from input credit idle stands =
-      still (Tokened.hold y rest) rest environment joins from input credit idle refl refl (hold_still setting environment joins (at_code (Tokened.hold y rest) environment joins from) y rest stands.kept) stands
+      still (ListsAfter (Tokened.hold y rest) joins stands.kept.0) (Tokened.hold y rest) rest environment joins from input credit idle refl refl (hold_still setting environment joins (at_code (Tokened.hold y rest) environment joins from) stands.kept.0 y rest stands.kept.1) stands
       (λ tokens. reaches rest environment joins (record from { tokens = tokens }) input credit idle)
   reaches (Tokened.unhold y rest) environment joins from input credit idle stands =
-      still (Tokened.unhold y rest) rest environment joins from input credit idle refl refl (unhold_still setting environment joins (at_code (Tokened.unhold y rest) environment joins from) y rest stands.kept) stands
+      still (ListsAfter (Tokened.unhold y rest) joins stands.kept.0) (Tokened.unhold y rest) rest environment joins from input credit idle refl refl (unhold_still setting environment joins (at_code (Tokened.unhold y rest) environment joins from) stands.kept.0 y rest stands.kept.1) stands
       (λ tokens. reaches rest environment joins (record from { tokens = tokens }) input credit idle)
   reaches (Tokened.if_token y there absent) environment joins from input credit idle stands =
       by_test (is_token (from.tokens.slots (length from.frames) y)) refl
@@ -210,12 +217,12 @@ module _ (weight : CountedState → ℕ) (setting : TokenSetting) (program_spend
       by_test : (t : Bool) → is_token (from.tokens.slots (length from.frames) y) ≡ t → Later there environment joins from input credit idle → Later absent environment joins from input credit idle
           → Reached credit idle (bare_state (at (Tokened.if_token y there absent) environment joins from input)) (at (Tokened.if_token y there absent) environment joins from input)
       by_test true test later other =
-          still (Tokened.if_token y there absent) there environment joins from input credit idle refl refl
-          (there_still setting environment joins (at_code (Tokened.if_token y there absent) environment joins from) y there absent stands.kept test) stands later
+          still (ListsAfter (Tokened.if_token y there absent) joins stands.kept.0) (Tokened.if_token y there absent) there environment joins from input credit idle refl refl
+          (there_still setting environment joins (at_code (Tokened.if_token y there absent) environment joins from) stands.kept.0 y there absent stands.kept.1 test) stands later
       by_test false test other later =
-          still (Tokened.if_token y there absent) absent environment joins from input credit idle refl
-          (stands.kept.1.1.1.1.spends.1.0)
-          (absent_still setting environment joins (at_code (Tokened.if_token y there absent) environment joins from) y there absent stands.kept test) stands later
+          still (ListsAfter (Tokened.if_token y there absent) joins stands.kept.0) (Tokened.if_token y there absent) absent environment joins from input credit idle refl
+          stands.kept.1.spends.1.0
+          (absent_still setting environment joins (at_code (Tokened.if_token y there absent) environment joins from) stands.kept.0 y there absent stands.kept.1 test) stands later
   reaches (Tokened.give x) environment joins from input credit idle stands =
       steps (Tokened.give x) environment joins from input credit idle refl stands
   reaches (Tokened.tail_call f arguments) environment joins from input credit idle stands =
@@ -275,7 +282,7 @@ module _ (weight : CountedState → ℕ) (setting : TokenSetting) (program_spend
       record {
         is = ap (λ (function : CountedFunction). record { machine = record { control = CountedControl.running function.body [] []; frames = []; heap = [] }; input = input })
             (sym (function_at setting.program.functions setting.program.main));
-        kept = ([], ([], ([], ([], record {
+        kept = (record { left = []; unspent = []; held = []; older = [] }, record {
           spends = main_spends setting.program.functions setting.program.main program_spends;
           waits = refl;
           slots_are = λ y. refl;
@@ -286,7 +293,7 @@ module _ (weight : CountedState → ℕ) (setting : TokenSetting) (program_spend
             chain = refl;
             beyond = λ f y far. refl;
           };
-        }))));
+        });
         fills = fills;
         never_stuck = never_stuck;
       }

@@ -2,7 +2,9 @@
 -- belongs to one slot, and the chain lists the held slots that are not null.
 use Rattle.std.specs.Prelude.{◌≡◌, ℕ, ◌+◌, ◌≤◌, ◌<◌, Bool, true, List, [], ◌∷◌, map, length, if◌then◌else◌}
 use Rattle.kk_base.specs.Machines.{state}
-use Rattle.kk_syntax.specs.Shapes.{is_among}
+use Rattle.kk_syntax.specs.declared.program.Form.{Form}
+use Rattle.kk_syntax.specs.declared.program.Form.TheVariants.{Call}
+use Rattle.kk_syntax.specs.Shapes.{is_among, without}
 use Rattle.kk_source.specs.Live.{value_of}
 use Rattle.kk_counted.specs.Heaps.{Heap, count_at, fields_held, busy}
 use Rattle.kk_counted.specs.Spending.{AreApart}
@@ -73,15 +75,59 @@ pub record IsJudged (cells : ℕ) (left unspent held : List ℕ) (older : List (
   pub waiting : AreHeldFrames tokens.slots older frames
   pub are : AreTokens cells heap tokens (held ∷ older)
 
+-- the lists by which a function that runs is judged
+pub record Lists : Type 0 where
+  pub left : List ℕ
+  pub unspent : List ℕ
+  pub held : List ℕ
+  pub older : List (List ℕ)
+
 abbrev pub AreKeptAt : ℕ → TokenConfiguration → TokenControl → Type 0
 AreKeptAt cells c (TokenControl.running code environment joins) =
-    (left : List ℕ) × ((unspent : List ℕ) × ((held : List ℕ) × ((older : List (List ℕ))
-    × IsJudged cells left unspent held older code joins c.frames c.heap c.tokens)))
+    (lists : Lists) × IsJudged cells lists.left lists.unspent lists.held lists.older code joins c.frames c.heap c.tokens
 AreKeptAt cells c _ = (helds : List (List ℕ)) × AreTokens cells c.heap c.tokens helds
 
 -- the tokens of a state are kept
 abbrev pub AreKept : ℕ → TokenConfiguration → Type 0
 AreKept cells c = AreKeptAt cells c c.control
+
+-- ---- what the lists become at a step
+
+-- a call begins without tokens, and what the caller holds is on the chain; else the lists stay
+abbrev pub ListsAfterForm : Form → Lists → Lists → Type 0
+ListsAfterForm (Call f) lists next = next ≡ record { left = []; unspent = []; held = []; older = lists.held ∷ lists.older }
+ListsAfterForm _ lists next = next ≡ lists
+
+-- By the code and the blocks that it is in: a block leaves its unspent tokens to the one around it; a function that gives back
+-- leaves the lists of the older frames.
+abbrev pub ListsAfter : Tokened → List TokenJoin → Lists → Lists → Type 0
+ListsAfter (Tokened.give x) [] lists next = lists.older ≡ next.held ∷ next.older
+ListsAfter (Tokened.give x) (join ∷ joins) lists next =
+    (next.unspent ≡ lists.left) × ((next.held ≡ []) × (next.older ≡ lists.older))
+ListsAfter (Tokened.tail_call f arguments) joins lists next =
+    next ≡ record { left = []; unspent = []; held = []; older = lists.older }
+ListsAfter (Tokened.compute x form arguments others rest) joins lists next = ListsAfterForm form lists next
+ListsAfter (Tokened.inside x block rest) joins lists next =
+    (next.unspent ≡ lists.unspent) × ((next.held ≡ []) × (next.older ≡ lists.older))
+ListsAfter (Tokened.open_cell x c fields used y rest) joins lists next = next ≡ record lists { unspent = y ∷ lists.unspent }
+ListsAfter (Tokened.if_unique x c fields used y rest) joins lists next = next ≡ record lists { unspent = y ∷ lists.unspent }
+ListsAfter (Tokened.fill x y c first arguments kept others rest) joins lists next =
+    next ≡ record lists { unspent = without (y ∷ []) lists.unspent }
+ListsAfter (Tokened.free y rest) joins lists next = next ≡ record lists { unspent = without (y ∷ []) lists.unspent }
+ListsAfter (Tokened.null y rest) joins lists next = next ≡ record lists { unspent = y ∷ lists.unspent }
+ListsAfter (Tokened.move to of rest) joins lists next = next ≡ record lists { unspent = to ∷ without (of ∷ []) lists.unspent }
+ListsAfter (Tokened.hold y rest) joins lists next = next ≡ record lists { held = y ∷ lists.held }
+ListsAfter (Tokened.unhold y rest) joins lists next = lists ≡ record next { held = y ∷ next.held }
+ListsAfter _ joins lists next = next ≡ lists
+
+-- a state is kept, by lists of which something is true
+abbrev pub AreKeptByAt : ℕ → (Lists → Type 0) → TokenConfiguration → TokenControl → Type 0
+AreKeptByAt cells P c (TokenControl.running code environment joins) =
+    (lists : Lists) × (P lists × IsJudged cells lists.left lists.unspent lists.held lists.older code joins c.frames c.heap c.tokens)
+AreKeptByAt cells P c _ = (helds : List (List ℕ)) × AreTokens cells c.heap c.tokens helds
+
+abbrev pub AreKeptBy : ℕ → (Lists → Type 0) → TokenConfiguration → Type 0
+AreKeptBy cells P c = AreKeptByAt cells P c c.control
 
 -- ---- constructions that leave fields
 

@@ -1,14 +1,15 @@
 -- Runs of code with tokens and of its bare form do the same.
-use Rattle.std.specs.Prelude.{◌≡◌, ℕ, ◌+◌, ◌==◌, ◌&&◌, Bool, true, false, List, length, if◌then◌else◌}
+use Rattle.std.specs.Prelude.{◌≡◌, ℕ, ◌+◌, ◌==◌, ◌&&◌, Bool, true, false, List, length, Option, if◌then◌else◌}
 use Rattle.kk_base.specs.Agreements.{Agree}
+use Rattle.kk_source.specs.Actions.{Action, goes, puts, takes, builds, calls}
 use Rattle.kk_counted.specs.Heaps.{busy}
-use Rattle.kk_counted.specs.CountedStates.{CountedState, counted_first_state}
+use Rattle.kk_counted.specs.CountedStates.{CountedConfiguration, CountedState, counted_first_state}
 use Rattle.kk_counted.specs.CountedMachine.{counted_machine}
 use Rattle.kk_counted.specs.TokenedCodes.{Tokened}
 use Rattle.kk_counted.specs.Tokens.{spent, marked}
-use Rattle.kk_counted.specs.TokenStates.{TokenSetting, TokenControl, TokenConfiguration, TokenState, token_first_state, bare_state, bare_setting}
+use Rattle.kk_counted.specs.TokenStates.{TokenSetting, TokenControl, TokenConfiguration, TokenState, token_first_state, bare_configuration, bare_state, bare_setting}
 use Rattle.kk_counted.specs.TokenMachine.{token_machine, TokenNotStuck}
-use Rattle.kk_counted.specs.TokenKeeping.{AreKept, token_after}
+use Rattle.kk_counted.specs.TokenKeeping.{AreKept, Lists, AreKeptBy, token_after}
 
 -- a form that its bare form does not have
 abbrev pub is_quiet : Tokened → Bool
@@ -27,6 +28,31 @@ is_quiet_at _ = false
 -- a step weighs what its bare form does, and nothing where the bare form does not have it
 abbrev pub bare_weight : (CountedState → ℕ) → TokenState → ℕ
 bare_weight weight s = if is_quiet_at s.machine.control then 0 else weight (bare_state s)
+
+-- ---- one step
+
+-- an action of the machine with tokens, without them
+abbrev pub bare_action : Action TokenConfiguration → Action CountedConfiguration
+bare_action (goes to) = goes (bare_configuration to)
+bare_action (puts piece to) = puts piece (bare_configuration to)
+bare_action (takes to) = takes (λ byte. bare_configuration (to byte))
+bare_action (builds found to) = builds found (bare_configuration to)
+bare_action (calls found to) = calls found (bare_configuration to)
+
+-- what is true of each configuration to which an action leads
+abbrev pub AllLead : (TokenConfiguration → Type 0) → Action TokenConfiguration → Type 0
+AllLead P (goes to) = P to
+AllLead P (puts piece to) = P to
+AllLead P (takes to) = (byte : Option ℕ) → P (to byte)
+AllLead P (builds found to) = P to
+AllLead P (calls found to) = P to
+
+-- an action does what one of the counted machine does, and leads to tokens that are kept by lists of which something is true
+pub record IsFollowed (cells : ℕ) (P : Lists → Type 0) (action : Action TokenConfiguration) (below : Action CountedConfiguration) : Type 0 where
+  pub does : bare_action action ≡ below
+  pub keeps : AllLead (AreKeptBy cells P) action
+
+-- ---- whole runs
 
 -- Both machines tell the same notes and end alike. In each state of the machine with tokens these are kept, and it is not stuck.
 pub record IsSameRun (weight : CountedState → ℕ) (setting : TokenSetting) (input : List ℕ) : Type 0 where
