@@ -11,6 +11,7 @@ pub mod TokenSteps
 pub mod StillForms
 pub mod TokenRuns
 pub mod Filling
+pub mod Unseen
 pub mod TokenExamples
 pub mod Variables
 pub mod Order

@@ -52,6 +52,14 @@ pub record IsFollowed (cells : ℕ) (P : Lists → Type 0) (action : Action Toke
   pub does : bare_action action ≡ below
   pub keeps : AllLead (AreKeptBy cells P) action
 
+-- An action that the counted machine does not have: it leads to a configuration that is the same without its tokens, which are
+-- kept.
+pub record IsUnseen (cells : ℕ) (P : Lists → Type 0) (action : Action TokenConfiguration) (same : CountedConfiguration) : Type 0 where
+  pub to : TokenConfiguration
+  pub is : action ≡ goes to
+  pub alike : bare_configuration to ≡ same
+  pub keeps : AreKeptBy cells P to
+
 -- ---- whole runs
 
 -- Both machines tell the same notes and end alike. In each state of the machine with tokens these are kept, and it is not stuck.
