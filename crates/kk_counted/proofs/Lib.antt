@@ -2,6 +2,17 @@ pub mod Examples
 mod Spent
 pub mod Counting
 pub mod Heaps
+pub mod Easing
+pub mod Pooling
+pub mod Chaining
+pub mod Requesting
+pub mod TokenForms
+pub mod TokenSteps
+pub mod StillForms
+pub mod TokenRuns
+pub mod Filling
+pub mod Unseen
+pub mod TokenExamples
 pub mod Variables
 pub mod Order
 pub mod Reaching

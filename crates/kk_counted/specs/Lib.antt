@@ -1,3 +1,4 @@
+pub mod BareForms
 pub mod Cost
 pub mod CountedCodes
 pub mod CountedForms
@@ -12,4 +13,11 @@ pub mod Programs
 pub mod References
 pub mod Shaping
 pub mod Spending
+pub mod TokenKeeping
+pub mod TokenMachine
+pub mod TokenRuns
+pub mod TokenSpending
+pub mod TokenStates
+pub mod TokenedCodes
+pub mod Tokens
 pub mod Works

@@ -1,4 +1,4 @@
-ghost use Rattle.std.specs.Prelude.{◌≡◌, ◌↔◌, ◌+◌, ◌*◌, ◌≤◌, ℕ, true, List, [], ◌∷◌, length, Some, slice_get};
+ghost use Rattle.std.specs.Prelude.{◌≡◌, ◌↔◌, ◌+◌, ◌*◌, ◌≤◌, ℕ, true, false, List, [], ◌∷◌, map, length, Some, slice_get};
 ghost use Rattle.kk_syntax.specs.Shapes.{is_among};
 ghost use Rattle.kk_syntax.specs.PositionsOf.{PositionTable};
 ghost use Rattle.kk_source.specs.State.{Value, place, Cell, Environment};
@@ -6,13 +6,22 @@ ghost use Rattle.kk_source.specs.Live.{value_of, Reached, live};
 ghost use Rattle.kk_source.specs.Sound.{AllWithin};
 ghost use Rattle.kk_core.specs.Decisions.{NodeTree, chosen};
 ghost use Rattle.kk_counted.specs.CountedCodes.{Counted, CountedArms, give, case};
-ghost use Rattle.kk_counted.specs.CountedMachine.{opened_heap, unique_heap, NotStuck};
+ghost use Rattle.kk_counted.specs.CountedMachine.{opened_heap, unique_heap, counted_code_step, NotStuck};
 ghost use Rattle.kk_counted.specs.CountedStates.{CountedSetting, CountedJoin, CountedState, running};
 ghost use Rattle.kk_counted.specs.Heaps.{Heap, forwards, count_at, cell_at, fields_held, busy, weight, dup_value, drop_value};
 ghost use Rattle.kk_counted.specs.Keeping.{HasNoCell, uses, IsKept, counted_after, FitsAlways, HasShapeAlways};
 ghost use Rattle.kk_counted.specs.References.{refs, IsSound, IsCounted, cells_of, AreOlder, counted};
 ghost use Rattle.kk_counted.specs.Spending.{AreEven, IsSpent};
 ghost use Rattle.kk_counted.specs.Cost.{drop_turns, saved, opening_turns};
+ghost use Rattle.kk_source.specs.Actions.{builds};
+ghost use Rattle.kk_counted.specs.TokenedCodes.{Tokened};
+ghost use Rattle.kk_counted.specs.BareForms.{bare};
+ghost use Rattle.kk_counted.specs.Tokens.{token};
+ghost use Rattle.kk_counted.specs.TokenStates.{TokenSetting, TokenJoin, TokenControl, TokenConfiguration, TokenState, bare_join, bare_configuration, bare_setting};
+ghost use Rattle.kk_counted.specs.TokenMachine.{at_code, token_code_step};
+ghost use Rattle.kk_counted.specs.TokenSpending.{AreTokensSpent};
+ghost use Rattle.kk_counted.specs.TokenKeeping.{IsJudged, AreKeptAt, Lists, ListsAfter, FillsAt, FillsAlways};
+ghost use Rattle.kk_counted.specs.TokenRuns.{is_quiet, bare_weight, IsFollowed, IsUnseen, IsSameRun, TakesNoCell};
 
 /// Code that spends each reference that it owns keeps its heap sound: in each state of a run the count of each cell is the
 /// number of the references that own it, fields name older cells, and the cell of each lent variable is reached from what an
@@ -98,4 +107,49 @@ pub fn drops_pay_for_themselves()
     ensures dups { (v : Value) (heap after : Heap) → dup_value v heap ≡ Some after → weight after ≡ weight heap }
     ensures openings { (at : ℕ) (used : List Value) (heap after : Heap) → opened_heap at used heap ≡ Some after
         → opening_turns at used heap + weight after ≡ 1 + weight heap }
+{}
+
+/// Code that spends its tokens does what its bare form does: it tells the same notes and ends alike, so with a full heap exactly
+/// where the counted cells fill it. In each state of its run each cell is free, a token or counted, a token belongs to one slot,
+/// and the chain lists the held slots that are not null; and it is never stuck. The bare run must not be stuck, and a
+/// construction may leave only fields that it would write as they are; one that leaves none does. It is a law, and does nothing.
+pub fn tokens_keep_runs_the_same()
+    ensures same { (weight : CountedState → ℕ) (setting : TokenSetting) (input : List ℕ)
+        → AreTokensSpent setting.program
+        → FillsAlways (bare_weight weight) setting input
+        → ((n : ℕ) → NotStuck (counted_after weight (bare_setting setting) input n).control)
+        → IsSameRun weight setting input }
+    ensures written { (weight : TokenState → ℕ) (setting : TokenSetting) (input : List ℕ)
+        → setting.leaves ≡ false → FillsAlways weight setting input }
+{}
+
+/// Each step of code that spends its tokens does what its bare form does, or what the bare form does not see; and the lists by which
+/// it is judged become those that its form says: the slots that are unspent, those that are held, and those that older frames
+/// hold. It is a law, and does nothing.
+pub fn tokens_follow_their_forms()
+    ensures follows { (setting : TokenSetting) → AreTokensSpent setting.program
+        → (lists : Lists) (code : Tokened) (environment : Environment) (joins : List TokenJoin) (from : TokenConfiguration)
+        → IsJudged setting.cells lists.left lists.unspent lists.held lists.older code joins from.frames from.heap from.tokens
+        → FillsAt setting.leaves from (TokenControl.running code environment joins)
+        → is_quiet code ≡ false
+        → IsFollowed setting.cells (ListsAfter code joins lists) (token_code_step setting code environment joins from)
+        (counted_code_step (bare_setting setting) (bare code) environment (map bare_join joins) (bare_configuration from)) }
+    ensures unseen { (setting : TokenSetting) (lists : Lists) (environment : Environment) (joins : List TokenJoin)
+        (from : TokenConfiguration) (code : Tokened)
+        → IsJudged setting.cells lists.left lists.unspent lists.held lists.older code joins from.frames from.heap from.tokens
+        → is_quiet code ≡ true
+        → IsUnseen setting.cells (ListsAfter code joins lists) (token_code_step setting code environment joins from)
+        (bare_configuration (at_code code environment joins from)) }
+{}
+
+/// A construction whose own token is there takes no cell from anywhere else: the free cells, the other tokens and the chain are as
+/// they were. It is a law, and does nothing.
+pub fn reuse_takes_no_cell()
+    ensures { (setting : TokenSetting) (x y c first p : ℕ) (arguments kept others : List ℕ) (rest : Tokened)
+        (environment : Environment) (joins : List TokenJoin) (from : TokenConfiguration)
+        → AreKeptAt setting.cells from (TokenControl.running (Tokened.fill x y c first arguments kept others rest) environment joins)
+        → from.tokens.slots (length from.frames) y ≡ token p
+        → (to : TokenConfiguration)
+        × ((token_code_step setting (Tokened.fill x y c first arguments kept others rest) environment joins from ≡ builds (busy from.heap) to)
+        × TakesNoCell (length from.frames) y from to) }
 {}
