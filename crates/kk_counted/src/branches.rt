@@ -4,8 +4,7 @@ ghost use Rattle.kk_counted.specs.CountedCodes.{tail_call};
 ghost use Rattle.kk_counted.specs.CountedForms.{decisions_of, plug, block_code};
 ghost use Rattle.kk_counted.specs.Drafts.{all_owed, forked, entered, ended_by_value, ended_by_call, joined, finished, Writes, Takes, OwnsAll, AreNewest, IsBetween, IsOnly, IsInArm, EndsByCall};
 ghost use Rattle.kk_counted.specs.Emissions.{state};
-ghost use Rattle.kk_counted.specs.Emitting.{IsJudged};
-ghost use Rattle.kk_counted.specs.Programs.{function_of};
+ghost use Rattle.kk_counted.specs.Programs.{IsFunctionOf};
 ghost use Rattle.kk_counted.specs.Works.{left_in};
 
 use crate::counted::CountedFun;
@@ -158,8 +157,7 @@ impl<'a> Emitter<'a> {
         requires only { IsOnly (state self) owed.emitter owed.variable }
         ensures going { OnOk result ((state self.entry).failed ≡ false) }
         ensures body { IfOk result (λ function. block_code function.body ≡ finished (state self.entry) owed.variable) }
-        ensures instance { IfOk result (λ function. function.instance ≡ (state self.entry).instance) }
-        ensures spent { IfOk result (λ function. IsJudged self.entry.positions (state self.entry).instance (function_of function)) }
+        ensures function { IfOk result (λ function. IsFunctionOf self.entry.positions (state self.entry).instance function) }
         ensures kept { IfErr result (λ kept. kept.held ≡ Held.One owed) }
         ensures ended { IfErr result (λ kept. kept.ended ≡ true) }
     {
@@ -183,8 +181,7 @@ impl<'a> Emitter<'a> {
         requires ends { EndsByCall (state self) instance arguments.items }
         ensures going { OnOk result ((state self.entry).failed ≡ false) }
         ensures body { IfOk result (λ function. block_code function.body ≡ plug (state self.entry).steps (tail_call instance arguments.items)) }
-        ensures instance { IfOk result (λ function. function.instance ≡ (state self.entry).instance) }
-        ensures spent { IfOk result (λ function. IsJudged self.entry.positions (state self.entry).instance (function_of function)) }
+        ensures function { IfOk result (λ function. IsFunctionOf self.entry.positions (state self.entry).instance function) }
         ensures kept { IfErr result (λ kept. kept.held ≡ Held.Nothing) }
         ensures ended { IfErr result (λ kept. kept.ended ≡ true) }
     {
