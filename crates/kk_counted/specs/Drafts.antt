@@ -1,5 +1,5 @@
 -- What an emitter has written of a function and what it owes, and what its calls change of that.
-use Rattle.std.specs.Prelude.{◌≡◌, ℕ, zero, suc, ◌+◌, ◌<◌, ◌/◌, ◌%◌, ◌==◌, ◌||◌, Bool, true, false, not, List, [], ◌∷◌, ◌++◌, map, length, Option, Some, None, if◌then◌else◌, slice_index_or}
+use Rattle.std.specs.Prelude.{◌≡◌, ℕ, zero, suc, ◌+◌, ◌<◌, ◌/◌, ◌%◌, ◌==◌, ◌||◌, Bool, true, false, not, List, [], ◌∷◌, ◌++◌, map, length, take, Option, Some, None, if◌then◌else◌, slice_index_or}
 use Rattle.kk_syntax.specs.declared.program.Form.{Form}
 use Rattle.kk_syntax.specs.declared.program.Form.TheVariants.{Construct, Call}
 use Rattle.kk_syntax.specs.Shapes.{is_among}
@@ -38,13 +38,14 @@ copies (suc n) xs = xs ∷ copies n xs
 
 -- ---- drafts
 
--- A branch that is not joined: on which variable, by which decisions; the steps of the block before it; what the block owes
--- besides; what each arm is to spend, and that list for each arm that is not entered; the arms that are ended; and whether
--- one of them ends by a tail call.
+-- A branch that is not joined: on which variable, by which decisions; the steps of the block before it; how many variables
+-- it is lent; what it owes besides; what each arm is to spend, and that list for each arm that is not entered; the arms that
+-- are ended; and whether one of them ends by a tail call.
 pub record Split : Type 0 where
   pub on : ℕ
   pub decisions : List NodeTree
   pub before : List Move
+  pub lent : ℕ
   pub kept : List ℕ
   pub each : List ℕ
   pub left : List (List ℕ)
@@ -52,9 +53,10 @@ pub record Split : Type 0 where
   pub tails : Bool
 
 -- The function of which instance is written, by which positions are lent and how many fields constructors have; the number of
--- its parameters; the next variable; whether a call found no memory; whether a block is written, the function's body or an arm that is entered; its
--- steps; the variables that it owns; the owned parameters that are not called yet; the lent parameters; the branches that are
--- not joined, the newest first; and how the block ends, once a branch with tail calls is joined.
+-- its parameters; the next variable; whether a call found no memory; whether a block is written, the function's body or an arm
+-- that is entered; its steps; the variables that it owns; the owned parameters that are not called yet; the variables that it
+-- is lent, which are parameters and fields of cells that lent variables name; the branches that are not joined, the newest
+-- first; and how the block ends, once a branch with tail calls is joined.
 pub record Draft : Type 0 where
   pub positions : PositionTable
   pub field_counts : List ℕ
@@ -129,6 +131,10 @@ HoldsAll d xs = d.failed ≡ false → HasAll xs d.owed
 abbrev pub Awaits : Draft → ℕ → Type 0
 Awaits d x = d.failed ≡ false → (d.splits ≡ []) × (is_among d.uncalled x ≡ true)
 
+-- the variable is lent, or owned on this path or outside of the newest block
+abbrev pub IsAtHand : Draft → ℕ → Type 0
+IsAtHand d x = d.failed ≡ false → is_among (d.lent ++ all_owed d) x ≡ true
+
 -- the variable is owned on this path, or outside of the newest block
 abbrev pub Reaches : Draft → ℕ → ℕ → Type 0
 Reaches d emitter x = d.failed ≡ false → (emitter ≡ d.instance) × (is_among (all_owed d) x ≡ true)
@@ -142,6 +148,10 @@ HasConstructor d constructor = constructor < length d.field_counts
 
 abbrev pub HasFields : Draft → ℕ → ℕ → Type 0
 HasFields d constructor count = (constructor < length d.field_counts) × (slice_index_or d.field_counts constructor 0 ≡ count)
+
+-- a constructor is there, and has a field of that number
+abbrev pub HasField : Draft → ℕ → ℕ → Type 0
+HasField d constructor at = (constructor < length d.field_counts) × (at < slice_index_or d.field_counts constructor 0)
 
 -- a form that is no call, and builds no cell
 abbrev pub IsPlain : Form → List ℕ → Type 0
@@ -229,15 +239,21 @@ fields_given d constructor used = chosen_of used (numbers_from d.next (slice_ind
 abbrev pub unpacked : Draft → ℕ → ℕ → ℕ → Draft
 unpacked d x constructor used = opened d x constructor (slice_index_or d.field_counts constructor 0) used
 
--- fields of a cell that stays are duplicated
-abbrev pub looked : Draft → ℕ → ℕ → ℕ → ℕ → Draft
-looked d x constructor count used =
+-- The fields of a cell that stays are the next variables, and of them the used ones get a reference more. Where the cell's
+-- variable is lent, its fields are lent too.
+abbrev pub read_of : Draft → ℕ → ℕ → ℕ → ℕ → Draft
+read_of d x constructor count used =
     let fields = numbers_from d.next count in
     record d {
       steps = d.steps ++ (reads x constructor fields ∷ map dups (chosen_of used fields));
       owed = d.owed ++ chosen_of used fields;
+      lent = d.lent ++ (if is_among d.lent x then fields else []);
       next = d.next + count;
     }
+
+-- the same by the constructor's number
+abbrev pub looked : Draft → ℕ → ℕ → ℕ → Draft
+looked d x constructor used = read_of d x constructor (slice_index_or d.field_counts constructor 0) used
 
 -- a branch begins, whose arms are to spend `each`
 abbrev pub forked : Draft → ℕ → List NodeTree → List ℕ → ℕ → Draft
@@ -247,6 +263,7 @@ forked d on decisions each rows =
       on = on;
       decisions = decisions;
       before = d.steps;
+      lent = length d.lent;
       kept = minus_all each d.owed;
       each = each;
       left = copies rows each;
@@ -255,11 +272,16 @@ forked d on decisions each rows =
     } in
     record d { inside = false; steps = []; owed = []; splits = split ∷ d.splits }
 
--- an arm is entered
+-- an arm is entered; it is lent what was lent before the branch
 abbrev pub entered_by : Draft → Split → List Split → List (List ℕ) → Draft
 entered_by d split splits [] = d
 entered_by d split splits (each ∷ left) =
-    record d { inside = true; owed = each; splits = record split { left = left } ∷ splits }
+    record d {
+      inside = true;
+      owed = each;
+      lent = take split.lent d.lent;
+      splits = record split { left = left } ∷ splits;
+    }
 
 abbrev pub entered_in : Draft → List Split → Draft
 entered_in d [] = d
@@ -299,19 +321,22 @@ ended_by_value d x = ended_in d (end_code d.ending x) (is_tail d.ending) d.split
 abbrev pub ended_by_call : Draft → ℕ → List ℕ → Draft
 ended_by_call d f arguments = ended_in d (tail_call f arguments) true d.splits
 
--- A block goes on behind a branch, and a variable takes its value. Where an arm ends by a tail call the branch ends the block.
+-- A block goes on behind a branch, and a variable takes its value; it is lent what was lent before the branch. Where an arm
+-- ends by a tail call the branch ends the block.
 abbrev pub resumed_as : Draft → Split → ℕ → Bool → Draft
 resumed_as d split x false =
     record d {
       inside = true;
       steps = split.before ++ runs x (case split.on split.decisions (arms_of split.arms)) ∷ [];
       owed = split.kept ++ x ∷ [];
+      lent = take split.lent d.lent;
     }
 resumed_as d split x true =
     record d {
       inside = true;
       steps = split.before;
       owed = split.kept ++ x ∷ [];
+      lent = take split.lent d.lent;
       ending = Some (case split.on split.decisions (arms_of split.arms));
     }
 

@@ -1,5 +1,5 @@
 -- That what an emitter has written spends what is owned: so a function that it finishes is spent.
-use Rattle.std.specs.Prelude.{◌≡◌, ℕ, ◌<◌, true, false, not, List, [], ◌∷◌, ◌++◌, length, Option, Some, None, slice_get, slice_index_or}
+use Rattle.std.specs.Prelude.{◌≡◌, ℕ, ◌<◌, ◌≤◌, true, false, not, List, [], ◌∷◌, ◌++◌, length, Option, Some, None, slice_get, slice_index_or}
 use Rattle.kk_syntax.specs.Shapes.{is_among}
 use Rattle.kk_syntax.specs.PositionsOf.{PositionTable, is_lent}
 use Rattle.kk_counted.specs.CountedCodes.{Counted, CountedFunction}
@@ -18,9 +18,16 @@ abbrev pub IsJudged : PositionTable → ℕ → CountedFunction → Type 0
 IsJudged positions f function =
     (functions : List CountedFunction) → HaveParameters positions functions → SpendsParameters positions functions f function
 
--- variables are below a number
+-- variables are below a number, or are not
 abbrev pub AreLow : ℕ → List ℕ → Type 0
 AreLow next xs = (x : ℕ) → is_among xs x ≡ true → x < next
+
+abbrev pub AreLater : ℕ → List ℕ → Type 0
+AreLater next xs = (x : ℕ) → is_among xs x ≡ true → next ≤ x
+
+-- variables are among others
+abbrev pub AreIn : List ℕ → List ℕ → Type 0
+AreIn xs others = (x : ℕ) → is_among xs x ≡ true → is_among others x ≡ true
 
 module _ (positions : PositionTable) (lent : List ℕ) where
   -- code spends what is owned, whatever the functions are that it calls
@@ -72,18 +79,27 @@ owned_parameters d = parameters_where (λ i. not (is_lent d.positions d.instance
 abbrev pub first_of : Draft → List ℕ
 first_of d = first (owned_parameters d) d.uncalled d.splits
 
--- A draft that is sound: its branches are; the steps of the block that is written lead to what is owned now; a block whose
--- end is known spends all that it owned as it began; and the next variable is above all of them.
-pub record IsSoundDraft (d : Draft) : Type 0 where
-  pub splits : AreFine d.positions d.lent d.next (owned_parameters d) d.uncalled d.splits
-  pub steps : d.inside ≡ true → d.ending ≡ None → Leads d.positions d.lent (first_of d) (all_owed d) d.steps
+-- A draft is sound by the variables that the function is lent in all: its branches are; the steps of the block that is written
+-- lead to what is owned now; a block whose end is known spends all that it owned as it began; and the next variable is above
+-- all of them.
+pub record IsSoundBy (lent : List ℕ) (d : Draft) : Type 0 where
+  pub splits : AreFine d.positions lent d.next (owned_parameters d) d.uncalled d.splits
+  pub steps : d.inside ≡ true → d.ending ≡ None → Leads d.positions lent (first_of d) (all_owed d) d.steps
   pub closed : (code : Counted) → d.ending ≡ Some code
-      → Spent d.positions d.lent None (first_of d) (plug d.steps code) × (outside d.uncalled d.splits ≡ [])
+      → Spent d.positions lent None (first_of d) (plug d.steps code) × (outside d.uncalled d.splits ≡ [])
   pub low : AreLow d.next (all_owed d)
-  pub lent : d.lent ≡ parameters_where (is_lent d.positions d.instance) (parameter_count d)
-  pub lent_low : AreLow d.next d.lent
+  pub lends : AreIn d.lent lent
   pub parameters : d.parameters ≡ parameter_count d
   pub quiet : d.inside ≡ false → (d.steps ≡ []) × ((d.owed ≡ []) × (d.ending ≡ None))
+
+-- A draft that is sound: by the variables that were lent until now, in this block or another one, and whichever are lent later.
+-- Of the parameters those at lent positions are lent.
+pub record IsSoundDraft (d : Draft) : Type 0 where
+  pub lent : List ℕ
+  pub sound : (later : List ℕ) → AreLater d.next later → IsSoundBy (later ++ lent) d
+  pub low : AreLow d.next lent
+  pub own : (i : ℕ) → i < parameter_count d → is_among lent i ≡ is_lent d.positions d.instance i
+  pub parameters : parameter_count d ≤ d.next
 
 -- a draft is sound, if no call found no memory
 abbrev pub Works : Draft → Type 0

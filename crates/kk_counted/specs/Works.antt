@@ -45,6 +45,7 @@ split_of fork =
       on = fork.on;
       decisions = decisions_of fork.tests;
       before = map step_move fork.before.items;
+      lent = fork.lent;
       kept = fork.kept.items;
       each = fork.each.items;
       left = left_in fork.left.items;

@@ -5,7 +5,7 @@ use Rattle.kk_counted.specs.Emissions.{state}
 use Rattle.kk_counted.specs.Emitting.{IsJudged, IsSoundDraft}
 use Rattle.kk_counted.specs.Shaping.{positions_in, fields_in}
 use Rattle.kk_counted.proofs.Seeing.{going_now, works_now}
-use Rattle.kk_counted.proofs.Working.{tail_judged}
+use Rattle.kk_counted.proofs.Working.{sound_now, tail_judged}
 use Rattle.kk_counted.proofs.emitter.Emitter.finish_tail.Goals as goal
 
 pub returns-clause-function : goal.returns-clause-function
@@ -22,9 +22,9 @@ returns-clause-function c =
     works_now p q work now c.self.view_is c.self.invariant (going_now p q work now c.self.view_is c.if-work.false) in
     record {
       instance = c.finish_by_call.ensures.instance ∙ ap (λ e. e.work.instance) c.self.view_is;
-      parameters = parameters ∙ sound.parameters;
+      parameters = parameters ∙ (sound_now (state now) sound).parameters;
       judged =
-      subst (λ (n : ℕ). IsJudged now.positions now.work.instance (record { parameters = n; body = block_code c.finish_by_call.result.body })) (sym parameters)
-      (subst (λ (code : Counted). IsJudged now.positions now.work.instance (record { parameters = now.work.parameters; body = code })) (sym body)
-      (tail_judged (state now) f arguments (going_now p q work now c.self.view_is c.if-work.false) c.requires.writes c.requires.joined c.requires.takes c.requires.ends (works_now p q work now c.self.view_is c.self.invariant)));
+          subst (λ (n : ℕ). IsJudged now.positions now.work.instance (record { parameters = n; body = block_code c.finish_by_call.result.body })) (sym parameters)
+          (subst (λ (code : Counted). IsJudged now.positions now.work.instance (record { parameters = now.work.parameters; body = code })) (sym body)
+          (tail_judged (state now) f arguments (going_now p q work now c.self.view_is c.if-work.false) c.requires.writes c.requires.joined c.requires.takes c.requires.ends (works_now p q work now c.self.view_is c.self.invariant)));
     }
