@@ -7,7 +7,8 @@ use Rattle.kk_syntax.specs.declared.positions.Ownership.{Ownership}
 use Rattle.kk_syntax.specs.declared.positions.Ownership.TheVariants.{Owned}
 use Rattle.kk_syntax.specs.Shapes.{is_among}
 use Rattle.kk_syntax.specs.PositionsOf.{PositionTable, is_lent, lends}
-use Rattle.kk_core.specs.Decisions.{NodeTree}
+use Rattle.kk_core.specs.Decisions.{NodeTree, AreOrderly}
+use Rattle.kk_counted.specs.Arms.{HasArms}
 use Rattle.kk_counted.specs.declared.shape.Parameter.{Parameter}
 use Rattle.kk_counted.specs.declared.form.Last.{Last}
 use Rattle.kk_counted.specs.declared.work.Work.{Work}
@@ -16,15 +17,16 @@ use Rattle.kk_counted.specs.declared.shape.ConstructorShape.{ConstructorShape}
 use Rattle.std.proofs.lemmas.List.{length-map, append_assoc}
 use Rattle.kk_counted.specs.Shaping.{passed_to, positions_in, fields_in}
 use Rattle.kk_counted.specs.CountedCodes.{Counted, CountedFunction, tail_call}
-use Rattle.kk_counted.specs.CountedForms.{plug, last_code}
+use Rattle.kk_counted.specs.CountedForms.{reads, dups, drops, plug, last_code}
 use Rattle.kk_counted.specs.Spending.{total, AreEven, AllAmong, AreFresh, at_positions, numbers_from, used_by, lent_by, FitsForm}
-use Rattle.kk_counted.specs.Drafts.{minus_all, Split, Draft, outside, all_owed, parameters_where, begun, fallen, given, duplicated, dropped, opened, read_of, computed, forked, entered, entered_in, entered_by, end_code, is_tail, ended_in, ended_by_value, ended_by_call, resumed_as, joined, joined_in, finished, Writes, Awaits, Reaches, IsLentTo, IsAtHand, Owns, OwnsAll, HoldsAll, IsPlain, Takes, used_in, lent_in, LendsAll, IsOnly, IsBetween, IsInArm, EndsByCall}
-use Rattle.kk_counted.specs.Emitting.{IsJudged, AreLow, Spent, owned_parameters, parameter_count, IsSoundBy, IsSoundDraft, Works, AreIn, AreLater, first, first_of}
+use Rattle.kk_counted.specs.Drafts.{minus_all, chosen_of, Split, Draft, outside, all_owed, parameters_where, begun, fallen, given, duplicated, dropped, opened, read_of, computed, forked, entered, entered_in, entered_by, end_code, is_tail, ended_in, ended_by_value, ended_by_call, resumed_as, joined, joined_in, finished, Writes, Awaits, Reaches, IsLentTo, IsAtHand, Owns, OwnsAll, HoldsAll, IsPlain, Takes, used_in, lent_in, LendsAll, IsOnly, IsBetween, AreNewest, IsInArm, EndsByCall}
+use Rattle.kk_counted.specs.Emitting.{IsJudged, AreLow, Spent, owned_parameters, parameter_count, IsWholeDraft, IsSoundBy, IsSoundDraft, Works, AreIn, AreLater, first, first_of}
 use Rattle.kk_counted.specs.Works.{used_at, lends_at, passes, back_to_front, split_of, draft}
 use Rattle.kk_counted.proofs.Counting.{same}
 use Rattle.kk_counted.proofs.Evenness.{among_front, among_behind, minus_all_even, low_up, low_both, low_numbers, total_append}
 use Rattle.kk_counted.proofs.Variables.{among_cases}
 use Rattle.kk_counted.proofs.Drafting.{sound_dup, sound_drop, sound_opened, sound_read, sound_computed, sound_forked, sound_entered, sound_given, in_both}
+use Rattle.kk_counted.proofs.Whole.{dups_inside, whole_more, whole_forked, whole_entered, whole_ended, whole_end, whole_joined, whole_body}
 use Rattle.kk_counted.proofs.Joining.{sound_by_value, sound_by_call, joins_value, joins_end, judged, finished_spent, call_spent}
 
 works_by : (d e f : Draft) → d.failed ≡ false → (IsSoundDraft d → IsSoundDraft f) → e ≡ f → Works d → Works e
@@ -79,10 +81,10 @@ count_same d e one two =
     ap (λ (p : PositionTable). length (slice_index_or p e.instance [])) one ∙ ap (λ f. length (slice_index_or d.positions f [])) two
 
 -- a change that leaves drafts sound by all that is lent, where new variables are not
-leaves_sound : (d e : Draft) → e.positions ≡ d.positions → e.instance ≡ d.instance → d.next ≤ e.next → (sound : IsSoundDraft d)
+leaves_sound : (d e : Draft) → e.positions ≡ d.positions → e.instance ≡ d.instance → d.next ≤ e.next → (IsWholeDraft d → IsWholeDraft e) → (sound : IsSoundDraft d)
     → ((lent : List ℕ) → ((x : ℕ) → d.next ≤ x → x < e.next → is_among lent x ≡ false) → IsSoundBy lent d → IsSoundBy lent e) → IsSoundDraft e
 unfolding LendsOwn
-leaves_sound d e one two less sound step =
+leaves_sound d e one two less rows sound step =
     record {
       lent = sound.lent;
       sound = λ later from.
@@ -93,13 +95,14 @@ leaves_sound d e one two less sound step =
       low = low_up d.next e.next sound.lent less sound.low;
       own = lends_same d e sound.lent one two sound.own;
       parameters = omega (arith, count_same d e one two, sound.parameters, less);
+      whole = rows sound.whole;
     }
 
 -- the same of a change by which new variables are lent
-lends_sound : (d e : Draft) (fields : List ℕ) → e.positions ≡ d.positions → e.instance ≡ d.instance → d.next ≤ e.next → AreLater d.next fields → AreLow e.next fields → (sound : IsSoundDraft d)
+lends_sound : (d e : Draft) (fields : List ℕ) → e.positions ≡ d.positions → e.instance ≡ d.instance → d.next ≤ e.next → AreLater d.next fields → AreLow e.next fields → (IsWholeDraft d → IsWholeDraft e) → (sound : IsSoundDraft d)
     → ((lent : List ℕ) → AreIn fields lent → IsSoundBy lent d → IsSoundBy lent e) → IsSoundDraft e
 unfolding LendsOwn
-lends_sound d e fields one two less above below sound step =
+lends_sound d e fields one two less above below rows sound step =
     record {
       lent = fields ++ sound.lent;
       sound = λ later from.
@@ -109,6 +112,7 @@ lends_sound d e fields one two less above below sound step =
       low = low_both e.next fields sound.lent below (low_up d.next e.next sound.lent less sound.low);
       own = lends_same d e (fields ++ sound.lent) one two (λ i is. skipped i (omega (arith, is, sound.parameters)) ∙ sound.own i is);
       parameters = omega (arith, count_same d e one two, sound.parameters, less);
+      whole = rows sound.whole;
     }
   where
     later_both : (later : List ℕ) → AreLater d.next later → AreLater d.next (later ++ fields)
@@ -138,26 +142,26 @@ sound_now d sound = sound.sound [] (λ x is. absurd (cc))
 pub given_works : (d e : Draft) (x : ℕ) → d.failed ≡ false → Writes d → Awaits d x → e ≡ given d x → Works d → Works e
 given_works d e x going writes waits is works =
     works_by d e (given d x) going
-    (λ sound. leaves_sound d (given d x) refl refl (omega arith) sound
+    (λ sound. leaves_sound d (given d x) refl refl (omega arith) (λ whole. whole) sound
     (λ lent free one. sound_given lent d x one (writes going).0 (writes going).1 (waits going).0 (waits going).1)) is works
 
 pub dup_works : (d e : Draft) (emitter x : ℕ) → d.failed ≡ false → Writes d → Reaches d emitter x → e ≡ duplicated d x → Works d → Works e
 dup_works d e emitter x going writes reaches is works =
     works_by d e (duplicated d x) going
-    (λ sound. leaves_sound d (duplicated d x) refl refl (omega arith) sound
+    (λ sound. leaves_sound d (duplicated d x) refl refl (omega arith) (whole_more d.inside d.splits d.steps (dups x ∷ []) d.ending (tt, tt)) sound
     (λ lent free one. sound_dup lent d x one (writes going).0 (writes going).1 (among_behind lent (all_owed d) x (reaches going).1) (one.low x (reaches going).1))) is works
 
 pub dup_lent_works : (d e : Draft) (x : ℕ) → d.failed ≡ false → Writes d → IsLentTo d x → e ≡ duplicated d x → Works d → Works e
 dup_lent_works d e x going writes lent is works =
     works_by d e (duplicated d x) going
-    (λ sound. leaves_sound d (duplicated d x) refl refl (omega arith) sound
+    (λ sound. leaves_sound d (duplicated d x) refl refl (omega arith) (whole_more d.inside d.splits d.steps (dups x ∷ []) d.ending (tt, tt)) sound
     (λ all free one. sound_dup all d x one (writes going).0 (writes going).1 (among_front all (all_owed d) x (one.lends x (lent going)))
     (sound.low x ((sound_now d sound).lends x (lent going))))) is works
 
 pub dropped_works : (d e : Draft) (emitter x : ℕ) → d.failed ≡ false → Writes d → Owns d emitter x → e ≡ dropped d x → Works d → Works e
 dropped_works d e emitter x going writes owns is works =
     works_by d e (dropped d x) going
-    (λ sound. leaves_sound d (dropped d x) refl refl (omega arith) sound
+    (λ sound. leaves_sound d (dropped d x) refl refl (omega arith) (whole_more d.inside d.splits d.steps (drops x ∷ []) d.ending (tt, tt)) sound
     (λ lent free one. sound_drop lent d x one (writes going).0 (writes going).1 (owns going).1)) is works
 
 -- new variables are not lent
@@ -169,7 +173,7 @@ fields_free n (suc count) xs free =
 pub unpacked_works : (d e : Draft) (emitter x c count mask : ℕ) → d.failed ≡ false → Writes d → Owns d emitter x → e ≡ opened d x c count mask → Works d → Works e
 unpacked_works d e emitter x c count mask going writes owns is works =
     works_by d e (opened d x c count mask) going
-    (λ sound. leaves_sound d (opened d x c count mask) refl refl (omega arith) sound
+    (λ sound. leaves_sound d (opened d x c count mask) refl refl (omega arith) (whole_more d.inside d.splits d.steps _ d.ending (tt, tt)) sound
     (λ lent free one. sound_opened lent d x c count mask one (writes going).0 (writes going).1 (owns going).1 (fields_free d.next count lent free))) is works
 
 later_numbers : (n count : ℕ) → AreLater n (numbers_from n count)
@@ -191,6 +195,9 @@ read_works d e x c count mask going writes there is works =
     fields : List ℕ
     fields = numbers_from d.next count
 
+    rows : IsWholeDraft d → IsWholeDraft (read_of d x c count mask)
+    rows = whole_more d.inside d.splits d.steps (reads x c fields ∷ map dups (chosen_of mask fields)) d.ending (tt, dups_inside (chosen_of mask fields))
+
     reached : (t : Bool) → is_among d.lent x ≡ t → t ≡ false → is_among (all_owed d) x ≡ true
     reached false isnt known = by_case (among_cases d.lent (all_owed d) x (there going))
       where
@@ -204,10 +211,10 @@ read_works d e x c count mask going writes there is works =
 
     by_lent : IsSoundDraft d → (t : Bool) → is_among d.lent x ≡ t → IsSoundDraft (record (read_of d x c count mask) { lent = d.lent ++ (if t then fields else []) })
     by_lent sound true known =
-        lends_sound d (record (read_of d x c count mask) { lent = d.lent ++ fields }) fields refl refl (omega arith) (later_numbers d.next count) (low_numbers d.next count) sound
+        lends_sound d (record (read_of d x c count mask) { lent = d.lent ++ fields }) fields refl refl (omega arith) (later_numbers d.next count) (low_numbers d.next count) rows sound
         (λ lent lends one. sound_read lent d x c count mask (d.lent ++ fields) one (writes going).0 (writes going).1 (inl (one.lends x known)) (in_both d.lent fields lent one.lends lends))
     by_lent sound false known =
-        leaves_sound d (record (read_of d x c count mask) { lent = d.lent ++ [] }) refl refl (omega arith) sound
+        leaves_sound d (record (read_of d x c count mask) { lent = d.lent ++ [] }) refl refl (omega arith) rows sound
         (λ lent free one. sound_read lent d x c count mask (d.lent ++ []) one (writes going).0 (writes going).1
         (inr (reached false known refl, fields_free d.next count lent free)) (in_both d.lent [] lent one.lends (λ y is. absurd (nothing y is))))
       where
@@ -231,7 +238,7 @@ all_used arguments = all_at_no 0 arguments
 pub constructed_works : (d e : Draft) (emitter c : ℕ) (arguments : List ℕ) → d.failed ≡ false → Writes d → OwnsAll d emitter arguments → e ≡ computed d (OfForm.Construct c) arguments arguments → Works d → Works e
 constructed_works d e emitter c arguments going writes owns is works =
     works_by d e (computed d (OfForm.Construct c) arguments arguments) going
-    (λ sound. leaves_sound d (computed d (OfForm.Construct c) arguments arguments) refl refl (omega arith) sound
+    (λ sound. leaves_sound d (computed d (OfForm.Construct c) arguments arguments) refl refl (omega arith) (whole_more d.inside d.splits d.steps _ d.ending (tt, tt)) sound
     (λ lent free one. sound_computed lent d (OfForm.Construct c) arguments arguments one (writes going).0 (writes going).1 (owns going).1 (λ functions. refl) (λ functions. tt) (λ functions have. tt) (free d.next (omega arith) (omega arith)))) is works
 
 plain_used : (positions : PositionTable) (functions : List CountedFunction) (form : Form) (arguments : List ℕ) → IsPlain form arguments → used_by positions functions form arguments ≡ arguments
@@ -270,7 +277,7 @@ plain_fits positions functions (OfForm.Call f) arguments plain = absurd plain
 pub plain_works : (d e : Draft) (form : Form) (arguments : List ℕ) → d.failed ≡ false → Writes d → IsPlain form arguments → HoldsAll d arguments → e ≡ computed d form arguments arguments → Works d → Works e
 plain_works d e form arguments going writes plain holds is works =
     works_by d e (computed d form arguments arguments) going
-    (λ sound. leaves_sound d (computed d form arguments arguments) refl refl (omega arith) sound
+    (λ sound. leaves_sound d (computed d form arguments arguments) refl refl (omega arith) (whole_more d.inside d.splits d.steps _ d.ending (tt, tt)) sound
     (λ lent free one. sound_computed lent d form arguments arguments one (writes going).0 (writes going).1 (holds going)
     (λ functions. plain_used d.positions functions form arguments plain) (λ functions. plain_lent d.positions functions form arguments (lent ++ (minus_all arguments d.owed ++ outside d.uncalled d.splits)) plain) (λ functions have. plain_fits d.positions functions form arguments plain)
     (free d.next (omega arith) (omega arith)))) is works
@@ -278,7 +285,7 @@ plain_works d e form arguments going writes plain holds is works =
 pub called_works : (d e : Draft) (f : ℕ) (arguments : List ℕ) → d.failed ≡ false → Writes d → Takes d f arguments → HoldsAll d (used_in d f arguments) → LendsAll d f arguments → e ≡ computed d (OfForm.Call f) arguments (used_in d f arguments) → Works d → Works e
 called_works d e f arguments going writes takes holds lent is works =
     works_by d e (computed d (OfForm.Call f) arguments (used_in d f arguments)) going
-    (λ sound. leaves_sound d (computed d (OfForm.Call f) arguments (used_in d f arguments)) refl refl (omega arith) sound
+    (λ sound. leaves_sound d (computed d (OfForm.Call f) arguments (used_in d f arguments)) refl refl (omega arith) (whole_more d.inside d.splits d.steps _ d.ending (tt, tt)) sound
     (λ all free one. sound_computed all d (OfForm.Call f) arguments (used_in d f arguments) one (writes going).0 (writes going).1 (holds going)
     (λ functions. refl) (λ functions. lent_all all one) (λ functions have function there. have f function there ∙ takes.1) (free d.next (omega arith) (omega arith)))) is works
   where
@@ -364,7 +371,11 @@ begun_sound positions counts instance =
       low = parameters_low (is_lent positions instance) (length (slice_index_or positions instance []));
       own = λ i less. numbered_is (is_lent positions instance) 0 (length (slice_index_or positions instance [])) i (omega arith) (omega (arith, less));
       parameters = omega arith;
+      whole = record { branches = tt; written = tt; end = λ code known. absurd (nothing code known) };
     }
+  where
+    nothing : (code : Counted) → None ≡ Some code → ⊥
+    nothing code same = cc
 
 -- what an emitter begins with, by the parameters of its instance
 pub begun_is : (positions : PositionTable) (counts : List ℕ) (instance count : ℕ) (parameters : List Parameter) (uncalled lent : List ℕ) → slice_index_or positions instance [] ≡ map (λ parameter. parameter.ownership) parameters → count ≡ length parameters
@@ -394,11 +405,11 @@ begun_works positions counts instance e is = λ going. subst IsSoundDraft (sym i
 
 -- ---- branches
 
-pub forked_works : (d e : Draft) (emitter on : ℕ) (decisions : List NodeTree) (each : List ℕ) (rows : ℕ) → d.failed ≡ false → Writes d → OwnsAll d emitter each → (d.failed ≡ false → is_among (d.lent ++ all_owed d) on ≡ true)
+pub forked_works : (d e : Draft) (emitter on : ℕ) (decisions : List NodeTree) (each : List ℕ) (rows : ℕ) → d.failed ≡ false → Writes d → OwnsAll d emitter each → (d.failed ≡ false → is_among (d.lent ++ all_owed d) on ≡ true) → AreOrderly decisions rows
     → e ≡ forked d on decisions each rows → Works d → Works e
-forked_works d e emitter on decisions each rows going writes owns there is works =
+forked_works d e emitter on decisions each rows going writes owns there orderly is works =
     works_by d e (forked d on decisions each rows) going
-    (λ sound. leaves_sound d (forked d on decisions each rows) refl refl (omega arith) sound
+    (λ sound. leaves_sound d (forked d on decisions each rows) refl refl (omega arith) (whole_forked d on decisions each rows (writes going).0 (writes going).1 orderly) sound
     (λ lent free one. sound_forked lent d on decisions each rows one (writes going).0 (writes going).1 (owns going).1 (among_wider d.lent lent (all_owed d) on one.lends (there going)))) is works
 
 entered_sound : (d : Draft) → d.inside ≡ false → IsSoundDraft d → IsSoundDraft (entered d)
@@ -407,7 +418,7 @@ entered_sound d out sound = by_splits d.splits refl
     by_left : (split : Split) (splits : List Split) → d.splits ≡ split ∷ splits → (left : List (List ℕ)) → split.left ≡ left → IsSoundDraft (entered_by d split splits left)
     by_left split splits is [] known = sound
     by_left split splits is (each ∷ left) known =
-        leaves_sound d (entered_by d split splits (each ∷ left)) refl refl (omega arith) sound (λ lent free one. sound_entered lent d split splits each left one out is known)
+        leaves_sound d (entered_by d split splits (each ∷ left)) refl refl (omega arith) (whole_entered d split splits each left out is known) sound (λ lent free one. sound_entered lent d split splits each left one out is known)
 
     by_splits : (splits : List Split) → d.splits ≡ splits → IsSoundDraft (entered_in d splits)
     by_splits [] is = sound
@@ -422,7 +433,8 @@ ended_sound d x inside only arm sound = by_splits d.splits refl arm
     by_splits : (splits : List Split) → d.splits ≡ splits → IsInArm splits → IsSoundDraft (ended_in d (end_code d.ending x) (is_tail d.ending) splits)
     by_splits [] is none = absurd none
     by_splits (split ∷ splits) is some =
-        leaves_sound d (ended_in d (end_code d.ending x) (is_tail d.ending) (split ∷ splits)) refl refl (omega arith) sound (λ lent free one. sound_by_value lent d split splits x one inside is only)
+        leaves_sound d (ended_in d (end_code d.ending x) (is_tail d.ending) (split ∷ splits)) refl refl (omega arith)
+        (λ whole. whole_ended d split splits (end_code d.ending x) (is_tail d.ending) inside is (whole_end d.ending x whole.end) whole) sound (λ lent free one. sound_by_value lent d split splits x one inside is only)
 
 pub ended_works : (d e : Draft) (emitter x : ℕ) → d.failed ≡ false → (d.failed ≡ false → d.inside ≡ true) → (d.failed ≡ false → IsInArm d.splits) → IsOnly d emitter x → e ≡ ended_by_value d x → Works d → Works e
 ended_works d e emitter x going inside arm only is works = works_by d e (ended_by_value d x) going (ended_sound d x (inside going) (only going).1 (arm going)) is works
@@ -436,7 +448,7 @@ called_sound d f arguments going writes takes ends arm sound = by_splits d.split
     by_splits : (splits : List Split) → d.splits ≡ splits → IsInArm splits → IsSoundDraft (ended_in d (tail_call f arguments) true splits)
     by_splits [] is none = absurd none
     by_splits (split ∷ splits) is some =
-        leaves_sound d (ended_in d (tail_call f arguments) true (split ∷ splits)) refl refl (omega arith) sound
+        leaves_sound d (ended_in d (tail_call f arguments) true (split ∷ splits)) refl refl (omega arith) (whole_ended d split splits (tail_call f arguments) true (writes going).0 is tt) sound
         (λ lent free one. sound_by_call lent d split splits f arguments (used_in d f arguments) one (writes going).0 (writes going).1 is even
         (ap (outside d.uncalled) (sym is) ∙ (ends going).1.1.0)
         (λ functions. refl) (λ functions. all_wider (lent_in d f arguments) d.lent lent one.lends (ends going).1.1.1) (λ functions have function there. have f function there ∙ takes.1))
@@ -445,23 +457,29 @@ pub call_works : (d e : Draft) (f : ℕ) (arguments : List ℕ) → d.failed ≡
 call_works d e f arguments going writes takes ends arm is works =
     works_by d e (ended_by_call d f arguments) going (called_sound d f arguments going writes takes ends (arm going)) is works
 
-joined_sound : (d : Draft) → d.inside ≡ false → IsSoundDraft d → IsSoundDraft (joined d)
-joined_sound d out sound = by_splits d.splits refl
+joined_sound : (d : Draft) (depth : ℕ) → d.inside ≡ false → AreNewest d.splits depth [] → IsSoundDraft d → IsSoundDraft (joined d)
+joined_sound d depth out newest sound = by_splits d.splits refl
   where
+    none_left : (split : Split) (splits : List Split) → d.splits ≡ split ∷ splits → split.left ≡ []
+    none_left split splits is = (subst (λ (all : List Split). AreNewest all depth []) is newest).1
+
+    ends : IsSoundDraft d → d.ending ≡ None
+    ends known = ((sound_now d known).quiet out).1.1
+
     by_tails : (split : Split) (splits : List Split) → d.splits ≡ split ∷ splits → (t : Bool) → split.tails ≡ t → IsSoundDraft (resumed_as (record d { next = d.next + 1; splits = splits }) split d.next t)
     by_tails split splits is false was =
-        leaves_sound d (resumed_as (record d { next = d.next + 1; splits = splits }) split d.next false) refl refl (omega arith) sound
+        leaves_sound d (resumed_as (record d { next = d.next + 1; splits = splits }) split d.next false) refl refl (omega arith) (whole_joined d split splits (d.next + 1) d.next false out is (none_left split splits is) (ends sound)) sound
         (λ lent free one. joins_value lent d split splits one out is was (free d.next (omega arith) (omega arith)))
     by_tails split splits is true was =
-        leaves_sound d (resumed_as (record d { next = d.next + 1; splits = splits }) split d.next true) refl refl (omega arith) sound
+        leaves_sound d (resumed_as (record d { next = d.next + 1; splits = splits }) split d.next true) refl refl (omega arith) (whole_joined d split splits (d.next + 1) d.next true out is (none_left split splits is) (ends sound)) sound
         (λ lent free one. joins_end lent d split splits one out is was)
 
     by_splits : (splits : List Split) → d.splits ≡ splits → IsSoundDraft (joined_in d splits)
     by_splits [] is = sound
     by_splits (split ∷ splits) is = by_tails split splits is split.tails refl
 
-pub joined_works : (d e : Draft) → d.failed ≡ false → (d.failed ≡ false → d.inside ≡ false) → e ≡ joined d → Works d → Works e
-joined_works d e going between is works = works_by d e (joined d) going (joined_sound d (between going)) is works
+pub joined_works : (d e : Draft) (depth : ℕ) → d.failed ≡ false → (d.failed ≡ false → d.inside ≡ false) → (d.failed ≡ false → AreNewest d.splits depth []) → e ≡ joined d → Works d → Works e
+joined_works d e depth going between newest is works = works_by d e (joined d) going (joined_sound d depth (between going) (newest going)) is works
 
 -- no arm of a branch is written, so no end is known
 pub ending_none : (o : Option Last) → option_map last_code o ≡ None → o ≡ None
@@ -511,3 +529,11 @@ tail_judged d f arguments going writes joins takes ends works =
     let now : IsSoundBy sound.lent d = sound_now d sound in
     subst (λ n. IsJudged d.positions d.instance (record { parameters = n; body = plug d.steps (tail_call f arguments) })) (sym now.parameters)
     (judged sound.lent d (plug d.steps (tail_call f arguments)) (tail_spent sound.lent d f arguments going writes joins takes ends now) sound.own)
+
+-- each case of a function has an arm for each row
+pub finished_arms : (d : Draft) (x : ℕ) → d.failed ≡ false → Works d → HasArms (finished d x)
+finished_arms d x going works =
+    let whole : IsWholeDraft d = (works going).whole in whole_body d.steps (end_code d.ending x) whole.written (whole_end d.ending x whole.end)
+
+pub tail_arms : (d : Draft) (f : ℕ) (arguments : List ℕ) → d.failed ≡ false → Works d → HasArms (plug d.steps (tail_call f arguments))
+tail_arms d f arguments going works = whole_body d.steps (tail_call f arguments) (works going).whole.written tt

@@ -38,12 +38,13 @@ copies (suc n) xs = xs ∷ copies n xs
 
 -- ---- drafts
 
--- A branch that is not joined: on which variable, by which decisions; the steps of the block before it; how many variables
--- it is lent; what it owes besides; what each arm is to spend, and that list for each arm that is not entered; the arms that
--- are ended; and whether one of them ends by a tail call.
+-- A branch that is not joined: on which variable, by which decisions, of how many rows; the steps of the block before it; how
+-- many variables it is lent; what it owes besides; what each arm is to spend, and that list for each arm that is not entered;
+-- the arms that are ended; and whether one of them ends by a tail call.
 pub record Split : Type 0 where
   pub on : ℕ
   pub decisions : List NodeTree
+  pub rows : ℕ
   pub before : List Move
   pub lent : ℕ
   pub kept : List ℕ
@@ -262,6 +263,7 @@ forked d on decisions each rows =
     record {
       on = on;
       decisions = decisions;
+      rows = rows;
       before = d.steps;
       lent = length d.lent;
       kept = minus_all each d.owed;

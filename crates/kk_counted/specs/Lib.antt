@@ -1,3 +1,4 @@
+pub mod Arms
 pub mod Cost
 pub mod CountedCodes
 pub mod CountedForms

@@ -44,6 +44,7 @@ split_of fork =
     record {
       on = fork.on;
       decisions = decisions_of fork.tests;
+      rows = fork.tests.rows;
       before = map step_move fork.before.items;
       lent = fork.lent;
       kept = fork.kept.items;

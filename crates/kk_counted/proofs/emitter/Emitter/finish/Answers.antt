@@ -1,4 +1,5 @@
 use Rattle.std.proofs.Common.{◌≡◌, ℕ, sym, ap, ◌∙◌, subst}
+use Rattle.kk_counted.specs.Arms.{HasArms}
 use Rattle.kk_counted.specs.CountedCodes.{Counted}
 use Rattle.kk_counted.specs.CountedForms.{block_code}
 use Rattle.kk_counted.specs.Drafts.{finished}
@@ -6,7 +7,7 @@ use Rattle.kk_counted.specs.Emissions.{state}
 use Rattle.kk_counted.specs.Emitting.{IsJudged, IsSoundDraft}
 use Rattle.kk_counted.specs.Shaping.{positions_in, fields_in}
 use Rattle.kk_counted.proofs.Seeing.{going_now, works_now}
-use Rattle.kk_counted.proofs.Working.{sound_now, finished_judged}
+use Rattle.kk_counted.proofs.Working.{finished_arms, sound_now, finished_judged}
 use Rattle.kk_counted.proofs.emitter.Emitter.finish.Goals as goal
 
 pub returns-clause-function : goal.returns-clause-function
@@ -27,4 +28,6 @@ returns-clause-function c =
           subst (λ (n : ℕ). IsJudged now.positions now.work.instance (record { parameters = n; body = block_code c.finish.result.body })) (sym parameters)
           (subst (λ (code : Counted). IsJudged now.positions now.work.instance (record { parameters = now.work.parameters; body = code })) (sym body)
           (finished_judged (state now) c.args.owed.emitter x (going_now p q work now c.self.view_is c.if-work.false) c.requires.inside c.requires.joined c.requires.called c.requires.only (works_now p q work now c.self.view_is c.self.invariant)));
+      arms =
+      subst HasArms (sym body) (finished_arms (state now) x (going_now p q work now c.self.view_is c.if-work.false) (works_now p q work now c.self.view_is c.self.invariant));
     }

@@ -1,11 +1,12 @@
 use Rattle.std.proofs.Common.{◌≡◌, ℕ, sym, ap, ◌∙◌, subst}
+use Rattle.kk_counted.specs.Arms.{HasArms}
 use Rattle.kk_counted.specs.CountedCodes.{Counted, tail_call}
 use Rattle.kk_counted.specs.CountedForms.{plug, block_code}
 use Rattle.kk_counted.specs.Emissions.{state}
 use Rattle.kk_counted.specs.Emitting.{IsJudged, IsSoundDraft}
 use Rattle.kk_counted.specs.Shaping.{positions_in, fields_in}
 use Rattle.kk_counted.proofs.Seeing.{going_now, works_now}
-use Rattle.kk_counted.proofs.Working.{sound_now, tail_judged}
+use Rattle.kk_counted.proofs.Working.{tail_arms, sound_now, tail_judged}
 use Rattle.kk_counted.proofs.emitter.Emitter.finish_tail.Goals as goal
 
 pub returns-clause-function : goal.returns-clause-function
@@ -27,4 +28,6 @@ returns-clause-function c =
           subst (λ (n : ℕ). IsJudged now.positions now.work.instance (record { parameters = n; body = block_code c.finish_by_call.result.body })) (sym parameters)
           (subst (λ (code : Counted). IsJudged now.positions now.work.instance (record { parameters = now.work.parameters; body = code })) (sym body)
           (tail_judged (state now) f arguments (going_now p q work now c.self.view_is c.if-work.false) c.requires.writes c.requires.joined c.requires.takes c.requires.ends (works_now p q work now c.self.view_is c.self.invariant)));
+      arms =
+      subst HasArms (sym body) (tail_arms (state now) f arguments (going_now p q work now c.self.view_is c.if-work.false) (works_now p q work now c.self.view_is c.self.invariant));
     }

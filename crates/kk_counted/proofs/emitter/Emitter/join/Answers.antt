@@ -22,7 +22,7 @@ invariant_of-self-in-Ok c =
     let q = fields_in c.self.inside.shape.now.constructors.items in
     let work = c.self.inside.work in
     let now = c.args.self.now in
-    joined_works (state now) (draft p q c.join.new.self) (going_now p q work now c.self.view_is c.if-self.false) c.requires.between
+    joined_works (state now) (draft p q c.join.new.self) c.args.arms.depth (going_now p q work now c.self.view_is c.if-self.false) c.requires.between c.requires.newest
     (seen p q work now c.self.view_is (λ d. joined d) c.join.new.self (c.in-Ok.ensures.ok p q)) (works_now p q work now c.self.view_is c.self.invariant)
 
 pub invariant_of-self : goal.invariant_of-self
