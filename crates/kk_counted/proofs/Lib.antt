@@ -23,3 +23,4 @@ pub mod Whole
 pub mod Drafted
 pub mod Working
 pub mod Seeing
+pub mod Programs
