@@ -6,9 +6,9 @@ use Rattle.kk_syntax.specs.Shapes.{is_among}
 use Rattle.kk_syntax.specs.PositionsOf.{PositionTable}
 use Rattle.kk_core.specs.Decisions.{NodeTree}
 use Rattle.kk_counted.specs.CountedCodes.{CountedFunction}
-use Rattle.kk_counted.specs.CountedForms.{Move, computes, reads, opens, dups, drops, plug}
+use Rattle.kk_counted.specs.CountedForms.{Move, computes, reads, dups, drops, plug}
 use Rattle.kk_counted.specs.Spending.{AreEven, AllAmong, AreFresh, AreApart, used_by, lent_by, FitsForm, numbers_from}
-use Rattle.kk_counted.specs.Drafts.{minus, minus_all, HasAll, chosen_of, copies, Split, Draft, outside, all_owed, wrote, given, opened, read_of, forked}
+use Rattle.kk_counted.specs.Drafts.{minus, minus_all, HasAll, chosen_of, copies, Split, Draft, outside, all_owed, wrote, given, opens_by, opened, read_of, forked}
 use Rattle.kk_counted.specs.Emitting.{HaveParameters, AreLow, AreIn, Spent, Leads, first, AllAre, IsFine, AreFine, owned_parameters, first_of, IsSoundBy}
 use Rattle.kk_counted.proofs.Counting.{same, itself}
 use Rattle.kk_counted.proofs.Evenness.{total_append, even_behind, even_among, even_back, even_then, even_front, even_last, even_turned, even_grouped, minus_even, minus_all_even, low_even, low_up, low_both, low_behind, low_one, low_next, low_numbers, low_fresh, numbers_fresh, numbers_apart}
@@ -191,8 +191,8 @@ chosen_filter mask (x ∷ xs) apart = by_bit (mask % 2 == 1) (chosen_filter (mas
     by_bit false later =
         there (is_among (chosen_of (mask / 2) xs) x) (filter (is_among (chosen_of (mask / 2) xs)) xs) (fresh (is_among (chosen_of (mask / 2) xs) x) refl) ∙ later
 
-pub sound_opened : (lent : List ℕ) (d : Draft) (x c count mask : ℕ) → IsSoundBy lent d → d.inside ≡ true → d.ending ≡ None → is_among d.owed x ≡ true → AreFresh (numbers_from d.next count) lent → IsSoundBy lent (opened d x c count mask)
-sound_opened lent d x c count mask sound inside ending among other =
+pub sound_opened : (lent : List ℕ) (d : Draft) (by_count : Bool) (x c count mask : ℕ) → IsSoundBy lent d → d.inside ≡ true → d.ending ≡ None → is_among d.owed x ≡ true → AreFresh (numbers_from d.next count) lent → IsSoundBy lent (opened d by_count x c count mask)
+sound_opened lent d by_count x c count mask sound inside ending among other =
     let out : List ℕ = outside d.uncalled d.splits in
     let fields : List ℕ = numbers_from d.next count in
     let used : List ℕ = chosen_of mask fields in
@@ -201,10 +201,10 @@ sound_opened lent d x c count mask sound inside ending among other =
     let low : AreLow d.next kept = low_behind d.next (x ∷ []) kept (low_even d.next (x ∷ kept) (all_owed d) (even_back (all_owed d) (x ∷ kept) even) sound.low) in
     let turned : AreEven ((minus x d.owed ++ used) ++ out) (used ++ kept) = even_turned (minus x d.owed) used out in
     let given : AreLow (d.next + count) used = λ y is. low_numbers d.next count y (chosen_among mask fields y is) in
-    sound_more lent d (opens x c fields used ∷ []) (minus x d.owed ++ used) (d.next + count) d.lent sound inside ending (omega arith) sound.lends
-    (leads_to d.positions lent (all_owed d) (used ++ kept) ((minus x d.owed ++ used) ++ out) (opens x c fields used ∷ []) (even_back ((minus x d.owed ++ used) ++ out) (used ++ kept) turned)
-    (subst (λ (zs : List ℕ). Leads d.positions lent (all_owed d) (zs ++ kept) (opens x c fields used ∷ [])) (chosen_filter mask fields (numbers_apart d.next count))
-    (leads_open d.positions lent x c fields used (all_owed d) kept even (numbers_apart d.next count) (numbers_fresh d.next d.next count kept (omega arith) low) other)))
+    sound_more lent d (opens_by by_count x c fields used ∷ []) (minus x d.owed ++ used) (d.next + count) d.lent sound inside ending (omega arith) sound.lends
+    (leads_to d.positions lent (all_owed d) (used ++ kept) ((minus x d.owed ++ used) ++ out) (opens_by by_count x c fields used ∷ []) (even_back ((minus x d.owed ++ used) ++ out) (used ++ kept) turned)
+    (subst (λ (zs : List ℕ). Leads d.positions lent (all_owed d) (zs ++ kept) (opens_by by_count x c fields used ∷ [])) (chosen_filter mask fields (numbers_apart d.next count))
+    (leads_open d.positions lent by_count x c fields used (all_owed d) kept even (numbers_apart d.next count) (numbers_fresh d.next d.next count kept (omega arith) low) other)))
     (low_even (d.next + count) ((minus x d.owed ++ used) ++ out) (used ++ kept) turned (low_both (d.next + count) used kept given (low_up d.next (d.next + count) kept (omega arith) low)))
 
 -- a cell that stays is read, and used fields get a reference more

@@ -1,13 +1,14 @@
 -- Steps that lead from what is owned to what is owned.
-use Rattle.std.proofs.Common.{◌≡◌, ◌⊎◌, inl, inr, ℕ, ◌||◌, true, false, List, [], ◌∷◌, ◌++◌, map, Option, Some, None, arith, refl, sym, ap, ◌∙◌, subst}
+use Rattle.std.proofs.Common.{◌≡◌, ◌⊎◌, inl, inr, ℕ, ◌||◌, Bool, true, false, List, [], ◌∷◌, ◌++◌, map, Option, Some, None, arith, refl, sym, ap, ◌∙◌, subst}
 use Rattle.std.specs.Prelude.{filter}
 use Rattle.kk_syntax.specs.declared.program.Form.{Form}
 use Rattle.kk_syntax.specs.Shapes.{is_among}
 use Rattle.kk_syntax.specs.PositionsOf.{PositionTable}
 use Rattle.kk_core.specs.Decisions.{NodeTree}
 use Rattle.kk_counted.specs.CountedCodes.{Counted, give, tail_call, branch, case, compute, inside, read, open_cell, if_unique, dup, drop, CountedArms, no_arm, arm, CountedFunction}
-use Rattle.kk_counted.specs.CountedForms.{Move, computes, runs, reads, opens, dups, drops, put, plug, arms_of}
+use Rattle.kk_counted.specs.CountedForms.{Move, computes, runs, reads, dups, drops, put, plug, arms_of}
 use Rattle.kk_counted.specs.Spending.{total, AreEven, AllAmong, AreFresh, AreApart, used_by, lent_by, FitsForm, Spends, SpendsAll}
+use Rattle.kk_counted.specs.Drafts.{opens_by}
 use Rattle.kk_counted.specs.Emitting.{HaveParameters, Spent, AllSpent, Leads}
 use Rattle.kk_counted.proofs.Counting.{itself}
 use Rattle.kk_counted.proofs.Evenness.{total_append, among_front, among_behind}
@@ -159,8 +160,10 @@ module _ (positions : PositionTable) (lent : List ℕ) where
   leads_compute x form arguments from kept even among fits fresh other =
       λ left rest spent functions have. (kept, (even functions, (among functions, (fits functions have, (fresh, (other, spent functions have))))))
 
-  pub leads_open : (x c : ℕ) (fields used from kept : List ℕ) → AreEven from (x ∷ kept) → AreApart fields → AreFresh fields kept → AreFresh fields lent → Leads positions lent from (filter (is_among used) fields ++ kept) (opens x c fields used ∷ [])
-  leads_open x c fields used from kept even apart fresh other =
+  pub leads_open : (by_count : Bool) (x c : ℕ) (fields used from kept : List ℕ) → AreEven from (x ∷ kept) → AreApart fields → AreFresh fields kept → AreFresh fields lent → Leads positions lent from (filter (is_among used) fields ++ kept) (opens_by by_count x c fields used ∷ [])
+  leads_open true x c fields used from kept even apart fresh other =
+      λ left rest spent functions have. (kept, (even, (apart, (fresh, (other, spent functions have)))))
+  leads_open false x c fields used from kept even apart fresh other =
       λ left rest spent functions have. (kept, (even, (apart, (fresh, (other, spent functions have)))))
 
   pub leads_run : (x : ℕ) (block : Counted) (owned kept : List ℕ) → Spent positions lent (Some kept) owned block → is_among kept x ≡ false → is_among lent x ≡ false → Leads positions lent owned (x ∷ kept) (runs x block ∷ [])

@@ -4,7 +4,7 @@ use Rattle.kk_core.specs.Decisions.{NodeTree, AreOrderly}
 use Rattle.kk_counted.specs.Arms.{arm_count, HasArms, HaveArms, AllHaveArms, HaveArmsInside}
 use Rattle.kk_counted.specs.CountedCodes.{Counted, give, tail_call, case}
 use Rattle.kk_counted.specs.CountedForms.{Move, computes, runs, reads, opens, opens_unique, dups, drops, plug, arms_of}
-use Rattle.kk_counted.specs.Drafts.{copies, Split, Draft, end_code, is_tail, ended_in, entered_by, forked, resumed_as}
+use Rattle.kk_counted.specs.Drafts.{copies, opens_by, Split, Draft, end_code, is_tail, ended_in, entered_by, forked, resumed_as}
 use Rattle.kk_counted.specs.Emitting.{HasRows, HaveRows, IsWhole, IsWholeDraft}
 
 -- ---- steps
@@ -26,6 +26,10 @@ inside_more (move ∷ moves) more one two = (one.0, inside_more moves more one.1
 pub dups_inside : (xs : List ℕ) → HaveArmsInside (map dups xs)
 dups_inside [] = tt
 dups_inside (x ∷ xs) = (tt, dups_inside xs)
+
+pub opening_inside : (by_count : Bool) (x c : ℕ) (fields used : List ℕ) → HaveArmsInside (opens_by by_count x c fields used ∷ [])
+opening_inside true x c fields used = (tt, tt)
+opening_inside false x c fields used = (tt, tt)
 
 pub whole_more : (inside : Bool) (splits : List Split) (steps more : List Move) (ending : Option Counted) → HaveArmsInside more → IsWhole inside splits steps ending → IsWhole inside splits (steps ++ more) ending
 whole_more inside splits steps more ending new whole =

@@ -26,7 +26,7 @@ use Rattle.kk_counted.proofs.Counting.{same}
 use Rattle.kk_counted.proofs.Evenness.{among_front, among_behind, minus_all_even, low_up, low_both, low_numbers, total_append}
 use Rattle.kk_counted.proofs.Variables.{among_cases}
 use Rattle.kk_counted.proofs.Drafting.{sound_dup, sound_drop, sound_opened, sound_read, sound_computed, sound_forked, sound_entered, sound_given, in_both}
-use Rattle.kk_counted.proofs.Whole.{dups_inside, whole_more, whole_forked, whole_entered, whole_ended, whole_end, whole_joined, whole_body}
+use Rattle.kk_counted.proofs.Whole.{dups_inside, opening_inside, whole_more, whole_forked, whole_entered, whole_ended, whole_end, whole_joined, whole_body}
 use Rattle.kk_counted.proofs.Joining.{sound_by_value, sound_by_call, joins_value, joins_end, judged, finished_spent, call_spent}
 
 works_by : (d e f : Draft) → d.failed ≡ false → (IsSoundDraft d → IsSoundDraft f) → e ≡ f → Works d → Works e
@@ -170,11 +170,11 @@ fields_free n zero xs free = tt
 fields_free n (suc count) xs free =
     (free n (omega arith) (omega arith), fields_free (suc n) count xs (λ x least less. free x (omega (arith, least)) (omega (arith, less))))
 
-pub unpacked_works : (d e : Draft) (emitter x c count mask : ℕ) → d.failed ≡ false → Writes d → Owns d emitter x → e ≡ opened d x c count mask → Works d → Works e
-unpacked_works d e emitter x c count mask going writes owns is works =
-    works_by d e (opened d x c count mask) going
-    (λ sound. leaves_sound d (opened d x c count mask) refl refl (omega arith) (whole_more d.inside d.splits d.steps _ d.ending (tt, tt)) sound
-    (λ lent free one. sound_opened lent d x c count mask one (writes going).0 (writes going).1 (owns going).1 (fields_free d.next count lent free))) is works
+pub unpacked_works : (d e : Draft) (by_count : Bool) (emitter x c count mask : ℕ) → d.failed ≡ false → Writes d → Owns d emitter x → e ≡ opened d by_count x c count mask → Works d → Works e
+unpacked_works d e by_count emitter x c count mask going writes owns is works =
+    works_by d e (opened d by_count x c count mask) going
+    (λ sound. leaves_sound d (opened d by_count x c count mask) refl refl (omega arith) (whole_more d.inside d.splits d.steps _ d.ending (opening_inside by_count x c (numbers_from d.next count) (chosen_of mask (numbers_from d.next count)))) sound
+    (λ lent free one. sound_opened lent d by_count x c count mask one (writes going).0 (writes going).1 (owns going).1 (fields_free d.next count lent free))) is works
 
 later_numbers : (n count : ℕ) → AreLater n (numbers_from n count)
 later_numbers n zero x is = absurd (cc)

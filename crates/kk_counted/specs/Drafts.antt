@@ -6,7 +6,7 @@ use Rattle.kk_syntax.specs.Shapes.{is_among}
 use Rattle.kk_syntax.specs.PositionsOf.{PositionTable, is_lent}
 use Rattle.kk_core.specs.Decisions.{NodeTree}
 use Rattle.kk_counted.specs.CountedCodes.{Counted, give, tail_call, case}
-use Rattle.kk_counted.specs.CountedForms.{Move, computes, runs, reads, opens, dups, drops, plug, arms_of}
+use Rattle.kk_counted.specs.CountedForms.{Move, computes, runs, reads, opens, opens_unique, dups, drops, plug, arms_of}
 use Rattle.kk_counted.specs.Spending.{AllAmong, at_positions, numbers_from}
 
 -- ---- lists of variables
@@ -227,18 +227,25 @@ fallen d = record d { failed = true }
 abbrev pub computed : Draft → Form → List ℕ → List ℕ → Draft
 computed d form arguments used = wrote d (computes d.next form arguments) (minus_all used d.owed ++ d.next ∷ []) (d.next + 1)
 
+-- an opening, by the count of the cell or not
+abbrev pub opens_by : Bool → ℕ → ℕ → List ℕ → List ℕ → Move
+opens_by true x constructor fields used = opens_unique x constructor fields used
+opens_by false x constructor fields used = opens x constructor fields used
+
 -- a cell is opened: its fields are the next variables, and of them the used ones are owned
-abbrev pub opened : Draft → ℕ → ℕ → ℕ → ℕ → Draft
-opened d x constructor count used =
+abbrev pub opened : Draft → Bool → ℕ → ℕ → ℕ → ℕ → Draft
+opened d by_count x constructor count used =
     let fields = numbers_from d.next count in
-    wrote d (opens x constructor fields (chosen_of used fields)) (minus x d.owed ++ chosen_of used fields) (d.next + count)
+    wrote d (opens_by by_count x constructor fields (chosen_of used fields)) (minus x d.owed ++ chosen_of used fields)
+    (d.next + count)
 
 -- the same by the constructor's number, and the fields that it gives
 abbrev pub fields_given : Draft → ℕ → ℕ → List ℕ
 fields_given d constructor used = chosen_of used (numbers_from d.next (slice_index_or d.field_counts constructor 0))
 
-abbrev pub unpacked : Draft → ℕ → ℕ → ℕ → Draft
-unpacked d x constructor used = opened d x constructor (slice_index_or d.field_counts constructor 0) used
+abbrev pub unpacked : Draft → Bool → ℕ → ℕ → ℕ → Draft
+unpacked d by_count x constructor used =
+    opened d by_count x constructor (slice_index_or d.field_counts constructor 0) used
 
 -- The fields of a cell that stays are the next variables, and of them the used ones get a reference more. Where the cell's
 -- variable is lent, its fields are lent too.

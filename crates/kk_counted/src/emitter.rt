@@ -1,4 +1,4 @@
-ghost use Rattle.std.specs.Prelude.{◌≡◌, ◌+◌, ◌<◌, ◌∷◌, ◌++◌, [], false, length, IfOk, IfErr, OnOk, OnErr};
+ghost use Rattle.std.specs.Prelude.{◌≡◌, ◌+◌, ◌<◌, ◌∷◌, ◌++◌, [], false, true, length, IfOk, IfErr, OnOk, OnErr};
 ghost use Rattle.kk_counted.specs.Drafts.{begun, fallen, given, duplicated, dropped, unpacked, looked, fields_given, computed, Writes, Awaits, Reaches, IsLentTo, IsAtHand, Owns, OwnsAll, HoldsAll, HasConstructor, HasField, HasFields, IsPlain, Takes, used_in, LendsAll};
 ghost use Rattle.kk_counted.specs.Shaping.{positions_in, fields_in};
 ghost use Rattle.kk_counted.specs.Emissions.{state};
@@ -271,7 +271,45 @@ impl<'a> Emitter<'a> {
         requires owns { Owns (state self.old) owed.emitter owed.variable }
         requires constructor { HasConstructor (state self.old) constructor }
         ensures going { OnOk result ((state self.old).failed ≡ false) }
-        ensures ok { OnOk result (state self.new ≡ unpacked (state self.old) owed.variable constructor used) }
+        ensures ok { OnOk result (state self.new ≡ unpacked (state self.old) false owed.variable constructor used) }
+        ensures debts { IfOk result (λ debts. debts.variables.items ≡ fields_given (state self.old) constructor used) }
+        ensures emitter { IfOk result (λ debts. debts.emitter ≡ (state self.old).instance) }
+        ensures err { OnErr result (state self.new ≡ state self.old) }
+        ensures kept { IfErr result (λ kept. kept.held ≡ Held.One owed) }
+    {
+        let debts = self.opened(owed, constructor, used, false)?;
+        Ok(debts)
+    }
+
+    /// The same by the count of the cell: one with a single reference gives the fields away that the mask names.
+    pub fn unpack_unique(&mut self, owed: Owed, constructor: u32, used: u8) -> Result<Debts, Kept>
+        requires writes { Writes (state self.old) }
+        requires owns { Owns (state self.old) owed.emitter owed.variable }
+        requires constructor { HasConstructor (state self.old) constructor }
+        ensures going { OnOk result ((state self.old).failed ≡ false) }
+        ensures ok { OnOk result (state self.new ≡ unpacked (state self.old) true owed.variable constructor used) }
+        ensures debts { IfOk result (λ debts. debts.variables.items ≡ fields_given (state self.old) constructor used) }
+        ensures emitter { IfOk result (λ debts. debts.emitter ≡ (state self.old).instance) }
+        ensures err { OnErr result (state self.new ≡ state self.old) }
+        ensures kept { IfErr result (λ kept. kept.held ≡ Held.One owed) }
+    {
+        let debts = self.opened(owed, constructor, used, true)?;
+        Ok(debts)
+    }
+
+    // Opens a cell of that constructor, by its count or not.
+    fn opened(
+        &mut self,
+        owed: Owed,
+        constructor: u32,
+        used: u8,
+        by_count: bool,
+    ) -> Result<Debts, Kept>
+        requires writes { Writes (state self.old) }
+        requires owns { Owns (state self.old) owed.emitter owed.variable }
+        requires constructor { HasConstructor (state self.old) constructor }
+        ensures going { OnOk result ((state self.old).failed ≡ false) }
+        ensures ok { OnOk result (state self.new ≡ unpacked (state self.old) by_count owed.variable constructor used) }
         ensures debts { IfOk result (λ debts. debts.variables.items ≡ fields_given (state self.old) constructor used) }
         ensures emitter { IfOk result (λ debts. debts.emitter ≡ (state self.old).instance) }
         ensures err { OnErr result (state self.new ≡ state self.old) }
@@ -281,7 +319,10 @@ impl<'a> Emitter<'a> {
             return Err(Kept::of_one(owed));
         }
         let count = self.shape.constructors()[constructor as usize].fields.len();
-        match self.work.open(owed.variable, constructor, count, used) {
+        match self
+            .work
+            .open(owed.variable, constructor, count, used, by_count)
+        {
             Err(_) => {
                 return Err(Kept::of_one(owed));
             }

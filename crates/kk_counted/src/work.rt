@@ -1,7 +1,7 @@
 ghost use Rattle.std.specs.Prelude.{◌≡◌, ◌+◌, ◌<◌, ◌≤◌, ◌^◌, [], ◌∷◌, ◌++◌, map, length, vec_len, vec_capacity, option_map, IfOk, IfErr, OnOk, OnErr};
 ghost use Rattle.kk_counted.specs.CountedForms.{runs, plug, arms_of, step_move, decisions_of, last_code, block_code, reads, dups, drops};
 ghost use Rattle.kk_counted.specs.CountedCodes.{tail_call, case};
-ghost use Rattle.kk_counted.specs.Drafts.{minus, chosen_of, copies, given, wrote, computed, opened, read_of, forked, entered, ended_in, ended_by_value, ended_by_call, joined, resumed, more_arms, end_code, finished};
+ghost use Rattle.kk_counted.specs.Drafts.{minus, chosen_of, copies, given, wrote, computed, opens_by, opened, read_of, forked, entered, ended_in, ended_by_value, ended_by_call, joined, resumed, more_arms, end_code, finished};
 ghost use Rattle.kk_counted.specs.Spending.{numbers_from};
 ghost use Rattle.kk_counted.specs.Works.{Becomes, draft, used_at, items_of, split_of};
 
@@ -123,24 +123,25 @@ impl Work {
         Ok(variable)
     }
 
-    /// Writes that a cell is opened, and gives the variables of the fields that the mask names.
+    /// Writes that a cell is opened, by its count or not, and gives the variables of the fields that the mask names.
     pub fn open(
         &mut self,
         variable: u32,
         constructor: u32,
         count: usize,
         used: u8,
+        by_count: bool,
     ) -> Result<Vec<u32>, NoMemory>
         ensures variables { IfOk result (λ given. given.items ≡ chosen_of used (numbers_from self.old.next count)) }
-        ensures ok { OnOk result (Becomes self.old self.new (λ d. opened d variable constructor count used)) }
+        ensures ok { OnOk result (Becomes self.old self.new (λ d. opened d by_count variable constructor count used)) }
         ensures err { OnErr result (Becomes self.old self.new (λ d. d)) }
     {
         let (fields, next) = numbers(self.alloc, self.next, count)?;
         let names = chosen(self.alloc, &fields, used)?;
         let given = Vec::from_slice(self.alloc, &names)?;
         self.owed.reserve(given.len())?;
-        self.steps
-            .push(Step::Open(variable, constructor, fields, names))?;
+        let step = opening(variable, constructor, fields, names, by_count);
+        self.steps.push(step)?;
         take_out(&mut self.owed, variable);
         let _ = self.owed.extend_from_slice(&given);
         self.next = next;
@@ -407,6 +408,22 @@ fn case_of(on: u32, tests: Decisions, arms: Vec<Block>) -> Last
     ensures { last_code result ≡ case on (decisions_of tests) (arms_of (map block_code arms.items)) }
 {
     Last::Case(on, tests, arms)
+}
+
+// The step that opens a cell, by its count or not.
+fn opening(
+    variable: u32,
+    constructor: u32,
+    fields: Vec<u32>,
+    used: Vec<u32>,
+    by_count: bool,
+) -> Step
+    ensures { step_move result ≡ opens_by by_count variable constructor fields.items used.items }
+{
+    if by_count {
+        return Step::IfUnique(variable, constructor, fields, used);
+    }
+    Step::Open(variable, constructor, fields, used)
 }
 
 // The steps that read the fields of a cell, and then duplicate some of them.

@@ -29,5 +29,5 @@ returns-clause-function c =
           (subst (λ (code : Counted). IsJudged now.positions now.work.instance (record { parameters = now.work.parameters; body = code })) (sym body)
           (finished_judged (state now) c.args.owed.emitter x (going_now p q work now c.self.view_is c.if-work.false) c.requires.inside c.requires.joined c.requires.called c.requires.only (works_now p q work now c.self.view_is c.self.invariant)));
       arms =
-      subst HasArms (sym body) (finished_arms (state now) x (going_now p q work now c.self.view_is c.if-work.false) (works_now p q work now c.self.view_is c.self.invariant));
+          subst HasArms (sym body) (finished_arms (state now) x (going_now p q work now c.self.view_is c.if-work.false) (works_now p q work now c.self.view_is c.self.invariant));
     }

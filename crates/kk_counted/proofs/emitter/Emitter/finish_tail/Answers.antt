@@ -29,5 +29,5 @@ returns-clause-function c =
           (subst (λ (code : Counted). IsJudged now.positions now.work.instance (record { parameters = now.work.parameters; body = code })) (sym body)
           (tail_judged (state now) f arguments (going_now p q work now c.self.view_is c.if-work.false) c.requires.writes c.requires.joined c.requires.takes c.requires.ends (works_now p q work now c.self.view_is c.self.invariant)));
       arms =
-      subst HasArms (sym body) (tail_arms (state now) f arguments (going_now p q work now c.self.view_is c.if-work.false) (works_now p q work now c.self.view_is c.self.invariant));
+          subst HasArms (sym body) (tail_arms (state now) f arguments (going_now p q work now c.self.view_is c.if-work.false) (works_now p q work now c.self.view_is c.self.invariant));
     }
