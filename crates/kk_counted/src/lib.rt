@@ -13,7 +13,7 @@ mod shape;
 mod work;
 
 pub use counted::{Counted, CountedFun, counted_programs_are_judged};
-pub use debts::{Arms, Debts, Kept, Owed, give_up};
+pub use debts::{ArmEnd, Arms, Debts, Kept, Owed, give_up};
 pub use emitter::Emitter;
 pub use form::{Block, Last, Step};
 pub use law::{
