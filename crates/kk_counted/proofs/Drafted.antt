@@ -59,11 +59,16 @@ joined_is positions counts old new popped fork other was same becomes =
     ∙ sym (ap (joined_in (draft positions counts old)) (splits_are old.forks.items popped.items fork (split_of fork) was refl)))
 
 -- a branch begins
-pub same_split : (s : Split) (b b' : List Move) (k k' : List ℕ) (l l' : List (List ℕ)) (a a' : List Counted) → b ≡ b' → k ≡ k' → l ≡ l' → a ≡ a' → record s { before = b; kept = k; left = l; arms = a } ≡ record s { before = b'; kept = k'; left = l'; arms = a' }
-same_split s b b' k k' l l' a a' one two three four =
+same_rest : (s : Split) (b b' : List Move) (k k' : List ℕ) (l l' : List (List ℕ)) (a a' : List Counted) → b ≡ b' → k ≡ k' → l ≡ l' → a ≡ a' → record s { before = b; kept = k; left = l; arms = a } ≡ record s { before = b'; kept = k'; left = l'; arms = a' }
+same_rest s b b' k k' l l' a a' one two three four =
     ap (λ z. record s { before = z; kept = k; left = l; arms = a }) one
     ∙ (ap (λ z. record s { before = b'; kept = z; left = l; arms = a }) two
     ∙ (ap (λ z. record s { before = b'; kept = k'; left = z; arms = a }) three ∙ ap (λ z. record s { before = b'; kept = k'; left = l'; arms = z }) four))
+
+pub same_split : (s : Split) (n n' : ℕ) (b b' : List Move) (k k' : List ℕ) (l l' : List (List ℕ)) (a a' : List Counted) → n ≡ n' → b ≡ b' → k ≡ k' → l ≡ l' → a ≡ a'
+    → record s { lent = n; before = b; kept = k; left = l; arms = a } ≡ record s { lent = n'; before = b'; kept = k'; left = l'; arms = a' }
+same_split s n n' b b' k k' l l' a a' first one two three four =
+    ap (λ z. record s { lent = z; before = b; kept = k; left = l; arms = a }) first ∙ same_rest (record s { lent = n' }) b b' k k' l l' a a' one two three four
 
 pub forked_is : (positions : PositionTable) (counts : List ℕ) (old : Work) (forks : Vec Fork) (steps : Vec Step) (owed : Vec ℕ) (fork : Fork) (split : Split) → forks.items ≡ old.forks.items ++ fork ∷ [] → split_of fork ≡ split → steps.items ≡ [] → owed.items ≡ []
     → draft positions counts (record old { inside = false; steps = steps; owed = owed; forks = forks }) ≡ record (draft positions counts old) { inside = false; steps = []; owed = []; splits = split ∷ back_to_front split_of old.forks.items [] }
@@ -90,14 +95,15 @@ none_entered positions counts old forks rest fork other was is same none =
     ∙ ap (λ left. entered_by (draft positions counts old) (split_of fork) (back_to_front split_of rest []) (back_to_front items_of left [])) none)
 
 -- an arm is entered
-pub arm_entered : (positions : PositionTable) (counts : List ℕ) (old : Work) (forks : Vec Fork) (owed : Vec ℕ) (rest : List Fork) (fork other : Fork) (left : List (Vec ℕ)) → old.forks.items ≡ rest ++ fork ∷ [] → forks.items ≡ rest ++ other ∷ []
-    → split_of other ≡ record (split_of fork) { left = back_to_front items_of left [] } → fork.left.items ≡ left ++ owed ∷ []
-    → draft positions counts (record old { inside = true; owed = owed; forks = forks }) ≡ entered (draft positions counts old)
-arm_entered positions counts old forks owed rest fork other left was is same some =
-    ap (λ (splits : List Split). record (draft positions counts old) { inside = true; owed = owed.items; splits = splits }) (splits_are forks.items rest other (record (split_of fork) { left = back_to_front items_of left [] }) is same)
+pub arm_entered : (positions : PositionTable) (counts : List ℕ) (old : Work) (forks : Vec Fork) (owed lent : Vec ℕ) (rest : List Fork) (fork other : Fork) (left : List (Vec ℕ)) → old.forks.items ≡ rest ++ fork ∷ [] → forks.items ≡ rest ++ other ∷ []
+    → lent.items ≡ take fork.lent old.lent.items → split_of other ≡ record (split_of fork) { left = back_to_front items_of left [] } → fork.left.items ≡ left ++ owed ∷ []
+    → draft positions counts (record old { inside = true; owed = owed; lent = lent; forks = forks }) ≡ entered (draft positions counts old)
+arm_entered positions counts old forks owed lent rest fork other left was is lends same some =
+    ap (λ (xs : List ℕ). record (draft positions counts old) { inside = true; owed = owed.items; lent = xs; splits = back_to_front split_of forks.items [] }) lends
+    ∙ (ap (λ (splits : List Split). record (draft positions counts old) { inside = true; owed = owed.items; lent = take fork.lent old.lent.items; splits = splits }) (splits_are forks.items rest other (record (split_of fork) { left = back_to_front items_of left [] }) is same)
     ∙ sym
     (ap (entered_in (draft positions counts old)) (splits_are old.forks.items rest fork (split_of fork) was refl)
-    ∙ ap (λ lists. entered_by (draft positions counts old) (split_of fork) (back_to_front split_of rest []) lists) (ap (λ vs. back_to_front items_of vs []) some ∙ back_more items_of left owed []))
+    ∙ ap (λ lists. entered_by (draft positions counts old) (split_of fork) (back_to_front split_of rest []) lists) (ap (λ vs. back_to_front items_of vs []) some ∙ back_more items_of left owed [])))
 
 -- copies, from their end on
 first_is : {A : Type 0} (x y : A) (xs ys : List A) → x ∷ xs ≡ y ∷ ys → x ≡ y

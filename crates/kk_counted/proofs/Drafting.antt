@@ -1,18 +1,19 @@
 -- What calls change of a sound draft leaves it sound.
-use Rattle.std.proofs.Common.{◌≡◌, ℕ, zero, suc, ◌+◌, ◌/◌, ◌%◌, ◌≤◌, ◌<◌, ◌==◌, ◌||◌, Bool, true, false, List, [], ◌∷◌, ◌++◌, Option, Some, None, arith, refl, sym, ap, ◌∙◌, subst}
+use Rattle.std.proofs.Common.{◌≡◌, ◌⊎◌, inl, inr, ℕ, zero, suc, ◌+◌, ◌/◌, ◌%◌, ◌≤◌, ◌<◌, ◌==◌, ◌||◌, Bool, true, false, List, [], ◌∷◌, ◌++◌, map, take, Option, Some, None, arith, refl, sym, ap, ◌∙◌, subst}
 use Rattle.std.specs.Prelude.{filter, if◌then◌else◌}
 use Rattle.kk_syntax.specs.declared.program.Form.{Form}
 use Rattle.kk_syntax.specs.Shapes.{is_among}
 use Rattle.kk_syntax.specs.PositionsOf.{PositionTable}
 use Rattle.kk_core.specs.Decisions.{NodeTree}
 use Rattle.kk_counted.specs.CountedCodes.{CountedFunction}
-use Rattle.kk_counted.specs.CountedForms.{Move, computes, opens, dups, drops, plug}
-use Rattle.kk_counted.specs.Spending.{AreEven, AllAmong, AreApart, used_by, lent_by, FitsForm, numbers_from}
-use Rattle.kk_counted.specs.Drafts.{minus, minus_all, HasAll, chosen_of, copies, Split, Draft, outside, all_owed, wrote, given, opened, forked}
-use Rattle.kk_counted.specs.Emitting.{HaveParameters, AreLow, Spent, Leads, first, AllAre, IsFine, AreFine, owned_parameters, first_of, IsSoundDraft}
+use Rattle.kk_counted.specs.CountedForms.{Move, computes, reads, dups, drops, plug}
+use Rattle.kk_counted.specs.Spending.{AreEven, AllAmong, AreFresh, AreApart, used_by, lent_by, FitsForm, numbers_from}
+use Rattle.kk_counted.specs.Drafts.{minus, minus_all, HasAll, chosen_of, copies, Split, Draft, outside, all_owed, wrote, given, opens_by, opened, read_of, forked}
+use Rattle.kk_counted.specs.Emitting.{HaveParameters, AreLow, AreIn, Spent, Leads, first, AllAre, IsFine, AreFine, owned_parameters, first_of, IsSoundBy}
 use Rattle.kk_counted.proofs.Counting.{same, itself}
 use Rattle.kk_counted.proofs.Evenness.{total_append, even_behind, even_among, even_back, even_then, even_front, even_last, even_turned, even_grouped, minus_even, minus_all_even, low_even, low_up, low_both, low_behind, low_one, low_next, low_numbers, low_fresh, numbers_fresh, numbers_apart}
-use Rattle.kk_counted.proofs.Leading.{leads_to, leads_then, leads_dup, leads_drop, leads_compute, leads_open}
+use Rattle.kk_counted.proofs.Variables.{among_cases}
+use Rattle.kk_counted.proofs.Leading.{leads_to, leads_then, leads_dup, leads_drop, leads_compute, leads_open, leads_read}
 
 -- ---- the branches, as the next variable grows
 
@@ -40,18 +41,17 @@ true_is_not_false P b one two = absurd (cc)
 some_is_not_none : {A : Type 0} (P : Type 0) (o : Option A) (x : A) → o ≡ None → o ≡ Some x → P
 some_is_not_none P o x one two = absurd (cc)
 
-pub sound_more : (d : Draft) (moves : List Move) (owed : List ℕ) (next : ℕ) → IsSoundDraft d → d.inside ≡ true → d.ending ≡ None → d.next ≤ next
-    → Leads d.positions d.lent (all_owed d) (owed ++ outside d.uncalled d.splits) moves → AreLow next (owed ++ outside d.uncalled d.splits)
-    → IsSoundDraft (record d { steps = d.steps ++ moves; owed = owed; next = next })
-sound_more d moves owed next sound inside ending less leads low =
+pub sound_more : (lent : List ℕ) (d : Draft) (moves : List Move) (owed : List ℕ) (next : ℕ) (read : List ℕ) → IsSoundBy lent d → d.inside ≡ true → d.ending ≡ None → d.next ≤ next → AreIn read lent
+    → Leads d.positions lent (all_owed d) (owed ++ outside d.uncalled d.splits) moves → AreLow next (owed ++ outside d.uncalled d.splits)
+    → IsSoundBy lent (record d { steps = d.steps ++ moves; owed = owed; next = next; lent = read })
+sound_more lent d moves owed next read sound inside ending less within leads low =
     record {
-      splits = fine_up d.positions d.lent d.next next (owned_parameters d) d.uncalled d.splits less sound.splits;
-      steps = λ is none. leads_then d.positions d.lent (first_of d) (all_owed d) (owed ++ outside d.uncalled d.splits) d.steps moves (sound.steps inside ending) leads;
-      closed = λ code is. some_is_not_none (Spent d.positions d.lent None (first_of d) (plug (d.steps ++ moves) code) × (outside d.uncalled d.splits ≡ [])) d.ending code ending is;
+      splits = fine_up d.positions lent d.next next (owned_parameters d) d.uncalled d.splits less sound.splits;
+      steps = λ is none. leads_then d.positions lent (first_of d) (all_owed d) (owed ++ outside d.uncalled d.splits) d.steps moves (sound.steps inside ending) leads;
+      closed = λ code is. some_is_not_none (Spent d.positions lent None (first_of d) (plug (d.steps ++ moves) code) × (outside d.uncalled d.splits ≡ [])) d.ending code ending is;
       low = low;
-      lent = sound.lent;
+      lends = within;
       parameters = sound.parameters;
-      lent_low = low_up d.next next d.lent less sound.lent_low;
       quiet = λ is. true_is_not_false ((d.steps ++ moves ≡ []) × ((owed ≡ []) × (d.ending ≡ None))) d.inside inside is;
     }
 
@@ -60,25 +60,25 @@ given_even : (owed uncalled : List ℕ) (x : ℕ) → is_among uncalled x ≡ tr
 given_even owed uncalled x among =
     λ w. omega (arith, total_append w (owed ++ x ∷ []) (minus x uncalled), total_append w owed (x ∷ []), total_append w owed uncalled, minus_even x uncalled among w)
 
-pub sound_dup : (d : Draft) (x : ℕ) → IsSoundDraft d → d.inside ≡ true → d.ending ≡ None → is_among (d.lent ++ all_owed d) x ≡ true
-    → x < d.next → IsSoundDraft (wrote d (dups x) (d.owed ++ x ∷ []) d.next)
-sound_dup d x sound inside ending among less =
+pub sound_dup : (lent : List ℕ) (d : Draft) (x : ℕ) → IsSoundBy lent d → d.inside ≡ true → d.ending ≡ None → is_among (lent ++ all_owed d) x ≡ true
+    → x < d.next → IsSoundBy lent (wrote d (dups x) (d.owed ++ x ∷ []) d.next)
+sound_dup lent d x sound inside ending among less =
     let out : List ℕ = outside d.uncalled d.splits in
     let even : AreEven ((d.owed ++ x ∷ []) ++ out) (x ∷ all_owed d) = even_last d.owed out x in
-    sound_more d (dups x ∷ []) (d.owed ++ x ∷ []) d.next sound inside ending (omega arith)
-    (leads_to d.positions d.lent (all_owed d) (x ∷ all_owed d) ((d.owed ++ x ∷ []) ++ out) (dups x ∷ []) (even_back ((d.owed ++ x ∷ []) ++ out) (x ∷ all_owed d) even) (leads_dup d.positions d.lent x (all_owed d) among))
+    sound_more lent d (dups x ∷ []) (d.owed ++ x ∷ []) d.next d.lent sound inside ending (omega arith) sound.lends
+    (leads_to d.positions lent (all_owed d) (x ∷ all_owed d) ((d.owed ++ x ∷ []) ++ out) (dups x ∷ []) (even_back ((d.owed ++ x ∷ []) ++ out) (x ∷ all_owed d) even) (leads_dup d.positions lent x (all_owed d) among))
     (low_even d.next ((d.owed ++ x ∷ []) ++ out) (x ∷ all_owed d) even (low_both d.next (x ∷ []) (all_owed d) (low_one d.next x less) sound.low))
 
 -- what is owned, without a variable of the block
 minus_owed : (owed out : List ℕ) (x : ℕ) → is_among owed x ≡ true → AreEven (owed ++ out) (x ∷ (minus x owed ++ out))
 minus_owed owed out x among = even_front owed (x ∷ minus x owed) out (minus_even x owed among)
 
-pub sound_drop : (d : Draft) (x : ℕ) → IsSoundDraft d → d.inside ≡ true → d.ending ≡ None → is_among d.owed x ≡ true → IsSoundDraft (wrote d (drops x) (minus x d.owed) d.next)
-sound_drop d x sound inside ending among =
+pub sound_drop : (lent : List ℕ) (d : Draft) (x : ℕ) → IsSoundBy lent d → d.inside ≡ true → d.ending ≡ None → is_among d.owed x ≡ true → IsSoundBy lent (wrote d (drops x) (minus x d.owed) d.next)
+sound_drop lent d x sound inside ending among =
     let out : List ℕ = outside d.uncalled d.splits in
     let even : AreEven (all_owed d) (x ∷ (minus x d.owed ++ out)) = minus_owed d.owed out x among in
-    sound_more d (drops x ∷ []) (minus x d.owed) d.next sound inside ending (omega arith)
-    (leads_drop d.positions d.lent x (all_owed d) (minus x d.owed ++ out) even)
+    sound_more lent d (drops x ∷ []) (minus x d.owed) d.next d.lent sound inside ending (omega arith) sound.lends
+    (leads_drop d.positions lent x (all_owed d) (minus x d.owed ++ out) even)
     (low_behind d.next (x ∷ []) (minus x d.owed ++ out) (low_even d.next (x ∷ (minus x d.owed ++ out)) (all_owed d) (even_back (all_owed d) (x ∷ (minus x d.owed ++ out)) even) sound.low))
 
 -- what is owned, without variables of the block
@@ -93,41 +93,41 @@ minus_all_low n xs owed out has low =
     low_behind n xs (minus_all xs owed ++ out)
     (low_even n (xs ++ (minus_all xs owed ++ out)) (owed ++ out) (even_back (owed ++ out) (xs ++ (minus_all xs owed ++ out)) (minus_all_owed xs owed out has)) low)
 
-pub sound_computed : (d : Draft) (form : Form) (arguments used : List ℕ) → IsSoundDraft d → d.inside ≡ true → d.ending ≡ None → HasAll used d.owed
+pub sound_computed : (lent : List ℕ) (d : Draft) (form : Form) (arguments used : List ℕ) → IsSoundBy lent d → d.inside ≡ true → d.ending ≡ None → HasAll used d.owed
     → ((functions : List CountedFunction) → used_by d.positions functions form arguments ≡ used)
-    → ((functions : List CountedFunction) → AllAmong (lent_by d.positions functions form arguments) (d.lent ++ (minus_all used d.owed ++ outside d.uncalled d.splits)))
+    → ((functions : List CountedFunction) → AllAmong (lent_by d.positions functions form arguments) (lent ++ (minus_all used d.owed ++ outside d.uncalled d.splits)))
     → ((functions : List CountedFunction) → HaveParameters d.positions functions → FitsForm d.positions functions form arguments)
-    → IsSoundDraft (wrote d (computes d.next form arguments) (minus_all used d.owed ++ d.next ∷ []) (d.next + 1))
-sound_computed d form arguments used sound inside ending has is_used among fits =
+    → is_among lent d.next ≡ false
+    → IsSoundBy lent (wrote d (computes d.next form arguments) (minus_all used d.owed ++ d.next ∷ []) (d.next + 1))
+sound_computed lent d form arguments used sound inside ending has is_used among fits other =
     let out : List ℕ = outside d.uncalled d.splits in
     let kept : List ℕ = minus_all used d.owed ++ out in
     let low : AreLow d.next kept = minus_all_low d.next used d.owed out has sound.low in
     let even : AreEven ((minus_all used d.owed ++ d.next ∷ []) ++ out) (d.next ∷ kept) = even_last (minus_all used d.owed) out d.next in
-    sound_more d (computes d.next form arguments ∷ []) (minus_all used d.owed ++ d.next ∷ []) (d.next + 1) sound inside ending (omega arith)
-    (leads_to d.positions d.lent (all_owed d) (d.next ∷ kept) ((minus_all used d.owed ++ d.next ∷ []) ++ out) (computes d.next form arguments ∷ [])
+    sound_more lent d (computes d.next form arguments ∷ []) (minus_all used d.owed ++ d.next ∷ []) (d.next + 1) d.lent sound inside ending (omega arith) sound.lends
+    (leads_to d.positions lent (all_owed d) (d.next ∷ kept) ((minus_all used d.owed ++ d.next ∷ []) ++ out) (computes d.next form arguments ∷ [])
     (even_back ((minus_all used d.owed ++ d.next ∷ []) ++ out) (d.next ∷ kept) even)
-    (leads_compute d.positions d.lent d.next form arguments (all_owed d) kept
+    (leads_compute d.positions lent d.next form arguments (all_owed d) kept
     (λ functions. subst (λ (xs : List ℕ). AreEven (all_owed d) (xs ++ kept)) (sym (is_used functions)) (minus_all_owed used d.owed out has))
-    among fits (low_fresh d.next d.next kept (omega arith) low) (low_fresh d.next d.next d.lent (omega arith) sound.lent_low)))
+    among fits (low_fresh d.next d.next kept (omega arith) low) other))
     (low_even (d.next + 1) ((minus_all used d.owed ++ d.next ∷ []) ++ out) (d.next ∷ kept) even (low_next d.next kept low))
 
 -- ---- parameters
 
-pub sound_given : (d : Draft) (x : ℕ) → IsSoundDraft d → d.inside ≡ true → d.ending ≡ None → d.splits ≡ [] → is_among d.uncalled x ≡ true → IsSoundDraft (given d x)
-sound_given d x sound inside ending none among =
+pub sound_given : (lent : List ℕ) (d : Draft) (x : ℕ) → IsSoundBy lent d → d.inside ≡ true → d.ending ≡ None → d.splits ≡ [] → is_among d.uncalled x ≡ true → IsSoundBy lent (given d x)
+sound_given lent d x sound inside ending none among =
     let even : AreEven ((d.owed ++ x ∷ []) ++ minus x d.uncalled) (d.owed ++ d.uncalled) = given_even d.owed d.uncalled x among in
-    let steps : Leads d.positions d.lent (owned_parameters d) (d.owed ++ d.uncalled) d.steps =
-    subst (λ (all : List Split). Leads d.positions d.lent (first (owned_parameters d) d.uncalled all) (d.owed ++ outside d.uncalled all) d.steps) none (sound.steps inside ending) in
+    let steps : Leads d.positions lent (owned_parameters d) (d.owed ++ d.uncalled) d.steps =
+    subst (λ (all : List Split). Leads d.positions lent (first (owned_parameters d) d.uncalled all) (d.owed ++ outside d.uncalled all) d.steps) none (sound.steps inside ending) in
     record {
-      splits = subst (λ (all : List Split). AreFine d.positions d.lent d.next (owned_parameters d) (minus x d.uncalled) all) (sym none) tt;
-      steps = λ is known. subst (λ (all : List Split). Leads d.positions d.lent (first (owned_parameters d) (minus x d.uncalled) all) ((d.owed ++ x ∷ []) ++ outside (minus x d.uncalled) all) d.steps) (sym none)
-          (leads_to d.positions d.lent (owned_parameters d) (d.owed ++ d.uncalled) ((d.owed ++ x ∷ []) ++ minus x d.uncalled) d.steps (even_back ((d.owed ++ x ∷ []) ++ minus x d.uncalled) (d.owed ++ d.uncalled) even) steps);
-      closed = λ code known. some_is_not_none (Spent d.positions d.lent None (first (owned_parameters d) (minus x d.uncalled) d.splits) (plug d.steps code) × (outside (minus x d.uncalled) d.splits ≡ [])) d.ending code ending known;
+      splits = subst (λ (all : List Split). AreFine d.positions lent d.next (owned_parameters d) (minus x d.uncalled) all) (sym none) tt;
+      steps = λ is known. subst (λ (all : List Split). Leads d.positions lent (first (owned_parameters d) (minus x d.uncalled) all) ((d.owed ++ x ∷ []) ++ outside (minus x d.uncalled) all) d.steps) (sym none)
+          (leads_to d.positions lent (owned_parameters d) (d.owed ++ d.uncalled) ((d.owed ++ x ∷ []) ++ minus x d.uncalled) d.steps (even_back ((d.owed ++ x ∷ []) ++ minus x d.uncalled) (d.owed ++ d.uncalled) even) steps);
+      closed = λ code known. some_is_not_none (Spent d.positions lent None (first (owned_parameters d) (minus x d.uncalled) d.splits) (plug d.steps code) × (outside (minus x d.uncalled) d.splits ≡ [])) d.ending code ending known;
       low = subst (λ (all : List Split). AreLow d.next ((d.owed ++ x ∷ []) ++ outside (minus x d.uncalled) all)) (sym none)
           (low_even d.next ((d.owed ++ x ∷ []) ++ minus x d.uncalled) (d.owed ++ d.uncalled) even (subst (λ (all : List Split). AreLow d.next (d.owed ++ outside d.uncalled all)) none sound.low));
-      lent = sound.lent;
+      lends = sound.lends;
       parameters = sound.parameters;
-      lent_low = sound.lent_low;
       quiet = λ out. true_is_not_false ((d.steps ≡ []) × (((d.owed ++ x ∷ []) ≡ []) × (d.ending ≡ None))) d.inside inside out;
     }
 
@@ -191,8 +191,8 @@ chosen_filter mask (x ∷ xs) apart = by_bit (mask % 2 == 1) (chosen_filter (mas
     by_bit false later =
         there (is_among (chosen_of (mask / 2) xs) x) (filter (is_among (chosen_of (mask / 2) xs)) xs) (fresh (is_among (chosen_of (mask / 2) xs) x) refl) ∙ later
 
-pub sound_opened : (d : Draft) (x c count mask : ℕ) → IsSoundDraft d → d.inside ≡ true → d.ending ≡ None → is_among d.owed x ≡ true → IsSoundDraft (opened d x c count mask)
-sound_opened d x c count mask sound inside ending among =
+pub sound_opened : (lent : List ℕ) (d : Draft) (by_count : Bool) (x c count mask : ℕ) → IsSoundBy lent d → d.inside ≡ true → d.ending ≡ None → is_among d.owed x ≡ true → AreFresh (numbers_from d.next count) lent → IsSoundBy lent (opened d by_count x c count mask)
+sound_opened lent d by_count x c count mask sound inside ending among other =
     let out : List ℕ = outside d.uncalled d.splits in
     let fields : List ℕ = numbers_from d.next count in
     let used : List ℕ = chosen_of mask fields in
@@ -201,29 +201,67 @@ sound_opened d x c count mask sound inside ending among =
     let low : AreLow d.next kept = low_behind d.next (x ∷ []) kept (low_even d.next (x ∷ kept) (all_owed d) (even_back (all_owed d) (x ∷ kept) even) sound.low) in
     let turned : AreEven ((minus x d.owed ++ used) ++ out) (used ++ kept) = even_turned (minus x d.owed) used out in
     let given : AreLow (d.next + count) used = λ y is. low_numbers d.next count y (chosen_among mask fields y is) in
-    sound_more d (opens x c fields used ∷ []) (minus x d.owed ++ used) (d.next + count) sound inside ending (omega arith)
-    (leads_to d.positions d.lent (all_owed d) (used ++ kept) ((minus x d.owed ++ used) ++ out) (opens x c fields used ∷ []) (even_back ((minus x d.owed ++ used) ++ out) (used ++ kept) turned)
-    (subst (λ (zs : List ℕ). Leads d.positions d.lent (all_owed d) (zs ++ kept) (opens x c fields used ∷ [])) (chosen_filter mask fields (numbers_apart d.next count))
-    (leads_open d.positions d.lent x c fields used (all_owed d) kept even (numbers_apart d.next count) (numbers_fresh d.next d.next count kept (omega arith) low) (numbers_fresh d.next d.next count d.lent (omega arith) sound.lent_low))))
+    sound_more lent d (opens_by by_count x c fields used ∷ []) (minus x d.owed ++ used) (d.next + count) d.lent sound inside ending (omega arith) sound.lends
+    (leads_to d.positions lent (all_owed d) (used ++ kept) ((minus x d.owed ++ used) ++ out) (opens_by by_count x c fields used ∷ []) (even_back ((minus x d.owed ++ used) ++ out) (used ++ kept) turned)
+    (subst (λ (zs : List ℕ). Leads d.positions lent (all_owed d) (zs ++ kept) (opens_by by_count x c fields used ∷ [])) (chosen_filter mask fields (numbers_apart d.next count))
+    (leads_open d.positions lent by_count x c fields used (all_owed d) kept even (numbers_apart d.next count) (numbers_fresh d.next d.next count kept (omega arith) low) other)))
     (low_even (d.next + count) ((minus x d.owed ++ used) ++ out) (used ++ kept) turned (low_both (d.next + count) used kept given (low_up d.next (d.next + count) kept (omega arith) low)))
 
+-- a cell that stays is read, and used fields get a reference more
+pub sound_read : (lent : List ℕ) (d : Draft) (x c count mask : ℕ) (read : List ℕ) → IsSoundBy lent d → d.inside ≡ true → d.ending ≡ None
+    → (is_among lent x ≡ true) ⊎ ((is_among (all_owed d) x ≡ true) × AreFresh (numbers_from d.next count) lent) → AreIn read lent
+    → IsSoundBy lent (record (read_of d x c count mask) { lent = read })
+sound_read lent d x c count mask read sound inside ending there within =
+    let out : List ℕ = outside d.uncalled d.splits in
+    let fields : List ℕ = numbers_from d.next count in
+    let used : List ℕ = chosen_of mask fields in
+    let turned : AreEven ((d.owed ++ used) ++ out) (used ++ all_owed d) = even_turned d.owed used out in
+    let given : AreLow (d.next + count) used = λ y is. low_numbers d.next count y (chosen_among mask fields y is) in
+    sound_more lent d (reads x c fields ∷ map dups used) (d.owed ++ used) (d.next + count) read sound inside ending (omega arith) within
+    (leads_to d.positions lent (all_owed d) (used ++ all_owed d) ((d.owed ++ used) ++ out) (reads x c fields ∷ map dups used) (even_back ((d.owed ++ used) ++ out) (used ++ all_owed d) turned)
+    (leads_read d.positions lent x c fields used (all_owed d) (numbers_fresh d.next d.next count (all_owed d) (omega arith) sound.low) there (λ y is. chosen_among mask fields y is)))
+    (low_even (d.next + count) ((d.owed ++ used) ++ out) (used ++ all_owed d) turned (low_both (d.next + count) used (all_owed d) given (low_up d.next (d.next + count) (all_owed d) (omega arith) sound.low)))
+
 -- ---- branches
+
+take_among : (k : ℕ) (xs : List ℕ) (x : ℕ) → is_among (take k xs) x ≡ true → is_among xs x ≡ true
+take_among zero xs x is = absurd (nothing xs is)
+  where
+    nothing : (ys : List ℕ) → is_among (take 0 ys) x ≡ true → ⊥
+    nothing [] same = cc
+    nothing (y ∷ ys) same = cc
+take_among (suc k) [] x is = is
+take_among (suc k) (y ∷ xs) x is = by_test (y == x) is (take_among k xs x)
+  where
+    by_test : (t : Bool) → (t || is_among (take k xs) x) ≡ true → (is_among (take k xs) x ≡ true → is_among xs x ≡ true) → (t || is_among xs x) ≡ true
+    by_test true there later = refl
+    by_test false there later = later there
+
+pub in_take : (k : ℕ) (xs others : List ℕ) → AreIn xs others → AreIn (take k xs) others
+in_take k xs others are = λ x is. are x (take_among k xs x is)
+
+pub in_both : (xs ys others : List ℕ) → AreIn xs others → AreIn ys others → AreIn (xs ++ ys) others
+in_both xs ys others one two = λ x is. by_case x (among_cases xs ys x is)
+  where
+    by_case : (x : ℕ) → (is_among xs x ≡ true) ⊎ (is_among ys x ≡ true) → is_among others x ≡ true
+    by_case x (inl left) = one x left
+    by_case x (inr right) = two x right
 
 copies_are : (n : ℕ) (each : List ℕ) → AllAre each (copies n each)
 copies_are zero each = tt
 copies_are (suc n) each = (refl, copies_are n each)
 
-pub sound_forked : (d : Draft) (on : ℕ) (decisions : List NodeTree) (each : List ℕ) (rows : ℕ) → IsSoundDraft d → d.inside ≡ true → d.ending ≡ None → HasAll each d.owed
-    → is_among (d.lent ++ all_owed d) on ≡ true → IsSoundDraft (forked d on decisions each rows)
-sound_forked d on decisions each rows sound inside ending has among =
+pub sound_forked : (lent : List ℕ) (d : Draft) (on : ℕ) (decisions : List NodeTree) (each : List ℕ) (rows : ℕ) → IsSoundBy lent d → d.inside ≡ true → d.ending ≡ None → HasAll each d.owed
+    → is_among (lent ++ all_owed d) on ≡ true → IsSoundBy lent (forked d on decisions each rows)
+sound_forked lent d on decisions each rows sound inside ending has among =
     let out : List ℕ = outside d.uncalled d.splits in
     let around : List ℕ = minus_all each d.owed ++ out in
     let even : AreEven (all_owed d) (each ++ around) = minus_all_owed each d.owed out has in
     record {
       splits = (
         record {
-          before = leads_to d.positions d.lent (first_of d) (all_owed d) (each ++ around) d.steps even (sound.steps inside ending);
-          on = even_among (d.lent ++ all_owed d) (d.lent ++ (each ++ around)) on (even_behind d.lent (all_owed d) (each ++ around) even) among;
+          before = leads_to d.positions lent (first_of d) (all_owed d) (each ++ around) d.steps even (sound.steps inside ending);
+          on = even_among (lent ++ all_owed d) (lent ++ (each ++ around)) on (even_behind lent (all_owed d) (each ++ around) even) among;
           arms = λ is. tt;
           tails = λ is. absurd (false_is_true is);
           left = copies_are rows each;
@@ -232,34 +270,32 @@ sound_forked d on decisions each rows sound inside ending has among =
         sound.splits,
       );
       steps = λ is none. absurd (false_is_true is);
-      closed = λ code is. some_is_not_none (Spent d.positions d.lent None (each ++ around) code × (around ≡ [])) d.ending code ending is;
+      closed = λ code is. some_is_not_none (Spent d.positions lent None (each ++ around) code × (around ≡ [])) d.ending code ending is;
       low = minus_all_low d.next each d.owed out has sound.low;
-      lent = sound.lent;
+      lends = sound.lends;
       parameters = sound.parameters;
-      lent_low = sound.lent_low;
       quiet = λ is. (refl, (refl, ending));
     }
   where
     false_is_true : false ≡ true → ⊥
     false_is_true is = cc
 
-pub sound_entered : (d : Draft) (split : Split) (splits : List Split) (each : List ℕ) (left : List (List ℕ)) → IsSoundDraft d → d.inside ≡ false → d.splits ≡ split ∷ splits → split.left ≡ each ∷ left
-    → IsSoundDraft (record d { inside = true; owed = each; splits = record split { left = left } ∷ splits })
-sound_entered d split splits each left sound outer is left_is =
-    let fine : AreFine d.positions d.lent d.next (owned_parameters d) d.uncalled (split ∷ splits) = subst (λ (all : List Split). AreFine d.positions d.lent d.next (owned_parameters d) d.uncalled all) is sound.splits in
+pub sound_entered : (lent : List ℕ) (d : Draft) (split : Split) (splits : List Split) (each : List ℕ) (left : List (List ℕ)) → IsSoundBy lent d → d.inside ≡ false → d.splits ≡ split ∷ splits → split.left ≡ each ∷ left
+    → IsSoundBy lent (record d { inside = true; owed = each; lent = take split.lent d.lent; splits = record split { left = left } ∷ splits })
+sound_entered lent d split splits each left sound outer is left_is =
+    let fine : AreFine d.positions lent d.next (owned_parameters d) d.uncalled (split ∷ splits) = subst (λ (all : List Split). AreFine d.positions lent d.next (owned_parameters d) d.uncalled all) is sound.splits in
     let around : List ℕ = outside d.uncalled (split ∷ splits) in
     let are : AllAre split.each (each ∷ left) = subst (λ (all : List (List ℕ)). AllAre split.each all) left_is fine.0.left in
     let quiet : (d.steps ≡ []) × ((d.owed ≡ []) × (d.ending ≡ None)) = sound.quiet outer in
     record {
       splits =
           (record { before = fine.0.before; on = fine.0.on; arms = fine.0.arms; tails = fine.0.tails; left = are.1; low = fine.0.low }, fine.1);
-      steps = λ inside none. subst (λ (moves : List Move). Leads d.positions d.lent (split.each ++ around) (each ++ around) moves) (sym quiet.0)
-          (subst (λ (xs : List ℕ). Leads d.positions d.lent (split.each ++ around) (xs ++ around) []) (sym are.0) (λ left rest spent. spent));
-      closed = λ code known. some_is_not_none (Spent d.positions d.lent None (split.each ++ around) (plug d.steps code) × (around ≡ [])) d.ending code quiet.1.1 known;
+      steps = λ inside none. subst (λ (moves : List Move). Leads d.positions lent (split.each ++ around) (each ++ around) moves) (sym quiet.0)
+          (subst (λ (xs : List ℕ). Leads d.positions lent (split.each ++ around) (xs ++ around) []) (sym are.0) (λ left rest spent. spent));
+      closed = λ code known. some_is_not_none (Spent d.positions lent None (split.each ++ around) (plug d.steps code) × (around ≡ [])) d.ending code quiet.1.1 known;
       low = subst (λ (xs : List ℕ). AreLow d.next (xs ++ around)) (sym are.0) fine.0.low;
-      lent = sound.lent;
+      lends = in_take split.lent d.lent lent sound.lends;
       parameters = sound.parameters;
-      lent_low = sound.lent_low;
       quiet = λ out. absurd (true_is_false out);
     }
   where

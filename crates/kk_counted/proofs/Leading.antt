@@ -1,14 +1,18 @@
 -- Steps that lead from what is owned to what is owned.
-use Rattle.std.proofs.Common.{◌≡◌, ℕ, true, false, List, [], ◌∷◌, ◌++◌, Option, Some, None, refl, sym, ap, ◌∙◌, subst}
+use Rattle.std.proofs.Common.{◌≡◌, ◌⊎◌, inl, inr, ℕ, ◌||◌, Bool, true, false, List, [], ◌∷◌, ◌++◌, map, Option, Some, None, arith, refl, sym, ap, ◌∙◌, subst}
 use Rattle.std.specs.Prelude.{filter}
 use Rattle.kk_syntax.specs.declared.program.Form.{Form}
 use Rattle.kk_syntax.specs.Shapes.{is_among}
 use Rattle.kk_syntax.specs.PositionsOf.{PositionTable}
 use Rattle.kk_core.specs.Decisions.{NodeTree}
 use Rattle.kk_counted.specs.CountedCodes.{Counted, give, tail_call, branch, case, compute, inside, read, open_cell, if_unique, dup, drop, CountedArms, no_arm, arm, CountedFunction}
-use Rattle.kk_counted.specs.CountedForms.{Move, computes, runs, opens, dups, drops, put, plug, arms_of}
-use Rattle.kk_counted.specs.Spending.{AreEven, AllAmong, AreFresh, AreApart, used_by, lent_by, FitsForm, Spends, SpendsAll}
+use Rattle.kk_counted.specs.CountedForms.{Move, computes, runs, reads, dups, drops, put, plug, arms_of}
+use Rattle.kk_counted.specs.Spending.{total, AreEven, AllAmong, AreFresh, AreApart, used_by, lent_by, FitsForm, Spends, SpendsAll}
+use Rattle.kk_counted.specs.Drafts.{opens_by}
 use Rattle.kk_counted.specs.Emitting.{HaveParameters, Spent, AllSpent, Leads}
+use Rattle.kk_counted.proofs.Counting.{itself}
+use Rattle.kk_counted.proofs.Evenness.{total_append, among_front, among_behind}
+use Rattle.kk_counted.proofs.Variables.{among_cases}
 
 -- ---- code spends what is owned in any order
 
@@ -57,6 +61,53 @@ mutual
   in_tail_all positions functions lent owned no_arm spends = tt
   in_tail_all positions functions lent owned (arm body rest) spends =
       (in_tail positions functions lent [] owned body spends.0, in_tail_all positions functions lent owned rest spends.1)
+
+-- ---- variables that have just been read may be duplicated
+
+spends_readable : (positions : PositionTable) (functions : List CountedFunction) (lent readable : List ℕ) (left : Option (List ℕ)) (owned : List ℕ) (code : Counted) → Spends positions functions lent [] left owned code → Spends positions functions lent readable left owned code
+spends_readable positions functions lent readable left owned (give x) spends = spends
+spends_readable positions functions lent readable left owned (tail_call f arguments) spends = spends
+spends_readable positions functions lent readable left owned (branch x positive negative) spends = spends
+spends_readable positions functions lent readable left owned (case x decisions arms) spends = spends
+spends_readable positions functions lent readable left owned (compute x form arguments rest) spends = spends
+spends_readable positions functions lent readable left owned (inside x block rest) spends = spends
+spends_readable positions functions lent readable left owned (read x c fields rest) spends = spends
+spends_readable positions functions lent readable left owned (open_cell x c fields used rest) spends = spends
+spends_readable positions functions lent readable left owned (if_unique x c fields used rest) spends = spends
+spends_readable positions functions lent readable left owned (dup x rest) spends =
+    (spends.0, (spends.1.0, (wider lent spends.0 x spends.1.1.0, spends_readable positions functions lent readable left (x ∷ spends.0) rest spends.1.1.1)))
+  where
+    wider : (front behind : List ℕ) (y : ℕ) → is_among (front ++ behind) y ≡ true → is_among (front ++ (readable ++ behind)) y ≡ true
+    wider front behind y is = by_case (among_cases front behind y is)
+      where
+        by_case : (is_among front y ≡ true) ⊎ (is_among behind y ≡ true) → is_among (front ++ (readable ++ behind)) y ≡ true
+        by_case (inl one) = among_front front (readable ++ behind) y one
+        by_case (inr one) = among_behind front (readable ++ behind) y (among_behind readable behind y one)
+spends_readable positions functions lent readable left owned (drop x rest) spends = spends
+
+dups_spend : (positions : PositionTable) (functions : List CountedFunction) (lent readable : List ℕ) (left : Option (List ℕ)) (used now to : List ℕ) (rest : Counted) → ((y : ℕ) → is_among used y ≡ true → is_among readable y ≡ true) → AreEven to (used ++ now)
+    → Spends positions functions lent [] left to rest → Spends positions functions lent readable left now (plug (map dups used) rest)
+dups_spend positions functions lent readable left [] now to rest among even spends =
+    spends_readable positions functions lent readable left now rest (spends_even positions functions lent [] left now to rest (λ w. sym (even w)) spends)
+dups_spend positions functions lent readable left (x ∷ used) now to rest among even spends = (
+  now,
+  (
+    λ w. refl,
+    (
+      among_behind lent (readable ++ now) x (among_front readable now x (among x (first_among x used))),
+      dups_spend positions functions lent readable left used (x ∷ now) to rest (λ y is. among y (later_among y is)) (λ w. even w ∙ turned w) spends,
+    ),
+  ),
+)
+  where
+    first_among : (y : ℕ) (ys : List ℕ) → is_among (y ∷ ys) y ≡ true
+    first_among y ys = ap (λ t. t || is_among ys y) (itself y)
+
+    later_among : (y : ℕ) → is_among used y ≡ true → is_among (x ∷ used) y ≡ true
+    later_among y is = among_behind (x ∷ []) used y is
+
+    turned : (w : ℕ → ℕ) → total w ((x ∷ used) ++ now) ≡ total w (used ++ (x ∷ now))
+    turned w = omega (arith, total_append w used now, total_append w used (x ∷ now))
 
 -- ---- steps
 
@@ -109,10 +160,18 @@ module _ (positions : PositionTable) (lent : List ℕ) where
   leads_compute x form arguments from kept even among fits fresh other =
       λ left rest spent functions have. (kept, (even functions, (among functions, (fits functions have, (fresh, (other, spent functions have))))))
 
-  pub leads_open : (x c : ℕ) (fields used from kept : List ℕ) → AreEven from (x ∷ kept) → AreApart fields → AreFresh fields kept → AreFresh fields lent → Leads positions lent from (filter (is_among used) fields ++ kept) (opens x c fields used ∷ [])
-  leads_open x c fields used from kept even apart fresh other =
+  pub leads_open : (by_count : Bool) (x c : ℕ) (fields used from kept : List ℕ) → AreEven from (x ∷ kept) → AreApart fields → AreFresh fields kept → AreFresh fields lent → Leads positions lent from (filter (is_among used) fields ++ kept) (opens_by by_count x c fields used ∷ [])
+  leads_open true x c fields used from kept even apart fresh other =
+      λ left rest spent functions have. (kept, (even, (apart, (fresh, (other, spent functions have)))))
+  leads_open false x c fields used from kept even apart fresh other =
       λ left rest spent functions have. (kept, (even, (apart, (fresh, (other, spent functions have)))))
 
   pub leads_run : (x : ℕ) (block : Counted) (owned kept : List ℕ) → Spent positions lent (Some kept) owned block → is_among kept x ≡ false → is_among lent x ≡ false → Leads positions lent owned (x ∷ kept) (runs x block ∷ [])
   leads_run x block owned kept inner fresh other =
       λ left rest spent functions have. (owned, (kept, (λ w. refl, (fresh, (other, (inner functions have, spent functions have))))))
+
+  pub leads_read : (x c : ℕ) (fields used owned : List ℕ) → AreFresh fields owned
+      → (is_among lent x ≡ true) ⊎ ((is_among owned x ≡ true) × AreFresh fields lent)
+      → ((y : ℕ) → is_among used y ≡ true → is_among fields y ≡ true) → Leads positions lent owned (used ++ owned) (reads x c fields ∷ map dups used)
+  leads_read x c fields used owned fresh there among =
+      λ left rest spent functions have. (owned, (λ w. refl, (fresh, (there, dups_spend positions functions lent fields left used owned (used ++ owned) rest among (λ w. refl) (spent functions have)))))

@@ -30,6 +30,8 @@ pub mod Drafting
 pub mod Joining
 pub mod FormViews
 pub mod Listing
+pub mod Whole
 pub mod Drafted
 pub mod Working
 pub mod Seeing
+pub mod Programs

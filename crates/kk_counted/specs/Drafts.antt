@@ -1,12 +1,16 @@
 -- What an emitter has written of a function and what it owes, and what its calls change of that.
-use Rattle.std.specs.Prelude.{◌≡◌, ℕ, zero, suc, ◌+◌, ◌<◌, ◌/◌, ◌%◌, ◌==◌, ◌||◌, Bool, true, false, not, List, [], ◌∷◌, ◌++◌, map, length, Option, Some, None, if◌then◌else◌, slice_index_or}
+use Rattle.std.specs.Prelude.{◌≡◌, ℕ, zero, suc, ◌+◌, ◌<◌, ◌/◌, ◌%◌, ◌==◌, ◌||◌, Bool, true, false, not, List, [], ◌∷◌, ◌++◌, map, length, take, Option, Some, None, if◌then◌else◌, slice_index_or}
 use Rattle.kk_syntax.specs.declared.program.Form.{Form}
 use Rattle.kk_syntax.specs.declared.program.Form.TheVariants.{Construct, Call}
 use Rattle.kk_syntax.specs.Shapes.{is_among}
 use Rattle.kk_syntax.specs.PositionsOf.{PositionTable, is_lent}
 use Rattle.kk_core.specs.Decisions.{NodeTree}
+use Rattle.kk_counted.specs.declared.debts.ArmEnd.{ArmEnd}
+use Rattle.kk_counted.specs.declared.debts.ArmEnd.TheVariants.{Value, Tail}
+use Rattle.kk_counted.specs.declared.debts.Held.{Held}
+use Rattle.kk_counted.specs.declared.debts.Held.TheVariants.{Nothing, One}
 use Rattle.kk_counted.specs.CountedCodes.{Counted, give, tail_call, case}
-use Rattle.kk_counted.specs.CountedForms.{Move, computes, runs, reads, opens, dups, drops, plug, arms_of}
+use Rattle.kk_counted.specs.CountedForms.{Move, computes, runs, reads, opens, opens_unique, dups, drops, plug, arms_of}
 use Rattle.kk_counted.specs.Spending.{AllAmong, at_positions, numbers_from}
 
 -- ---- lists of variables
@@ -38,13 +42,15 @@ copies (suc n) xs = xs ∷ copies n xs
 
 -- ---- drafts
 
--- A branch that is not joined: on which variable, by which decisions; the steps of the block before it; what the block owes
--- besides; what each arm is to spend, and that list for each arm that is not entered; the arms that are ended; and whether
--- one of them ends by a tail call.
+-- A branch that is not joined: on which variable, by which decisions, of how many rows; the steps of the block before it; how
+-- many variables it is lent; what it owes besides; what each arm is to spend, and that list for each arm that is not entered;
+-- the arms that are ended; and whether one of them ends by a tail call.
 pub record Split : Type 0 where
   pub on : ℕ
   pub decisions : List NodeTree
+  pub rows : ℕ
   pub before : List Move
+  pub lent : ℕ
   pub kept : List ℕ
   pub each : List ℕ
   pub left : List (List ℕ)
@@ -52,9 +58,10 @@ pub record Split : Type 0 where
   pub tails : Bool
 
 -- The function of which instance is written, by which positions are lent and how many fields constructors have; the number of
--- its parameters; the next variable; whether a call found no memory; whether a block is written, the function's body or an arm that is entered; its
--- steps; the variables that it owns; the owned parameters that are not called yet; the lent parameters; the branches that are
--- not joined, the newest first; and how the block ends, once a branch with tail calls is joined.
+-- its parameters; the next variable; whether a call found no memory; whether a block is written, the function's body or an arm
+-- that is entered; its steps; the variables that it owns; the owned parameters that are not called yet; the variables that it
+-- is lent, which are parameters and fields of cells that lent variables name; the branches that are not joined, the newest
+-- first; and how the block ends, once a branch with tail calls is joined.
 pub record Draft : Type 0 where
   pub positions : PositionTable
   pub field_counts : List ℕ
@@ -129,6 +136,10 @@ HoldsAll d xs = d.failed ≡ false → HasAll xs d.owed
 abbrev pub Awaits : Draft → ℕ → Type 0
 Awaits d x = d.failed ≡ false → (d.splits ≡ []) × (is_among d.uncalled x ≡ true)
 
+-- the variable is lent, or owned on this path or outside of the newest block
+abbrev pub IsAtHand : Draft → ℕ → Type 0
+IsAtHand d x = d.failed ≡ false → is_among (d.lent ++ all_owed d) x ≡ true
+
 -- the variable is owned on this path, or outside of the newest block
 abbrev pub Reaches : Draft → ℕ → ℕ → Type 0
 Reaches d emitter x = d.failed ≡ false → (emitter ≡ d.instance) × (is_among (all_owed d) x ≡ true)
@@ -142,6 +153,10 @@ HasConstructor d constructor = constructor < length d.field_counts
 
 abbrev pub HasFields : Draft → ℕ → ℕ → Type 0
 HasFields d constructor count = (constructor < length d.field_counts) × (slice_index_or d.field_counts constructor 0 ≡ count)
+
+-- a constructor is there, and has a field of that number
+abbrev pub HasField : Draft → ℕ → ℕ → Type 0
+HasField d constructor at = (constructor < length d.field_counts) × (at < slice_index_or d.field_counts constructor 0)
 
 -- a form that is no call, and builds no cell
 abbrev pub IsPlain : Form → List ℕ → Type 0
@@ -183,13 +198,24 @@ EndsByCall d f arguments =
     → HasAll (used_in d f arguments) d.owed × ((minus_all (used_in d f arguments) d.owed ≡ [])
     × ((outside d.uncalled d.splits ≡ []) × AllAmong (lent_in d f arguments) d.lent))
 
--- no arm of the newest branch is written
-abbrev pub IsBetween : Draft → Type 0
-IsBetween d = d.failed ≡ false → d.inside ≡ false
-
 -- the variable is all that the block owns
 abbrev pub IsOnly : Draft → ℕ → ℕ → Type 0
 IsOnly d emitter x = d.failed ≡ false → (emitter ≡ d.instance) × (d.owed ≡ x ∷ [])
+
+-- An arm may end so: by a variable that is all that it owns, or by a tail call.
+abbrev pub EndsArm : Draft → ArmEnd → Type 0
+EndsArm d (Value owed) = IsOnly d owed.emitter owed.variable
+EndsArm d (Tail f arguments) =
+    (d.failed ≡ false → d.ending ≡ None) × (Takes d f arguments.items × EndsByCall d f arguments.items)
+
+-- what is handed back of an end that finds no memory
+abbrev pub held_of : ArmEnd → Held
+held_of (Value owed) = One owed
+held_of (Tail f arguments) = Nothing
+
+-- no arm of the newest branch is written
+abbrev pub IsBetween : Draft → Type 0
+IsBetween d = d.failed ≡ false → d.inside ≡ false
 
 -- ---- what calls change
 
@@ -216,28 +242,41 @@ fallen d = record d { failed = true }
 abbrev pub computed : Draft → Form → List ℕ → List ℕ → Draft
 computed d form arguments used = wrote d (computes d.next form arguments) (minus_all used d.owed ++ d.next ∷ []) (d.next + 1)
 
+-- an opening, by the count of the cell or not
+abbrev pub opens_by : Bool → ℕ → ℕ → List ℕ → List ℕ → Move
+opens_by true x constructor fields used = opens_unique x constructor fields used
+opens_by false x constructor fields used = opens x constructor fields used
+
 -- a cell is opened: its fields are the next variables, and of them the used ones are owned
-abbrev pub opened : Draft → ℕ → ℕ → ℕ → ℕ → Draft
-opened d x constructor count used =
+abbrev pub opened : Draft → Bool → ℕ → ℕ → ℕ → ℕ → Draft
+opened d by_count x constructor count used =
     let fields = numbers_from d.next count in
-    wrote d (opens x constructor fields (chosen_of used fields)) (minus x d.owed ++ chosen_of used fields) (d.next + count)
+    wrote d (opens_by by_count x constructor fields (chosen_of used fields)) (minus x d.owed ++ chosen_of used fields)
+    (d.next + count)
 
 -- the same by the constructor's number, and the fields that it gives
 abbrev pub fields_given : Draft → ℕ → ℕ → List ℕ
 fields_given d constructor used = chosen_of used (numbers_from d.next (slice_index_or d.field_counts constructor 0))
 
-abbrev pub unpacked : Draft → ℕ → ℕ → ℕ → Draft
-unpacked d x constructor used = opened d x constructor (slice_index_or d.field_counts constructor 0) used
+abbrev pub unpacked : Draft → Bool → ℕ → ℕ → ℕ → Draft
+unpacked d by_count x constructor used =
+    opened d by_count x constructor (slice_index_or d.field_counts constructor 0) used
 
--- fields of a cell that stays are duplicated
-abbrev pub looked : Draft → ℕ → ℕ → ℕ → ℕ → Draft
-looked d x constructor count used =
+-- The fields of a cell that stays are the next variables, and of them the used ones get a reference more. Where the cell's
+-- variable is lent, its fields are lent too.
+abbrev pub read_of : Draft → ℕ → ℕ → ℕ → ℕ → Draft
+read_of d x constructor count used =
     let fields = numbers_from d.next count in
     record d {
       steps = d.steps ++ (reads x constructor fields ∷ map dups (chosen_of used fields));
       owed = d.owed ++ chosen_of used fields;
+      lent = d.lent ++ (if is_among d.lent x then fields else []);
       next = d.next + count;
     }
+
+-- the same by the constructor's number
+abbrev pub looked : Draft → ℕ → ℕ → ℕ → Draft
+looked d x constructor used = read_of d x constructor (slice_index_or d.field_counts constructor 0) used
 
 -- a branch begins, whose arms are to spend `each`
 abbrev pub forked : Draft → ℕ → List NodeTree → List ℕ → ℕ → Draft
@@ -246,7 +285,9 @@ forked d on decisions each rows =
     record {
       on = on;
       decisions = decisions;
+      rows = rows;
       before = d.steps;
+      lent = length d.lent;
       kept = minus_all each d.owed;
       each = each;
       left = copies rows each;
@@ -255,11 +296,16 @@ forked d on decisions each rows =
     } in
     record d { inside = false; steps = []; owed = []; splits = split ∷ d.splits }
 
--- an arm is entered
+-- an arm is entered; it is lent what was lent before the branch
 abbrev pub entered_by : Draft → Split → List Split → List (List ℕ) → Draft
 entered_by d split splits [] = d
 entered_by d split splits (each ∷ left) =
-    record d { inside = true; owed = each; splits = record split { left = left } ∷ splits }
+    record d {
+      inside = true;
+      owed = each;
+      lent = take split.lent d.lent;
+      splits = record split { left = left } ∷ splits;
+    }
 
 abbrev pub entered_in : Draft → List Split → Draft
 entered_in d [] = d
@@ -299,19 +345,26 @@ ended_by_value d x = ended_in d (end_code d.ending x) (is_tail d.ending) d.split
 abbrev pub ended_by_call : Draft → ℕ → List ℕ → Draft
 ended_by_call d f arguments = ended_in d (tail_call f arguments) true d.splits
 
--- A block goes on behind a branch, and a variable takes its value. Where an arm ends by a tail call the branch ends the block.
+abbrev pub ended_by : Draft → ArmEnd → Draft
+ended_by d (Value owed) = ended_by_value d owed.variable
+ended_by d (Tail f arguments) = ended_by_call d f arguments.items
+
+-- A block goes on behind a branch, and a variable takes its value; it is lent what was lent before the branch. Where an arm
+-- ends by a tail call the branch ends the block.
 abbrev pub resumed_as : Draft → Split → ℕ → Bool → Draft
 resumed_as d split x false =
     record d {
       inside = true;
       steps = split.before ++ runs x (case split.on split.decisions (arms_of split.arms)) ∷ [];
       owed = split.kept ++ x ∷ [];
+      lent = take split.lent d.lent;
     }
 resumed_as d split x true =
     record d {
       inside = true;
       steps = split.before;
       owed = split.kept ++ x ∷ [];
+      lent = take split.lent d.lent;
       ending = Some (case split.on split.decisions (arms_of split.arms));
     }
 

@@ -1,7 +1,9 @@
 -- That what an emitter has written spends what is owned: so a function that it finishes is spent.
-use Rattle.std.specs.Prelude.{◌≡◌, ℕ, ◌<◌, true, false, not, List, [], ◌∷◌, ◌++◌, length, Option, Some, None, slice_get, slice_index_or}
+use Rattle.std.specs.Prelude.{◌≡◌, ℕ, ◌+◌, ◌<◌, ◌≤◌, Bool, true, false, not, List, [], ◌∷◌, ◌++◌, length, Option, Some, None, if◌then◌else◌, slice_get, slice_index_or}
 use Rattle.kk_syntax.specs.Shapes.{is_among}
 use Rattle.kk_syntax.specs.PositionsOf.{PositionTable, is_lent}
+use Rattle.kk_core.specs.Decisions.{AreOrderly}
+use Rattle.kk_counted.specs.Arms.{HasArms, AllHaveArms, HaveArmsInside}
 use Rattle.kk_counted.specs.CountedCodes.{Counted, CountedFunction}
 use Rattle.kk_counted.specs.CountedForms.{Move, plug}
 use Rattle.kk_counted.specs.Spending.{Spends, SpendsParameters}
@@ -18,9 +20,16 @@ abbrev pub IsJudged : PositionTable → ℕ → CountedFunction → Type 0
 IsJudged positions f function =
     (functions : List CountedFunction) → HaveParameters positions functions → SpendsParameters positions functions f function
 
--- variables are below a number
+-- variables are below a number, or are not
 abbrev pub AreLow : ℕ → List ℕ → Type 0
 AreLow next xs = (x : ℕ) → is_among xs x ≡ true → x < next
+
+abbrev pub AreLater : ℕ → List ℕ → Type 0
+AreLater next xs = (x : ℕ) → is_among xs x ≡ true → next ≤ x
+
+-- variables are among others
+abbrev pub AreIn : List ℕ → List ℕ → Type 0
+AreIn xs others = (x : ℕ) → is_among xs x ≡ true → is_among others x ≡ true
 
 module _ (positions : PositionTable) (lent : List ℕ) where
   -- code spends what is owned, whatever the functions are that it calls
@@ -72,18 +81,50 @@ owned_parameters d = parameters_where (λ i. not (is_lent d.positions d.instance
 abbrev pub first_of : Draft → List ℕ
 first_of d = first (owned_parameters d) d.uncalled d.splits
 
--- A draft that is sound: its branches are; the steps of the block that is written lead to what is owned now; a block whose
--- end is known spends all that it owned as it began; and the next variable is above all of them.
-pub record IsSoundDraft (d : Draft) : Type 0 where
-  pub splits : AreFine d.positions d.lent d.next (owned_parameters d) d.uncalled d.splits
-  pub steps : d.inside ≡ true → d.ending ≡ None → Leads d.positions d.lent (first_of d) (all_owed d) d.steps
+-- An arm is written, or none: a branch has an arm that is ended, or that one, or one that is not entered, for each row of its
+-- decisions. Each case inside has an arm for each row.
+pub record HasRows (written : ℕ) (split : Split) : Type 0 where
+  pub decisions : AreOrderly split.decisions split.rows
+  pub rows : length split.arms + (written + length split.left) ≡ split.rows
+  pub arms : AllHaveArms split.arms
+  pub before : HaveArmsInside split.before
+
+-- the newest branch, an arm of which may be written, and the older ones, each of which is in an arm
+abbrev pub HaveRows : Bool → List Split → Type 0
+HaveRows inside [] = Unit {0}
+HaveRows inside (split ∷ splits) = HasRows (if inside then 1 else 0) split × HaveRows true splits
+
+-- in all that is written each case has an arm for each row
+pub record IsWhole (inside : Bool) (splits : List Split) (steps : List Move) (ending : Option Counted) : Type 0 where
+  pub branches : HaveRows inside splits
+  pub written : HaveArmsInside steps
+  pub end : (code : Counted) → ending ≡ Some code → HasArms code
+
+abbrev pub IsWholeDraft : Draft → Type 0
+IsWholeDraft d = IsWhole d.inside d.splits d.steps d.ending
+
+-- A draft is sound by the variables that the function is lent in all: its branches are; the steps of the block that is written
+-- lead to what is owned now; a block whose end is known spends all that it owned as it began; and the next variable is above
+-- all of them.
+pub record IsSoundBy (lent : List ℕ) (d : Draft) : Type 0 where
+  pub splits : AreFine d.positions lent d.next (owned_parameters d) d.uncalled d.splits
+  pub steps : d.inside ≡ true → d.ending ≡ None → Leads d.positions lent (first_of d) (all_owed d) d.steps
   pub closed : (code : Counted) → d.ending ≡ Some code
-      → Spent d.positions d.lent None (first_of d) (plug d.steps code) × (outside d.uncalled d.splits ≡ [])
+      → Spent d.positions lent None (first_of d) (plug d.steps code) × (outside d.uncalled d.splits ≡ [])
   pub low : AreLow d.next (all_owed d)
-  pub lent : d.lent ≡ parameters_where (is_lent d.positions d.instance) (parameter_count d)
-  pub lent_low : AreLow d.next d.lent
+  pub lends : AreIn d.lent lent
   pub parameters : d.parameters ≡ parameter_count d
   pub quiet : d.inside ≡ false → (d.steps ≡ []) × ((d.owed ≡ []) × (d.ending ≡ None))
+
+-- A draft that is sound: by the variables that were lent until now, in this block or another one, and whichever are lent later.
+-- Of the parameters those at lent positions are lent. Each case has an arm for each row.
+pub record IsSoundDraft (d : Draft) : Type 0 where
+  pub lent : List ℕ
+  pub sound : (later : List ℕ) → AreLater d.next later → IsSoundBy (later ++ lent) d
+  pub low : AreLow d.next lent
+  pub own : (i : ℕ) → i < parameter_count d → is_among lent i ≡ is_lent d.positions d.instance i
+  pub parameters : parameter_count d ≤ d.next
+  pub whole : IsWholeDraft d
 
 -- a draft is sound, if no call found no memory
 abbrev pub Works : Draft → Type 0

@@ -1,3 +1,4 @@
+pub mod Arms
 pub mod BareForms
 pub mod Cost
 pub mod CountedCodes

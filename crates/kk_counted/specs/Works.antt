@@ -44,7 +44,9 @@ split_of fork =
     record {
       on = fork.on;
       decisions = decisions_of fork.tests;
+      rows = fork.tests.rows;
       before = map step_move fork.before.items;
+      lent = fork.lent;
       kept = fork.kept.items;
       each = fork.each.items;
       left = left_in fork.left.items;

@@ -2,14 +2,13 @@ ghost use Rattle.std.specs.Prelude.{◌≡◌, ◌∷◌, ◌++◌, [], false, t
 ghost use Rattle.kk_syntax.specs.Shapes.{is_among};
 ghost use Rattle.kk_counted.specs.CountedCodes.{tail_call};
 ghost use Rattle.kk_counted.specs.CountedForms.{decisions_of, plug, block_code};
-ghost use Rattle.kk_counted.specs.Drafts.{all_owed, forked, entered, ended_by_value, ended_by_call, joined, finished, Writes, Takes, OwnsAll, AreNewest, IsBetween, IsOnly, IsInArm, EndsByCall};
+ghost use Rattle.kk_counted.specs.Drafts.{all_owed, forked, entered, ended_by_value, ended_by_call, ended_by, joined, finished, Writes, Takes, OwnsAll, AreNewest, IsBetween, IsOnly, IsInArm, EndsByCall, EndsArm, held_of};
 ghost use Rattle.kk_counted.specs.Emissions.{state};
-ghost use Rattle.kk_counted.specs.Emitting.{IsJudged};
-ghost use Rattle.kk_counted.specs.Programs.{function_of};
+ghost use Rattle.kk_counted.specs.Programs.{IsFunctionOf};
 ghost use Rattle.kk_counted.specs.Works.{left_in};
 
 use crate::counted::CountedFun;
-use crate::debts::{Arms, Debts, Held, Kept, Owed};
+use crate::debts::{ArmEnd, Arms, Debts, Held, Kept, Owed};
 use crate::emitter::Emitter;
 use kk_core::Decisions;
 
@@ -66,8 +65,31 @@ impl<'a> Emitter<'a> {
         Some(Debts { emitter, variables })
     }
 
-    /// Ends the arm that is written by giving the value that a reference owns. No other reference of the arm is unspent.
-    pub fn end_arm(&mut self, owed: Owed) -> Result<(), Kept>
+    /// Ends the arm that is written. Besides a value no other reference of the arm is unspent; with a tail call, none of the
+    /// whole path.
+    pub fn end_arm(&mut self, end: ArmEnd) -> Result<(), Kept>
+        requires inside { (state self.old).failed ≡ false → (state self.old).inside ≡ true }
+        requires arm { (state self.old).failed ≡ false → IsInArm (state self.old).splits }
+        requires ends { EndsArm (state self.old) end }
+        ensures going { OnOk result ((state self.old).failed ≡ false) }
+        ensures ok { OnOk result (state self.new ≡ ended_by (state self.old) end) }
+        ensures err { OnErr result (state self.new ≡ state self.old) }
+        ensures kept { IfErr result (λ kept. kept.held ≡ held_of end) }
+    {
+        match end {
+            ArmEnd::Value(owed) => {
+                self.end_by_value(owed)?;
+                return Ok(());
+            }
+            ArmEnd::Tail(instance, arguments) => {
+                self.end_by_call(instance, arguments)?;
+                return Ok(());
+            }
+        }
+    }
+
+    // Ends the arm that is written by giving the value that a reference owns.
+    fn end_by_value(&mut self, owed: Owed) -> Result<(), Kept>
         requires inside { (state self.old).failed ≡ false → (state self.old).inside ≡ true }
         requires arm { (state self.old).failed ≡ false → IsInArm (state self.old).splits }
         requires only { IsOnly (state self.old) owed.emitter owed.variable }
@@ -93,9 +115,8 @@ impl<'a> Emitter<'a> {
         }
     }
 
-    /// Ends the arm that is written by a tail call. Its arguments at owned positions were handed over, and nothing else is
-    /// unspent on the path.
-    pub fn end_arm_by_call(&mut self, instance: u32, arguments: Vec<u32>) -> Result<(), Kept>
+    // Ends the arm that is written by a tail call.
+    fn end_by_call(&mut self, instance: u32, arguments: Vec<u32>) -> Result<(), Kept>
         requires writes { Writes (state self.old) }
         requires arm { (state self.old).failed ≡ false → IsInArm (state self.old).splits }
         requires takes { Takes (state self.old) instance arguments.items }
@@ -158,8 +179,7 @@ impl<'a> Emitter<'a> {
         requires only { IsOnly (state self) owed.emitter owed.variable }
         ensures going { OnOk result ((state self.entry).failed ≡ false) }
         ensures body { IfOk result (λ function. block_code function.body ≡ finished (state self.entry) owed.variable) }
-        ensures instance { IfOk result (λ function. function.instance ≡ (state self.entry).instance) }
-        ensures spent { IfOk result (λ function. IsJudged self.entry.positions (state self.entry).instance (function_of function)) }
+        ensures function { IfOk result (λ function. IsFunctionOf self.entry.positions (state self.entry).instance function) }
         ensures kept { IfErr result (λ kept. kept.held ≡ Held.One owed) }
         ensures ended { IfErr result (λ kept. kept.ended ≡ true) }
     {
@@ -183,8 +203,7 @@ impl<'a> Emitter<'a> {
         requires ends { EndsByCall (state self) instance arguments.items }
         ensures going { OnOk result ((state self.entry).failed ≡ false) }
         ensures body { IfOk result (λ function. block_code function.body ≡ plug (state self.entry).steps (tail_call instance arguments.items)) }
-        ensures instance { IfOk result (λ function. function.instance ≡ (state self.entry).instance) }
-        ensures spent { IfOk result (λ function. IsJudged self.entry.positions (state self.entry).instance (function_of function)) }
+        ensures function { IfOk result (λ function. IsFunctionOf self.entry.positions (state self.entry).instance function) }
         ensures kept { IfErr result (λ kept. kept.held ≡ Held.Nothing) }
         ensures ended { IfErr result (λ kept. kept.ended ≡ true) }
     {

@@ -1,6 +1,8 @@
-ghost use Rattle.std.specs.Prelude.{◌≡◌, ◌∷◌, ◌++◌, [], map, OnOk, OnErr};
+ghost use Rattle.std.specs.Prelude.{◌≡◌, ◌<◌, ℕ, List, ◌∷◌, ◌++◌, [], map, length, slice_index_or, OnOk, OnErr};
 ghost use Rattle.kk_counted.specs.CountedForms.{plug, step_move, block_code, last_code};
-ghost use Rattle.kk_counted.specs.Programs.{IsNext};
+ghost use Rattle.kk_counted.specs.Programs.{IsFunctionOf, AreFunctions, program_of};
+ghost use Rattle.kk_counted.specs.Shaping.{positions_in};
+ghost use Rattle.kk_counted.specs.Spending.{IsSpent};
 
 use crate::form::{Block, Last, Step};
 use crate::shape::Shape;
@@ -50,17 +52,19 @@ impl CountedFun {
     }
 }
 
-/// A program in counted form: its shape and the functions of its first instances. Once it has a function for each instance
-/// it is whole.
+/// A program in counted form: its shape and the functions of its first instances, each of which spends what it owns. Once it
+/// has a function for each instance it is whole.
 #[derive(Debug, Drop)]
 pub struct Counted {
     shape: Shape,
     functions: Vec<CountedFun>,
     body_nodes: u64,
     nodes: u64,
+    ghost spent: { ∥ AreFunctions (positions_in shape.instances.items) functions.items ∥₁ },
 }
 
 impl Counted {
+    #[tactic(auto, using(crate::proofs::Programs::no_functions))]
     /// No function yet. `body_nodes` is the greatest number of nodes of a body, and `nodes` that of all instances together.
     pub fn new(alloc: Global, shape: Shape, body_nodes: u64, nodes: u64) -> Self
         ensures shape { result.shape ≡ shape }
@@ -99,7 +103,7 @@ impl Counted {
 
     /// Adds the function of the next instance. Refused, it changes nothing.
     pub fn add(&mut self, function: CountedFun) -> Result<(), NoMemory>
-        requires { IsNext self.old function }
+        requires { IsFunctionOf (positions_in self.old.shape.instances.items) (length self.old.functions.items) function }
         ensures ok { OnOk result (self.new.functions.items ≡ self.old.functions.items ++ function ∷ []) }
         ensures err { OnErr result (self.new.functions.items ≡ self.old.functions.items) }
         ensures shape { self.new.shape ≡ self.old.shape }
@@ -110,3 +114,14 @@ impl Counted {
         Ok(())
     }
 }
+
+/// Each function of a program is that of the instance of its number, and spends what it owns. So the laws of judged code hold
+/// of a program whose first function is there and has no parameters. It is a law, and does nothing.
+#[tactic(auto, using(crate::proofs::Programs::programs_spent))]
+pub fn counted_programs_are_judged(program: &Counted)
+    requires some { 0 < length program.now.functions.items }
+    requires main { slice_index_or (positions_in program.now.shape.instances.items) 0 [] ≡ [] }
+    ensures functions { ∥ AreFunctions (positions_in program.now.shape.instances.items) program.now.functions.items ∥₁ }
+    ensures spent { (texts : List (List ℕ))
+        → ∥ IsSpent (positions_in program.now.shape.instances.items) (program_of program.now.functions.items texts) ∥₁ }
+{}

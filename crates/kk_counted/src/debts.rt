@@ -104,6 +104,14 @@ pub struct Arms {
     pub(crate) left: Vec<Vec<u32>>,
 }
 
+/// How an arm ends. It cannot be let go.
+pub enum ArmEnd {
+    /// By giving the value that a reference owns.
+    Value(Owed),
+    /// By a tail call of an instance. Its arguments at owned positions were handed over.
+    Tail(u32, Vec<u32>),
+}
+
 /// What a call was handed and could not take.
 pub enum Held {
     Nothing,

@@ -1,5 +1,5 @@
-ghost use Rattle.std.specs.Prelude.{◌≡◌, ◌<◌, ◌∷◌, ◌++◌, [], false, length, IfOk, IfErr, OnOk, OnErr};
-ghost use Rattle.kk_counted.specs.Drafts.{begun, fallen, given, duplicated, dropped, unpacked, fields_given, computed, Writes, Awaits, Reaches, IsLentTo, Owns, OwnsAll, HoldsAll, HasConstructor, HasFields, IsPlain, Takes, used_in, LendsAll};
+ghost use Rattle.std.specs.Prelude.{◌≡◌, ◌+◌, ◌<◌, ◌∷◌, ◌++◌, [], false, true, length, IfOk, IfErr, OnOk, OnErr};
+ghost use Rattle.kk_counted.specs.Drafts.{begun, fallen, given, duplicated, dropped, unpacked, looked, fields_given, computed, Writes, Awaits, Reaches, IsLentTo, IsAtHand, Owns, OwnsAll, HoldsAll, HasConstructor, HasField, HasFields, IsPlain, Takes, used_in, LendsAll};
 ghost use Rattle.kk_counted.specs.Shaping.{positions_in, fields_in};
 ghost use Rattle.kk_counted.specs.Emissions.{state};
 
@@ -192,6 +192,78 @@ impl<'a> Emitter<'a> {
         }
     }
 
+    /// Lends what a reference owns to calls to come. The reference stays as it is.
+    pub fn lend(&mut self, owed: &Owed) -> u32
+        requires reaches { Reaches (state self.old) owed.now.emitter owed.now.variable }
+        ensures variable { result ≡ owed.now.variable }
+        ensures same { state self.new ≡ state self.old }
+    {
+        owed.variable
+    }
+
+    /// Reads the fields of a cell of that constructor, and gives those that the mask names, in their order: its lowest bit
+    /// tells whether the first field is among them. They get a reference more. The cell stays with its owner. Where its
+    /// variable is lent, its fields are lent too.
+    pub fn fields(&mut self, variable: u32, constructor: u32, used: u8) -> Result<Debts, NoMemory>
+        requires writes { Writes (state self.old) }
+        requires there { IsAtHand (state self.old) variable }
+        requires constructor { HasConstructor (state self.old) constructor }
+        ensures going { OnOk result ((state self.old).failed ≡ false) }
+        ensures ok { OnOk result (state self.new ≡ looked (state self.old) variable constructor used) }
+        ensures debts { IfOk result (λ debts. debts.variables.items ≡ fields_given (state self.old) constructor used) }
+        ensures emitter { IfOk result (λ debts. debts.emitter ≡ (state self.old).instance) }
+        ensures err { OnErr result (state self.new ≡ fallen (state self.old)) }
+    {
+        let variables = self.read(variable, constructor, used)?;
+        Ok(Debts {
+            emitter: self.work.instance,
+            variables,
+        })
+    }
+
+    /// Reads the fields of a cell of that constructor that a lent variable names, and gives the variable of one of them, by
+    /// its number from 0. All of them are lent from then on.
+    pub fn field(&mut self, variable: u32, constructor: u32, at: u8) -> Result<u32, NoMemory>
+        requires writes { Writes (state self.old) }
+        requires lent { IsLentTo (state self.old) variable }
+        requires field { HasField (state self.old) constructor at }
+        ensures going { OnOk result ((state self.old).failed ≡ false) }
+        ensures ok { OnOk result (state self.new ≡ looked (state self.old) variable constructor 0) }
+        ensures variable { IfOk result (λ field. field ≡ (state self.old).next + at) }
+        ensures err { OnErr result (state self.new ≡ fallen (state self.old)) }
+    {
+        let Some(field) = self.work.next.checked_add(at as u32) else {
+            return Err(self.fail());
+        };
+        let _ = self.read(variable, constructor, 0)?;
+        Ok(field)
+    }
+
+    // Reads the fields of a cell that stays, and gives the variables of those that the mask names.
+    fn read(&mut self, variable: u32, constructor: u32, used: u8) -> Result<Vec<u32>, NoMemory>
+        requires writes { Writes (state self.old) }
+        requires there { IsAtHand (state self.old) variable }
+        requires constructor { HasConstructor (state self.old) constructor }
+        ensures going { OnOk result ((state self.old).failed ≡ false) }
+        ensures ok { OnOk result (state self.new ≡ looked (state self.old) variable constructor used) }
+        ensures given { IfOk result (λ given. given.items ≡ fields_given (state self.old) constructor used) }
+        ensures err { OnErr result (state self.new ≡ fallen (state self.old)) }
+    {
+        if self.work.failed {
+            return Err(NoMemory);
+        }
+        let count = self.shape.constructors()[constructor as usize].fields.len();
+        match self.work.read(variable, constructor, count, used) {
+            Err(_) => {
+                self.work.failed = true;
+                return Err(NoMemory);
+            }
+            Ok(given) => {
+                return Ok(given);
+            }
+        }
+    }
+
     /// Opens a cell of that constructor, and gives the fields that the mask names, in their order. Its lowest bit tells
     /// whether the first field is among them. The other fields are given up with the cell's reference.
     pub fn unpack(&mut self, owed: Owed, constructor: u32, used: u8) -> Result<Debts, Kept>
@@ -199,7 +271,45 @@ impl<'a> Emitter<'a> {
         requires owns { Owns (state self.old) owed.emitter owed.variable }
         requires constructor { HasConstructor (state self.old) constructor }
         ensures going { OnOk result ((state self.old).failed ≡ false) }
-        ensures ok { OnOk result (state self.new ≡ unpacked (state self.old) owed.variable constructor used) }
+        ensures ok { OnOk result (state self.new ≡ unpacked (state self.old) false owed.variable constructor used) }
+        ensures debts { IfOk result (λ debts. debts.variables.items ≡ fields_given (state self.old) constructor used) }
+        ensures emitter { IfOk result (λ debts. debts.emitter ≡ (state self.old).instance) }
+        ensures err { OnErr result (state self.new ≡ state self.old) }
+        ensures kept { IfErr result (λ kept. kept.held ≡ Held.One owed) }
+    {
+        let debts = self.opened(owed, constructor, used, false)?;
+        Ok(debts)
+    }
+
+    /// The same by the count of the cell: one with a single reference gives the fields away that the mask names.
+    pub fn unpack_unique(&mut self, owed: Owed, constructor: u32, used: u8) -> Result<Debts, Kept>
+        requires writes { Writes (state self.old) }
+        requires owns { Owns (state self.old) owed.emitter owed.variable }
+        requires constructor { HasConstructor (state self.old) constructor }
+        ensures going { OnOk result ((state self.old).failed ≡ false) }
+        ensures ok { OnOk result (state self.new ≡ unpacked (state self.old) true owed.variable constructor used) }
+        ensures debts { IfOk result (λ debts. debts.variables.items ≡ fields_given (state self.old) constructor used) }
+        ensures emitter { IfOk result (λ debts. debts.emitter ≡ (state self.old).instance) }
+        ensures err { OnErr result (state self.new ≡ state self.old) }
+        ensures kept { IfErr result (λ kept. kept.held ≡ Held.One owed) }
+    {
+        let debts = self.opened(owed, constructor, used, true)?;
+        Ok(debts)
+    }
+
+    // Opens a cell of that constructor, by its count or not.
+    fn opened(
+        &mut self,
+        owed: Owed,
+        constructor: u32,
+        used: u8,
+        by_count: bool,
+    ) -> Result<Debts, Kept>
+        requires writes { Writes (state self.old) }
+        requires owns { Owns (state self.old) owed.emitter owed.variable }
+        requires constructor { HasConstructor (state self.old) constructor }
+        ensures going { OnOk result ((state self.old).failed ≡ false) }
+        ensures ok { OnOk result (state self.new ≡ unpacked (state self.old) by_count owed.variable constructor used) }
         ensures debts { IfOk result (λ debts. debts.variables.items ≡ fields_given (state self.old) constructor used) }
         ensures emitter { IfOk result (λ debts. debts.emitter ≡ (state self.old).instance) }
         ensures err { OnErr result (state self.new ≡ state self.old) }
@@ -209,7 +319,10 @@ impl<'a> Emitter<'a> {
             return Err(Kept::of_one(owed));
         }
         let count = self.shape.constructors()[constructor as usize].fields.len();
-        match self.work.open(owed.variable, constructor, count, used) {
+        match self
+            .work
+            .open(owed.variable, constructor, count, used, by_count)
+        {
             Err(_) => {
                 return Err(Kept::of_one(owed));
             }

@@ -12,8 +12,8 @@ mod lists;
 mod shape;
 mod work;
 
-pub use counted::{Counted, CountedFun};
-pub use debts::{Arms, Debts, Kept, Owed, give_up};
+pub use counted::{Counted, CountedFun, counted_programs_are_judged};
+pub use debts::{ArmEnd, Arms, Debts, Kept, Owed, give_up};
 pub use emitter::Emitter;
 pub use form::{Block, Last, Step};
 pub use law::{

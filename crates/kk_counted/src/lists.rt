@@ -1,4 +1,5 @@
-ghost use Rattle.std.specs.Prelude.{◌≡◌, ◌+◌, ◌<◌, ◌≤◌, ◌^◌, [], length, map, vec_len, vec_capacity, IfOk};
+ghost use Rattle.std.specs.Prelude.{◌≡◌, ◌+◌, ◌<◌, ◌≤◌, ◌^◌, [], length, map, vec_len, vec_capacity, if◌then◌else◌, IfOk};
+ghost use Rattle.kk_syntax.specs.Shapes.{is_among};
 ghost use Rattle.kk_counted.specs.Drafts.{minus, minus_all, chosen_of, copies};
 ghost use Rattle.kk_counted.specs.Spending.{numbers_from, at_positions};
 ghost use Rattle.kk_counted.specs.Works.{items_of, lends_at, used_at, passes};
@@ -93,6 +94,22 @@ pub fn chosen(alloc: Global, variables: &[u32], mask: u8) -> Result<Vec<u32>, No
         }
         rest /= 2;
     }
+    Ok(found)
+}
+
+/// The fields of the cell that a variable names, if it is lent.
+pub fn lent_fields(
+    alloc: Global,
+    lent: &[u32],
+    variable: u32,
+    fields: &[u32],
+) -> Result<Vec<u32>, NoMemory>
+    ensures { IfOk result (λ found. found.items ≡ (if is_among lent.now variable then fields.now else [])) }
+{
+    if !lent.contains(&variable) {
+        return Ok(Vec::new(alloc));
+    }
+    let found = Vec::from_slice(alloc, fields)?;
     Ok(found)
 }
 

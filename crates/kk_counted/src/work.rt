@@ -1,13 +1,13 @@
 ghost use Rattle.std.specs.Prelude.{◌≡◌, ◌+◌, ◌<◌, ◌≤◌, ◌^◌, [], ◌∷◌, ◌++◌, map, length, vec_len, vec_capacity, option_map, IfOk, IfErr, OnOk, OnErr};
-ghost use Rattle.kk_counted.specs.CountedForms.{runs, plug, arms_of, step_move, decisions_of, last_code, block_code, dups, drops};
+ghost use Rattle.kk_counted.specs.CountedForms.{runs, plug, arms_of, step_move, decisions_of, last_code, block_code, reads, dups, drops};
 ghost use Rattle.kk_counted.specs.CountedCodes.{tail_call, case};
-ghost use Rattle.kk_counted.specs.Drafts.{minus, chosen_of, copies, given, wrote, computed, opened, looked, forked, entered, ended_in, ended_by_value, ended_by_call, joined, resumed, more_arms, end_code, finished};
+ghost use Rattle.kk_counted.specs.Drafts.{minus, chosen_of, copies, given, wrote, computed, opens_by, opened, read_of, forked, entered, ended_in, ended_by_value, ended_by_call, joined, resumed, more_arms, end_code, finished};
 ghost use Rattle.kk_counted.specs.Spending.{numbers_from};
 ghost use Rattle.kk_counted.specs.Works.{Becomes, draft, used_at, items_of, split_of};
 
 use crate::counted::CountedFun;
 use crate::form::{Block, Last, Step};
-use crate::lists::{chosen, copies, numbers, take_all, take_out, take_used};
+use crate::lists::{chosen, copies, lent_fields, numbers, take_all, take_out, take_used};
 use crate::shape::Parameter;
 use kk_base::NoMemory;
 use kk_core::Decisions;
@@ -22,6 +22,8 @@ pub struct Fork {
     pub tests: Decisions,
     /// The steps of the block before the branch.
     pub before: Vec<Step>,
+    /// How many variables the block is lent.
+    pub lent: usize,
     /// What the block owns besides.
     pub kept: Vec<u32>,
     /// What each arm is to spend.
@@ -53,7 +55,7 @@ pub struct Work {
     pub owed: Vec<u32>,
     /// The owned parameters that are not called yet.
     pub uncalled: Vec<u32>,
-    /// The lent parameters.
+    /// The variables that it is lent: lent parameters, and fields of cells that lent variables name.
     pub lent: Vec<u32>,
     /// The branches that are not joined, the newest last.
     pub forks: Vec<Fork>,
@@ -121,8 +123,34 @@ impl Work {
         Ok(variable)
     }
 
-    /// Writes that a cell is opened, and gives the variables of the fields that the mask names.
+    /// Writes that a cell is opened, by its count or not, and gives the variables of the fields that the mask names.
     pub fn open(
+        &mut self,
+        variable: u32,
+        constructor: u32,
+        count: usize,
+        used: u8,
+        by_count: bool,
+    ) -> Result<Vec<u32>, NoMemory>
+        ensures variables { IfOk result (λ given. given.items ≡ chosen_of used (numbers_from self.old.next count)) }
+        ensures ok { OnOk result (Becomes self.old self.new (λ d. opened d by_count variable constructor count used)) }
+        ensures err { OnErr result (Becomes self.old self.new (λ d. d)) }
+    {
+        let (fields, next) = numbers(self.alloc, self.next, count)?;
+        let names = chosen(self.alloc, &fields, used)?;
+        let given = Vec::from_slice(self.alloc, &names)?;
+        self.owed.reserve(given.len())?;
+        let step = opening(variable, constructor, fields, names, by_count);
+        self.steps.push(step)?;
+        take_out(&mut self.owed, variable);
+        let _ = self.owed.extend_from_slice(&given);
+        self.next = next;
+        Ok(given)
+    }
+
+    /// Writes that the fields of a cell that stays are read, and gives the variables of those that the mask names, which get
+    /// a reference more. Where the cell's variable is lent, its fields are lent too.
+    pub fn read(
         &mut self,
         variable: u32,
         constructor: u32,
@@ -130,16 +158,18 @@ impl Work {
         used: u8,
     ) -> Result<Vec<u32>, NoMemory>
         ensures variables { IfOk result (λ given. given.items ≡ chosen_of used (numbers_from self.old.next count)) }
-        ensures ok { OnOk result (Becomes self.old self.new (λ d. opened d variable constructor count used)) }
+        ensures next { OnOk result (self.new.next ≡ self.old.next + count) }
+        ensures ok { OnOk result (Becomes self.old self.new (λ d. read_of d variable constructor count used)) }
         ensures err { OnErr result (Becomes self.old self.new (λ d. d)) }
     {
         let (fields, next) = numbers(self.alloc, self.next, count)?;
-        let names = chosen(self.alloc, &fields, used)?;
-        let given = Vec::from_slice(self.alloc, &names)?;
+        let given = chosen(self.alloc, &fields, used)?;
+        let lent = lent_fields(self.alloc, &self.lent, variable, &fields)?;
+        self.lent.reserve(lent.len())?;
         self.owed.reserve(given.len())?;
-        self.steps
-            .push(Step::Open(variable, constructor, fields, names))?;
-        take_out(&mut self.owed, variable);
+        let mut steps = reading(self.alloc, variable, constructor, fields, &given)?;
+        self.steps.append(&mut steps)?;
+        let _ = self.lent.extend_from_slice(&lent);
         let _ = self.owed.extend_from_slice(&given);
         self.next = next;
         Ok(given)
@@ -174,6 +204,7 @@ impl Work {
             on,
             tests,
             before,
+            lent: self.lent.len(),
             kept,
             each,
             left: own,
@@ -194,6 +225,7 @@ impl Work {
             None => self.forks.push_reserved(fork),
             Some(each) => {
                 self.owed = each;
+                self.lent.truncate(fork.lent);
                 self.inside = true;
                 self.forks.push_reserved(fork);
             }
@@ -295,6 +327,7 @@ impl Work {
             on,
             tests,
             mut before,
+            lent,
             mut kept,
             each: _,
             left: _,
@@ -303,6 +336,7 @@ impl Work {
         } = fork;
         kept.push_reserved(variable);
         self.owed = kept;
+        self.lent.truncate(lent);
         self.inside = true;
         if tails {
             self.steps = before;
@@ -376,6 +410,40 @@ fn case_of(on: u32, tests: Decisions, arms: Vec<Block>) -> Last
     Last::Case(on, tests, arms)
 }
 
+// The step that opens a cell, by its count or not.
+fn opening(
+    variable: u32,
+    constructor: u32,
+    fields: Vec<u32>,
+    used: Vec<u32>,
+    by_count: bool,
+) -> Step
+    ensures { step_move result ≡ opens_by by_count variable constructor fields.items used.items }
+{
+    if by_count {
+        return Step::IfUnique(variable, constructor, fields, used);
+    }
+    Step::Open(variable, constructor, fields, used)
+}
+
+// The steps that read the fields of a cell, and then duplicate some of them.
+fn reading(
+    alloc: Global,
+    variable: u32,
+    constructor: u32,
+    fields: Vec<u32>,
+    used: &[u32],
+) -> Result<Vec<Step>, NoMemory>
+    ensures { IfOk result (λ steps. map step_move steps.items ≡ reads variable constructor fields.items ∷ map dups used.now) }
+{
+    let mut steps = Vec::new(alloc);
+    steps.push(Step::Read(variable, constructor, fields))?;
+    for field in used {
+        steps.push(Step::Dup(*field))?;
+    }
+    Ok(steps)
+}
+
 // The step that runs a block which is no more than its end.
 fn run_of(alloc: Global, variable: u32, last: Last) -> Step
     ensures { step_move result ≡ runs variable (last_code last) }
@@ -392,6 +460,7 @@ fn with_arm(fork: Fork, arm: Block, tails: bool) -> Fork
         on,
         tests,
         before,
+        lent,
         kept,
         each,
         left,
@@ -403,6 +472,7 @@ fn with_arm(fork: Fork, arm: Block, tails: bool) -> Fork
         on,
         tests,
         before,
+        lent,
         kept,
         each,
         left,

@@ -1,11 +1,20 @@
-use Rattle.std.proofs.Common.{ap}
+use Rattle.std.proofs.Common.{ap, ◌∙◌}
 use Rattle.kk_counted.specs.Drafts.{joined}
 use Rattle.kk_counted.specs.Emissions.{state}
 use Rattle.kk_counted.specs.Shaping.{positions_in, fields_in}
 use Rattle.kk_counted.specs.Works.{draft}
 use Rattle.kk_counted.proofs.Seeing.{seen, going_now, works_now, next_now}
-use Rattle.kk_counted.proofs.Working.{joined_works, joined_instance, works_same}
+use Rattle.kk_counted.proofs.Working.{ending_none, between_ends, joined_works, joined_instance, works_same}
 use Rattle.kk_counted.proofs.emitter.Emitter.join.Goals as goal
+
+pub join-requires : goal.join-requires
+join-requires c =
+    let p = positions_in c.self.inside.shape.now.instances.items in
+    let q = fields_in c.self.inside.shape.now.constructors.items in
+    let work = c.self.inside.work in
+    let now = c.args.self.now in
+    ap (λ e. e.work.ending) c.self.view_is
+    ∙ ending_none now.work.ending (between_ends (state now) (going_now p q work now c.self.view_is c.if-self.false) c.requires.between (works_now p q work now c.self.view_is c.self.invariant))
 
 pub invariant_of-self-in-Ok : goal.invariant_of-self-in-Ok
 invariant_of-self-in-Ok c =
@@ -13,7 +22,7 @@ invariant_of-self-in-Ok c =
     let q = fields_in c.self.inside.shape.now.constructors.items in
     let work = c.self.inside.work in
     let now = c.args.self.now in
-    joined_works (state now) (draft p q c.join.new.self) (going_now p q work now c.self.view_is c.if-self.false) c.requires.between
+    joined_works (state now) (draft p q c.join.new.self) c.args.arms.depth (going_now p q work now c.self.view_is c.if-self.false) c.requires.between c.requires.newest
     (seen p q work now c.self.view_is (λ d. joined d) c.join.new.self (c.in-Ok.ensures.ok p q)) (works_now p q work now c.self.view_is c.self.invariant)
 
 pub invariant_of-self : goal.invariant_of-self

@@ -15,7 +15,7 @@ invariant_of-self c =
     let q = fields_in c.self.inside.shape.now.constructors.items in
     let work = c.self.inside.work in
     let now = c.args.self.now in
-    forked_works (state now) (draft p q c.split.new.self) c.args.debts.emitter c.args.on (decisions_of c.args.tests) c.args.debts.variables.items c.args.tests.rows (going_now p q work now c.self.view_is c.if-self.false) c.requires.writes c.requires.owns c.requires.on
+    forked_works (state now) (draft p q c.split.new.self) c.args.debts.emitter c.args.on (decisions_of c.args.tests) c.args.debts.variables.items c.args.tests.rows (going_now p q work now c.self.view_is c.if-self.false) c.requires.writes c.requires.owns c.requires.on c.args.tests.orderly
     (seen p q work now c.self.view_is (λ d. forked d c.args.on (decisions_of c.args.tests) c.args.debts.variables.items c.args.tests.rows) c.split.new.self (c.in-Ok.ensures.ok p q)) (works_now p q work now c.self.view_is c.self.invariant)
 
 pub invariant_of-self-in-Err : goal.invariant_of-self-in-Err

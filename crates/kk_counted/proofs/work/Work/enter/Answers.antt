@@ -15,5 +15,5 @@ returns-in-None c =
 pub returns-in-Some-pop : goal.returns-in-Some-pop
 returns-in-Some-pop c =
     let fork = c.in-Some.fork in
-    λ positions counts. arm_entered positions counts c.args.self.now c.push_reserved-in-Some-pop.new.self c.in-Some-pop.each c.pop.new.self.items fork (record fork { left = c.pop-2.new.self }) c.pop-2.new.self.items
-    c.in-Some.ensures.items c.push_reserved-in-Some-pop.ensures.items refl c.in-Some-pop.ensures.items
+    λ positions counts. arm_entered positions counts c.args.self.now c.push_reserved-in-Some-pop.new.self c.in-Some-pop.each c.truncate.new.self c.pop.new.self.items fork (record fork { left = c.pop-2.new.self }) c.pop-2.new.self.items
+    c.in-Some.ensures.items c.push_reserved-in-Some-pop.ensures.items c.truncate.ensures.items refl c.in-Some-pop.ensures.items

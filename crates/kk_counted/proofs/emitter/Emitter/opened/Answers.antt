@@ -7,7 +7,7 @@ use Rattle.kk_counted.specs.Shaping.{positions_in, fields_in}
 use Rattle.kk_counted.specs.Works.{draft}
 use Rattle.kk_counted.proofs.Seeing.{seen, going_now, works_now, instance_now}
 use Rattle.kk_counted.proofs.Working.{unpacked_works, works_same, fields_at}
-use Rattle.kk_counted.proofs.emitter.Emitter.unpack.Goals as goal
+use Rattle.kk_counted.proofs.emitter.Emitter.opened.Goals as goal
 
 pub invariant_of-self-in-Ok : goal.invariant_of-self-in-Ok
 invariant_of-self-in-Ok c =
@@ -21,10 +21,10 @@ invariant_of-self-in-Ok c =
     let is : one ≡ get_or constructors c.args.constructor one = c.index-constructors-constructor.is ∙ ap (λ xs. get_or xs c.args.constructor one) c.constructors.ensures in
     let long : c.len-count.result ≡ vec_len one.fields = c.len-count.ensures ∙ ap (λ o. vec_len o.fields) (sym c.index-constructors-constructor.is) in
     let many : c.len-count.result ≡ slice_index_or q c.args.constructor 0 = omega (arith, long, one.fields.ok.0, fields_at constructors c.args.constructor one less is) in
-    let becomes : draft p q c.open.new.self ≡ unpacked (draft p q work) c.args.owed.variable c.args.constructor c.args.used =
-    c.in-Ok.ensures.ok p q ∙ ap (λ n. opened (draft p q work) c.args.owed.variable c.args.constructor n c.args.used) many in
-    unpacked_works (state now) (draft p q c.open.new.self) c.args.owed.emitter c.args.owed.variable c.args.constructor _ c.args.used (going_now p q work now c.self.view_is c.if-self.false) c.requires.writes c.requires.owns
-    (seen p q work now c.self.view_is (λ d. unpacked d c.args.owed.variable c.args.constructor c.args.used) c.open.new.self becomes) (works_now p q work now c.self.view_is c.self.invariant)
+    let becomes : draft p q c.open.new.self ≡ unpacked (draft p q work) c.args.by_count c.args.owed.variable c.args.constructor c.args.used =
+    c.in-Ok.ensures.ok p q ∙ ap (λ n. opened (draft p q work) c.args.by_count c.args.owed.variable c.args.constructor n c.args.used) many in
+    unpacked_works (state now) (draft p q c.open.new.self) c.args.by_count c.args.owed.emitter c.args.owed.variable c.args.constructor _ c.args.used (going_now p q work now c.self.view_is c.if-self.false) c.requires.writes c.requires.owns
+    (seen p q work now c.self.view_is (λ d. unpacked d c.args.by_count c.args.owed.variable c.args.constructor c.args.used) c.open.new.self becomes) (works_now p q work now c.self.view_is c.self.invariant)
 
 pub invariant_of-self : goal.invariant_of-self
 invariant_of-self c =
@@ -46,9 +46,9 @@ returns-in-Ok-clause-ok c =
     let is : one ≡ get_or constructors c.args.constructor one = c.index-constructors-constructor.is ∙ ap (λ xs. get_or xs c.args.constructor one) c.constructors.ensures in
     let long : c.len-count.result ≡ vec_len one.fields = c.len-count.ensures ∙ ap (λ o. vec_len o.fields) (sym c.index-constructors-constructor.is) in
     let many : c.len-count.result ≡ slice_index_or q c.args.constructor 0 = omega (arith, long, one.fields.ok.0, fields_at constructors c.args.constructor one less is) in
-    let becomes : draft p q c.open.new.self ≡ unpacked (draft p q work) c.args.owed.variable c.args.constructor c.args.used =
-    c.in-Ok.ensures.ok p q ∙ ap (λ n. opened (draft p q work) c.args.owed.variable c.args.constructor n c.args.used) many in
-    seen p q work now c.self.view_is (λ d. unpacked d c.args.owed.variable c.args.constructor c.args.used) c.open.new.self becomes
+    let becomes : draft p q c.open.new.self ≡ unpacked (draft p q work) c.args.by_count c.args.owed.variable c.args.constructor c.args.used =
+    c.in-Ok.ensures.ok p q ∙ ap (λ n. opened (draft p q work) c.args.by_count c.args.owed.variable c.args.constructor n c.args.used) many in
+    seen p q work now c.self.view_is (λ d. unpacked d c.args.by_count c.args.owed.variable c.args.constructor c.args.used) c.open.new.self becomes
 
 pub returns-in-Err-clause-err : goal.returns-in-Err-clause-err
 returns-in-Err-clause-err c =
@@ -64,4 +64,4 @@ returns-in-Ok-clause-emitter c =
     let q = fields_in c.self.inside.shape.now.constructors.items in
     let work = c.self.inside.work in
     let now = c.args.self.now in
-    instance_now p q work now c.self.view_is c.open.new.self (opened (draft p q work) c.args.owed.variable c.args.constructor c.len-count.result c.args.used) (c.in-Ok.ensures.ok p q) refl
+    instance_now p q work now c.self.view_is c.open.new.self (opened (draft p q work) c.args.by_count c.args.owed.variable c.args.constructor c.len-count.result c.args.used) (c.in-Ok.ensures.ok p q) refl
