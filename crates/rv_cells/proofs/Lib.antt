@@ -1,2 +1,4 @@
 pub mod Held
 pub mod Owners
+pub mod Rooms
+pub mod Requests
