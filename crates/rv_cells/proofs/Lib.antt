@@ -2,3 +2,4 @@ pub mod Held
 pub mod Owners
 pub mod Rooms
 pub mod Requests
+pub mod Words
