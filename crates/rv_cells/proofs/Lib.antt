@@ -3,3 +3,4 @@ pub mod Owners
 pub mod Rooms
 pub mod Requests
 pub mod Words
+pub mod Counts
