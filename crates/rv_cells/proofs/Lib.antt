@@ -4,3 +4,4 @@ pub mod Rooms
 pub mod Requests
 pub mod Words
 pub mod Counts
+pub mod Cascades
