@@ -5,3 +5,4 @@ pub mod Requests
 pub mod Words
 pub mod Counts
 pub mod Cascades
+pub mod Drops
