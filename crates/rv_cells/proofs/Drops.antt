@@ -21,7 +21,7 @@ use Rattle.kk_source.specs.State.{Value, integer, unit, constant, place}
 use Rattle.kk_counted.specs.Heaps.{Held, Heap, held_at, count_at, busy, weight, fields_held, drop_value}
 use Rattle.kk_counted.specs.Cost.{drop_turns}
 use Rattle.rv_cells.specs.Layout.{Layout, IsNarrow, mask_of, header_of, word_in, words_in, FitsField, FitFields}
-use Rattle.rv_cells.specs.Follows.{AreFrom, IsBlockOf, Owner, nobody, cell_of, in_hand, IsFree, IsCellOf, BlockOf, HasChain, Follows}
+use Rattle.rv_cells.specs.Follows.{AreFrom, IsBlockOf, Owner, nobody, cell_of, in_hand, IsFree, IsCellOf, BlockOf, HasChain, Follows, still_count, still}
 use Rattle.rv_cells.proofs.Held.{held_count, held_fields}
 use Rattle.rv_cells.proofs.Owners.{chosen_by}
 use Rattle.rv_cells.proofs.Requests.{is_cell, free_is}
@@ -143,15 +143,6 @@ merged_seen : (words : ℕ → Option ℕ) → merged (seen (own words)) (own wo
 merged_seen words =
     seen-by (λ c. merged c (own words) ≡ own words) (words 0) (words 1) (fields_of words)
     (λ count header count_is header_is below. ap own (same_word 0 count words count_is)) refl
-
--- what stands at an address once counts are those of a later heap
-abbrev pub still_count : ℕ → ℕ → Owner
-still_count zero name = nobody
-still_count (suc k) name = cell_of name
-
-abbrev pub still : Heap → Owner → Owner
-still next (cell_of name) = still_count (count_at next name) name
-still next owner = owner
 
 -- the cells once a reference was dropped: the turns of the routine, what stands where, and what it costs
 pub record Dropped (pool : Pool) (layout : Layout) (address : ℕ → ℕ) (owners : ℕ → Owner) (heap next : Heap) (cells : Cells) (v : Value) : Type 0 where

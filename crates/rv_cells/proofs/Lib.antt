@@ -6,3 +6,4 @@ pub mod Words
 pub mod Counts
 pub mod Cascades
 pub mod Drops
+pub mod Starts

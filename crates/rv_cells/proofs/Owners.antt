@@ -7,7 +7,7 @@ use Rattle.cell_heap.specs.Pool.{Pool, IsCell}
 use Rattle.cell_heap.specs.Blocks.{Block, no_block, unused, own, kept, Cells, with_block}
 use Rattle.kk_counted.specs.Heaps.{Held, Heap, held_at, count_in, count_at}
 use Rattle.rv_cells.specs.Layout.{Layout, words_in}
-use Rattle.rv_cells.specs.Follows.{AreFrom, IsBlockOf, Owner, nobody, cell_of, in_hand, IsFree, IsCellOf, BlockOf, HasChain, Follows}
+use Rattle.rv_cells.specs.Follows.{AreFrom, IsBlockOf, Owner, nobody, cell_of, in_hand, IsFree, IsCellOf, BlockOf, HasChain, Follows, with_owner, assign}
 
 -- ---- functions with another value at one number
 
@@ -23,13 +23,6 @@ chosen_same x at a f is = chosen_by (λ c. c ≡ a) x at a f (λ e. refl) (λ di
 
 pub chosen_other : {A : Type 0} (x at : ℕ) (a : A) (f : ℕ → A) → x ≢ at → (if nat_eq x at then a else f x) ≡ f x
 chosen_other x at a f differ = chosen_by (λ c. c ≡ f x) x at a f (λ e. absurd (differ e)) (λ other. refl)
-
-abbrev pub with_owner : ℕ → Owner → (ℕ → Owner) → ℕ → Owner
-with_owner at owner owners x = if nat_eq x at then owner else owners x
-
--- the address of one name more
-abbrev pub assign : ℕ → ℕ → (ℕ → ℕ) → ℕ → ℕ
-assign name at address x = if nat_eq x name then at else address x
 
 -- ---- blocks
 

@@ -11,8 +11,8 @@ use Rattle.cell_heap.proofs.Sums.{occurs-cells, occurs-same, occurs-other, occur
 use Rattle.cell_heap.proofs.Counted.{length-cells_from, total-at_most, cells_from-member}
 use Rattle.kk_counted.specs.Heaps.{Heap, count_at, busy}
 use Rattle.rv_cells.specs.Layout.{Layout}
-use Rattle.rv_cells.specs.Follows.{Owner, nobody, cell_of, in_hand, IsFree, IsCellOf, BlockOf, HasChain, Follows}
-use Rattle.rv_cells.proofs.Owners.{chosen_by, chosen_same, chosen_other, with_owner, own-unused, Stays, put_owner}
+use Rattle.rv_cells.specs.Follows.{Owner, nobody, cell_of, in_hand, IsFree, IsCellOf, BlockOf, HasChain, Follows, with_owner, NoneInHand}
+use Rattle.rv_cells.proofs.Owners.{chosen_by, chosen_same, chosen_other, own-unused, Stays, put_owner}
 use Rattle.rv_cells.proofs.Rooms.{used, used-most, used_busy}
 
 -- ---- sums of ones
@@ -136,7 +136,7 @@ module _ {pool : Pool} {layout : Layout} {address : ℕ → ℕ} {owners : ℕ �
 
   -- ---- whether there is one
 
-  module _ (aligned : pool.first % 32 ≡ 0) (none : (at : ℕ) (words : ℕ → Option ℕ) → owners at ≢ in_hand words) where
+  module _ (aligned : pool.first % 32 ≡ 0) (none : NoneInHand owners) where
     all_used : cells.frees ≡ [] → end_of pool ≤ cells.border → busy heap ≡ pool.cells
     all_used no_free high =
         sym (used_busy aligned follows none)
@@ -204,7 +204,7 @@ module _ {pool : Pool} {layout : Layout} {address : ℕ → ℕ} {owners : ℕ �
             }
 
     -- where as many cells are counted as there are, there is none
-    pub is_full : busy heap ≡ pool.cells → request pool None cells ≡ None
+    pub is_full : pool.cells ≤ busy heap → request pool None cells ≡ None
     is_full full = by cells.frees refl
       where
         by_border : (low : Bool) → nat_lt cells.border (end_of pool) ≡ low → cells.frees ≡ [] → request pool None cells ≡ None

@@ -13,7 +13,7 @@ use Rattle.cell_heap.proofs.Counted.{length-cells_from, total-at_most, cells_fro
 use Rattle.kk_counted.specs.Heaps.{Held, Heap, held_at, count_in, count_at, one_if_counted, busy}
 use Rattle.kk_counted.proofs.Counting.{itself, count_top}
 use Rattle.rv_cells.specs.Layout.{Layout}
-use Rattle.rv_cells.specs.Follows.{Owner, nobody, cell_of, in_hand, IsCellOf, BlockOf, HasChain, Follows}
+use Rattle.rv_cells.specs.Follows.{Owner, nobody, cell_of, in_hand, IsCellOf, BlockOf, HasChain, Follows, NoneInHand}
 use Rattle.rv_cells.proofs.Held.{held_within, held_older, held_count}
 
 -- ---- the counted names below one
@@ -123,8 +123,16 @@ module _ {pool : Pool} {layout : Layout} {address : ℕ → ℕ} {owners : ℕ �
           omega arith
 
   -- as many cells are used as are counted
-  pub used_busy : ((at : ℕ) (words : ℕ → Option ℕ) → owners at ≢ in_hand words) → total (λ at. used (owners at)) (places pool) ≡ busy heap
+  pub used_busy : NoneInHand owners → total (λ at. used (owners at)) (places pool) ≡ busy heap
   used_busy none =
       total-same (λ at. used (owners at)) (λ at. one_below (length heap) (owners at)) (places pool)
       (λ at. sym (one_used (length heap) (owners at) (λ name is. let stands = owned_cell name at is in held_within heap name stands.held stands.there) (none at)))
       ∙ names_own (length heap) ∙ names_busy heap
+
+  -- and no more than there are
+  pub busy_most : NoneInHand owners → busy heap ≤ pool.cells
+  busy_most none =
+      let sum = used_busy none in
+      let most = total-at_most (λ at. used (owners at)) (places pool) (λ at. used-most (owners at)) in
+      let count = length-cells_from pool.first pool.cells in
+      omega arith

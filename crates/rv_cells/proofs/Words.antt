@@ -13,9 +13,9 @@ use Rattle.kk_source.specs.Sound.{Within, AllWithin}
 use Rattle.kk_counted.specs.Heaps.{Held, Heap, held_at, count_in, count_at, set_count, more, dup_value, fields_held}
 use Rattle.kk_counted.proofs.Counting.{count_set}
 use Rattle.rv_cells.specs.Layout.{Layout, word_in, words_in, header_of, FitsField, FitFields}
-use Rattle.rv_cells.specs.Follows.{AreFrom, IsBlockOf, Owner, nobody, cell_of, in_hand, IsFree, IsCellOf, BlockOf, HasChain, Follows}
+use Rattle.rv_cells.specs.Follows.{AreFrom, IsBlockOf, Owner, nobody, cell_of, in_hand, IsFree, IsCellOf, BlockOf, HasChain, Follows, with_owner, assign}
 use Rattle.rv_cells.proofs.Held.{held_new, held_older, held_within, held_set, held_other, held_count, held_fields, counted_held}
-use Rattle.rv_cells.proofs.Owners.{chosen_by, chosen_same, chosen_other, with_owner, assign, own-unused, own-words, Stays, put_owner, chain_over, chain_same}
+use Rattle.rv_cells.proofs.Owners.{chosen_by, chosen_same, chosen_other, own-unused, own-words, Stays, put_owner, chain_over, chain_same}
 
 -- ---- a word of a block
 

@@ -1,5 +1,5 @@
 -- When the cells of a program hold a counted heap: each counted cell stands in a block of its own, and all other blocks are free.
-use Rattle.std.specs.Prelude.{◌≡◌, ◌≢◌, ℕ, suc, ◌%◌, ◌<◌, ◌≤◌, List, [], ◌∷◌, Option, Some}
+use Rattle.std.specs.Prelude.{◌≡◌, ◌≢◌, ℕ, zero, suc, ◌%◌, ◌<◌, ◌≤◌, List, [], ◌∷◌, Option, Some, nat_eq, if◌then◌else◌}
 use Rattle.cell_heap.specs.Cells.{occurs}
 use Rattle.cell_heap.specs.Pool.{Pool, end_of, IsCell}
 use Rattle.cell_heap.specs.Blocks.{Block, no_block, unused, own, Cells}
@@ -61,3 +61,26 @@ pub record Follows (pool : Pool) (layout : Layout) (address : ℕ → ℕ) (owne
   pub named : (name : ℕ) → 1 ≤ count_at heap name → owners (address name) ≡ cell_of name
   pub blocks : (at : ℕ) → BlockOf pool layout address heap at (owners at) (cells.blocks at)
   pub chain : HasChain pool cells
+
+-- ---- changes
+
+-- another owner of one address
+abbrev pub with_owner : ℕ → Owner → (ℕ → Owner) → ℕ → Owner
+with_owner at owner owners x = if nat_eq x at then owner else owners x
+
+-- the address of one name
+abbrev pub assign : ℕ → ℕ → (ℕ → ℕ) → ℕ → ℕ
+assign name at address x = if nat_eq x name then at else address x
+
+-- what stands at an address once counts are those of a later heap
+abbrev pub still_count : ℕ → ℕ → Owner
+still_count zero name = nobody
+still_count (suc k) name = cell_of name
+
+abbrev pub still : Heap → Owner → Owner
+still next (cell_of name) = still_count (count_at next name) name
+still next owner = owner
+
+-- no cell was taken that is not counted yet
+abbrev pub NoneInHand : (ℕ → Owner) → Type 0
+NoneInHand owners = (at : ℕ) (words : ℕ → Option ℕ) → owners at ≢ in_hand words
