@@ -1,11 +1,11 @@
 -- References of a counted heap are given up as those of the cells that hold it.
-use Rattle.std.proofs.Common.{◌≡◌, ◌≢◌, ◌≤◌, ◌<◌, ◌⊎◌, ℕ, zero, suc, ◌+◌, ◌*◌, ◌%◌, ◌/◌, inl, inr, List, [], ◌∷◌, ◌++◌, length, Option, Some, None, Bool, true, false, refl, sym, ap, ◌∙◌, subst, arith}
+use Rattle.std.proofs.Common.{◌≡◌, ◌≢◌, ◌≤◌, ◌⊎◌, ℕ, zero, suc, ◌+◌, ◌*◌, ◌%◌, ◌/◌, inl, inr, List, [], ◌∷◌, ◌++◌, length, Option, Some, None, Bool, true, false, refl, sym, ap, ◌∙◌, subst, arith}
 use Rattle.std.specs.Prelude.{◌==◌, if◌then◌else◌}
 use mathlib.Core.Path.{fun_ext}
 use Rattle.std.proofs.lemmas.Bool.{cases_eq}
 use Rattle.cell_heap.specs.Cells.{Body, Cell, free, counted, Heap as SeenHeap, changed, chosen, references}
 use Rattle.cell_heap.specs.GivingUp.{GivesUp, all_given, constant as odd_given, lowered, last}
-use Rattle.cell_heap.specs.Blocks.{Block, no_block, unused, own, kept, fields_of, seen}
+use Rattle.cell_heap.specs.Blocks.{Block, own, fields_of, seen}
 use Rattle.cell_heap.proofs.Frames.{changed-by}
 use Rattle.cell_heap.proofs.Choosing.{chosen-none, chosen-set, chosen-clear}
 use Rattle.kk_source.specs.State.{Value, integer, unit, constant, place}
@@ -14,7 +14,7 @@ use Rattle.kk_counted.specs.Cost.{turns_taken}
 use Rattle.kk_counted.proofs.Counting.{count_set, count_top, count_below}
 use Rattle.rv_cells.specs.Layout.{Layout, mask_of, word_in, words_in, FitsField, FitFields}
 use Rattle.rv_cells.specs.Follows.{Owner, nobody, cell_of, in_hand}
-use Rattle.rv_cells.proofs.Held.{some-is, held_set, held_other, held_count, counted_held, held_fields}
+use Rattle.rv_cells.proofs.Held.{some-is, held_set, held_other, counted_held, held_fields}
 
 -- ---- values and the references that are given up for them
 
@@ -209,8 +209,7 @@ module _ (address : ℕ → ℕ) (owners : ℕ → Owner) (blocks : ℕ → Bloc
       (rest.gave, rest.freed, rest.gives, omega arith, rest.cells, rest.lower)
   passed_by turns most vs heap next words is again (inr odd) =
       let rest = again odd.1 odd.4 in
-      let few = rest.few in
-      (
+      let few = rest.few in (
         suc rest.gave,
         rest.freed,
         subst (λ ws. GivesUp ws (shown heap) (suc rest.gave) rest.freed (shown next)) (sym odd.2) (odd_given odd.3 rest.gives),

@@ -1,32 +1,34 @@
 -- A reference of a counted heap is dropped by the runtime's routine, with all that is freed by it.
-use Rattle.std.proofs.Common.{◌≡◌, ◌≢◌, ◌≤◌, ◌<◌, ◌⊎◌, ℕ, zero, suc, ◌+◌, ◌*◌, ◌%◌, ◌/◌, ◌^◌, inl, inr, List, [], ◌∷◌, ◌++◌, length, map, Option, Some, None, Bool, true, false, nat_eq, nat_lt, refl, sym, ap, ◌∙◌, subst, arith, length-append}
+use Rattle.std.proofs.Common.{◌≡◌, ◌≢◌, ◌≤◌, ◌<◌, ℕ, zero, suc, ◌+◌, ◌*◌, ◌%◌, ◌/◌, ◌^◌, inl, inr, List, [], ◌∷◌, ◌++◌, length, Option, Some, Bool, true, false, nat_lt, refl, sym, ap, ◌∙◌, subst, arith, length-append}
 use Rattle.std.proofs.Math.Nat.{pow-suc}
 use Rattle.std.proofs.lemmas.List.{length-map}
 use mathlib.Core.Path.{fun_ext}
 use Rattle.std.proofs.lemmas.Bool.{cases_eq, cases_lt}
 use Rattle.std.proofs.lemmas.Bool.Decides.{nat_tests}
-use Rattle.cell_heap.specs.Cells.{Body, Cell, no_cell, free, token, waiting, counted, Heap as SeenHeap, changed, references, chosen, occurs}
+use Rattle.cell_heap.specs.Cells.{Cell, no_cell, free, waiting, counted, Heap as SeenHeap, changed, references, chosen, occurs}
 use Rattle.cell_heap.specs.Pool.{Pool, IsCell, places}
 use Rattle.cell_heap.specs.Counts.{credit}
 use Rattle.cell_heap.specs.GivingUp.{GivesUp}
-use Rattle.cell_heap.specs.Turns.{Turns, ended, passed, lower, waits_now, opened, Work, work_of, turns}
-use Rattle.cell_heap.specs.Blocks.{Block, no_block, unused, own, kept, Cells, with_word, known_then, known_from, fields_of, seen_with, seen, seen_cells, merged, merged_cells, drop_cells}
+use Rattle.cell_heap.specs.Turns.{Turns, ended, passed, lower, waits_now, opened, Work}
+use Rattle.cell_heap.specs.Blocks.{Block, no_block, unused, own, kept, Cells, with_word, known_then, known_from, fields_of, seen, seen_cells, merged, merged_cells}
 use Rattle.cell_heap.proofs.Sums.{occurs-cells, occurs-same, occurs-other, occurs-by}
-use Rattle.cell_heap.proofs.Frames.{changed-by, changed-same}
+use Rattle.cell_heap.proofs.Frames.{changed-by}
 use Rattle.cell_heap.proofs.Counting.{IsListed}
 use Rattle.cell_heap.proofs.GivingUp.{GivesUp-paid}
 use Rattle.cell_heap.proofs.InTurns.{given_in_turns, turns_computed_first}
-use Rattle.cell_heap.proofs.Blocks.{seen-by, seen-not_free, seen-some}
+use Rattle.cell_heap.proofs.Blocks.{seen-by, seen-not_free}
 use Rattle.kk_source.specs.State.{Value, integer, unit, constant, place}
-use Rattle.kk_counted.specs.Heaps.{Held, Heap, held_at, count_at, busy, weight, fields_held, drop_value}
+use Rattle.kk_counted.specs.Heaps.{Held, Heap, count_at, busy, weight, drop_value}
 use Rattle.kk_counted.specs.Cost.{drop_turns}
+use Rattle.kk_counted.proofs.Cost.{drop_cost}
 use Rattle.rv_cells.specs.Layout.{Layout, IsNarrow, mask_of, header_of, word_in, words_in, FitsField, FitFields}
-use Rattle.rv_cells.specs.Follows.{AreFrom, IsBlockOf, Owner, nobody, cell_of, in_hand, IsFree, IsCellOf, BlockOf, HasChain, Follows, still_count, still}
+use Rattle.rv_cells.specs.Follows.{AreFrom, IsBlockOf, Owner, nobody, cell_of, in_hand, IsCellOf, BlockOf, HasChain, Follows, still_count, still}
+use Rattle.rv_cells.specs.Steps.{Dropped, IsPaid}
 use Rattle.rv_cells.proofs.Held.{held_count, held_fields}
 use Rattle.rv_cells.proofs.Owners.{chosen_by}
 use Rattle.rv_cells.proofs.Requests.{is_cell, free_is}
-use Rattle.rv_cells.proofs.Words.{from_later, cell_owned, cell_named, hand_owned}
-use Rattle.rv_cells.proofs.Cascades.{Gives, fields_given, body_in, shown_count, shown_by, Lowered, AreOwners, Stand, shown, Given, cascade}
+use Rattle.rv_cells.proofs.Words.{from_later, cell_owned, cell_named}
+use Rattle.rv_cells.proofs.Cascades.{Gives, fields_given, body_in, shown_count, shown_by, Lowered, AreOwners, Stand, shown, cascade}
 
 -- ---- what is seen of a counted cell's block
 
@@ -69,9 +71,9 @@ module _ {layout : Layout} {address : ℕ → ℕ} {held : Held} {words : ℕ �
   pub seen_counted : seen (own words) ≡ counted held.count (body_in (own words))
   seen_counted =
       let few : length (layout.fields held.cell.made_by) ≤ length (fields_of words) =
-          (let all = ap length known.1 in
-          let both : length (words_in layout address held.cell.fields ++ known.0) ≡ length (words_in layout address held.cell.fields) + length known.0 = length-append (words_in layout address held.cell.fields) known.0 in
-          let same = as_many in omega arith) in
+      (let all = ap length known.1 in
+      let both : length (words_in layout address held.cell.fields ++ known.0) ≡ length (words_in layout address held.cell.fields) + length known.0 = length-append (words_in layout address held.cell.fields) known.0 in
+      let same = as_many in omega arith) in
       let below = mask_below (layout.fields held.cell.made_by) (length (fields_of words)) few in
       let is = mask_is in
       let test : nat_lt (header_of layout held.cell.made_by / 256) (2 ^ length (fields_of words)) ≡ true = grind (arith, nat_tests) in
@@ -80,7 +82,7 @@ module _ {layout : Layout} {address : ℕ → ℕ} {held : Held} {words : ℕ �
   pub fields_gives : Gives address held.cell.fields (references (body_in (own words)))
   fields_gives =
       let refs : references (body_in (own words)) ≡ chosen (mask_of (layout.fields held.cell.made_by)) (words_in layout address held.cell.fields ++ known.0) =
-          (rw shows.header (ap (λ m. chosen m (fields_of words)) mask_is ∙ ap (chosen (mask_of (layout.fields held.cell.made_by))) known.1)) in
+      (rw shows.header (ap (λ m. chosen m (fields_of words)) mask_is ∙ ap (chosen (mask_of (layout.fields held.cell.made_by))) known.1)) in
       subst (Gives address held.cell.fields) (sym refs) (fields_given layout address (layout.fields held.cell.made_by) held.cell.fields known.0 shows.fits)
 
 -- ---- the chain of free cells through the turns
@@ -143,14 +145,6 @@ merged_seen : (words : ℕ → Option ℕ) → merged (seen (own words)) (own wo
 merged_seen words =
     seen-by (λ c. merged c (own words) ≡ own words) (words 0) (words 1) (fields_of words)
     (λ count header count_is header_is below. ap own (same_word 0 count words count_is)) refl
-
--- the cells once a reference was dropped: the turns of the routine, what stands where, and what it costs
-pub record Dropped (pool : Pool) (layout : Layout) (address : ℕ → ℕ) (owners : ℕ → Owner) (heap next : Heap) (cells : Cells) (v : Value) : Type 0 where
-  pub work : Work
-  pub is : drop_cells pool (word_in layout address v) cells ≡ Some work
-  pub holds : Follows pool layout address (λ x. still next (owners x)) next (merged_cells work cells)
-  pub few : work.gave ≤ drop_turns v heap
-  pub freed : work.freed + busy next ≡ busy heap
 
 gives_one : (layout : Layout) (address : ℕ → ℕ) (v : Value) → FitsField true v → Gives address (v ∷ []) (word_in layout address v ∷ [])
 gives_one layout address (integer n) fits = absurd fits
@@ -299,7 +293,7 @@ module _ {pool : Pool} {layout : Layout} {address : ℕ → ℕ} {owners : ℕ �
   drops v next fits is =
       let given = cascade address owners cells.blocks are (suc (weight heap)) (v ∷ []) heap next (word_in layout address v ∷ []) stand is (gives_one layout address v fits) in
       let gives : GivesUp (word_in layout address v ∷ []) (seen_cells cells) given.gave given.freed (shown address owners cells.blocks are next) =
-          subst (λ h. GivesUp (word_in layout address v ∷ []) h given.gave given.freed (shown address owners cells.blocks are next)) (sym seen_shown) given.gives in
+      subst (λ h. GivesUp (word_in layout address v ∷ []) h given.gave given.freed (shown address owners cells.blocks are next)) (sym seen_shown) given.gives in
       let turned = given_in_turns cells.frees gives in
       let paid = GivesUp-paid (places pool) 1 1 gives listed in
       let work : Work = record { refs = []; waits = []; frees = turned.0; heap = shown address owners cells.blocks are next; gave = given.gave; freed = given.freed } in
@@ -310,3 +304,7 @@ module _ {pool : Pool} {layout : Layout} {address : ℕ → ℕ} {owners : ℕ �
         few = given.few;
         freed = given.cells;
       }
+
+-- its cost
+pub drop_paid : (v : Value) (heap next : Heap) (work : Work) → drop_value v heap ≡ Some next → work.gave ≤ drop_turns v heap → work.freed + busy next ≡ busy heap → IsPaid heap next work
+drop_paid v heap next work is few freed = let cost = drop_cost v heap next is in omega arith

@@ -1,13 +1,12 @@
 -- What stands at one address changes.
-use Rattle.std.proofs.Common.{◌≡◌, ◌≢◌, ◌≤◌, ◌<◌, ℕ, zero, suc, ◌+◌, ◌*◌, ◌%◌, Bool, true, false, inl, inr, List, [], ◌∷◌, Option, Some, None, nat_eq, if◌then◌else◌, refl, sym, ap, ◌∙◌, subst, arith}
-use Rattle.std.proofs.lemmas.Bool.{cases_eq}
+use Rattle.std.proofs.Common.{◌≡◌, ◌≢◌, ◌≤◌, ℕ, ◌%◌, Bool, true, false, Option, Some, nat_eq, if◌then◌else◌, refl, sym, ap, ◌∙◌, subst, arith}
 use Rattle.std.proofs.lemmas.Bool.Decides.{nat_tests}
 use Rattle.cell_heap.specs.Cells.{occurs}
-use Rattle.cell_heap.specs.Pool.{Pool, IsCell}
-use Rattle.cell_heap.specs.Blocks.{Block, no_block, unused, own, kept, Cells, with_block}
-use Rattle.kk_counted.specs.Heaps.{Held, Heap, held_at, count_in, count_at}
+use Rattle.cell_heap.specs.Pool.{Pool}
+use Rattle.cell_heap.specs.Blocks.{Block, unused, own, Cells, with_block}
+use Rattle.kk_counted.specs.Heaps.{Held, Heap, held_at, count_at}
 use Rattle.rv_cells.specs.Layout.{Layout, words_in}
-use Rattle.rv_cells.specs.Follows.{AreFrom, IsBlockOf, Owner, nobody, cell_of, in_hand, IsFree, IsCellOf, BlockOf, HasChain, Follows, with_owner, assign}
+use Rattle.rv_cells.specs.Follows.{AreFrom, Owner, nobody, cell_of, in_hand, IsCellOf, BlockOf, HasChain, Follows, with_owner}
 
 -- ---- functions with another value at one number
 

@@ -1,18 +1,18 @@
 -- A request for a cell is served exactly where fewer cells are counted than there are.
-use Rattle.std.proofs.Common.{◌≡◌, ◌≢◌, ◌≤◌, ◌<◌, ◌⊎◌, ℕ, zero, suc, ◌+◌, ◌*◌, ◌%◌, Bool, true, false, inl, inr, List, [], ◌∷◌, length, Option, Some, None, option_map, nat_lt, if◌then◌else◌, refl, sym, ap, ◌∙◌, subst, arith}
+use Rattle.std.proofs.Common.{◌≡◌, ◌≢◌, ◌≤◌, ◌<◌, ◌⊎◌, ℕ, ◌+◌, ◌%◌, Bool, true, false, inl, inr, List, [], ◌∷◌, length, Option, None, nat_lt, refl, sym, ap, ◌∙◌, arith}
 use Rattle.std.proofs.lemmas.Bool.{cases_lt, cases_eq}
 use Rattle.std.proofs.lemmas.Bool.Decides.{nat_tests}
-use Rattle.rv_isa.specs.FreeCells.{cells_from}
 use Rattle.cell_heap.specs.Cells.{occurs}
 use Rattle.cell_heap.specs.Counts.{total}
 use Rattle.cell_heap.specs.Pool.{Pool, IsCell, places, end_of}
-use Rattle.cell_heap.specs.Blocks.{Block, no_block, unused, own, kept, Cells, with_block, nothing, takes, request, request_by}
+use Rattle.cell_heap.specs.Blocks.{no_block, unused, own, Cells, nothing, takes, request}
 use Rattle.cell_heap.proofs.Sums.{occurs-cells, occurs-same, occurs-other, occurs-first, occurs-later, occurs-by}
 use Rattle.cell_heap.proofs.Counted.{length-cells_from, total-at_most, cells_from-member}
 use Rattle.kk_counted.specs.Heaps.{Heap, count_at, busy}
 use Rattle.rv_cells.specs.Layout.{Layout}
-use Rattle.rv_cells.specs.Follows.{Owner, nobody, cell_of, in_hand, IsFree, IsCellOf, BlockOf, HasChain, Follows, with_owner, NoneInHand}
-use Rattle.rv_cells.proofs.Owners.{chosen_by, chosen_same, chosen_other, own-unused, Stays, put_owner}
+use Rattle.rv_cells.specs.Follows.{Owner, nobody, cell_of, in_hand, BlockOf, HasChain, Follows, with_owner, NoneInHand}
+use Rattle.rv_cells.specs.Steps.{Served}
+use Rattle.rv_cells.proofs.Owners.{chosen_by, chosen_same, chosen_other, own-unused, put_owner}
 use Rattle.rv_cells.proofs.Rooms.{used, used-most, used_busy}
 
 -- ---- sums of ones
@@ -45,14 +45,6 @@ is_cell pool at =
             | inr high ↦ inr (λ cell. let before = cell.before in omega arith)
           ]
     ]
-
--- a cell was taken, which is in hand
-pub record Served (pool : Pool) (layout : Layout) (address : ℕ → ℕ) (owners : ℕ → Owner) (heap : Heap) (cells : Cells) (top : Option ℕ) : Type 0 where
-  pub at : ℕ
-  pub next : Cells
-  pub is : request pool top cells ≡ Some (at, next, false)
-  pub free : owners at ≡ nobody
-  pub follows : Follows pool layout address (with_owner at (in_hand nothing) owners) heap next
 
 module _ {pool : Pool} {layout : Layout} {address : ℕ → ℕ} {owners : ℕ → Owner} {heap : Heap} {cells : Cells} (follows : Follows pool layout address owners heap cells) where
   -- ---- a free block is nobody's
@@ -100,15 +92,14 @@ module _ {pool : Pool} {layout : Layout} {address : ℕ → ℕ} {owners : ℕ �
             (λ e free. absurd (own-unused free))
             (λ differ free low. sym (occurs-other x at frees differ) ∙ ap (occurs x) (sym is) ∙ chain.chained x free low);
         members = λ x some.
-            let old = chain.members x (λ none. occurs-later x at frees some (ap (occurs x) (sym is) ∙ none)) in
-            (
+            let old = chain.members x (λ none. occurs-later x at frees some (ap (occurs x) (sym is) ∙ none)) in (
               chosen_by (λ b. b ≡ unused) x at (own nothing) cells.blocks
-              (λ e.
-              let twice = ap (occurs at) (sym is) ∙ once in
-              let here = occurs-same at at frees refl in
-              let there = ap (λ y. occurs y frees) e in
-              absurd (some (omega arith)))
-              (λ differ. old.0),
+                  (λ e.
+                  let twice = ap (occurs at) (sym is) ∙ once in
+                  let here = occurs-same at at frees refl in
+                  let there = ap (λ y. occurs y frees) e in
+                  absurd (some (omega arith)))
+                  (λ differ. old.0),
               old.1,
             );
       }
@@ -185,7 +176,7 @@ module _ {pool : Pool} {layout : Layout} {address : ℕ → ℕ} {owners : ℕ �
               next = takes cells.border [] (cells.border + 32) cells;
               is = rw (no_free, test) refl;
               free = (free_is cells.border is).0;
-              follows = takes_free cells.border [] (cells.border + 32) is (chain_border aligned no_free low);
+              holds = takes_free cells.border [] (cells.border + 32) is (chain_border aligned no_free low);
             }
         by_border false test no_free =
             let high : end_of pool ≤ cells.border = grind (arith, nat_tests) in
@@ -200,7 +191,7 @@ module _ {pool : Pool} {layout : Layout} {address : ℕ → ℕ} {owners : ℕ �
               next = takes at frees cells.border cells;
               is = rw is refl;
               free = (free_is at first.0).0;
-              follows = takes_free at frees cells.border first.0 (chain_next at frees is);
+              holds = takes_free at frees cells.border first.0 (chain_next at frees is);
             }
 
     -- where as many cells are counted as there are, there is none

@@ -1,19 +1,18 @@
 -- How many cells are used: as many as are counted, where none is in hand.
-use Rattle.std.proofs.Common.{◌≡◌, ◌≢◌, ◌≤◌, ◌<◌, ℕ, zero, suc, ◌+◌, ◌*◌, ◌%◌, Bool, true, false, inl, inr, List, [], ◌∷◌, length, Option, nat_lt, refl, sym, ap, ◌∙◌, subst, arith}
-use Rattle.std.proofs.lemmas.Bool.{cases_lt, cases_eq}
+use Rattle.std.proofs.Common.{◌≡◌, ◌≢◌, ◌≤◌, ◌<◌, ℕ, zero, suc, ◌+◌, ◌%◌, Bool, true, false, inl, inr, [], ◌∷◌, length, Option, nat_lt, refl, sym, ap, ◌∙◌, subst, arith}
+use Rattle.std.proofs.lemmas.Bool.{cases_eq}
 use Rattle.std.proofs.lemmas.Bool.Decides.{nat_tests}
-use Rattle.rv_isa.specs.FreeCells.{cells_from}
 use Rattle.rv_isa.specs.Arithmetic.{bit_of}
 use Rattle.cell_heap.specs.Cells.{occurs}
 use Rattle.cell_heap.specs.Counts.{total}
-use Rattle.cell_heap.specs.Pool.{Pool, IsCell, places, end_of}
-use Rattle.cell_heap.specs.Blocks.{Cells, unused}
+use Rattle.cell_heap.specs.Pool.{Pool, IsCell, places}
+use Rattle.cell_heap.specs.Blocks.{Cells}
 use Rattle.cell_heap.proofs.Sums.{occurs-cells, total-same, total-none, total-change}
-use Rattle.cell_heap.proofs.Counted.{length-cells_from, total-at_most, cells_from-member}
-use Rattle.kk_counted.specs.Heaps.{Held, Heap, held_at, count_in, count_at, one_if_counted, busy}
+use Rattle.cell_heap.proofs.Counted.{length-cells_from, total-at_most}
+use Rattle.kk_counted.specs.Heaps.{Heap, count_in, count_at, one_if_counted, busy}
 use Rattle.kk_counted.proofs.Counting.{itself, count_top}
 use Rattle.rv_cells.specs.Layout.{Layout}
-use Rattle.rv_cells.specs.Follows.{Owner, nobody, cell_of, in_hand, IsCellOf, BlockOf, HasChain, Follows, NoneInHand}
+use Rattle.rv_cells.specs.Follows.{Owner, nobody, cell_of, in_hand, IsCellOf, BlockOf, Follows, NoneInHand}
 use Rattle.rv_cells.proofs.Held.{held_within, held_older, held_count}
 
 -- ---- the counted names below one

@@ -1,13 +1,11 @@
 -- At the start no cell is counted, and all are free.
-use Rattle.std.proofs.Common.{◌≡◌, ◌≢◌, ◌≤◌, ◌<◌, ℕ, ◌+◌, ◌*◌, ◌%◌, Bool, true, false, List, [], nat_eq, nat_lt, nat_le, refl, arith}
+use Rattle.std.proofs.Common.{◌≡◌, ◌≤◌, ℕ, ◌%◌, Bool, true, false, [], nat_eq, nat_lt, nat_le, refl, arith}
 use Rattle.std.specs.Prelude.{◌&&◌, if◌then◌else◌}
 use Rattle.std.proofs.lemmas.Bool.Decides.{nat_tests}
-use Rattle.cell_heap.specs.Cells.{occurs}
-use Rattle.cell_heap.specs.Pool.{Pool, end_of, IsCell}
+use Rattle.cell_heap.specs.Pool.{Pool, end_of}
 use Rattle.cell_heap.specs.Blocks.{Block, no_block, unused, unused_cells}
-use Rattle.kk_counted.specs.Heaps.{count_at}
 use Rattle.rv_cells.specs.Layout.{Layout}
-use Rattle.rv_cells.specs.Follows.{nobody, IsFree, HasChain, Follows}
+use Rattle.rv_cells.specs.Follows.{nobody, IsFree, Follows}
 
 abbrev unused_at : Bool → Bool → Bool → Block
 unused_at behind before aligned = if behind && before && aligned then unused else no_block

@@ -1,21 +1,18 @@
 -- Words of blocks are loaded and stored, and cells are made of them.
-use Rattle.std.proofs.Common.{◌≡◌, ◌≢◌, ◌≤◌, ◌<◌, ◌⊎◌, ℕ, zero, suc, ◌+◌, ◌*◌, ◌%◌, ◌/◌, ◌^◌, Bool, true, false, inl, inr, List, [], ◌∷◌, length, Option, Some, None, option_map, nat_eq, nat_lt, if◌then◌else◌, refl, sym, ap, ◌∙◌, subst, arith}
+use Rattle.std.proofs.Common.{◌≡◌, ◌≢◌, ◌≤◌, ◌<◌, ℕ, suc, ◌*◌, ◌%◌, ◌/◌, true, inl, inr, List, [], ◌∷◌, length, Option, Some, nat_eq, nat_lt, refl, sym, ap, ◌∙◌, subst, arith}
 use mathlib.Core.Path.{fun_ext}
-use Rattle.std.proofs.lemmas.Bool.{cases_lt, cases_eq}
+use Rattle.std.proofs.lemmas.Bool.{cases_eq}
 use Rattle.std.proofs.lemmas.Bool.Decides.{nat_tests}
-use Rattle.rv_isa.specs.Arithmetic.{sum_word}
-use Rattle.cell_heap.specs.Cells.{occurs}
 use Rattle.cell_heap.specs.Pool.{Pool, IsCell}
-use Rattle.cell_heap.specs.Blocks.{Block, unused, own, Cells, with_block, with_word, index_of, load, store, raised, dup, release}
-use Rattle.cell_heap.proofs.Sums.{occurs-same, occurs-other, occurs-by}
+use Rattle.cell_heap.specs.Blocks.{own, Cells, with_block, with_word, index_of, load, store}
 use Rattle.kk_source.specs.State.{Value, integer, unit, constant, place, Cell}
 use Rattle.kk_source.specs.Sound.{Within, AllWithin}
-use Rattle.kk_counted.specs.Heaps.{Held, Heap, held_at, count_in, count_at, set_count, more, dup_value, fields_held}
+use Rattle.kk_counted.specs.Heaps.{Held, Heap, count_in, count_at, set_count, fields_held}
 use Rattle.kk_counted.proofs.Counting.{count_set}
-use Rattle.rv_cells.specs.Layout.{Layout, word_in, words_in, header_of, FitsField, FitFields}
-use Rattle.rv_cells.specs.Follows.{AreFrom, IsBlockOf, Owner, nobody, cell_of, in_hand, IsFree, IsCellOf, BlockOf, HasChain, Follows, with_owner, assign}
-use Rattle.rv_cells.proofs.Held.{held_new, held_older, held_within, held_set, held_other, held_count, held_fields, counted_held}
-use Rattle.rv_cells.proofs.Owners.{chosen_by, chosen_same, chosen_other, own-unused, own-words, Stays, put_owner, chain_over, chain_same}
+use Rattle.rv_cells.specs.Layout.{Layout, word_in, words_in}
+use Rattle.rv_cells.specs.Follows.{AreFrom, IsBlockOf, Owner, cell_of, in_hand, IsCellOf, BlockOf, Follows, with_owner, assign}
+use Rattle.rv_cells.proofs.Held.{held_new, held_older, held_within, held_set, held_other, held_fields}
+use Rattle.rv_cells.proofs.Owners.{chosen_by, chosen_same, chosen_other, own-unused, own-words, Stays, put_owner, chain_over}
 
 -- ---- a word of a block
 

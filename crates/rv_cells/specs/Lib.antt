@@ -1,2 +1,3 @@
 pub mod Layout
 pub mod Follows
+pub mod Steps
