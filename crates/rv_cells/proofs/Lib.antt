@@ -7,3 +7,6 @@ pub mod Counts
 pub mod Cascades
 pub mod Drops
 pub mod Starts
+pub mod Runs
+pub mod Acting
+pub mod Values

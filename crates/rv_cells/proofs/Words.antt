@@ -37,7 +37,7 @@ from_later i w j words (v ∷ ws) less known =
 
 -- ---- addresses of older names
 
-value_older : (layout : Layout) (name at : ℕ) (address : ℕ → ℕ) (v : Value) → Within name v → word_in layout (assign name at address) v ≡ word_in layout address v
+pub value_older : (layout : Layout) (name at : ℕ) (address : ℕ → ℕ) (v : Value) → Within name v → word_in layout (assign name at address) v ≡ word_in layout address v
 value_older layout name at address (integer n) older = refl
 value_older layout name at address unit older = refl
 value_older layout name at address (constant c) older = refl
@@ -50,7 +50,7 @@ words_older layout name at address (v ∷ vs) older =
     let rest = words_older layout name at address vs older.1 in
     rw (first, rest) refl
 
-within_more : (n m : ℕ) (v : Value) → n ≤ m → Within n v → Within m v
+pub within_more : (n m : ℕ) (v : Value) → n ≤ m → Within n v → Within m v
 within_more n m (integer z) le within = tt
 within_more n m unit le within = tt
 within_more n m (constant c) le within = tt
