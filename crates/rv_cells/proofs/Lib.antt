@@ -10,3 +10,4 @@ pub mod Starts
 pub mod Runs
 pub mod Acting
 pub mod Values
+pub mod Spots
