@@ -50,7 +50,7 @@ mask_below (b ∷ bits) zero few = absurd (omega arith)
 mask_below (true ∷ bits) (suc n) few = let double = pow-suc 2 n in let rest = mask_below bits n (omega (arith, few)) in omega arith
 mask_below (false ∷ bits) (suc n) few = let double = pow-suc 2 n in let rest = mask_below bits n (omega (arith, few)) in omega arith
 
-fits_length : (bits : List Bool) (vs : List Value) → FitFields bits vs → length bits ≡ length vs
+pub fits_length : (bits : List Bool) (vs : List Value) → FitFields bits vs → length bits ≡ length vs
 fits_length [] [] fits = refl
 fits_length [] (v ∷ vs) fits = absurd fits
 fits_length (true ∷ bits) [] fits = absurd fits

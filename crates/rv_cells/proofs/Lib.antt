@@ -11,3 +11,4 @@ pub mod Runs
 pub mod Acting
 pub mod Values
 pub mod Spots
+pub mod Rows
