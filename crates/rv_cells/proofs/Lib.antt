@@ -12,3 +12,4 @@ pub mod Acting
 pub mod Values
 pub mod Spots
 pub mod Rows
+pub mod Openings

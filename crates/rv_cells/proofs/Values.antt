@@ -66,10 +66,10 @@ among_none x xs z not = by (x == z) refl not
     by true same among = cc
     by false other among = (λ e. let itself : (x == z) ≡ true = grind arith in let both = sym other ∙ itself in cc, among)
 
-value_same : (x z : ℕ) (v : Value) (environment : Environment) → x ≡ z → value_of (record { variable = x; value = v } ∷ environment) z ≡ v
+pub value_same : (x z : ℕ) (v : Value) (environment : Environment) → x ≡ z → value_of (record { variable = x; value = v } ∷ environment) z ≡ v
 value_same x z v environment e = let itself : (x == z) ≡ true = grind arith in rw itself refl
 
-value_other : (x z : ℕ) (v : Value) (environment : Environment) → x ≢ z → value_of (record { variable = x; value = v } ∷ environment) z ≡ value_of environment z
+pub value_other : (x z : ℕ) (v : Value) (environment : Environment) → x ≢ z → value_of (record { variable = x; value = v } ∷ environment) z ≡ value_of environment z
 value_other x z v environment differ = rw (ne_eqb x z differ) refl
 
 module _ {layout : Layout} {address : ℕ → ℕ} {holds : ℕ → Bool} {base next : ℕ} {bound : List ℕ} {environment : Environment} {values : ℕ → Option ℕ} (has : HasValues layout address holds base next bound environment values) where
