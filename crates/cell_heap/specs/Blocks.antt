@@ -1,5 +1,6 @@
 -- The cells of a program as its code may see them: for each a block of eight words, of which some are known.
-use Rattle.std.specs.Prelude.{ℕ, zero, suc, ◌+◌, ◌/◌, ◌%◌, ◌^◌, List, [], ◌∷◌, Option, Some, None, option_map, Bool, true, false, ◌&&◌, if◌then◌else◌, nat_eq, nat_lt, length}
+use Rattle.std.specs.Prelude.{ℕ, zero, suc, ◌+◌, ◌/◌, ◌%◌, ◌^◌, List, [], ◌∷◌, Option, Some, None, option_map, Bool, true, false, ◌&&◌, if◌then◌else◌, nat_eq, nat_le, nat_lt, length}
+use Rattle.rv_isa.specs.Arithmetic.{sum_word}
 use Rattle.cell_heap.specs.Cells.{Cell, no_cell, free, token, counted, Heap}
 use Rattle.cell_heap.specs.Pool.{Pool, end_of, places}
 use Rattle.cell_heap.specs.Counts.{credit}
@@ -23,6 +24,14 @@ pub record Cells : Type 0 where
 
 abbrev pub with_block : ℕ → Block → Cells → Cells
 with_block at block cells = record cells { blocks = λ x. if nat_eq x at then block else cells.blocks x }
+
+-- the cells of a pool of which none was ever used
+abbrev pub unused_cells : Pool → Cells
+unused_cells pool = record {
+  blocks = λ at. if nat_le pool.first at && nat_lt at (end_of pool) && nat_eq (at % 32) 0 then unused else no_block;
+  frees = [];
+  border = pool.first;
+}
 
 -- ---- words
 
@@ -52,6 +61,15 @@ stored_in _ _ word = None
 abbrev pub store : ℕ → ℕ → ℕ → Cells → Option Cells
 store at offset word cells =
     option_map (λ block. with_block at block cells) (stored_in (cells.blocks at) (index_of offset) word)
+
+-- the count of a cell is raised
+abbrev pub raised : ℕ → Option ℕ → Cells → Option Cells
+raised at None cells = None
+raised at (Some count) cells = store at 0 (sum_word count 1) cells
+
+-- the count of the cell of a reference, of which an odd one names none
+abbrev pub dup : ℕ → Cells → Option Cells
+dup reference cells = if nat_eq (reference % 2) 1 then Some cells else raised reference (load reference 0 cells) cells
 
 -- ---- requests
 

@@ -4,7 +4,7 @@ use Rattle.rv_isa.specs.Routines.{taken_by, given_by, is_spoilt_by}
 use Rattle.rv_isa.specs.declared.asm.Action.{Action}
 use Rattle.rv_isa.specs.declared.asm.Action.TheVariants.{Compute, Label, Jump, Branch, Call, TailCall, Return, Routine, Hold, Unhold}
 use Rattle.rv_isa.specs.declared.asm.Operation.{Operation}
-use Rattle.rv_isa.specs.declared.asm.Operation.TheVariants.{Sw}
+use Rattle.rv_isa.specs.declared.asm.Operation.TheVariants.{Sw, Dup, Free}
 use Rattle.rv_isa.specs.declared.placed.Place.{Place}
 use Rattle.rv_isa.specs.declared.placed.Place.TheVariants.{Register as register, Slot as slot}
 use Rattle.rv_isa.specs.declared.placed.Operand.{Operand}
@@ -49,6 +49,8 @@ takes_at Unhold n place = is_slot place
 
 abbrev pub computes_at : Operation → Place → Bool
 computes_at (Sw offset) place = false
+computes_at Dup place = false
+computes_at Free place = false
 computes_at _ place = is_register place
 
 -- whether the action gives its value at the place; one that gives none, at no place

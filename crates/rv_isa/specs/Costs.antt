@@ -3,37 +3,41 @@ use Rattle.std.specs.Prelude.{ℕ, ◌+◌, List, Option, Some}
 use Rattle.rv_isa.specs.declared.asm.Action.{Action}
 use Rattle.rv_isa.specs.declared.asm.Action.TheVariants.{Compute, Label, Jump, Branch, Call, TailCall, Return, Routine, Hold, Unhold}
 use Rattle.rv_isa.specs.declared.asm.Operation.{Operation}
-use Rattle.rv_isa.specs.declared.asm.Operation.TheVariants.{Li, La}
+use Rattle.rv_isa.specs.declared.asm.Operation.TheVariants.{Li, La, Dup, Free}
 use Rattle.rv_isa.specs.Primitives.{Primitives}
 
--- a constant and an address are two instructions at most
+-- A constant and an address are two instructions. A count is loaded, raised and stored, unless the reference names no cell; a token is
+-- put before the free cells, unless it is null.
 abbrev pub operation_instructions : Operation → ℕ
 operation_instructions (Li word) = 2
 operation_instructions (La constant) = 2
+operation_instructions Dup = 5
+operation_instructions Free = 3
 operation_instructions _ = 1
 
--- a move to or from a far slot makes the slot's address first
+-- a move is one instruction
 abbrev pub move_instructions : ℕ
-move_instructions = 4
+move_instructions = 1
 
 -- a routine, where its arguments are there
 abbrev pub routine_instructions : {H E W : Type 0} → Primitives H E W → Action → Option (List ℕ) → Option ℕ → H → ℕ
 routine_instructions m (Routine routine) (Some words) held shared = m.lasts routine words held shared
 routine_instructions m _ _ held shared = 0
 
--- A far jump is two instructions, and a branch to a far label one over a jump. A call has its callee's entry: it saves the
--- return address, compares the stack with its bottom and takes a frame. A return gives the frame back.
+-- A far jump is two instructions, and a branch to a far label one over a jump. A call has its callee's entry: it compares the
+-- stack with its bottom, takes a frame and saves the return address. A return loads it and gives the frame back. A token is held or
+-- taken back by a call with the address of its slot.
 abbrev pub action_instructions : Action → ℕ
 action_instructions (Compute operation) = operation_instructions operation
 action_instructions (Label l) = 0
 action_instructions (Jump l) = 2
 action_instructions (Branch condition l) = 3
-action_instructions (Call f) = 12
+action_instructions (Call f) = 7
 action_instructions (TailCall f) = 2
-action_instructions Return = 5
+action_instructions Return = 3
 action_instructions (Routine routine) = 2
-action_instructions Hold = 12
-action_instructions Unhold = 12
+action_instructions Hold = 9
+action_instructions Unhold = 7
 
 abbrev pub instructions_of : {H E W : Type 0} → Primitives H E W → Action → Option (List ℕ) → Option ℕ → H → ℕ
 instructions_of m action words held shared = action_instructions action + routine_instructions m action words held shared

@@ -8,8 +8,8 @@ use Rattle.rv_isa.specs.declared.placed.Place.TheVariants.{Register as register,
 use Rattle.rv_isa.specs.declared.placed.Operand.{Operand}
 use Rattle.rv_isa.specs.PlacedCode.{PlacedLine, does, moves, PlacedLines, from_of, to_of}
 use Rattle.rv_isa.specs.Conventions.{argument, conforms, spoils}
-use Rattle.rv_isa.specs.Primitives.{Reply, answers, ends, fails, Primitives, Turn, go, ended, stuck, or_stuck, end_of}
-use Rattle.rv_isa.specs.Frames.{Frame, empty, put, all_of, only_of, result_of, received, found, top, taken_if, holding, unholding}
+use Rattle.rv_isa.specs.Primitives.{Reply, answers, ends, fails, Primitives, Turn, go, ended, stuck, or_stuck, by_token, end_of}
+use Rattle.rv_isa.specs.Frames.{Frame, empty, put, all_of, only_of, result_of, received, found, top, taken_if, is_among, holding, unholding}
 use Rattle.rv_isa.specs.AsmMachine.{is_label, unless_held}
 use Rattle.rv_isa.specs.Costs.{instructions_of, move_instructions}
 
@@ -116,12 +116,19 @@ placed_acts m depth q f fs registers shared Return args into words =
 placed_acts m depth q f fs registers shared (Routine routine) args into words =
     placed_served into (f ∷ fs) (kept_by (Routine routine) registers) (m.serve routine words (top (f ∷ fs)) shared)
 placed_acts m depth q f fs registers shared Hold args into words =
-    or_stuck (only_slot args) (λ k. or_stuck (only_of words) (λ word. or_stuck (holding k word f.held) (λ held. placed_goes (record f { held = held }) fs (kept_by Hold registers) shared)))
+    or_stuck (only_slot args) (λ k. or_stuck (only_of words) (λ word. or_stuck (holding k word f.held) (λ held.
+    or_stuck (by_token m.hold word shared) (λ next. placed_goes (record f { held = held }) fs (kept_by Hold registers) next))))
 placed_acts m depth q f fs registers shared Unhold args into words =
-    or_stuck (only_slot args) (λ k. or_stuck (only_of words) (λ word. or_stuck (unholding k word f.held) (λ held. placed_goes (record f { held = held }) fs (kept_by Unhold registers) shared)))
+    or_stuck (only_slot args) (λ k. or_stuck (only_of words) (λ word. or_stuck (unholding k word f.held) (λ held.
+    or_stuck (by_token m.unhold word shared) (λ next. placed_goes (record f { held = held }) fs (kept_by Unhold registers) next))))
+
+-- whether a place is the slot of a held token
+abbrev pub is_held : List ℕ → Place → Bool
+is_held held (register r) = false
+is_held held (slot k) = is_among k held
 
 -- A statement whose operands do not stand where its action takes and gives them is none; nor is one that reads a place whose
--- word is not known. A move copies its place, known or not.
+-- word is not known. A move copies its place, known or not; one to the slot of a held token is none.
 abbrev pub placed_line : {H E W : Type 0} → Primitives H E W → ℕ → List PlacedLines → Frame PlacedLine → List (Frame PlacedLine) → (ℕ → Option ℕ) → H → List PlacedLine → PlacedTurn H W
 placed_line m depth q f fs registers shared [] = stuck
 placed_line m depth q f fs registers shared (does alive action args into ∷ rest) =
@@ -129,7 +136,7 @@ placed_line m depth q f fs registers shared (does alive action args into ∷ res
     (or_stuck (all_of (map (λ arg. read_at registers f.cells arg.place) args)) (λ words. placed_acts m depth q (record f { code = rest }) fs registers shared action args into words))
     stuck
 placed_line m depth q f fs registers shared (moves alive value way ∷ rest) =
-    placed_writes (to_of way) (read_at registers f.cells (from_of way)) (record f { code = rest }) fs registers shared
+    cond (is_held f.held (to_of way)) stuck (placed_writes (to_of way) (read_at registers f.cells (from_of way)) (record f { code = rest }) fs registers shared)
 
 abbrev pub placed_running : {H E W : Type 0} → Primitives H E W → ℕ → List PlacedLines → List (Frame PlacedLine) → (ℕ → Option ℕ) → H → PlacedTurn H W
 placed_running m depth q [] registers shared = stuck

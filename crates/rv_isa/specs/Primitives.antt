@@ -1,5 +1,5 @@
 -- What the machines of the assembler form and of its placed form leave open, and share.
-use Rattle.std.specs.Prelude.{ℕ, List, Option, Some, None, Bool}
+use Rattle.std.specs.Prelude.{◌==◌, ℕ, List, Option, Some, None, Bool, cond}
 use Rattle.rv_isa.specs.declared.asm.Operation.{Operation}
 use Rattle.rv_isa.specs.declared.asm.Condition.{Condition}
 use Rattle.rv_isa.specs.declared.routine.Routine.{Routine}
@@ -12,16 +12,19 @@ pub data Reply (H W : Type 0) : Type 0 where
   fails : Reply H W
 
 -- H is what code shares: the cells, the input that is left and the trace. W is how a run ends, and E an event.
--- compute: the word of an operation, of its arguments, and what it makes of H; of a store the word is unsaid
+-- compute: the word of an operation, of its arguments, and what it makes of H; of one that writes no value the word is unsaid
 -- holds: whether a condition holds of the arguments of a branch
 -- serve: what a routine answers, by its arguments and the newest held token
 -- lasts: the most instructions that a routine executes then
+-- hold, unhold: what it makes of H that the token of a word, not the null one, is put on the chain of held tokens, and is taken off
 -- told: the events so far
 pub record Primitives (H E W : Type 0) : Type 0 where
   pub compute : Operation → List ℕ → H → Option (ℕ × H)
   pub holds : Condition → List ℕ → Option Bool
   pub serve : Routine → List ℕ → Option ℕ → H → Reply H W
   pub lasts : Routine → List ℕ → Option ℕ → H → ℕ
+  pub hold : ℕ → H → Option H
+  pub unhold : ℕ → H → Option H
   pub told : H → List E
   pub finished : W
   pub stack_full : W
@@ -36,6 +39,10 @@ pub data Turn (S H W : Type 0) : Type 0 where
 abbrev pub or_stuck : {A S H W : Type 0} → Option A → (A → Turn S H W) → Turn S H W
 or_stuck None next = stuck
 or_stuck (Some a) next = next a
+
+-- what is done with a token; the null token changes nothing
+abbrev pub by_token : {H : Type 0} → (ℕ → H → Option H) → ℕ → H → Option H
+by_token act word shared = cond (word == 0) (Some shared) (act word shared)
 
 -- how a run has ended
 abbrev pub end_of : {S H W : Type 0} → Turn S H W → Option W

@@ -2,7 +2,7 @@
 use Rattle.std.specs.Prelude.{◌≡◌, ◌==◌, ◌||◌, ◌&&◌, ◌+◌, ◌≤◌, ◌<◌, ℕ, List, [], ◌∷◌, Option, Some, None, Bool, true, false, not, cond, length, All, IsSome}
 use Rattle.rv_isa.specs.declared.asm.Action.{Action}
 use Rattle.rv_isa.specs.declared.asm.Action.TheVariants.{Compute, Label, Jump, Branch, Call, TailCall, Return, Routine, Hold, Unhold}
-use Rattle.rv_isa.specs.declared.asm.Operation.TheVariants.{Sw}
+use Rattle.rv_isa.specs.declared.asm.Operation.TheVariants.{Sw, Dup, Free}
 use Rattle.rv_isa.specs.AsmCode.{Line, Lines}
 use Rattle.rv_isa.specs.Routines.{taken_by, given_by}
 use Rattle.rv_isa.specs.Frames.{found, is_among}
@@ -61,8 +61,8 @@ most_args (Call f) = 8
 most_args (TailCall f) = 8
 most_args Return = 1
 most_args (Routine routine) = length (taken_by routine)
-most_args Hold = 0
-most_args Unhold = 0
+most_args Hold = 1
+most_args Unhold = 1
 
 -- whether the action gives a value
 abbrev pub has_value : Option ℕ → Bool
@@ -71,6 +71,8 @@ has_value (Some x) = true
 
 abbrev pub may_give : Action → Bool
 may_give (Compute (Sw offset)) = false
+may_give (Compute Dup) = false
+may_give (Compute Free) = false
 may_give (Compute operation) = true
 may_give (Call f) = true
 may_give (Routine routine) = has_value (given_by routine)
@@ -85,6 +87,8 @@ HoldsNone _ = Unit {0}
 -- whether the arguments of an action are handed over: their places are lost
 abbrev pub hands_over : Action → Bool
 hands_over (Compute operation) = false
+hands_over Hold = false
+hands_over Unhold = false
 hands_over _ = true
 
 -- values are different from one another

@@ -91,6 +91,10 @@ pub enum Operation {
     Lw(Immediate),
     /// `sw`: stores the second argument at the first and this offset. It writes no value.
     Sw(Immediate),
+    /// Raises the count of the cell that the argument refers to. An odd reference names none. It writes no value.
+    Dup,
+    /// Frees the cell of the argument, a token. The null token has none. It writes no value.
+    Free,
 }
 
 /// An instruction on two registers.

@@ -19,6 +19,7 @@ use Rattle.rv_isa.specs.AsmMachine.{AsmTurn}
 use Rattle.rv_isa.specs.Frames.{Frame}
 use Rattle.rv_isa.specs.Primitives.{stuck}
 use Rattle.rv_isa.specs.WellFormed.{AreLinesFormed, AreWellFormed}
+use Rattle.cell_heap.specs.Pool.{Pool}
 use Rattle.rv_world.specs.World.{World}
 use Rattle.rv_lower.specs.Lines.{Texts, acts}
 use Rattle.rv_lower.specs.Lowered.{AreFunctionsLowered}
@@ -41,6 +42,7 @@ pub record LoweredProgram : Type 0 where
   pub first : ℕ
   pub constants : List (List ℕ)
   pub positions : PositionTable
+  pub pool : Pool
   pub cells : ℕ
   pub depth : ℕ
   pub moves : ℕ
@@ -54,7 +56,7 @@ module _ (program : LoweredProgram) where
   texts = texts_of program.code.texts program.constants
 
   abbrev pub target : Target
-  target = record { constants = record { first = program.first; texts = program.constants }; moves = program.moves; depth = program.depth; functions = program.functions }
+  target = record { constants = record { first = program.first; texts = program.constants }; pool = program.pool; moves = program.moves; depth = program.depth; functions = program.functions }
 
   abbrev pub setting : CoreSetting
   setting = setting_of_core program.code program.positions program.cells program.depth

@@ -376,7 +376,7 @@ module _ (target : Target) where
       (λ held. ap (λ bytes. print_bytes bytes world) there.2) (λ held. omega arith)
 
   same_world : (world : World) → told_more [] world ≡ world
-  same_world world = ap (λ (events : List Event). record { left = world.left; trace = events }) (append-nil world.trace)
+  same_world world = ap (λ (events : List Event). record world { trace = events }) (append-nil world.trace)
 
   pub print_text_performs : (base x : ℕ) (piece : List ℕ) (print own : List Line) (cells : ℕ → Option ℕ) (world : World) → x < base → PrintLines base target.constants.texts piece print → own ≡ print ++ sets unit_word x ∷ []
       → Performs own x unit_type unit cells world (told_more (put_of piece) world) (put_of piece)
@@ -404,7 +404,7 @@ module _ (target : Target) where
   left_behind (byte ∷ rest) = rest
 
   abbrev pub world_behind : List ℕ → World → World
-  world_behind left world = record { left = left_behind left; trace = world.trace ++ read_events left }
+  world_behind left world = record world { left = left_behind left; trace = world.trace ++ read_events left }
 
   read_runs : (x word : ℕ) (left : List ℕ) (own : List Line) (cells : ℕ → Option ℕ) (world : World) → (Runs.world_primitives target).serve Routine.ReadByte [] None world ≡ answers word (world_behind left world) false
       → IsWordOf int32 (byte_value (got left)) word → Performs (record { action = Action.Routine Routine.ReadByte; args = []; into = Some x } ∷ []) x int32 (byte_value (got left)) cells world (world_behind left world) (read_events left)
@@ -429,7 +429,7 @@ module _ (target : Target) where
       → Performs own x int32 (byte_value (got left)) cells world (world_behind left world) (read_events left)
   read_performs x [] own cells world left_is bytes lines =
       subst (λ some. Performs some x int32 (byte_value None) cells world (world_behind [] world) (input_end ∷ [])) (sym lines)
-      (read_runs x (2 ^ 32 - 1) [] own cells world (ap (λ l. read_next l world) left_is ∙ ap (λ l. answers (2 ^ 32 - 1) (record { left = l; trace = world.trace ++ input_end ∷ [] }) false) left_is) (refl, lit< tt))
+      (read_runs x (2 ^ 32 - 1) [] own cells world (ap (λ l. read_next l world) left_is ∙ ap (λ l. answers (2 ^ 32 - 1) (record world { left = l; trace = world.trace ++ input_end ∷ [] }) false) left_is) (refl, lit< tt))
   read_performs x (byte ∷ rest) own cells world left_is bytes lines =
       let small : byte < 256 = All-head (λ b. b < 256) byte rest bytes in
       subst (λ some. Performs some x int32 (byte_value (Some byte)) cells world (world_behind (byte ∷ rest) world) (input byte ∷ [])) (sym lines)

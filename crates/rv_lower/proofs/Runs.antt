@@ -14,28 +14,30 @@ use Rattle.rv_isa.specs.AsmMachine.{AsmTurn, asm_acts, asm_next, asm_machine, as
 use Rattle.rv_isa.specs.Costs.{operation_instructions, instructions_of}
 use Rattle.rv_isa.specs.Frames.{Frame, put, put_into, all_of, top}
 use Rattle.rv_isa.specs.Primitives.{Primitives, go, ended, stuck, or_stuck}
+use Rattle.cell_heap.specs.Pool.{Pool}
 use Rattle.rv_world.specs.Operations.{Constants, computed}
-use Rattle.rv_world.specs.World.{World, primitives}
+use Rattle.rv_world.specs.World.{World, primitives, computed_in}
 use Rattle.rv_lower.specs.Lines.{computes}
 use Rattle.rv_lower.proofs.Following.{frame_at, turn_at}
 
 -- the most that a line weighs, with so many moves before it
 abbrev pub line_cost : ℕ → ℕ
-line_cost moves = 4 * moves + 90
+line_cost moves = moves + 90
 
--- the assembler's machine of a program: its constants, how many moves may stand before a line, the depth, and its functions
+-- the assembler's machine of a program: its constants and cells, how many moves may stand before a line, the depth, and its functions
 pub record Target : Type 0 where
   pub constants : Constants
+  pub pool : Pool
   pub moves : ℕ
   pub depth : ℕ
   pub functions : List Lines
 
 module _ (target : Target) where
   abbrev pub world_primitives : Primitives World Event Ending
-  world_primitives = primitives target.constants
+  world_primitives = primitives target.constants target.pool
 
   abbrev pub machine : Machine (AsmTurn World Ending) Event Ending
-  machine = asm_machine (primitives target.constants) target.moves target.depth target.functions
+  machine = asm_machine (primitives target.constants target.pool) target.moves target.depth target.functions
 
   -- so many steps lead from a turn to another, with these events, and none of them is stuck
   pub record Runs (n : ℕ) (events : List Event) (t u : AsmTurn World Ending) : Type 0 where
@@ -90,8 +92,8 @@ module _ (target : Target) where
       let told : drop (length world.trace) (asm_told world_primitives (asm_next world_primitives target.depth target.functions t)) ≡ events
       = ap (λ (s : AsmTurn World Ending). drop (length world.trace) (asm_told world_primitives s)) next ∙ told_are in
       let held : Option ℕ = top (frame_at whole (line ∷ rest) cells into ∷ fs) in
-      let weighs : machine.weight t ≡ target.moves * 4 + instructions_of world_primitives line.action (Some words) held world
-      = ap (λ o. target.moves * 4 + instructions_of world_primitives line.action o held world) words_are in
+      let weighs : machine.weight t ≡ target.moves * 1 + instructions_of world_primitives line.action (Some words) held world
+      = ap (λ o. target.moves * 1 + instructions_of world_primitives line.action o held world) words_are in
       record {
         within = omega (arith, weighs, light held);
         events_are = append-nil (drop (length world.trace) (asm_told world_primitives (asm_next world_primitives target.depth target.functions t))) ∙ told;
@@ -102,7 +104,7 @@ module _ (target : Target) where
   pub silent : (world : World) → drop (length world.trace) world.trace ≡ []
   silent world = drop-length world.trace
 
-  few_instructions : (operation : Operation) → operation_instructions operation ≤ 2
+  few_instructions : (operation : Operation) → operation_instructions operation ≤ 5
   few_instructions (Op.Register operation) = omega arith
   few_instructions (Op.Immediate operation immediate) = omega arith
   few_instructions (Op.Shift operation amount) = omega arith
@@ -111,13 +113,27 @@ module _ (target : Target) where
   few_instructions (Op.La constant) = omega arith
   few_instructions (Op.Lw offset) = omega arith
   few_instructions (Op.Sw offset) = omega arith
+  few_instructions Op.Dup = omega arith
+  few_instructions Op.Free = omega arith
+
+  -- an operation on words alone leaves the world as it is
+  on_words : (operation : Operation) (words : List ℕ) (word : ℕ) (world : World) → computed target.constants operation words ≡ Some word → computed_in target.constants operation words world ≡ Some (word, world)
+  on_words (Op.Register operation) words word world is = ap (option_map (λ w. (w, world))) is
+  on_words (Op.Immediate operation immediate) words word world is = ap (option_map (λ w. (w, world))) is
+  on_words (Op.Shift operation amount) words word world is = ap (option_map (λ w. (w, world))) is
+  on_words (Op.Li number) words word world is = ap (option_map (λ w. (w, world))) is
+  on_words Op.Mv words word world is = ap (option_map (λ w. (w, world))) is
+  on_words (Op.La constant) words word world is = ap (option_map (λ w. (w, world))) is
+  on_words (Op.Lw offset) words word world is = cc is
+  on_words (Op.Sw offset) words word world is = cc is
+  on_words Op.Dup words word world is = cc is
+  on_words Op.Free words word world is = cc is
 
   -- an operation on words
   pub compute_runs : (whole : List Line) (operation : Operation) (args : List ℕ) (x : ℕ) (rest : List Line) (cells : ℕ → Option ℕ) (into : Option ℕ) (fs : List (Frame Line)) (world : World) (words : List ℕ) (word : ℕ)
       → all_of (map cells args) ≡ Some words → computed target.constants operation words ≡ Some word
       → Runs 1 [] (turn_at whole (computes operation args x ∷ rest) cells into fs world) (turn_at whole rest (put x (Some word) cells) into fs world)
   compute_runs whole operation args x rest cells into fs world words word words_are computed_is =
-      let answered : Option ℕ → Option (ℕ × World) = λ o. option_map (λ word. (word, world)) o in
       line_runs whole (computes operation args x) rest cells into fs world words [] (turn_at whole rest (put x (Some word) cells) into fs world) words_are
-      (ap (λ o. or_stuck (answered o) (λ (r : ℕ × World). asm_goes (record { whole = whole; code = rest; cells = put_into (Some x) r.0 cells; held = []; into = into }) fs r.1)) computed_is)
+      (ap (λ o. or_stuck o (λ (r : ℕ × World). asm_goes (record { whole = whole; code = rest; cells = put_into (Some x) r.0 cells; held = []; into = into }) fs r.1)) (on_words operation words word world computed_is))
       (λ held. omega (arith, few_instructions operation)) (silent world)

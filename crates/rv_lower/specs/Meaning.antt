@@ -16,13 +16,14 @@ use Rattle.rv_isa.specs.AsmMachine.{asm_machine, asm_start}
 use Rattle.rv_isa.specs.Primitives.{stuck}
 use Rattle.rv_isa.specs.WellFormed.{AreWellFormed, all_lines}
 use Rattle.kk_base.specs.Machines.{state}
+use Rattle.cell_heap.specs.Pool.{Pool}
 use Rattle.rv_world.specs.Operations.{all_bytes}
-use Rattle.rv_world.specs.World.{World, primitives}
+use Rattle.rv_world.specs.World.{first_world, primitives}
 
 -- What a step of the core weighs in assembler code, each line of which may have so many moves before it: at most ten lines do it, each with at
--- most 90 instructions and the moves, of at most 4 instructions each.
+-- most 90 instructions and the moves.
 abbrev pub core_cost : ℕ → ℕ
-core_cost moves = 10 * (4 * moves + 90)
+core_cost moves = 10 * (moves + 90)
 
 -- the core machine as an image tells it: the events that the world sees, and the number of the exit
 abbrev pub core_outside : ℕ → CoreSetting → Machine CoreState Event Ending
@@ -32,20 +33,16 @@ core_outside cost setting = mapped events_of (λ end. exited (exit_of end)) (cor
 abbrev pub setting_of_core : ProgramCode → PositionTable → ℕ → ℕ → CoreSetting
 setting_of_core code positions cells depth = record { code = code; positions = positions; cells = cells; depth = depth }
 
--- the world at the start
-abbrev pub first_world : List ℕ → World
-first_world input = record { left = input; trace = [] }
-
--- On each input of bytes, for all lent positions, cells and depth, wherever the constants stand and however many moves stand in a row, the
--- assembler's machine agrees with the core's; and it never comes to a state in which it can do nothing.
+-- On each input of bytes, for all lent positions, cells and depth, wherever the constants and the cells stand and however many moves stand in a
+-- row, the assembler's machine agrees with the core's; and it never comes to a state in which it can do nothing.
 pub record DoesAsCore (code : ProgramCode) (functions : List Lines) (texts : List (List ℕ)) (main : Lines) : Type 0 where
-  pub agrees : (positions : PositionTable) (cells depth first moves : ℕ) (input : List ℕ) → 1 ≤ depth → All (λ byte. byte < 256) input
+  pub agrees : (positions : PositionTable) (pool : Pool) (cells depth first moves : ℕ) (input : List ℕ) → 1 ≤ depth → All (λ byte. byte < 256) input
       → first + length (all_bytes texts) < 2 ^ 32
-      → (up : ℕ → ℕ) × Agree (core_outside (core_cost moves) (setting_of_core code positions cells depth)) (asm_machine (primitives (record { first = first; texts = texts })) moves depth functions) 0 up
-      (core_first_state (setting_of_core code positions cells depth) input) (asm_start main (first_world input))
-  pub never_stuck : (positions : PositionTable) (cells depth first n : ℕ) (input : List ℕ) → 1 ≤ depth → All (λ byte. byte < 256) input
+      → (up : ℕ → ℕ) × Agree (core_outside (core_cost moves) (setting_of_core code positions cells depth)) (asm_machine (primitives (record { first = first; texts = texts }) pool) moves depth functions) 0 up
+      (core_first_state (setting_of_core code positions cells depth) input) (asm_start main (first_world pool input))
+  pub never_stuck : (positions : PositionTable) (pool : Pool) (cells depth first n : ℕ) (input : List ℕ) → 1 ≤ depth → All (λ byte. byte < 256) input
       → first + length (all_bytes texts) < 2 ^ 32
-      → (state (asm_machine (primitives (record { first = first; texts = texts })) 0 depth functions) n (asm_start main (first_world input)) ≡ stuck) → ⊥
+      → (state (asm_machine (primitives (record { first = first; texts = texts }) pool) 0 depth functions) n (asm_start main (first_world pool input)) ≡ stuck) → ⊥
 
 -- the assembler code of a program in core form: it is well formed, small, and does what the program does
 pub record IsAsmOf (code : ProgramCode) (functions : List Lines) (texts : List (List ℕ)) : Type 0 where

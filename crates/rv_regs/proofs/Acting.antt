@@ -4,7 +4,7 @@ use Rattle.std.specs.List.{AllByRecursion}
 use Rattle.std.proofs.lemmas.Bool.{eqb-true, eqb-false, cond-true, or_cases, or_left, or_right, and_from, and_parts, not-true, not_from_false, false≢true, cases_Bool, cond_both, false_from_ne_true, le-leb}
 use Rattle.rv_isa.specs.declared.asm.Action.{Action}
 use Rattle.rv_isa.specs.declared.asm.Action.TheVariants.{Compute, Label, Jump, Branch, Call, TailCall, Return, Routine, Hold, Unhold}
-use Rattle.rv_isa.specs.declared.asm.Operation.TheVariants.{Register, Immediate, Shift, Li, Mv, La, Lw, Sw}
+use Rattle.rv_isa.specs.declared.asm.Operation.TheVariants.{Register, Immediate, Shift, Li, Mv, La, Lw, Sw, Dup, Free}
 use Rattle.rv_isa.specs.declared.routine.Routine.TheVariants.{Take, Drop, PrintInt, PrintText, ReadByte}
 use Rattle.rv_isa.specs.declared.placed.Place.{Place}
 use Rattle.rv_isa.specs.declared.placed.Place.TheVariants.{Register as register, Slot as slot}
@@ -118,6 +118,8 @@ takes_row action first loaded n (v ∷ vs) distinct takes stand =
 takes_args : (action : Action) (args : List ℕ) → length args ≤ most_args action → HoldsNone action → (hands_over action ≡ true → AreDistinct args)
     → take_from action 0 (map (operand_at (place_in (load_from (first_register action) args))) args) ≡ true
 takes_args (Compute operation) args few none distinct = takes_any (Compute operation) (load_from 5 args) 0 args (λ k place t. t) (λ v t. place_loaded 5 args v t)
+takes_args Hold args few none distinct = absurd none
+takes_args Unhold args few none distinct = absurd none
 takes_args action args few none distinct = in_row action args few none (distinct refl)
   where
     in_row : (action : Action) (args : List ℕ) → length args ≤ most_args action → HoldsNone action → AreDistinct args
@@ -139,6 +141,8 @@ gives_number (Compute Mv) may = refl
 gives_number (Compute (La constant)) may = refl
 gives_number (Compute (Lw offset)) may = refl
 gives_number (Compute (Sw offset)) may = absurd (false≢true may)
+gives_number (Compute Dup) may = absurd (false≢true may)
+gives_number (Compute Free) may = absurd (false≢true may)
 gives_number (Call f) may = refl
 gives_number (Routine Take) may = refl
 gives_number (Routine Drop) may = absurd (false≢true may)
@@ -194,16 +198,20 @@ written_is f None v w = absurd w
 written_is f (Some x) v w = eq-eqb x v w
 
 -- not in the register of the result
-clear_of_result : (action : Action) (args : List ℕ) (u : ℕ) → length args ≤ most_args action → (hands_over action ≡ true → place_in (load_from (first_register action) args) u ≡ slot u)
+clear_of_result : (action : Action) (args : List ℕ) (u : ℕ) → length args ≤ most_args action → HoldsNone action → (hands_over action ≡ true → place_in (load_from (first_register action) args) u ≡ slot u)
     → register (numbered (result_register action)) ≢ place_in (load_from (first_register action) args) u
-clear_of_result (Compute operation) args u few at_slot same =
+clear_of_result (Compute operation) args u few none at_slot same =
     place_ne (numbered 7) (load_from 5 args) u (load_numbers (λ k. 7 ≢ k) 5 args (λ k low high e. omega (arith, e, number_is k (omega (arith, high, few)), high, few))) (sym same)
-clear_of_result action args u few at_slot same = no_slot (numbered (result_register action)) u (sym (same ∙ at_slot refl))
+clear_of_result Hold args u few none at_slot same = absurd none
+clear_of_result Unhold args u few none at_slot same = absurd none
+clear_of_result action args u few none at_slot same = no_slot (numbered (result_register action)) u (sym (same ∙ at_slot refl))
 
-safe_in : (action : Action) (place : Place) (u : ℕ) → (hands_over action ≡ true → place ≡ slot u) → IsSafe (spoils action) place
-safe_in (Compute operation) (register r) u at_slot = refl
-safe_in (Compute operation) (slot k) u at_slot = tt
-safe_in action place u at_slot = subst (IsSafe (spoils action)) (sym (at_slot refl)) tt
+safe_in : (action : Action) (place : Place) (u : ℕ) → HoldsNone action → (hands_over action ≡ true → place ≡ slot u) → IsSafe (spoils action) place
+safe_in (Compute operation) (register r) u none at_slot = refl
+safe_in (Compute operation) (slot k) u none at_slot = tt
+safe_in Hold place u none at_slot = absurd none
+safe_in Unhold place u none at_slot = absurd none
+safe_in action place u none at_slot = subst (IsSafe (spoils action)) (sym (at_slot refl)) tt
 
 module _ (action : Action) (args : List ℕ) (into : Option ℕ) (rest : List Line) (formed : IsLineFormed (record { action = action; args = args; into = into }) rest) where
   abbrev loaded_here : List Loaded
@@ -228,7 +236,7 @@ module _ (action : Action) (args : List ℕ) (into : Option ℕ) (rest : List Li
   at_slot u alive unwritten over = place_unloaded (first_register action) args u (false_from_ne_true (is_among u args) (λ arg. spent_there over u arg alive unwritten))
 
   clear_here : (u : ℕ) → is_alive_behind u action rest ≡ true → is_written into u ≡ false → IsClearOf (result_of action into) (listing_at (place_in loaded_here) u)
-  clear_here u alive unwritten = go into unwritten (clear_of_result action args u formed.few (at_slot u alive unwritten))
+  clear_here u alive unwritten = go into unwritten (clear_of_result action args u formed.few formed.holds_none (at_slot u alive unwritten))
     where
       go : (o : Option ℕ) → is_written o u ≡ false → register (numbered (result_register action)) ≢ place_in loaded_here u → IsClearOf (result_of action o) (listing_at (place_in loaded_here) u)
       go None none clear = tt
@@ -244,7 +252,7 @@ module _ (action : Action) (args : List ℕ) (into : Option ℕ) (rest : List Li
   stays_here : (place_next : ℕ → Place) (u : ℕ) → is_alive_behind u action rest ≡ true → is_written into u ≡ false → place_next u ≡ place_in loaded_here u
       → Stays before_here (place_in loaded_here) (result_of action into) (spoils action) place_next u
   stays_here place_next u alive unwritten same =
-      inr (stays_before u alive unwritten, same, clear_here u alive unwritten, safe_in action (place_in loaded_here u) u (at_slot u alive unwritten))
+      inr (stays_before u alive unwritten, same, clear_here u alive unwritten, safe_in action (place_in loaded_here u) u formed.holds_none (at_slot u alive unwritten))
 
   abbrev pending_here : List Loaded
   pending_here = pending action into (alive_values rest) loaded_here
@@ -394,6 +402,8 @@ result_differs (Compute operation) args into rest formed v is =
     (left_unwritten into (alive_values rest) (load_from 5 args))
     (all_kept (λ (m : Loaded). 7 ≢ m.register.number) (stays into (alive_values rest)) (load_from 5 args)
     (load_numbers (λ k. 7 ≢ k) 5 args (λ k low high e. omega (arith, e, number_is k (omega (arith, high, formed.few)), high, formed.few))))
+result_differs Hold args into rest formed v is = absurd formed.holds_none
+result_differs Unhold args into rest formed v is = absurd formed.holds_none
 result_differs action args into rest formed v is =
     subst (AllByRecursion (Differ (record { value = v; register = numbered (result_register action) }))) (sym (none_left action args into rest formed refl)) tt
 

@@ -13,7 +13,7 @@ use Rattle.rv_isa.specs.declared.placed.Operand.{Operand}
 use Rattle.rv_isa.specs.declared.placed.Listed.{Listed}
 use Rattle.rv_isa.specs.AsmCode.{Line, Lines}
 use Rattle.rv_isa.specs.PlacedCode.{PlacedLine, PlacedLines}
-use Rattle.rv_isa.specs.Primitives.{Reply, answers, ends, fails, Primitives, ended, or_stuck}
+use Rattle.rv_isa.specs.Primitives.{Reply, answers, ends, fails, Primitives, ended, or_stuck, by_token}
 use Rattle.rv_isa.specs.Conventions.{is_in, is_slot, conforms, take_from, gives_into, gives_at}
 use Rattle.rv_isa.specs.Frames.{Frame, empty, put, put_into, found, top, taken_if, only_of, result_of, received, holding, unholding}
 use Rattle.rv_isa.specs.AsmMachine.{AsmTurn, is_label, bound, asm_entered, asm_goes, asm_jumps, asm_returns, asm_gives, asm_served, asm_acts}
@@ -338,14 +338,19 @@ module _ {H E W : Type 0} (m : Primitives H E W) (depth : ℕ) (asm : List Lines
   holds_token (arg ∷ other ∷ more) None ok fits = tt
   holds_token (arg ∷ []) None ok fits =
       let s = in_slot alive arg (All-head (IsAtPlace alive) arg [] fits.stand) (and_parts (is_slot arg.place) true (and_parts (is_slot arg.place && true) true ok).0).0 in
-      subst (λ (o : Option ℕ). StandsFor {W = W} (or_stuck (only_of words) (λ word. or_stuck (holding arg.value word f.held) (λ held. asm_goes (record f { held = held }) fs shared)))
-      (or_stuck o (λ k. or_stuck (only_of words) (λ word. or_stuck (holding k word g.held) (λ held. placed_goes (record g { held = held }) gs (kept_by Hold registers) shared))))) (sym s.slot_is)
-      (same_go (only_of words) (λ word. or_stuck (holding arg.value word f.held) (λ held. asm_goes (record f { held = held }) fs shared))
-      (λ word. or_stuck (holding s.k word g.held) (λ held. placed_goes (record g { held = held }) gs (kept_by Hold registers) shared))
-      (λ word e. both_go (holding arg.value word f.held) (holding s.k word g.held) (λ held. asm_goes (record f { held = held }) fs shared) (λ held. placed_goes (record g { held = held }) gs (kept_by Hold registers) shared)
+      let asm_on : ℕ → List ℕ → AsmTurn H W = λ word held. or_stuck (by_token m.hold word shared) (λ next. asm_goes (record f { held = held }) fs next) in
+      let placed_on : ℕ → List ℕ → PlacedTurn H W = λ word held. or_stuck (by_token m.hold word shared) (λ next. placed_goes (record g { held = held }) gs (kept_by Hold registers) next) in
+      subst (λ (o : Option ℕ). StandsFor {W = W} (or_stuck (only_of words) (λ word. or_stuck (holding arg.value word f.held) (asm_on word)))
+      (or_stuck o (λ k. or_stuck (only_of words) (λ word. or_stuck (holding k word g.held) (placed_on word))))) (sym s.slot_is)
+      (same_go (only_of words) (λ word. or_stuck (holding arg.value word f.held) (asm_on word)) (λ word. or_stuck (holding s.k word g.held) (placed_on word))
+      (λ word e. both_go (holding arg.value word f.held) (holding s.k word g.held) (asm_on word) (placed_on word)
       (λ held e'.
-      let there = held_both alive (first_alive g.code) (first_alive g.code ∷ []) arg s.k s.l (inl refl) stands.apart s.listed s.place f.held g.held held word fits.held stands.held e' in
-      (there.0, there.1, chained W alive Hold arg registers shared f fs g gs fits stands waits held there.0 there.2))))
+      let there = held_both alive (first_alive g.code) (first_alive g.code ∷ []) arg s.k s.l (inl refl) stands.apart s.listed s.place f.held g.held held word fits.held stands.held e' in (
+        there.0,
+        there.1,
+        same_go (by_token m.hold word shared) (λ next. asm_goes (record f { held = held }) fs next) (λ next. placed_goes (record g { held = there.0 }) gs (kept_by Hold registers) next)
+            (λ next e. chained W alive Hold arg registers next f fs g gs fits stands waits held there.0 there.2),
+      ))))
 
   takes_back : (args : List Operand) (into : Option Operand) → Chains Unhold args into
   takes_back args (Some o) ok fits = absurd (no_write Unhold args o refl ok)
@@ -353,14 +358,19 @@ module _ {H E W : Type 0} (m : Primitives H E W) (depth : ℕ) (asm : List Lines
   takes_back (arg ∷ other ∷ more) None ok fits = tt
   takes_back (arg ∷ []) None ok fits =
       let s = in_slot alive arg (All-head (IsAtPlace alive) arg [] fits.stand) (and_parts (is_slot arg.place) true (and_parts (is_slot arg.place && true) true ok).0).0 in
-      subst (λ (o : Option ℕ). StandsFor {W = W} (or_stuck (only_of words) (λ word. or_stuck (unholding arg.value word f.held) (λ held. asm_goes (record f { held = held }) fs shared)))
-      (or_stuck o (λ k. or_stuck (only_of words) (λ word. or_stuck (unholding k word g.held) (λ held. placed_goes (record g { held = held }) gs (kept_by Unhold registers) shared))))) (sym s.slot_is)
-      (same_go (only_of words) (λ word. or_stuck (unholding arg.value word f.held) (λ held. asm_goes (record f { held = held }) fs shared))
-      (λ word. or_stuck (unholding s.k word g.held) (λ held. placed_goes (record g { held = held }) gs (kept_by Unhold registers) shared))
-      (λ word e. both_go (unholding arg.value word f.held) (unholding s.k word g.held) (λ held. asm_goes (record f { held = held }) fs shared) (λ held. placed_goes (record g { held = held }) gs (kept_by Unhold registers) shared)
+      let asm_on : ℕ → List ℕ → AsmTurn H W = λ word held. or_stuck (by_token m.unhold word shared) (λ next. asm_goes (record f { held = held }) fs next) in
+      let placed_on : ℕ → List ℕ → PlacedTurn H W = λ word held. or_stuck (by_token m.unhold word shared) (λ next. placed_goes (record g { held = held }) gs (kept_by Unhold registers) next) in
+      subst (λ (o : Option ℕ). StandsFor {W = W} (or_stuck (only_of words) (λ word. or_stuck (unholding arg.value word f.held) (asm_on word)))
+      (or_stuck o (λ k. or_stuck (only_of words) (λ word. or_stuck (unholding k word g.held) (placed_on word))))) (sym s.slot_is)
+      (same_go (only_of words) (λ word. or_stuck (unholding arg.value word f.held) (asm_on word)) (λ word. or_stuck (unholding s.k word g.held) (placed_on word))
+      (λ word e. both_go (unholding arg.value word f.held) (unholding s.k word g.held) (asm_on word) (placed_on word)
       (λ held e'.
-      let there = unheld_both alive (first_alive g.code) (first_alive g.code ∷ []) arg s.k s.l (inl refl) stands.apart s.listed s.place fits.held f.held g.held held word stands.held e' in
-      (there.0, there.1, chained W alive Unhold arg registers shared f fs g gs fits stands waits held there.0 there.2))))
+      let there = unheld_both alive (first_alive g.code) (first_alive g.code ∷ []) arg s.k s.l (inl refl) stands.apart s.listed s.place fits.held f.held g.held held word stands.held e' in (
+        there.0,
+        there.1,
+        same_go (by_token m.unhold word shared) (λ next. asm_goes (record f { held = held }) fs next) (λ next. placed_goes (record g { held = there.0 }) gs (kept_by Unhold registers) next)
+            (λ next e. chained W alive Unhold arg registers next f fs g gs fits stands waits held there.0 there.2),
+      ))))
 
 -- Of an action that fits, the two machines make turns that stand for each other.
 pub follows : {H E W : Type 0} (m : Primitives H E W) (depth : ℕ) (asm : List Lines) (placed : List PlacedLines) → ArePlacings asm placed

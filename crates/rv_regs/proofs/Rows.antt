@@ -3,12 +3,12 @@ use Rattle.std.proofs.Common.{◌≡◌, ◌≤◌, ℕ, zero, suc, List, [], �
 use Rattle.rv_isa.specs.declared.asm.Action.{Action}
 use Rattle.rv_isa.specs.declared.asm.Action.TheVariants.{Compute, Label, Jump, Branch, Call, TailCall, Return, Routine, Hold, Unhold}
 use Rattle.rv_isa.specs.declared.placed.Operand.{Operand}
-use Rattle.rv_isa.specs.PlacedCode.{PlacedLine, does, moves, PlacedLines}
-use Rattle.rv_isa.specs.Primitives.{Reply, answers, ends, fails, Primitives, ended, stuck, or_stuck}
+use Rattle.rv_isa.specs.PlacedCode.{PlacedLine, does, moves, PlacedLines, from_of, to_of}
+use Rattle.rv_isa.specs.Primitives.{Reply, answers, ends, fails, Primitives, ended, stuck, or_stuck, by_token}
 use Rattle.rv_isa.specs.Conventions.{conforms}
 use Rattle.rv_isa.specs.Frames.{Frame, empty, put, all_of, found, top, top_taken, taken_in, taken_if, only_of, result_of, received, holding, unholding}
 use Rattle.rv_isa.specs.AsmMachine.{unless_held}
-use Rattle.rv_isa.specs.PlacedMachine.{PlacedTurn, is_label_line, read_at, kept_by, passed, awaited, only_slot, placed_entered, placed_goes, placed_gives, placed_jumps, placed_returns, placed_answered, placed_served, placed_acts, placed_line}
+use Rattle.rv_isa.specs.PlacedMachine.{PlacedTurn, is_label_line, read_at, kept_by, passed, awaited, only_slot, placed_entered, placed_goes, placed_writes, placed_gives, placed_jumps, placed_returns, placed_answered, placed_served, placed_acts, is_held, placed_line}
 use Rattle.rv_regs.specs.Relation.{leading, FewMoves, AllFewMoves, FramesFewMoves, HasFewMoves}
 
 pub leading_within : (most : ℕ) (code : List PlacedLine) → FewMoves most code → leading code ≤ most
@@ -107,13 +107,17 @@ module _ {H E W : Type 0} (m : Primitives H E W) (most depth : ℕ) (placed : Li
       (some_few most (result_of words) (λ result. placed_returns m gs shared result) (λ result e. returns_few m most gs shared result few.1))
   acts_few g gs registers shared args into words (Routine routine) few = served_few most into (g ∷ gs) (kept_by (Routine routine) registers) (m.serve routine words (top (g ∷ gs)) shared) few
   acts_few g gs registers shared args into words Hold few =
-      some_few most (only_slot args) (λ k. or_stuck (only_of words) (λ word. or_stuck (holding k word g.held) (λ held. placed_goes (record g { held = held }) gs (kept_by Hold registers) shared)))
-      (λ k e. some_few most (only_of words) (λ word. or_stuck (holding k word g.held) (λ held. placed_goes (record g { held = held }) gs (kept_by Hold registers) shared))
-      (λ word e'. some_few most (holding k word g.held) (λ held. placed_goes (record g { held = held }) gs (kept_by Hold registers) shared) (λ held e''. few)))
+      let goes : List ℕ → H → PlacedTurn H W = λ held next. placed_goes (record g { held = held }) gs (kept_by Hold registers) next in
+      let on : ℕ → List ℕ → PlacedTurn H W = λ word held. or_stuck (by_token m.hold word shared) (goes held) in
+      some_few most (only_slot args) (λ k. or_stuck (only_of words) (λ word. or_stuck (holding k word g.held) (on word)))
+      (λ k e. some_few most (only_of words) (λ word. or_stuck (holding k word g.held) (on word))
+      (λ word e'. some_few most (holding k word g.held) (on word) (λ held e''. some_few most (by_token m.hold word shared) (goes held) (λ next e'''. few))))
   acts_few g gs registers shared args into words Unhold few =
-      some_few most (only_slot args) (λ k. or_stuck (only_of words) (λ word. or_stuck (unholding k word g.held) (λ held. placed_goes (record g { held = held }) gs (kept_by Unhold registers) shared)))
-      (λ k e. some_few most (only_of words) (λ word. or_stuck (unholding k word g.held) (λ held. placed_goes (record g { held = held }) gs (kept_by Unhold registers) shared))
-      (λ word e'. some_few most (unholding k word g.held) (λ held. placed_goes (record g { held = held }) gs (kept_by Unhold registers) shared) (λ held e''. few)))
+      let goes : List ℕ → H → PlacedTurn H W = λ held next. placed_goes (record g { held = held }) gs (kept_by Unhold registers) next in
+      let on : ℕ → List ℕ → PlacedTurn H W = λ word held. or_stuck (by_token m.unhold word shared) (goes held) in
+      some_few most (only_slot args) (λ k. or_stuck (only_of words) (λ word. or_stuck (unholding k word g.held) (on word)))
+      (λ k e. some_few most (only_of words) (λ word. or_stuck (unholding k word g.held) (on word))
+      (λ word e'. some_few most (unholding k word g.held) (on word) (λ held e''. some_few most (by_token m.unhold word shared) (goes held) (λ next e'''. few))))
 
   line_few : (code : List PlacedLine) (g : Frame PlacedLine) (gs : List (Frame PlacedLine)) (registers : ℕ → Option ℕ) (shared : H) → FewMoves most code → FramesFewMoves most (g ∷ gs)
       → HasFewMoves most (placed_line m depth placed g gs registers shared code)
@@ -123,7 +127,8 @@ module _ {H E W : Type 0} (m : Primitives H E W) (most depth : ℕ) (placed : Li
       (some_few most (all_of (map (λ (arg : Operand). read_at registers g.cells arg.place) args)) (λ words. placed_acts m depth placed (record g { code = rest }) gs registers shared action args into words)
       (λ words e. acts_few (record g { code = rest }) gs registers shared args into words action ((here.1, few.0.1), few.1)))
       tt
-  line_few (moves alive value way ∷ rest) g gs registers shared here few = ((here.1, few.0.1), few.1)
+  line_few (moves alive value way ∷ rest) g gs registers shared here few =
+      cond_few most (is_held g.held (to_of way)) stuck (placed_writes (to_of way) (read_at registers g.cells (from_of way)) (record g { code = rest }) gs registers shared) tt ((here.1, few.0.1), few.1)
 
   -- a step leads to such code
   pub few_next : (g : Frame PlacedLine) (gs : List (Frame PlacedLine)) (registers : ℕ → Option ℕ) (shared : H) → FramesFewMoves most (g ∷ gs) → HasFewMoves most (placed_line m depth placed g gs registers shared g.code)

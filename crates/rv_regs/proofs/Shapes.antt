@@ -3,7 +3,7 @@ use Rattle.std.proofs.Common.{◌≡◌, ◌<◌, ◌≤◌, ◌+◌, ◌*◌, �
 use Rattle.std.specs.List.{AllByRecursion, filter}
 use Rattle.std.proofs.lemmas.Bool.{cond_both}
 use Rattle.rv_isa.specs.declared.asm.Action.{Action}
-use Rattle.rv_isa.specs.declared.asm.Action.TheVariants.{Compute}
+use Rattle.rv_isa.specs.declared.asm.Action.TheVariants.{Compute, Hold, Unhold}
 use Rattle.rv_isa.specs.declared.placed.Place.TheVariants.{Register as register}
 use Rattle.rv_isa.specs.declared.placed.Operand.{Operand}
 use Rattle.rv_isa.specs.declared.placed.Listed.{Listed}
@@ -50,6 +50,8 @@ few_given action (Some v) behind =
 few_left : (action : Action) (args : List ℕ) (into : Option ℕ) (rest : List Line) → IsLineFormed (record { action = action; args = args; into = into }) rest
     → length (left_in into (falls_to action (alive_values rest)) (load_from (first_register action) args)) ≤ 2
 few_left (Compute operation) args into rest formed = omega (arith, few_kept (stays into (alive_values rest)) (load_from 5 args), few_loads 5 args, formed.few)
+few_left Hold args into rest formed = absurd formed.holds_none
+few_left Unhold args into rest formed = absurd formed.holds_none
 few_left action args into rest formed = subst (λ (ls : List Loaded). length ls ≤ 2) (sym (none_left action args into rest formed refl)) (omega arith)
 
 few_pending : (line : Line) (rest : List Line) → IsLineFormed line rest → length (pending line.action line.into (alive_values rest) (load_from (first_register line.action) line.args)) ≤ 3

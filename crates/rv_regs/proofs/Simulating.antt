@@ -1,9 +1,9 @@
 -- The placed form's machine simulates the assembler form's: the moves that stand before a statement, and then the statement.
-use Rattle.std.proofs.Common.{◌≡◌, ◌≢◌, ◌+◌, ◌*◌, ◌≤◌, ◌<◌, ℕ, zero, suc, List, [], ◌∷◌, ◌++◌, Option, Some, None, false, slice_get, length, drop, inl, refl, sym, ◌∙◌, ap, subst, arith, map, option_map}
+use Rattle.std.proofs.Common.{◌≡◌, ◌≢◌, ◌==◌, ◌+◌, ◌*◌, ◌≤◌, ◌<◌, ℕ, zero, suc, List, [], ◌∷◌, ◌++◌, Option, Some, None, Bool, false, All, slice_get, length, drop, inl, inr, refl, sym, ◌∙◌, ap, subst, arith, map, option_map}
 use Rattle.std.proofs.Math.Seq.{drop-length}
 use Rattle.std.proofs.lemmas.List.{append-nil}
 use Rattle.std.proofs.lemmas.List.Elements.{All-head}
-use Rattle.std.proofs.lemmas.Bool.{cond-true}
+use Rattle.std.proofs.lemmas.Bool.{cond-true, cond-false, or_from, ne_eqb, false≢true}
 use Rattle.kk_base.specs.Machines.{trace, state, weight_of}
 use Rattle.kk_base.specs.Simulations.{Reaches, Simulates}
 use Rattle.kk_base.specs.Agreements.{Agree}
@@ -11,20 +11,23 @@ use Rattle.kk_base.proofs.Simulations.{ended_reaches, simulates_agree, simulates
 use Rattle.rv_isa.specs.declared.asm.Action.{Action}
 use Rattle.rv_isa.specs.declared.placed.Operand.{Operand}
 use Rattle.rv_isa.specs.declared.placed.Listed.{Listed}
+use Rattle.rv_isa.specs.declared.placed.Place.{Place}
+use Rattle.rv_isa.specs.declared.placed.Place.TheVariants.{Register as register, Slot as slot}
 use Rattle.rv_isa.specs.declared.placed.Way.{Way}
 use Rattle.rv_isa.specs.AsmCode.{Line, Lines}
 use Rattle.rv_isa.specs.PlacedCode.{PlacedLine, does, moves, PlacedLines, from_of, to_of}
 use Rattle.rv_isa.specs.Primitives.{Primitives, go, ended, stuck, or_stuck, end_of}
 use Rattle.rv_isa.specs.Conventions.{conforms}
 use Rattle.rv_isa.specs.Costs.{instructions_of, move_instructions}
-use Rattle.rv_isa.specs.Frames.{Frame, empty, all_of, top}
+use Rattle.rv_isa.specs.Frames.{Frame, empty, all_of, top, is_among}
 use Rattle.rv_isa.specs.AsmMachine.{AsmTurn, asm_acts, asm_line, asm_machine, asm_told, asm_line_weight, asm_start, bound}
-use Rattle.rv_isa.specs.PlacedMachine.{PlacedState, PlacedTurn, read_at, registers_with, slots_with, placed_acts, placed_line, placed_next, placed_machine, placed_told, placed_weight, placed_line_weight, placed_start}
-use Rattle.rv_regs.specs.Listings.{first_alive}
-use Rattle.rv_regs.specs.Conditions.{value_of, without_moves, IsAtPlace, AllFit, ArePlacings}
-use Rattle.rv_regs.specs.Relation.{Stands, AllWait, FramesStand, StandsFor, NeverStuck, leading, FewMoves, AllFewMoves, FramesFewMoves, HasFewMoves, Related, IsNotStuck}
+use Rattle.rv_isa.specs.PlacedMachine.{PlacedState, PlacedTurn, read_at, registers_with, slots_with, is_held, placed_acts, placed_line, placed_next, placed_machine, placed_told, placed_weight, placed_line_weight, placed_start}
+use Rattle.rv_regs.specs.Listings.{first_alive, marks}
+use Rattle.rv_regs.specs.Conditions.{value_of, without_moves, IsAtPlace, IsKept, AllFit, ArePlacings}
+use Rattle.rv_regs.specs.Relation.{HeldAs, Stands, AllWait, FramesStand, StandsFor, NeverStuck, leading, FewMoves, AllFewMoves, FramesFewMoves, HasFewMoves, Related, IsNotStuck}
 use Rattle.rv_regs.proofs.Changing.{holds_next, change_place}
-use Rattle.rv_regs.proofs.Chains.{IsNext, held_next}
+use Rattle.rv_regs.proofs.Chains.{token, IsNext, held_next}
+use Rattle.rv_regs.proofs.Placing.{listed_has}
 use Rattle.rv_regs.proofs.Tokens.{apart_first, top_same}
 use Rattle.rv_regs.proofs.Rows.{leading_within, few_next, function_few}
 use Rattle.rv_regs.proofs.Steps.{words_at, word_at, same_go, callee_both, enters}
@@ -56,6 +59,26 @@ moved alive value way rest registers f g at stands =
   where
     inl_refl : (next : List Listed) → IsNext next (next ∷ [])
     inl_refl next = inl refl
+
+-- what is written is not at the slot of a token that is listed as held behind the line
+clear_of_held : (alive next : List Listed) (marking : Listed → Listed) (write : Operand) (spoilt : ℕ → Bool) → All (IsKept alive marking (Some write) spoilt) next
+    → (vs ks : List ℕ) → HeldAs next vs ks → is_held ks write.place ≡ false
+clear_of_held alive next marking write spoilt kept vs ks held = by write.place refl
+  where
+    none : (j : ℕ) → write.place ≡ slot j → (vs ks : List ℕ) → HeldAs next vs ks → is_among j ks ≡ false
+    none j at [] [] held = refl
+    none j at [] (k ∷ ks) held = absurd held
+    none j at (v ∷ vs) [] held = absurd held
+    none j at (v ∷ vs) (k ∷ ks) held =
+        or_from (k == j) (is_among j ks) (ne_eqb k j (λ same. aside (listed_has (IsKept alive marking (Some write) spoilt) next v (token v k) kept held.0).0 (at ∙ sym (ap (λ x. slot x) same)))) (none j at vs ks held.1.1)
+      where
+        aside : IsKept alive marking (Some write) spoilt (token v k) → write.place ≢ slot k
+        aside (inl new) same = false≢true (sym new.2)
+        aside (inr stays) same = stays.1.0.1 same
+
+    by : (place : Place) → write.place ≡ place → is_held ks place ≡ false
+    by (register r) at = refl
+    by (slot j) at = none j at vs ks held
 
 module _ {H E W : Type 0} (m : Primitives H E W) (depth : ℕ) (asm : List Lines) (placed : List PlacedLines) (all : ArePlacings asm placed) where
   -- a statement of the code that is left makes turns that stand for each other
@@ -185,9 +208,13 @@ module _ {H E W : Type 0} (m : Primitives H E W) (depth : ℕ) (asm : List Lines
       let g' : Frame PlacedLine = record g { code = rest; cells = slots_with (to_of way) (read_at registers g.cells (from_of way)) g.cells } in
       let t : PlacedState H = record { frames = g ∷ gs; registers = registers; shared = shared } in
       let t' : PlacedState H = record { frames = g' ∷ gs; registers = registers'; shared = shared } in
-      let on : placed_next m depth placed (go t) ≡ go t' = ap (placed_line m depth placed g gs registers shared) at in
+      let fit : AllFit g.whole (moves alive value way ∷ rest) = subst (λ (c : List PlacedLine). AllFit g.whole c) at stands.same.code_fits in
+      let stands' = moved alive value way rest registers f g at stands in
+      let write : Operand = record { value = value; place = to_of way } in
+      let free : is_held g.held (to_of way) ≡ false = clear_of_held alive (first_alive rest) (marks None (record { value = value; place = from_of way } ∷ [])) write (λ x. false) fit.0.kept.0 f.held g.held stands'.held in
+      let on : placed_next m depth placed (go t) ≡ go t' = ap (placed_line m depth placed g gs registers shared) at ∙ cond-false (is_held g.held (to_of way)) stuck (go t') free in
       let few' : FramesFewMoves most (g' ∷ gs) = subst (λ (u : PlacedTurn H W). HasFewMoves most u) on (few_next m most depth placed all_few g gs registers shared few) in
-      let later = arrives most rest registers' shared f fs g' gs all_few refl (moved alive value way rest registers f g at stands) waits few' goes in
+      let later = arrives most rest registers' shared f fs g' gs all_few refl stands' waits few' goes in
       let light : placed_weight m (go t) ≤ move_instructions = omega (arith, ap (placed_line_weight m (g ∷ gs) registers shared g) at) in
       let silent : drop (length (m.told shared)) (placed_told m (placed_next m depth placed (go t))) ≡ [] = ap (λ (u : PlacedTurn H W). drop (length (m.told shared)) (placed_told m u)) on ∙ drop-length (m.told shared) in
       let events : List E = drop (length (m.told shared)) (asm_told m (asm_line m depth asm f fs shared f.code)) in

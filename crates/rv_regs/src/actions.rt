@@ -82,6 +82,8 @@ fn same_operation(a: Operation, b: Operation) -> bool
         (Operation::La(v), Operation::La(w)) => v == w,
         (Operation::Lw(i), Operation::Lw(j)) => same_immediate(i, j),
         (Operation::Sw(i), Operation::Sw(j)) => same_immediate(i, j),
+        (Operation::Dup, Operation::Dup) => true,
+        (Operation::Free, Operation::Free) => true,
         _ => false,
     }
 }

@@ -65,7 +65,7 @@ fn gives(action: Action, place: Place) -> bool
     ensures { result ≡ gives_at action place }
 {
     match action {
-        Action::Compute(Operation::Sw(_)) => false,
+        Action::Compute(Operation::Sw(_) | Operation::Dup | Operation::Free) => false,
         Action::Compute(_) => is_any_register(place),
         Action::Call(_) => is_in_register(10, place),
         Action::Routine(routine) => is_in_one(routine.gives(), place),

@@ -6,7 +6,7 @@ use Rattle.rv_isa.specs.Arithmetic.{signed, bit_of, sum_word, difference_word, s
 use Rattle.rv_isa.specs.declared.asm.Condition.{Condition}
 use Rattle.rv_isa.specs.declared.asm.Condition.TheVariants.{Equal, NotEqual, Less, GreaterEqual, LessUnsigned, GreaterEqualUnsigned}
 use Rattle.rv_isa.specs.declared.asm.Operation.{Operation}
-use Rattle.rv_isa.specs.declared.asm.Operation.TheVariants.{Register, Immediate, Shift, Li, Mv, La, Lw, Sw}
+use Rattle.rv_isa.specs.declared.asm.Operation.TheVariants.{Register, Immediate, Shift, Li, Mv, La}
 use Rattle.rv_isa.specs.declared.asm.RegisterOperation.{RegisterOperation}
 use Rattle.rv_isa.specs.declared.asm.RegisterOperation.TheVariants.{Add, Sub, Sll, Slt, Sltu, Xor, Srl, Sra, Or, And, Mul, Mulh, Mulhsu, Mulhu, Div, Divu, Rem, Remu}
 use Rattle.rv_isa.specs.declared.asm.ImmediateOperation.{ImmediateOperation}
@@ -83,7 +83,7 @@ abbrev pub bytes_at : Constants → ℕ → ℕ → Option (List ℕ)
 bytes_at constants at count =
     if nat_le constants.first at && nat_le (at + count) (constants.first + length (all_bytes constants.texts)) then Some (take count (drop (at - constants.first) (all_bytes constants.texts))) else None
 
--- the word of an operation on words; loads and stores are not done yet, since no program has cells
+-- the word of an operation on words alone
 abbrev pub computed : Constants → Operation → List ℕ → Option ℕ
 computed constants (Register operation) (a ∷ b ∷ []) = Some (register_word operation a b)
 computed constants (Immediate operation immediate) (a ∷ []) = Some (immediate_word operation a immediate.word)

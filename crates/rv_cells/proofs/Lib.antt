@@ -1,0 +1,15 @@
+pub mod Held
+pub mod Owners
+pub mod Rooms
+pub mod Requests
+pub mod Words
+pub mod Counts
+pub mod Cascades
+pub mod Drops
+pub mod Starts
+pub mod Runs
+pub mod Acting
+pub mod Values
+pub mod Spots
+pub mod Rows
+pub mod Openings

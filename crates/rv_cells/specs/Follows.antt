@@ -1,0 +1,86 @@
+-- When the cells of a program hold a counted heap: each counted cell stands in a block of its own, and all other blocks are free.
+use Rattle.std.specs.Prelude.{◌≡◌, ◌≢◌, ℕ, zero, suc, ◌%◌, ◌<◌, ◌≤◌, List, [], ◌∷◌, Option, Some, nat_eq, if◌then◌else◌}
+use Rattle.cell_heap.specs.Cells.{occurs}
+use Rattle.cell_heap.specs.Pool.{Pool, end_of, IsCell}
+use Rattle.cell_heap.specs.Blocks.{Block, no_block, unused, own, Cells}
+use Rattle.kk_counted.specs.Heaps.{Held, Heap, held_at, count_at}
+use Rattle.rv_cells.specs.Layout.{Layout, header_of, words_in, FitFields}
+
+-- these words are known one behind the other, from one on
+abbrev pub AreFrom : (ℕ → Option ℕ) → ℕ → List ℕ → Type 0
+AreFrom words i [] = Unit {0}
+AreFrom words i (w ∷ ws) = (words i ≡ Some w) × AreFrom words (suc i) ws
+
+-- the words of a block are those of a counted cell
+pub record IsBlockOf (layout : Layout) (address : ℕ → ℕ) (held : Held) (words : ℕ → Option ℕ) : Type 0 where
+  pub count : words 0 ≡ Some held.count
+  pub header : words 1 ≡ Some (header_of layout held.cell.made_by)
+  pub fields : AreFrom words 2 (words_in layout address held.cell.fields)
+  pub fits : FitFields (layout.fields held.cell.made_by) held.cell.fields
+
+-- What stands at an address: nothing that is used; the counted cell of a name; or a cell that was taken, of which words are known, and that is
+-- not counted yet.
+pub data Owner : Type 0 where
+  nobody : Owner
+  cell_of : (name : ℕ) → Owner
+  in_hand : (words : ℕ → Option ℕ) → Owner
+
+-- an address is a cell, and free; or it is none
+pub record IsFree (pool : Pool) (at : ℕ) (block : Block) : Type 0 where
+  pub free : IsCell pool at → block ≡ unused
+  pub none : (IsCell pool at → ⊥) → block ≡ no_block
+
+-- the block at an address is that of the cell of a name, which is counted
+pub record IsCellOf (pool : Pool) (layout : Layout) (address : ℕ → ℕ) (heap : Heap) (name at : ℕ) (block : Block) : Type 0 where
+  pub cell : IsCell pool at
+  pub is_at : address name ≡ at
+  pub held : Held
+  pub there : held_at heap name ≡ Some held
+  pub counted : 1 ≤ held.count
+  pub words : ℕ → Option ℕ
+  pub is : block ≡ own words
+  pub shows : IsBlockOf layout address held words
+
+abbrev pub BlockOf : Pool → Layout → (ℕ → ℕ) → Heap → ℕ → Owner → Block → Type 0
+BlockOf pool layout address heap at nobody block = IsFree pool at block
+BlockOf pool layout address heap at (cell_of name) block = IsCellOf pool layout address heap name at block
+BlockOf pool layout address heap at (in_hand words) block = IsCell pool at × (block ≡ own words)
+
+-- the free blocks are those of the chain, each once, and all cells from the border on
+pub record HasChain (pool : Pool) (cells : Cells) : Type 0 where
+  pub aligned : cells.border % 32 ≡ 0
+  pub behind : pool.first ≤ cells.border
+  pub within : cells.border ≤ end_of pool
+  pub fresh : (at : ℕ) → IsCell pool at → cells.border ≤ at → cells.blocks at ≡ unused
+  pub chained : (at : ℕ) → cells.blocks at ≡ unused → at < cells.border → occurs at cells.frees ≡ 1
+  pub members : (at : ℕ) → occurs at cells.frees ≢ 0 → (cells.blocks at ≡ unused) × (at < cells.border)
+
+-- By the address of each name and by what stands at each address, the cells are those of the heap: each counted name has a cell of its own, whose
+-- block is that of the cell.
+pub record Follows (pool : Pool) (layout : Layout) (address : ℕ → ℕ) (owners : ℕ → Owner) (heap : Heap) (cells : Cells) : Type 0 where
+  pub named : (name : ℕ) → 1 ≤ count_at heap name → owners (address name) ≡ cell_of name
+  pub blocks : (at : ℕ) → BlockOf pool layout address heap at (owners at) (cells.blocks at)
+  pub chain : HasChain pool cells
+
+-- ---- changes
+
+-- another owner of one address
+abbrev pub with_owner : ℕ → Owner → (ℕ → Owner) → ℕ → Owner
+with_owner at owner owners x = if nat_eq x at then owner else owners x
+
+-- the address of one name
+abbrev pub assign : ℕ → ℕ → (ℕ → ℕ) → ℕ → ℕ
+assign name at address x = if nat_eq x name then at else address x
+
+-- what stands at an address once counts are those of a later heap
+abbrev pub still_count : ℕ → ℕ → Owner
+still_count zero name = nobody
+still_count (suc k) name = cell_of name
+
+abbrev pub still : Heap → Owner → Owner
+still next (cell_of name) = still_count (count_at next name) name
+still next owner = owner
+
+-- no cell was taken that is not counted yet
+abbrev pub NoneInHand : (ℕ → Owner) → Type 0
+NoneInHand owners = (at : ℕ) (words : ℕ → Option ℕ) → owners at ≢ in_hand words

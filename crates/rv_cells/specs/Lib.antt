@@ -1,0 +1,4 @@
+pub mod Layout
+pub mod Follows
+pub mod Steps
+pub mod CellLines

@@ -1,0 +1,85 @@
+ghost use Rattle.std.specs.Prelude.{◌≡◌, ◌<◌, ◌≤◌, ℕ, suc, ◌%◌, ◌^◌, [], ◌∷◌, length, Option, Some, None, true};
+ghost use Rattle.cell_heap.specs.Pool.{Pool};
+ghost use Rattle.cell_heap.specs.Blocks.{Cells, own, with_block, with_word, request, unused_cells};
+ghost use Rattle.kk_source.specs.State.{Value, Cell};
+ghost use Rattle.kk_source.specs.Sound.{AllWithin};
+ghost use Rattle.kk_counted.specs.Heaps.{Heap, count_at, set_count, fields_held, busy, dup_value, drop_value};
+ghost use Rattle.rv_cells.specs.Layout.{Layout, IsNarrow, FitsField};
+ghost use Rattle.rv_cells.specs.Follows.{IsBlockOf, Owner, nobody, cell_of, in_hand, Follows, with_owner, assign, NoneInHand};
+ghost use Rattle.rv_cells.specs.Steps.{Served, Dupped, Dropped, IsPaid, Released};
+
+/// At the start the cells of a pool hold the empty heap. It is a law, and does nothing.
+pub fn unused_cells_hold_no_heap()
+    ensures { (pool : Pool) (layout : Layout) (address : ℕ → ℕ) → pool.first % 32 ≡ 0
+        → Follows pool layout address (λ at. nobody) [] (unused_cells pool) }
+{}
+
+/// A request is served by a free cell exactly where fewer cells are counted than there are. It is a law, and does nothing.
+pub fn requests_find_free_cells()
+    ensures served { (pool : Pool) (layout : Layout) (address : ℕ → ℕ) (owners : ℕ → Owner) (heap : Heap) (cells : Cells)
+        → pool.first % 32 ≡ 0 → Follows pool layout address owners heap cells → NoneInHand owners
+        → (top : Option ℕ) → busy heap < pool.cells → Served pool layout address owners heap cells top }
+    ensures full { (pool : Pool) (layout : Layout) (address : ℕ → ℕ) (owners : ℕ → Owner) (heap : Heap) (cells : Cells)
+        → pool.first % 32 ≡ 0 → Follows pool layout address owners heap cells → NoneInHand owners
+        → pool.cells ≤ busy heap → request pool None cells ≡ None }
+{}
+
+/// A word of a cell in hand is stored. It is a law, and does nothing.
+pub fn words_in_hand_are_stored()
+    ensures { (pool : Pool) (layout : Layout) (address : ℕ → ℕ) (owners : ℕ → Owner) (heap : Heap) (cells : Cells)
+        → Follows pool layout address owners heap cells
+        → (at index word : ℕ) (words : ℕ → Option ℕ) → owners at ≡ in_hand words
+        → Follows pool layout address (with_owner at (in_hand (with_word index word words)) owners) heap
+        (with_block at (own (with_word index word words)) cells) }
+{}
+
+/// A cell in hand that has the words of a counted cell is that cell, under the next name. It is a law, and does nothing.
+pub fn cells_in_hand_are_counted()
+    ensures { (pool : Pool) (layout : Layout) (address : ℕ → ℕ) (owners : ℕ → Owner) (heap : Heap) (cells : Cells)
+        → Follows pool layout address owners heap cells
+        → (at : ℕ) (words : ℕ → Option ℕ) (cell : Cell) → owners at ≡ in_hand words
+        → ((name : ℕ) → AllWithin name (fields_held heap name)) → AllWithin (length heap) cell.fields
+        → IsBlockOf layout address (record { count = 1; cell = cell }) words
+        → Follows pool layout (assign (length heap) at address) (with_owner at (cell_of (length heap)) owners)
+        (record { count = 1; cell = cell } ∷ heap) cells }
+{}
+
+/// A reference more is one in the cells, where counts are below 2^32. It is a law, and does nothing.
+pub fn references_are_duplicated()
+    ensures { (pool : Pool) (layout : Layout) (address : ℕ → ℕ) (owners : ℕ → Owner) (heap next : Heap) (cells : Cells) (v : Value)
+        → Follows pool layout address owners heap cells → FitsField true v → dup_value v heap ≡ Some next
+        → ((name : ℕ) → suc (count_at heap name) < 2 ^ 32) → Dupped pool layout address owners next cells v }
+{}
+
+/// A drop with all that it frees is done by the turns of the runtime's routine, and what the heap has saved pays for it. It is a law,
+/// and does nothing.
+pub fn references_are_dropped()
+    ensures { (pool : Pool) (layout : Layout) (address : ℕ → ℕ) (owners : ℕ → Owner) (heap next : Heap) (cells : Cells) (v : Value)
+        → pool.first % 32 ≡ 0 → IsNarrow layout → Follows pool layout address owners heap cells
+        → FitsField true v → drop_value v heap ≡ Some next
+        → (dropped : Dropped pool layout address owners heap next cells v) × IsPaid heap next dropped.work }
+{}
+
+/// A count is lowered by a store, where it is not the last one. It is a law, and does nothing.
+pub fn counts_are_stored()
+    ensures { (pool : Pool) (layout : Layout) (address : ℕ → ℕ) (owners : ℕ → Owner) (heap : Heap) (cells : Cells)
+        → Follows pool layout address owners heap cells
+        → (name count : ℕ) (words : ℕ → Option ℕ) → 1 ≤ count_at heap name → cells.blocks (address name) ≡ own words
+        → Follows pool layout address owners (set_count name (suc count) heap)
+        (with_block (address name) (own (with_word 0 (suc count) words)) cells) }
+{}
+
+/// A cell whose only reference is given up is in hand, with the words that it had. It is a law, and does nothing.
+pub fn unique_cells_are_opened()
+    ensures { (pool : Pool) (layout : Layout) (address : ℕ → ℕ) (owners : ℕ → Owner) (heap : Heap) (cells : Cells)
+        → Follows pool layout address owners heap cells
+        → (name : ℕ) (words : ℕ → Option ℕ) → count_at heap name ≡ 1 → cells.blocks (address name) ≡ own words
+        → Follows pool layout address (with_owner (address name) (in_hand words) owners) (set_count name 0 heap) cells }
+{}
+
+/// A cell in hand is given back. It is a law, and does nothing.
+pub fn cells_in_hand_are_released()
+    ensures { (pool : Pool) (layout : Layout) (address : ℕ → ℕ) (owners : ℕ → Owner) (heap : Heap) (cells : Cells)
+        → Follows pool layout address owners heap cells
+        → (at : ℕ) (words : ℕ → Option ℕ) → owners at ≡ in_hand words → Released pool layout address owners heap cells at }
+{}

@@ -1,0 +1,11 @@
+//! The counted heap in a program's cells: which words stand for a value, when cells hold a heap, and what requests, loads,
+//! stores, duplications and drops do then.
+#![tactic(auto)]
+
+mod law;
+
+pub use law::{
+    cells_in_hand_are_counted, cells_in_hand_are_released, counts_are_stored,
+    references_are_dropped, references_are_duplicated, requests_find_free_cells,
+    unique_cells_are_opened, unused_cells_hold_no_heap, words_in_hand_are_stored,
+};
