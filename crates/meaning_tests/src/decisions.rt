@@ -1,13 +1,12 @@
 //! How many tests decide a match, and whether its rows are tried one after the other.
 
-use kk_base::Name;
 use kk_match::{Rows, decide};
-use kk_syntax::{Constructor, Pat};
+use kk_syntax::{GroundConstructor, Pat};
 use std::alloc::{AllocError, Global};
 use std::test::Fail;
 
-/// The name of each constructor, and the number of its type. `Made` is the only one of its type.
-const CONSTRUCTORS: [(&str, u32); 3] = [("False", 0), ("True", 0), ("Made", 1)];
+/// The numbers of the types of `False`, `True` and `Made`, which is the only one of its type.
+const TYPES: [u32; 3] = [0, 0, 1];
 
 /// Rows on `Made`: for each field `T` or `F`, a digit, or `_`; the number of tests; and whether the rows are tried one after
 /// the other. In the last match 1156 states test, more than 8 times its 132 pattern nodes.
@@ -34,12 +33,11 @@ const MATCHES: [(&[&str], u32, bool); 3] = [
     ),
 ];
 
-fn constructors(alloc: Global) -> Result<Vec<Constructor>, AllocError> {
+fn constructors(alloc: Global) -> Result<Vec<GroundConstructor>, AllocError> {
     let mut constructors = Vec::new(alloc);
-    for (name, of_type) in CONSTRUCTORS {
-        constructors.push(Constructor {
-            name: Name::new(String::from_str(alloc, name)?),
-            at: 0,
+    for of_type in TYPES {
+        constructors.push(GroundConstructor {
+            constructor: 0,
             of_type,
             tag: 0,
             fields: Vec::new(alloc),

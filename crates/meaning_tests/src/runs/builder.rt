@@ -23,10 +23,12 @@ pub fn accepted(alloc: Global, body: &str) -> Result<Accepted, Fail> {
         },
         instances: Ground {
             declarations: Vec::new(alloc),
-            constructors: Vec::new(alloc),
             texts: Vec::new(alloc),
             types: Vec::new(alloc),
+            constructors: Vec::new(alloc),
             instances: Vec::new(alloc),
+            greatest_nodes: 0,
+            summed_nodes: 0,
         },
     })
 }
