@@ -7,7 +7,7 @@ use kk_base::{FaultCount, NoMemory};
 use std::alloc::Global;
 
 /// Which calls of a device are to fail, by their numbers from 1, and how many were made and failed.
-#[derive(Debug, Drop)]
+#[derive(Drop)]
 pub(crate) struct FaultPlan {
     fails: Vec<u64>,
     calls: u64,

@@ -12,7 +12,7 @@ use std::marker::Model;
 
 /// A sink in memory with a room that never grows. It fails exactly in the calls that are planned, which take nothing,
 /// and where a piece passes the room, which is then filled.
-#[derive(Debug, Drop)]
+#[derive(Drop)]
 pub struct MemSink {
     bytes: Vec<u8>,
     room: usize,
@@ -77,7 +77,7 @@ impl Sink for MemSink {
 }
 
 /// A sink that never fails and keeps only the number of its bytes, which stays at the last value of a u64.
-#[derive(Debug, Drop)]
+#[derive(Drop)]
 pub struct TallySink {
     tally: u64,
 }

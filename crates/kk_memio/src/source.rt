@@ -11,7 +11,7 @@ use std::alloc::Global;
 use std::marker::Model;
 
 /// A source over bytes in memory that never fails.
-#[derive(Debug, Drop)]
+#[derive(Drop)]
 pub struct PlainSource {
     bytes: Vec<u8>,
     at: usize,
@@ -64,7 +64,7 @@ impl Source for PlainSource {
 }
 
 /// A source over bytes in memory. It fails exactly in the calls that are planned.
-#[derive(Debug, Drop)]
+#[derive(Drop)]
 pub struct MemSource {
     bytes: PlainSource,
     plan: FaultPlan,

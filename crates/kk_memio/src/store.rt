@@ -11,7 +11,7 @@ use std::alloc::Global;
 use std::collections::BTreeMap;
 
 /// Files in memory. A call fails exactly where it is planned, and a read also where there is no file of the name.
-#[derive(Debug, Drop)]
+#[derive(Drop)]
 pub struct MemStore {
     alloc: Global,
     files: BTreeMap<String, Bytes>,

@@ -1,17 +1,9 @@
 //! The program `kokarv`: it compiles a Koka program to an image for RISC-V and runs it.
 #![tactic(auto)]
 
-mod adapter;
-mod answer;
-mod evaluation;
-mod kokarv;
-mod line;
-mod perform;
-#[cfg(test)]
-mod tests;
-
-use adapter::{FileStore, StreamSink, StreamSource};
 use kk_base::{Bytes, Status};
+use kk_host::{FileStore, StreamSink, StreamSource};
+use kk_perform::kokarv;
 use std::io::ErrorKind;
 use std::process::ExitCode;
 use std::{env, io};
@@ -27,7 +19,7 @@ fn main(rt: HostRuntime) -> ExitCode {
         }
         Err(_) => return ExitCode::from(NO_WORDS),
     };
-    let status = kokarv::kokarv(
+    let status = kokarv(
         rt.alloc(),
         words.as_slice(),
         &mut FileStore::new(rt.alloc(), &rt),

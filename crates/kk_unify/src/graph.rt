@@ -12,7 +12,7 @@ use std::alloc::Global;
 
 /// A graph of types: numbered nodes, each a type that is not known yet, another node, or a type of which the parts are
 /// nodes. The type variables below a number stand for themselves.
-#[derive(Debug, Drop)]
+#[derive(Drop)]
 pub struct Graph {
     alloc: Global,
     variables: u32,

@@ -1,5 +1,5 @@
 /// A node of a graph of types. It names others by their numbers.
-#[derive(Debug, Drop)]
+#[derive(Drop)]
 pub enum Node {
     /// Of any type.
     Any,

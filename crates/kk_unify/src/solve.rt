@@ -13,7 +13,7 @@ use std::alloc::Global;
 
 /// The types of the nodes of a graph. Each node of the graph has a number, and is of the type of the solution's node of
 /// that number. The arguments of a node of the solution are nodes before it.
-#[derive(Debug, Drop)]
+#[derive(Drop)]
 pub struct Solution {
     pub nodes: Vec<TypeNode>,
     pub numbers: Vec<u32>,

@@ -13,7 +13,7 @@ use kk_syntax::TypeNode;
 use std::alloc::Global;
 
 /// Where a node stands on the way through a graph.
-#[derive(Clone, Copy, Debug)]
+#[derive(Clone, Copy)]
 pub enum Mark {
     New,
     /// It is on the way, and its arguments come first.
@@ -23,14 +23,14 @@ pub enum Mark {
 }
 
 /// A node on the way, and the numbers of its first arguments.
-#[derive(Debug, Drop)]
+#[derive(Drop)]
 pub struct Frame {
     pub node: u32,
     pub numbers: Vec<u32>,
 }
 
 /// How far a graph is walked: the marks of its nodes, the nodes on the way, and the types that are made.
-#[derive(Debug, Drop)]
+#[derive(Drop)]
 pub struct Walk {
     pub marks: Vec<Mark>,
     pub frames: Vec<Frame>,
@@ -38,7 +38,7 @@ pub struct Walk {
 }
 
 /// A graph, and for each of its nodes the one that gives its type.
-#[derive(Debug, Drop)]
+#[derive(Drop)]
 pub struct Rooted<'a> {
     pub alloc: Global,
     pub variables: u32,

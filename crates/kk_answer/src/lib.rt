@@ -1,0 +1,9 @@
+//! How a command came to its end: its status, and the line that tells it.
+#![tactic(auto)]
+
+mod answer;
+mod ending;
+mod line;
+
+pub use answer::{Answer, RunEnd, wants_memory};
+pub use ending::end_with;

@@ -1,0 +1,2 @@
+mod Evaluating
+pub mod Evaluations

@@ -1,0 +1,5 @@
+mod Complete
+mod ImageRuns
+mod Rows
+mod SourceRuns
+mod Stores

@@ -1,0 +1,5 @@
+pub mod Answers
+pub mod ImageRuns
+pub mod Internal
+pub mod Outside
+pub mod SourceRuns

@@ -1,5 +1,0 @@
-use Rattle.kk_tool.proofs.Complete.{no_fault}
-use Rattle.kk_tool.proofs.kokarv.kokarv.Goals as goal
-
-pub returns-clause-complete : goal.returns-clause-complete
-returns-clause-complete g c = λ faultless. no_fault _ _ _ _ _ _ _ c.answer_words-answer.ensures c.end_with.ensures faultless

@@ -1,9 +1,0 @@
-pub mod Answer
-pub mod Answers
-pub mod Evaluating
-pub mod Evaluations
-pub mod ImageRuns
-pub mod Internal
-pub mod Line
-pub mod Outside
-pub mod SourceRuns

@@ -1,0 +1,458 @@
+//! The program over devices in memory, of which some fail.
+
+use kk_base::{Bytes, NoMemory, Status};
+use kk_memio::{MemSink, MemSource, MemStore};
+use kk_perform::kokarv;
+use std::alloc::{AllocError, Global};
+use std::process::Abort;
+
+/// The number, from 1, of the call that each device refuses; 0 where it refuses none.
+#[derive(Clone, Copy)]
+struct Refused {
+    files: u64,
+    input: u64,
+    out: u64,
+    err: u64,
+}
+
+/// A command where `a.kk` is the only file, and what it is to end with.
+#[derive(Clone, Copy)]
+struct Row<'a> {
+    line: &'a str,
+    text: &'a str,
+    refused: Refused,
+    status: Status,
+    out: &'a str,
+    err: &'a str,
+    /// Whether `a.elf` is written.
+    writes: bool,
+}
+
+const NONE: Refused = Refused {
+    files: 0,
+    input: 0,
+    out: 0,
+    err: 0,
+};
+
+/// Prints each byte of the input as a number, and -1 at its end.
+const ECHO: &str =
+    "fun echo(): console () { val b = read-byte(); println(b); if b >= 0 then echo() }; fun main() { echo() }";
+
+static ROWS: [Row; 22] = [
+    Row {
+        line: "kokarv run a.kk",
+        text: "fun main() { println(1 + 2 * 3) }",
+        refused: NONE,
+        status: Status::Done,
+        out: "7\n",
+        err: "",
+        writes: false,
+    },
+    Row {
+        line: "kokarv check a.kk",
+        text: "fun main() { println(1 + 2 * 3) }",
+        refused: NONE,
+        status: Status::Done,
+        out: "",
+        err: "",
+        writes: false,
+    },
+    Row {
+        line: "kokarv build a.kk -o a.elf",
+        text: "fun main() { println(1 + 2 * 3) }",
+        refused: NONE,
+        status: Status::Done,
+        out: "",
+        err: "",
+        writes: true,
+    },
+    Row {
+        line: "kokarv build a.kk -o a.elf",
+        text: "fun main() { println(1 +) }",
+        refused: NONE,
+        status: Status::Refused,
+        out: "",
+        err: "refused: parse 1 at line 1 column 25\n",
+        writes: false,
+    },
+    Row {
+        line: "kokarv",
+        text: "",
+        refused: NONE,
+        status: Status::Usage,
+        out: "",
+        err: "usage: kokarv check FILE, build FILE -o OUT, run FILE, sim IMAGE, eval FILE, bench SEED SIZE\n",
+        writes: false,
+    },
+    Row {
+        line: "kokarv run b.kk",
+        text: "",
+        refused: NONE,
+        status: Status::FileFault,
+        out: "",
+        err: "file fault: b.kk\n",
+        writes: false,
+    },
+    Row {
+        line: "kokarv run a.kk --steps 3",
+        text: "fun main() { println(1) }",
+        refused: NONE,
+        status: Status::StepsSpent,
+        out: "",
+        err: "steps spent: 3\n",
+        writes: false,
+    },
+    // The first call of the store reads FILE, the second writes OUT.
+    Row {
+        line: "kokarv check a.kk",
+        text: "fun main() { println(1) }",
+        refused: Refused {
+            files: 1,
+            input: 0,
+            out: 0,
+            err: 0,
+        },
+        status: Status::FileFault,
+        out: "",
+        err: "file fault: a.kk\n",
+        writes: false,
+    },
+    Row {
+        line: "kokarv build a.kk -o a.elf",
+        text: "fun main() { println(1) }",
+        refused: Refused {
+            files: 2,
+            input: 0,
+            out: 0,
+            err: 0,
+        },
+        status: Status::FileFault,
+        out: "",
+        err: "file fault: a.elf\n",
+        writes: false,
+    },
+    Row {
+        line: "kokarv run a.kk",
+        text: "fun main() { println(1); println(2) }",
+        refused: Refused {
+            files: 0,
+            input: 0,
+            out: 2,
+            err: 0,
+        },
+        status: Status::OutputFault,
+        out: "1\n",
+        err: "output fault\n",
+        writes: false,
+    },
+    Row {
+        line: "kokarv run a.kk",
+        text: "fun main() { println(1); println(\"a\") }",
+        refused: Refused {
+            files: 0,
+            input: 0,
+            out: 3,
+            err: 1,
+        },
+        status: Status::Done,
+        out: "1\na\n",
+        err: "",
+        writes: false,
+    },
+    // An empty string is no put.
+    Row {
+        line: "kokarv run a.kk",
+        text: "fun main() { print(\"\"); print(\"x\") }",
+        refused: Refused {
+            files: 0,
+            input: 0,
+            out: 1,
+            err: 0,
+        },
+        status: Status::OutputFault,
+        out: "",
+        err: "output fault\n",
+        writes: false,
+    },
+    Row {
+        line: "kokarv run a.kk",
+        text: "fun main() { print(1) }",
+        refused: Refused {
+            files: 0,
+            input: 0,
+            out: 1,
+            err: 1,
+        },
+        status: Status::OutputFault,
+        out: "",
+        err: "",
+        writes: false,
+    },
+    Row {
+        line: "kokarv check a.kk",
+        text: "",
+        refused: Refused {
+            files: 0,
+            input: 0,
+            out: 0,
+            err: 2,
+        },
+        status: Status::OutputFault,
+        out: "",
+        err: "refused: name ",
+        writes: false,
+    },
+    Row {
+        line: "kokarv help",
+        text: "",
+        refused: Refused {
+            files: 0,
+            input: 0,
+            out: 0,
+            err: 1,
+        },
+        status: Status::OutputFault,
+        out: "",
+        err: "",
+        writes: false,
+    },
+    Row {
+        line: "kokarv run a.kk --stats --cells 5",
+        text: "fun main() { println(1 + 2 * 3) }",
+        refused: NONE,
+        status: Status::Done,
+        out: "7\n",
+        err: "stats: instructions 69 free 5 of 5\n",
+        writes: false,
+    },
+    Row {
+        line: "kokarv run a.kk --stats",
+        text: "fun main() { print(1) }",
+        refused: Refused {
+            files: 0,
+            input: 0,
+            out: 0,
+            err: 1,
+        },
+        status: Status::OutputFault,
+        out: "1",
+        err: "",
+        writes: false,
+    },
+    // The input is the bytes 10 and 255.
+    Row {
+        line: "kokarv run a.kk",
+        text: ECHO,
+        refused: NONE,
+        status: Status::Done,
+        out: "10\n255\n-1\n",
+        err: "",
+        writes: false,
+    },
+    Row {
+        line: "kokarv run a.kk",
+        text: ECHO,
+        refused: Refused {
+            files: 0,
+            input: 1,
+            out: 0,
+            err: 0,
+        },
+        status: Status::InputFault,
+        out: "",
+        err: "input fault\n",
+        writes: false,
+    },
+    Row {
+        line: "kokarv run a.kk",
+        text: ECHO,
+        refused: Refused {
+            files: 0,
+            input: 2,
+            out: 0,
+            err: 0,
+        },
+        status: Status::InputFault,
+        out: "10\n",
+        err: "input fault\n",
+        writes: false,
+    },
+    Row {
+        line: "kokarv run a.kk",
+        text: ECHO,
+        refused: Refused {
+            files: 0,
+            input: 0,
+            out: 1,
+            err: 0,
+        },
+        status: Status::OutputFault,
+        out: "",
+        err: "output fault\n",
+        writes: false,
+    },
+    Row {
+        line: "kokarv sim a.kk",
+        text: "fun main() { print(1) }",
+        refused: NONE,
+        status: Status::BadImage,
+        out: "",
+        err: "bad image: 1\n",
+        writes: false,
+    },
+];
+
+/// The beginning of an image file, behind which 12 bytes of code stand: they are read and executed at 0x10000.
+static HEADERS: [u8; 84] = [
+    0x7f, 0x45, 0x4c, 0x46, 1, 1, 1, 0, 0, 0, 0, 0, 0, 0, 0, 0, // identification
+    2, 0, 243, 0, 1, 0, 0, 0, // type, machine, version
+    0, 0, 1, 0, // entry
+    52, 0, 0, 0, 0, 0, 0, 0, 0, 0, 0, 0, // program headers, section headers, flags
+    52, 0, 32, 0, 1, 0, 0, 0, 0, 0, 0, 0, // sizes and numbers
+    1, 0, 0, 0, 84, 0, 0, 0, 0, 0, 1, 0, 0, 0, 0, 0, // type, offset, addresses
+    12, 0, 0, 0, 12, 0, 0, 0, 5, 0, 0, 0, 4, 0, 0, 0, // sizes, flags, alignment
+];
+
+/// addi x10, x0, 3; addi x17, x0, 93; ecall
+const EXITS_WITH_3: [u8; 12] = [
+    0x13, 0x05, 0x30, 0x00, 0x93, 0x08, 0xd0, 0x05, 0x73, 0x00, 0x00, 0x00,
+];
+
+/// addi x10, x0, 3; ebreak; ecall
+const BREAKS: [u8; 12] = [
+    0x13, 0x05, 0x30, 0x00, 0x73, 0x00, 0x10, 0x00, 0x73, 0x00, 0x00, 0x00,
+];
+
+/// A run of an image whose code this is, and what it is to end with.
+#[derive(Clone, Copy)]
+struct ImageRow<'a> {
+    line: &'a str,
+    code: [u8; 12],
+    status: Status,
+    err: &'a str,
+}
+
+static IMAGE_ROWS: [ImageRow; 4] = [
+    ImageRow {
+        line: "kokarv sim b.elf",
+        code: EXITS_WITH_3,
+        status: Status::ImageExit,
+        err: "image exit: 3\n",
+    },
+    // Its exit is its third instruction.
+    ImageRow {
+        line: "kokarv sim b.elf --steps 3",
+        code: EXITS_WITH_3,
+        status: Status::ImageExit,
+        err: "image exit: 3\n",
+    },
+    ImageRow {
+        line: "kokarv sim b.elf --steps 2",
+        code: EXITS_WITH_3,
+        status: Status::StepsSpent,
+        err: "steps spent: 2\n",
+    },
+    ImageRow {
+        line: "kokarv sim b.elf",
+        code: BREAKS,
+        status: Status::Trap,
+        err: "trap: cause 1 pc 65540 word 1048691\n",
+    },
+];
+
+/// The devices of a command.
+#[derive(Drop)]
+struct Devices {
+    files: MemStore,
+    input: MemSource,
+    out: MemSink,
+    err: MemSink,
+    image: Bytes,
+}
+
+impl Devices {
+    /// Devices where `a.kk` is the only file, and the input is the bytes 10 and 255. Another command has left an image.
+    fn new(alloc: Global, text: &str, refused: Refused) -> Result<Self, NoMemory> {
+        let mut files = MemStore::new(alloc, &[refused.files])?;
+        files.add_file("a.kk", text.as_bytes())?;
+        Ok(Devices {
+            files,
+            input: MemSource::new(alloc, b"\n\xff", &[refused.input])?,
+            out: MemSink::new(alloc, 4096, &[refused.out])?,
+            err: MemSink::new(alloc, 4096, &[refused.err])?,
+            image: Bytes::from_vec(Vec::from_slice(alloc, b"another")?),
+        })
+    }
+
+    /// Does a command.
+    fn command(&mut self, alloc: Global, words: &[String]) -> Status {
+        kokarv(
+            alloc,
+            words,
+            &mut self.files,
+            &mut self.input,
+            &mut self.out,
+            &mut self.err,
+            &mut self.image,
+        )
+    }
+
+    /// Whether `a.elf` is the image, and there is one.
+    fn has_image(&self) -> bool {
+        match self.files.file_bytes("a.elf") {
+            Some(bytes) => !bytes.is_empty() && bytes == self.image.as_slice(),
+            None => false,
+        }
+    }
+}
+
+fn words_of(alloc: Global, line: &str) -> Result<Vec<String>, AllocError> {
+    let mut words = Vec::new(alloc);
+    for word in line.split_whitespace() {
+        words.push(String::from_str(alloc, word)?)?;
+    }
+    Ok(words)
+}
+
+/// Does the command of a row, and compares what it ends with.
+fn check_row(rt: &impl Abort, alloc: Global, row: &Row<'_>) -> Result<(), NoMemory> {
+    let words = words_of(alloc, row.line)?;
+    let mut devices = Devices::new(alloc, row.text, row.refused)?;
+    let status = devices.command(alloc, words.as_slice());
+    assert_eq!(rt; status, row.status);
+    assert_eq!(rt; devices.out.held_bytes(), row.out.as_bytes());
+    assert_eq!(rt; devices.err.held_bytes(), row.err.as_bytes());
+    assert_eq!(rt; devices.has_image(), row.writes);
+    Ok(())
+}
+
+#[test]
+fn answers_commands(rt: HostRuntime) -> Result<(), NoMemory> {
+    for row in &ROWS {
+        check_row(&rt, rt.alloc(), row)?;
+    }
+    Ok(())
+}
+
+/// Does the command of a row, and compares what it ends with. The bytes that were read are the image.
+fn check_image_row(rt: &impl Abort, alloc: Global, row: &ImageRow<'_>) -> Result<(), NoMemory> {
+    let words = words_of(alloc, row.line)?;
+    let mut devices = Devices::new(alloc, "", NONE)?;
+    let mut file = Vec::from_slice(alloc, &HEADERS)?;
+    file.extend_from_slice(&row.code)?;
+    devices.files.add_file("b.elf", &file)?;
+    let status = devices.command(alloc, words.as_slice());
+    assert_eq!(rt; status, row.status);
+    assert_eq!(rt; devices.err.held_bytes(), row.err.as_bytes());
+    assert_eq!(rt; devices.image.as_slice(), file.as_slice());
+    Ok(())
+}
+
+#[test]
+fn runs_images(rt: HostRuntime) -> Result<(), NoMemory> {
+    for row in &IMAGE_ROWS {
+        check_image_row(&rt, rt.alloc(), row)?;
+    }
+    Ok(())
+}
