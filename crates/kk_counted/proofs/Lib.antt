@@ -14,6 +14,7 @@ pub mod Filling
 pub mod Unseen
 pub mod Placing
 pub mod Growing
+pub mod PlacedRuns
 pub mod TokenExamples
 pub mod Variables
 pub mod Order
