@@ -12,6 +12,9 @@ pub mod StillForms
 pub mod TokenRuns
 pub mod Filling
 pub mod Unseen
+pub mod Placing
+pub mod Growing
+pub mod PlacedRuns
 pub mod TokenExamples
 pub mod Variables
 pub mod Order

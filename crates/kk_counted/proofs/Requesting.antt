@@ -3,12 +3,12 @@ use Rattle.std.proofs.Common.{◌≡◌, ◌⊎◌, inl, inr, ℕ, zero, suc, �
 use Rattle.std.specs.Prelude.{if◌then◌else◌, nat_le}
 use Rattle.kk_syntax.specs.Shapes.{is_among}
 use Rattle.kk_counted.specs.Heaps.{Heap, count_at, busy}
-use Rattle.kk_counted.specs.Tokens.{Slot, spent, null, token, is_unspent, is_token, Mark, plain, token_of, one_if_token, Link, Tokens, marked, slots_with, released, first_token, taken, from_chain, from_tokens, request}
+use Rattle.kk_counted.specs.Tokens.{Slot, spent, null, token, is_unspent, is_token, Mark, plain, token_of, one_if_token, Link, Tokens, marked, slots_with, marks_with, released, first_token, taken, from_chain, from_tokens, request}
 use Rattle.kk_counted.specs.TokenStates.{TokenFrame}
 use Rattle.kk_counted.specs.TokenSpending.{AreSame}
 use Rattle.kk_counted.specs.TokenKeeping.{ArePooled, chain_of, AreTokens, AreUnspent, AreHeldFrames}
 use Rattle.kk_counted.proofs.Counting.{same, itself}
-use Rattle.kk_counted.proofs.Pooling.{Which, this, other, which, slot_at, slot_there, none_marked, one_marked, released_room, pooled_released}
+use Rattle.kk_counted.proofs.Pooling.{plain_is_none, Which, this, other, which, slot_at, slot_there, none_marked, one_marked, released_room, pooled_released}
 use Rattle.kk_counted.proofs.Chaining.{EqualBelow, equal_one, chain_same, IsTop, chain_top, AllApart, frames_apart, none_on_chain, token_is}
 
 -- a request has been served: there is room for one cell more, and the same slots are unspent
@@ -16,6 +16,7 @@ pub record IsServed (cells : ℕ) (heap : Heap) (before after : Tokens) (helds :
   pub are : AreTokens cells heap after helds
   pub room : suc (busy heap + marked after.marks (length heap)) ≤ cells
   pub unspent : (f y : ℕ) → is_unspent (after.slots f y) ≡ is_unspent (before.slots f y)
+  pub fewer : (p f y : ℕ) → after.marks p ≡ token_of f y → before.marks p ≡ token_of f y
 
 pub data Asked (cells : ℕ) (heap : Heap) (before : Tokens) (helds : List (List ℕ)) (result : Option Tokens) : Type 0 where
   full : cells ≤ busy heap → result ≡ None → Asked cells heap before helds result
@@ -46,6 +47,12 @@ pub pooled_chain : (cells : ℕ) (heap : Heap) (tokens : Tokens) (links : List L
 pooled_chain cells heap tokens links pooled =
     record { marks = pooled.marks; slots = pooled.slots; uncounted = pooled.uncounted; there = pooled.there; room = pooled.room }
 
+-- where a mark is taken away, the others were there before
+pub fewer_marks : (p q f y : ℕ) (marks : ℕ → Mark) → marks_with p plain marks q ≡ token_of f y → (t : Bool) → (q == p) ≡ t → marks q ≡ token_of f y
+fewer_marks p q f y marks is true test =
+    absurd (plain_is_none f y (sym (ap (λ b. if b then plain else marks q) test) ∙ is))
+fewer_marks p q f y marks is false test = sym (ap (λ b. if b then plain else marks q) test) ∙ is
+
 module _ (cells : ℕ) (heap : Heap) (tokens : Tokens) (helds : List (List ℕ)) where
   -- a token of a frame is taken, and what is left of the chain leaves it out
   taken_served : (f y p : ℕ) (links : List Link) → tokens.slots f y ≡ token p → f < length helds → AreTokens cells heap tokens helds
@@ -59,6 +66,7 @@ module _ (cells : ℕ) (heap : Heap) (tokens : Tokens) (helds : List (List ℕ))
         };
         room = omega (arith, released_room cells f y p null heap tokens has are.pooled, are.pooled.room);
         unspent = λ g z. unspent_is g z (which f y g z);
+        fewer = λ q g z is. fewer_marks p q g z tokens.marks is (q == p) refl;
       }
     where
       past : (g z : ℕ) → length helds ≤ g → ((g == f) && (z == y)) ≡ false
@@ -146,4 +154,4 @@ asked cells unspent others older frames heap tokens are waiting slots_are all =
 
     by_room : (t : Bool) → nat_le cells (busy heap + marked tokens.marks (length heap)) ≡ t → Asked cells heap tokens ([] ∷ older) (if t then from_tokens (first_token (tokens.slots (length older)) others) (length older) tokens else Some tokens)
     by_room true test = by_first (first_token (tokens.slots (length older)) others) refl (filled_is test)
-    by_room false test = served tokens refl (record { are = are; room = room_is test; unspent = λ f y. refl })
+    by_room false test = served tokens refl (record { are = are; room = room_is test; unspent = λ f y. refl; fewer = λ p f y is. is })

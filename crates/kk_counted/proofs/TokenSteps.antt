@@ -323,6 +323,7 @@ module _ (setting : TokenSetting) (program_spends : AreTokensSpent setting.progr
               are = after.are;
               room = omega (arith, released_room setting.cells (length older) y p spent from.heap from.tokens is now.are.pooled, now.are.pooled.room);
               unspent = λ f z. refl;
+              fewer = λ q f z marked_is. marked_is;
             })))
 
     case_followed : (P : Lists → Type 0) (row : Option ℕ) (arms : TokenedArms) → P (lists_of left unspent [] older) → SpendAllTokens left unspent arms → AreNow setting.cells unspent older from.frames from.heap from.tokens

@@ -16,12 +16,13 @@ ghost use Rattle.kk_counted.specs.Cost.{drop_turns, saved, opening_turns};
 ghost use Rattle.kk_source.specs.Actions.{builds};
 ghost use Rattle.kk_counted.specs.TokenedCodes.{Tokened};
 ghost use Rattle.kk_counted.specs.BareForms.{bare};
-ghost use Rattle.kk_counted.specs.Tokens.{token};
+ghost use Rattle.kk_counted.specs.Tokens.{token, Tokens, no_tokens};
 ghost use Rattle.kk_counted.specs.TokenStates.{TokenSetting, TokenJoin, TokenControl, TokenConfiguration, TokenState, bare_join, bare_configuration, bare_setting};
 ghost use Rattle.kk_counted.specs.TokenMachine.{at_code, token_code_step};
 ghost use Rattle.kk_counted.specs.TokenSpending.{AreTokensSpent};
-ghost use Rattle.kk_counted.specs.TokenKeeping.{IsJudged, AreKeptAt, Lists, ListsAfter, FillsAt, FillsAlways};
-ghost use Rattle.kk_counted.specs.TokenRuns.{is_quiet, bare_weight, IsFollowed, IsUnseen, IsSameRun, TakesNoCell};
+ghost use Rattle.kk_counted.specs.TokenKeeping.{ArePooled, IsJudged, AreKeptAt, AreKept, Lists, ListsAfter, FillsAt, FillsAlways, token_after};
+ghost use Rattle.kk_counted.specs.NumberedPool.{IsPlaced, IsPool, Growth, Placing};
+ghost use Rattle.kk_counted.specs.TokenRuns.{is_quiet, bare_weight, AllLead, IsFollowed, IsUnseen, IsSameRun, TakesNoCell};
 
 /// Code that spends each reference that it owns keeps its heap sound: in each state of a run the count of each cell is the
 /// number of the references that own it, fields name older cells, and the cell of each lent variable is reached from what an
@@ -152,4 +153,24 @@ pub fn reuse_takes_no_cell()
         → (to : TokenConfiguration)
         × ((token_code_step setting (Tokened.fill x y c first arguments kept others rest) environment joins from ≡ builds (busy from.heap) to)
         × TakesNoCell (length from.frames) y from to) }
+{}
+
+/// A name in use, which is that of a counted cell or of a token, has a cell of the pool of its own; the other cells are free. The
+/// cells that are not free are as many as are counted or are tokens. A step leaves each name its cell; a new one may have any cell
+/// that is free when the step has spent or taken its token, and there is one. So in each state of a run all names in use are
+/// placed. It is a law, and does nothing.
+pub fn names_have_cells_of_a_pool()
+    ensures pool { (cells : ℕ) (assigned : ℕ → ℕ) (heap : Heap) (tokens : Tokens) → ArePooled cells heap tokens
+        → IsPlaced cells assigned heap tokens.marks → IsPool cells assigned heap tokens.marks }
+    ensures start { (cells : ℕ) (assigned : ℕ → ℕ) → IsPlaced cells assigned [] no_tokens.marks }
+    ensures steps { (setting : TokenSetting) (environment : Environment) (joins : List TokenJoin) (from : TokenConfiguration)
+        (lists : Lists) (code : Tokened)
+        → IsJudged setting.cells lists.left lists.unspent lists.held lists.older code joins from.frames from.heap from.tokens
+        → AllLead (Growth setting.cells from) (token_code_step setting code environment joins from) }
+    ensures placing { (cells : ℕ) (assigned : ℕ → ℕ) (from to : TokenConfiguration) → ArePooled cells to.heap to.tokens
+        → IsPlaced cells assigned from.heap from.tokens.marks → Growth cells from to → Placing cells assigned from to }
+    ensures runs { (weight : TokenState → ℕ) (setting : TokenSetting) (input : List ℕ)
+        → ((k : ℕ) → AreKept setting.cells (token_after weight setting input k))
+        → (n : ℕ) → (assigned : ℕ → ℕ) × IsPlaced setting.cells assigned (token_after weight setting input n).heap
+        (token_after weight setting input n).tokens.marks }
 {}
