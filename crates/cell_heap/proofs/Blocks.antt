@@ -7,13 +7,17 @@ use Rattle.rv_isa.specs.Bytes.{with_number, Apart}
 use Rattle.rv_isa.specs.Processor.{Processor, value, can_load, can_store}
 use Rattle.rv_isa.proofs.Memory.{word-same, word-apart}
 use Rattle.cell_heap.specs.Cells.{Cell, no_cell, free, token, counted, changed, occurs}
-use Rattle.cell_heap.specs.Pool.{Pool, IsCell}
+use Rattle.cell_heap.specs.Pool.{Pool, end_of, IsCell}
 use Rattle.cell_heap.specs.View.{Link}
 use Rattle.cell_heap.specs.Memory.{word, HasWords, Shows, Memory}
 use Rattle.cell_heap.specs.Blocks.{Block, no_block, unused, own, kept, Cells, with_block, with_word, index_of, word_in, load, stored_in, store, known_then, known_from, fields_of, seen_with, seen, seen_cells, view_of}
 use Rattle.cell_heap.specs.Known.{AreKnown, IsKnown, IsOwnBlock, HoldsCells, SameRoots, IsOwnWord}
 use Rattle.cell_heap.proofs.Frames.{SameWords, SameBut, SameBut-store, SameWords-but, SameInside, SameWords-inside, SameSlots, shown-cell, cell-inside}
 use Rattle.cell_heap.proofs.Owning.{IsOwn, IsOwnState, counted-own, token-own, own_change, outside_store, own_free}
+
+pub mapped : {A B : Type 0} (f : A → B) (o : Option A) (b : B) → option_map f o ≡ Some b → (a : A) × (o ≡ Some a) × (f a ≡ b)
+mapped f None b is = cc
+mapped f (Some a) b is = (a, refl, cc)
 
 -- ---- places in a block
 
@@ -70,7 +74,7 @@ then-length : (w : Option ℕ) (rest : List ℕ) (n : ℕ) → length rest ≤ n
 then-length None rest n few = omega arith
 then-length (Some v) rest n few = omega arith
 
-known-length : (words : ℕ → Option ℕ) (i n : ℕ) → length (known_from words i n) ≤ n
+pub known-length : (words : ℕ → Option ℕ) (i n : ℕ) → length (known_from words i n) ≤ n
 known-length words i zero = omega arith
 known-length words i (suc n) =
     then-length (words i) (known_from words (suc i) n) n (known-length words (suc i) n)
@@ -86,7 +90,7 @@ known-words memory at first words known i (suc n) low high =
     then-words memory (at + 4 * i) (words i) (known_from words (suc i) n) (λ v is. (known i v low (omega arith) is).0)
     (subst (λ a. HasWords memory a (known_from words (suc i) n)) next (known-words memory at first words known (suc i) n (omega arith) (omega arith)))
 
-known-fields : (memory : ℕ → ℕ) (at first : ℕ) (words : ℕ → Option ℕ) → first ≤ 2 → AreKnown memory at first words → HasWords memory (at + 8) (fields_of words)
+pub known-fields : (memory : ℕ → ℕ) (at first : ℕ) (words : ℕ → Option ℕ) → first ≤ 2 → AreKnown memory at first words → HasWords memory (at + 8) (fields_of words)
 known-fields memory at first words low known = known-words memory at first words known 2 6 low (omega arith)
 
 -- memory shows what is seen of a block of the program's own
@@ -149,6 +153,9 @@ module _ {pool : Pool} {cells : Cells} {links : List Link} {s : Processor} (hold
     not_held = own-apart;
   }
 
+  pub own-inside : (at + 32 ≤ end_of pool) × (end_of pool < 2 ^ 32)
+  own-inside = (cell-inside pool at holds.memory.usable.aligned own-cell, holds.memory.usable.below)
+
   -- a word of it may be loaded and stored
   pub own-usable : (i : ℕ) → i < 8 → ((at + 4 * i) % 4 ≡ 0) × (can_load s.parts (at + 4 * i) 4 ≡ true) × (can_store s.parts (at + 4 * i) 4 ≡ true)
   own-usable i low =
@@ -173,9 +180,23 @@ module _ {pool : Pool} {cells : Cells} {links : List Link} {s : Processor} (hold
   own-no_free i x low is_free =
       own-no_other i x low (shown-cell holds.memory.shown x free is_free (λ e. cc)) (λ e. seen-not_free words (sym seen-is ∙ ap (seen_cells cells) (sym e) ∙ is_free))
 
+-- a block of which a word is loaded or stored
+pub loaded-block : (cells : Cells) (at offset w : ℕ) → load at offset cells ≡ Some w → (words : ℕ → Option ℕ) × (cells.blocks at ≡ own words) × (offset + 4 ≤ 32)
+loaded-block cells at offset w is =
+    let found = loaded-own (cells.blocks at) (index_of offset) w is in
+    let place = index-is offset found.1 found.3 in
+    (found.0, found.2, omega (arith, place.0, place.1))
+
+pub stored-block : (cells next : Cells) (at offset w : ℕ) → store at offset w cells ≡ Some next → (words : ℕ → Option ℕ) × (cells.blocks at ≡ own words) × (offset + 4 ≤ 32)
+stored-block cells next at offset w is =
+    let done = mapped (λ block. with_block at block cells) (stored_in (cells.blocks at) (index_of offset) w) next is in
+    let found = stored-own (cells.blocks at) (index_of offset) w done.0 done.1 in
+    let place = index-is offset found.1 found.3 in
+    (found.0, found.2, omega (arith, place.0, place.1))
+
 -- ---- a load
 
-own-word : {pool : Pool} {cells : Cells} {links : List Link} {s : Processor} → HoldsCells pool cells links s → (at offset i : ℕ) (words : ℕ → Option ℕ) → cells.blocks at ≡ own words → index_of offset ≡ Some i → IsOwnWord cells at offset s
+pub own-word : {pool : Pool} {cells : Cells} {links : List Link} {s : Processor} → HoldsCells pool cells links s → (at offset i : ℕ) (words : ℕ → Option ℕ) → cells.blocks at ≡ own words → index_of offset ≡ Some i → IsOwnWord cells at offset s
 own-word {s = s} holds at offset i words is index =
     let place = index-is offset i index in
     let offset_is = place.0 in
@@ -210,7 +231,7 @@ known-same old new x first words same known i w low high is =
     (same.same (x + 4 * i) (omega arith) (omega arith) ∙ old_word.0, old_word.1)
 
 -- of a block whose words are the same
-block-same : {pool : Pool} {cells : Cells} {links : List Link} {s : Processor} → HoldsCells pool cells links s → (new : ℕ → ℕ) (x : ℕ) (block : Block) → cells.blocks x ≡ block
+pub block-same : {pool : Pool} {cells : Cells} {links : List Link} {s : Processor} → HoldsCells pool cells links s → (new : ℕ → ℕ) (x : ℕ) (block : Block) → cells.blocks x ≡ block
     → (IsCell pool x → SameWords s.memory new x (x + 32)) → IsKnown new x block
 block-same holds new x no_block is same = tt
 block-same holds new x unused is same = tt
@@ -220,16 +241,12 @@ block-same {cells = cells} {s = s} holds new x (kept words) is same =
     known-same s.memory new x 2 words (same (shown-cell holds.memory.shown x (token (fields_of words)) (ap seen is) (λ e. cc)))
     (subst (IsKnown s.memory x) is (holds.known x))
 
-placed-by : (P : Block → Type 0) (x at : ℕ) (block : Block) (cells : Cells) → (x ≡ at → P block) → (x ≢ at → P (cells.blocks x)) → P ((with_block at block cells).blocks x)
+pub placed-by : (P : Block → Type 0) (x at : ℕ) (block : Block) (cells : Cells) → (x ≡ at → P block) → (x ≢ at → P (cells.blocks x)) → P ((with_block at block cells).blocks x)
 placed-by P x at block cells same other = by_test (nat_eq x at) refl
   where
     by_test : (b : Bool) → nat_eq x at ≡ b → P (if b then block else cells.blocks x)
     by_test true test = same (grind (arith, nat_tests))
     by_test false test = other (grind (arith, nat_tests))
-
-mapped : {A B : Type 0} (f : A → B) (o : Option A) (b : B) → option_map f o ≡ Some b → (a : A) × (o ≡ Some a) × (f a ≡ b)
-mapped f None b is = cc
-mapped f (Some a) b is = (a, refl, cc)
 
 -- ---- a store
 

@@ -46,7 +46,7 @@ HasWords-push memory at (y ∷ xs) x has is =
     (has.0, HasWords-push memory (at + 4) xs x has.1 (ap (word memory) (sym there) ∙ is))
 
 -- a heap that is given the cell that it has
-changed-nothing : (at : ℕ) (cell : Cell) (heap : Heap) → heap at ≡ cell → changed at cell heap ≡ heap
+pub changed-nothing : (at : ℕ) (cell : Cell) (heap : Heap) → heap at ≡ cell → changed at cell heap ≡ heap
 changed-nothing at cell heap is =
     fun_ext (λ x. changed-by (λ c. c ≡ heap x) x at cell heap (λ e. sym (ap heap e ∙ is)) (λ differ. refl))
 

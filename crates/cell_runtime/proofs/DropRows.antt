@@ -97,7 +97,7 @@ whole at k at_whole k_whole = omega arith
 
 -- ---- words
 
-bit_of_word : (n b : ℕ) → n % 2 ≡ b → bit_and n 1 ≡ b
+pub bit_of_word : (n b : ℕ) → n % 2 ≡ b → bit_and n 1 ≡ b
 bit_of_word n b is = and_mask n 1 ∙ is
 
 sum_none : (n m : ℕ) → n ≡ m → m < 2 ^ 32 → sum_word n 0 ≡ m

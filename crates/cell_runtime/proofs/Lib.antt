@@ -20,3 +20,4 @@ pub mod DropStates
 pub mod DropMoves
 pub mod DropRuns
 pub mod DropAfter
+pub mod Blocks

@@ -20,7 +20,7 @@ module _ (pool : Pool) (parts : List Part) (memory : ℕ → ℕ) (heap : Heap) 
       let differ : at ≢ link.cell = λ e. no_token (subst (λ c. IsToken (heap c)) (sym e) chain.1.is_token) in
       occurs-other at link.cell (map (λ link. link.cell) links) differ ∙ none_held (word memory link.cell) links chain.4
 
-free-no-token : (cell : Cell) → cell ≡ free → IsToken cell → ⊥
+pub free-no-token : (cell : Cell) → cell ≡ free → IsToken cell → ⊥
 free-no-token no_cell is held = held
 free-no-token free is held = held
 free-no-token (token fields) is held = cc

@@ -23,10 +23,11 @@ use Rattle.rv_isa.specs.WellFormed.{all_lines}
 use Rattle.elf_image.specs.Parts.{memory_of}
 use Rattle.elf_image.specs.Program.{IsProgramImage, program_parts, text_start}
 use Rattle.elf_image.specs.declared.part.Part.{Part}
+use Rattle.cell_heap.specs.Pool.{Pool}
 use Rattle.cell_runtime.specs.Texts.{IsText}
 use Rattle.rv_world.specs.Operations.{Constants, all_bytes}
-use Rattle.rv_world.specs.World.{World, primitives}
-use Rattle.rv_lower.specs.Meaning.{IsAsmOf, core_cost, core_outside, setting_of_core, first_world}
+use Rattle.rv_world.specs.World.{World, first_world, primitives}
+use Rattle.rv_lower.specs.Meaning.{IsAsmOf, core_cost, core_outside, setting_of_core}
 use Rattle.rv_regs.specs.Valid.{IsValid}
 use Rattle.rv_regs.specs.Shape as Shape
 use Rattle.rv_regs.specs.Shape.{IsPlainlyPlaced, most_moves}
@@ -36,7 +37,7 @@ use Rattle.rv_place.specs.Addresses.{frame_size}
 use Rattle.rv_place.specs.Bytes.{IsTextOf}
 use Rattle.rv_place.specs.Images.{IsPlacedImage, first_processor, outside_lines}
 use Rattle.rv_place.specs.Running.{NeverStuck}
-use Rattle.rv_place.specs.Texts.{ArePlaceable, ArePlacedWords, map_of, constants_of, text_bytes, all_items}
+use Rattle.rv_place.specs.Texts.{ArePlaceable, ArePlacedWords, map_of, pool_in, constants_of, text_bytes, all_items}
 use Rattle.rv_place.proofs.BootFits.{FitsImage, fits-image}
 use Rattle.rv_place.proofs.BootSizes.{bytes_most, page_multiple}
 use Rattle.cell_runtime.specs.Layouts.{next_page}
@@ -91,8 +92,8 @@ abbrev pub PlacedTextAgrees : Type 0
 PlacedTextAgrees =
     (cells depth : ℕ) (runtime program : Placed) (words : Words) (text input : List ℕ) (main : PlacedLines)
     → IsPlacedImage cells depth runtime program words text main → All (λ byte. byte < 256) input
-    → NeverStuck (map_of runtime program) (placed_functions program) depth (placed_start main (first_world input))
-    → (up : ℕ → ℕ) × Agree (placed_machine (primitives (constants_of runtime program)) depth (placed_functions program)) (processor_machine rv32im) outside_lines up (placed_start main (first_world input)) (goes (first_processor text runtime.memory.size input))
+    → NeverStuck (map_of runtime program) (pool_in cells runtime program) (placed_functions program) depth (placed_start main (first_world (pool_in cells runtime program) input))
+    → (up : ℕ → ℕ) × Agree (placed_machine (primitives (constants_of runtime program) (pool_in cells runtime program)) depth (placed_functions program)) (processor_machine rv32im) outside_lines up (placed_start main (first_world (pool_in cells runtime program) input)) (goes (first_processor text runtime.memory.size input))
 
 -- The code of a program, its runtime and the text that is made of both.
 pub record Makes (code : ProgramCode) (cells depth : ℕ) (asm : Asm) (placed runtime : Placed) (words : Words) (text : List ℕ) : Type 0 where
@@ -130,6 +131,10 @@ module _ {code : ProgramCode} {cells depth : ℕ} {asm : Asm} {placed runtime : 
   abbrev first : ℕ
   first = (constants_of runtime placed).first
 
+  -- where the cells stand
+  abbrev pool : Pool
+  pool = pool_in cells runtime placed
+
   abbrev constants : Constants
   constants = record { first = first; texts = asm_constants asm }
 
@@ -138,7 +143,7 @@ module _ {code : ProgramCode} {cells depth : ℕ} {asm : Asm} {placed runtime : 
 
   constants_fit : first + length (all_bytes (asm_constants asm)) < 2 ^ 32
   constants_fit =
-      let most : text_bytes runtime placed ≤ 109084672 = bytes_most can_be_placed in
+      let most : text_bytes runtime placed ≤ 176193536 = bytes_most can_be_placed in
       let bytes : length (all_bytes (placed_constants placed)) ≡ length (all_bytes (asm_constants asm)) = ap (λ (texts : List (List ℕ)). length (all_bytes texts)) makes.valid.constants in
       omega (arith, most, bytes)
 
@@ -146,17 +151,17 @@ module _ {code : ProgramCode} {cells depth : ℕ} {asm : Asm} {placed runtime : 
     abbrev main : Lines
     main = makes.made.main
 
-    never : RegsNeverStuck (primitives constants) depth (asm_functions asm) (asm_start main (first_world input))
-    never = λ n is. makes.made.does.never_stuck positions cells depth first n input makes.sizes.some_depth bytes constants_fit is
+    never : RegsNeverStuck (primitives constants pool) depth (asm_functions asm) (asm_start main (first_world pool input))
+    never = λ n is. makes.made.does.never_stuck positions pool cells depth first n input makes.sizes.some_depth bytes constants_fit is
 
     -- the assembler code agrees with the placed code from its first function on, which never is at a loss
     placed_agrees : (placed_main : PlacedLines) × (slice_get (placed_functions placed) 0 ≡ Some placed_main)
-        × Agree (asm_machine (primitives constants) most_moves depth (asm_functions asm)) (placed_machine (primitives constants) depth (placed_functions placed)) 0 (λ steps. steps * 1 + 0 + 1) (asm_start main (first_world input)) (placed_start placed_main (first_world input))
-    placed_agrees = agrees (primitives constants) depth (asm_functions asm) (placed_functions placed) makes.valid.functions most_moves 0 main (first_world input) makes.plain.few_moves makes.made.main_is makes.made.main_params never
+        × Agree (asm_machine (primitives constants pool) most_moves depth (asm_functions asm)) (placed_machine (primitives constants pool) depth (placed_functions placed)) 0 (λ steps. steps * 1 + 0 + 1) (asm_start main (first_world pool input)) (placed_start placed_main (first_world pool input))
+    placed_agrees = agrees (primitives constants pool) depth (asm_functions asm) (placed_functions placed) makes.valid.functions most_moves 0 main (first_world pool input) makes.plain.few_moves makes.made.main_is makes.made.main_params never
 
     goes_on : (placed_main : PlacedLines) × (slice_get (placed_functions placed) 0 ≡ Some placed_main)
-        × ((steps : ℕ) → state (placed_machine (primitives constants) depth (placed_functions placed)) steps (placed_start placed_main (first_world input)) ≢ stuck)
-    goes_on = never_stuck (primitives constants) depth (asm_functions asm) (placed_functions placed) makes.valid.functions most_moves 0 main (first_world input) makes.plain.few_moves makes.made.main_is makes.made.main_params never
+        × ((steps : ℕ) → state (placed_machine (primitives constants pool) depth (placed_functions placed)) steps (placed_start placed_main (first_world pool input)) ≢ stuck)
+    goes_on = never_stuck (primitives constants pool) depth (asm_functions asm) (placed_functions placed) makes.valid.functions most_moves 0 main (first_world pool input) makes.plain.few_moves makes.made.main_is makes.made.main_params never
 
     same_main : placed_agrees.0 ≡ goes_on.0
     same_main = same_some placed_agrees.0 goes_on.0 (sym placed_agrees.1 ∙ goes_on.1)
@@ -173,23 +178,23 @@ module _ {code : ProgramCode} {cells depth : ℕ} {asm : Asm} {placed runtime : 
       first = placed_agrees.1;
     }
 
-    placed_never : NeverStuck (map_of runtime placed) (placed_functions placed) depth (placed_start placed_agrees.0 (first_world input))
+    placed_never : NeverStuck (map_of runtime placed) pool (placed_functions placed) depth (placed_start placed_agrees.0 (first_world pool input))
     placed_never =
-        subst (λ (c : Constants). (steps : ℕ) → state (placed_machine (primitives c) depth (placed_functions placed)) steps (placed_start placed_agrees.0 (first_world input)) ≢ stuck) (sym same_constants)
-        (subst (λ (placed_main : PlacedLines). (steps : ℕ) → state (placed_machine (primitives constants) depth (placed_functions placed)) steps (placed_start placed_main (first_world input)) ≢ stuck) (sym same_main) goes_on.2)
+        subst (λ (c : Constants). (steps : ℕ) → state (placed_machine (primitives c pool) depth (placed_functions placed)) steps (placed_start placed_agrees.0 (first_world pool input)) ≢ stuck) (sym same_constants)
+        (subst (λ (placed_main : PlacedLines). (steps : ℕ) → state (placed_machine (primitives constants pool) depth (placed_functions placed)) steps (placed_start placed_main (first_world pool input)) ≢ stuck) (sym same_main) goes_on.2)
 
     pub does : PlacedTextAgrees
         → (up : ℕ → ℕ) × Agree (core_outside step_instructions (setting_of_core code positions cells depth)) (processor_machine rv32im) outside_lines up
         (core_first_state (setting_of_core code positions cells depth) input) (goes (first_processor text runtime.memory.size input))
     does text_agrees =
-        let core = makes.made.does.agrees positions cells depth first most_moves input makes.sizes.some_depth bytes constants_fit in
+        let core = makes.made.does.agrees positions pool cells depth first most_moves input makes.sizes.some_depth bytes constants_fit in
         let image = text_agrees cells depth runtime placed words text input placed_agrees.0 placed_image bytes placed_never in
-        let whole : PlacedTurn World Ending = placed_start placed_agrees.0 (first_world input) in
-        let low = subst (λ (c : Constants). Agree (placed_machine (primitives c) depth (placed_functions placed)) (processor_machine rv32im) outside_lines image.0 whole (goes (first_processor text runtime.memory.size input))) same_constants image.1 in
-        let high = agree_through (core_outside step_instructions (setting_of_core code positions cells depth)) (asm_machine (primitives constants) most_moves depth (asm_functions asm)) (placed_machine (primitives constants) depth (placed_functions placed))
-        0 0 core.0 (λ steps. steps * 1 + 0 + 1) (core_first_state (setting_of_core code positions cells depth) input) (asm_start main (first_world input)) whole core.1 placed_agrees.2 in (
+        let whole : PlacedTurn World Ending = placed_start placed_agrees.0 (first_world pool input) in
+        let low = subst (λ (c : Constants). Agree (placed_machine (primitives c pool) depth (placed_functions placed)) (processor_machine rv32im) outside_lines image.0 whole (goes (first_processor text runtime.memory.size input))) same_constants image.1 in
+        let high = agree_through (core_outside step_instructions (setting_of_core code positions cells depth)) (asm_machine (primitives constants pool) most_moves depth (asm_functions asm)) (placed_machine (primitives constants pool) depth (placed_functions placed))
+        0 0 core.0 (λ steps. steps * 1 + 0 + 1) (core_first_state (setting_of_core code positions cells depth) input) (asm_start main (first_world pool input)) whole core.1 placed_agrees.2 in (
           (λ m. core.0 (image.0 m * 1 + 0 + 1)),
-          agree_through (core_outside step_instructions (setting_of_core code positions cells depth)) (placed_machine (primitives constants) depth (placed_functions placed)) (processor_machine rv32im)
+          agree_through (core_outside step_instructions (setting_of_core code positions cells depth)) (placed_machine (primitives constants pool) depth (placed_functions placed)) (processor_machine rv32im)
               0 outside_lines (λ m. core.0 (m * 1 + 0 + 1)) image.0 (core_first_state (setting_of_core code positions cells depth) input) whole (goes (first_processor text runtime.memory.size input)) high low,
         )
 

@@ -69,7 +69,7 @@ code_is_plain : (whole code : List PlacedLine) → AllFit whole code → AreLine
 code_is_plain whole [] fit formed has = tt
 code_is_plain whole (does alive action args into ∷ code) fit formed has =
     let behind = has_later whole (record { action = action; args = map value_of args; into = option_map value_of into }) (without_moves code) has in (
-      (formed.0.holds_none, gives_handed_out into fit.0.1.write_handed_out, has_label whole action (without_moves code) formed.0.labels behind),
+      (gives_handed_out into fit.0.1.write_handed_out, has_label whole action (without_moves code) formed.0.labels behind),
       code_is_plain whole code fit.1 formed.1 behind,
     )
 code_is_plain whole (moves alive value way ∷ code) fit formed has = (handed_out value (to_of way) fit.0.write_handed_out, code_is_plain whole code fit.1 formed has)

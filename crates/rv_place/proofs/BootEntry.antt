@@ -1,5 +1,5 @@
 -- From the start of the loaded image to the begin of main's lines.
-use Rattle.std.proofs.Common.{◌≡◌, ◌≢◌, ◌≤◌, ◌<◌, ℕ, zero, suc, ◌+◌, ◌*◌, ◌%◌, List, [], ◌∷◌, All, Some, true, refl, ap, sym, subst, ◌∙◌, arith}
+use Rattle.std.proofs.Common.{◌≡◌, ◌≢◌, ◌≤◌, ◌<◌, inr, ℕ, zero, suc, ◌+◌, ◌*◌, ◌%◌, List, [], ◌∷◌, All, Some, true, refl, ap, sym, subst, ◌∙◌, arith}
 use Rattle.std.proofs.Math.Nat.{suc-mul, zero-mul}
 use Rattle.std.specs.List.{slice_get}
 use Rattle.kk_base.specs.Memory.{Part}
@@ -11,15 +11,20 @@ use Rattle.rv_isa.specs.Processor.{Processor, value, can_store}
 use Rattle.rv_isa.specs.Execution.{Leads}
 use Rattle.rv_isa.specs.Standing.{Code}
 use Rattle.rv_isa.proofs.Memory.{bytes_at-with_number_apart}
-use Rattle.rv_world.specs.World.{World}
+use Rattle.cell_heap.specs.Pool.{Pool}
+use Rattle.cell_heap.specs.Blocks.{unused_cells}
+use Rattle.cell_heap.specs.Known.{HoldsCells}
+use Rattle.cell_heap.proofs.Frames.{SameInside, SameInside-store}
+use Rattle.cell_heap.proofs.Blocks.{outside-holds}
+use Rattle.rv_world.specs.World.{World, first_world}
 use Rattle.rv_world.specs.Operations.{all_bytes}
-use Rattle.rv_place.specs.Images.{first_world}
 use Rattle.rv_place.specs.Addresses.{entry_words}
 use Rattle.rv_place.specs.Lines.{Map, FunctionAt}
 use Rattle.rv_place.specs.Grounds.{stack_end, constant_bytes, Ground, Rests}
 use Rattle.rv_place.specs.Running.{AllPlain, most_lines, FramesAt, Running}
 use Rattle.rv_place.proofs.RunningRows.{Shifts, entry_takes}
 use Rattle.rv_place.proofs.RunningFrames.{frames_pushed}
+use Rattle.rv_place.proofs.RunningLinks.{roots_done}
 use Rattle.rv_place.proofs.RunningLines.{plain_found, few_found, entered_in}
 
 frames_word : (depth frame : ℕ) → frame % 4 ≡ 0 → depth * frame % 4 ≡ 0
@@ -31,28 +36,29 @@ first_frame zero frame some = absurd (omega arith)
 first_frame (suc depth) frame some = rw (suc-mul depth frame) (omega arith)
 
 -- the first state of a function without parameters, with what is left of the input
-abbrev pub first_state : PlacedLines → List ℕ → PlacedState World
-first_state main input = record { frames = placed_entered main ∷ []; registers = empty; shared = first_world input }
+abbrev pub first_state : PlacedLines → Pool → List ℕ → PlacedState World
+first_state main pool input = record { frames = placed_entered main ∷ []; registers = empty; shared = first_world pool input }
 
 -- so many silent instructions lead to a processor that stands for the first state
-pub record Begins (map : Map) (functions : List PlacedLines) (depth stop : ℕ) (code : Code) (parts : List Part) (main : PlacedLines) (input : List ℕ) (steps : ℕ) (s : Processor) : Type 0 where
+pub record Begins (map : Map) (pool : Pool) (functions : List PlacedLines) (depth stop : ℕ) (code : Code) (parts : List Part) (main : PlacedLines) (input : List ℕ) (steps : ℕ) (s : Processor) : Type 0 where
   pub after : Processor
   pub leads : Leads steps s after
   pub told : after.trace ≡ s.trace
-  pub running : Running map functions depth stop code parts (first_state main input) after
+  pub running : Running map pool functions depth stop code parts (first_state main pool input) after
 
 -- before main's entry: the stack is empty, and the way back is the stop
-pub record IsBefore (map : Map) (depth stop entry : ℕ) (code : Code) (parts : List Part) (input : List ℕ) (s : Processor) : Type 0 where
+pub record IsBefore (map : Map) (pool : Pool) (depth stop entry : ℕ) (code : Code) (parts : List Part) (input : List ℕ) (s : Processor) : Type 0 where
   pub rests : Rests map code parts s
   pub pc_is : s.pc ≡ entry
   pub way_is : value s.registers 1 ≡ stop
   pub base_is : value s.registers 2 ≡ stack_end map depth
   pub trace_is : s.trace ≡ []
   pub left_is : s.left ≡ input
+  pub cells : HoldsCells pool (unused_cells pool) [] s
 
-module _ {map : Map} {functions : List PlacedLines} {depth buffer stop : ℕ} {code : Code} {parts : List Part} (ground : Ground map functions depth buffer stop code parts) (plain : AllPlain functions)
+module _ {map : Map} {pool : Pool} {functions : List PlacedLines} {depth buffer stop : ℕ} {code : Code} {parts : List Part} (ground : Ground map pool functions depth buffer stop code parts) (plain : AllPlain functions)
     {main : PlacedLines} {entry : ℕ} (first : slice_get functions 0 ≡ Some main) (main_at : FunctionAt map code entry main)
-    {input : List ℕ} (input_bytes : All (λ byte. byte < 256) input) {s : Processor} (before : IsBefore map depth stop entry code parts input s) (base : ℕ) (base_is : base + map.frame ≡ stack_end map depth) where
+    {input : List ℕ} (input_bytes : All (λ byte. byte < 256) input) {s : Processor} (before : IsBefore map pool depth stop entry code parts input s) (base : ℕ) (base_is : base + map.frame ≡ stack_end map depth) where
   above : map.bottom ≤ base
   above = omega (arith, base_is, first_frame depth map.frame ground.some_depth)
 
@@ -79,9 +85,9 @@ module _ {map : Map} {functions : List PlacedLines} {depth buffer stop : ℕ} {c
   frames_stand =
       frames_pushed map code (most_lines functions) stop (stack_end map depth) ground.some_frame s.memory base stop (entry + 4 * entry_words map.jumps) (placed_entered main) [] ground.stop_below
       (entered_in (most_lines functions) entry main before.rests.stands ground.below main_at (plain_found functions plain 0 main first) (few_found functions 0 main first))
-      (λ k w e. cc) refl refl (refl, base_is)
+      (λ k w e. cc) refl (refl, base_is)
 
-  pub entry-begins : Begins map functions depth stop code parts main input 4 s
+  pub entry-begins : Begins map pool functions depth stop code parts main input 4 s
   entry-begins = record {
     after = takes.after;
     leads = takes.done.leads;
@@ -94,5 +100,6 @@ module _ {map : Map} {functions : List PlacedLines} {depth buffer stop : ℕ} {c
       room = ground.some_depth;
       frames = rw (takes.done.memory_is, takes.done.pc_is, takes.base_is) frames_stand;
       registers = λ x word e. cc;
+      cells = outside-holds before.cells (roots_done takes.done refl) (subst (λ m. SameInside pool s.memory m) (sym takes.done.memory_is) (SameInside-store pool s.memory base stop (inr (omega (arith, above, ground.cells_below))))) (record { same = λ slot some. absurd (some refl) });
     };
   }

@@ -17,10 +17,13 @@ use Rattle.kk_base.specs.Sizes.{greatest_cells, greatest_depth}
 use Rattle.cell_runtime.specs.declared.stop.Ending.TheVariants as ending
 use Rattle.cell_runtime.specs.Prints.{buffer_bytes, IsPrintInt, IsPrintText, IsReadByte}
 use Rattle.cell_runtime.specs.Stops.{IsStop}
+use Rattle.cell_runtime.specs.Takes.{IsTake}
+use Rattle.cell_runtime.specs.Drops.{IsDrop}
+use Rattle.cell_runtime.specs.Tokens.{IsHold, IsUnhold}
 use Rattle.rv_place.specs.Images.{code_in}
 use Rattle.rv_place.specs.declared.words.Words.{Words}
 use Rattle.rv_place.specs.Addresses.{IsBehind, frame_size}
-use Rattle.rv_place.specs.Texts.{ArePlaceable, text_bytes, memory_of, map_of, ArePlacedWords}
+use Rattle.rv_place.specs.Texts.{ArePlaceable, text_bytes, memory_of, pool_in, map_of, ArePlacedWords}
 use Rattle.rv_place.specs.Grounds.{HasRoutine, Ground}
 use Rattle.rv_place.proofs.BootLoaded.{two_parts, text-loaded, memory-loaded, memory-stored, stored-behind}
 use Rattle.rv_place.proofs.BootSizes.{memory_behind, memory_page, page_behind, page_near, page_multiple, stack_most, words_most, bytes_most, memory_most}
@@ -33,6 +36,18 @@ stop_address = text_start + 36
 
 behind_stop_full : IsBehind symbol.StackFull 12 runtime_labels
 behind_stop_full = inr (λ e. cc, inr (λ e. cc, inl (refl, refl)))
+
+behind_take : IsBehind (symbol.Routine routine.Take) 15 runtime_labels
+behind_take = inr (λ e. cc, inr (λ e. cc, inr (λ e. cc, inl (refl, refl))))
+
+behind_drop : IsBehind (symbol.Routine routine.Drop) 32 runtime_labels
+behind_drop = inr (λ e. cc, inr (λ e. cc, inr (λ e. cc, inr (λ e. cc, inl (refl, refl)))))
+
+behind_hold : IsBehind symbol.Hold 60 runtime_labels
+behind_hold = inr (λ e. cc, inr (λ e. cc, inr (λ e. cc, inr (λ e. cc, inr (λ e. cc, inl (refl, refl))))))
+
+behind_unhold : IsBehind symbol.Unhold 66 runtime_labels
+behind_unhold = inr (λ e. cc, inr (λ e. cc, inr (λ e. cc, inr (λ e. cc, inr (λ e. cc, inr (λ e. cc, inl (refl, refl)))))))
 
 behind_print_int : IsBehind (symbol.Routine routine.PrintInt) 70 runtime_labels
 behind_print_int =
@@ -50,9 +65,9 @@ behind_read_byte =
 
 -- The text ends before the memory behind it. There the buffer and the cells come first, and the stack at the begin of a page; all is far below 2^32.
 pub record HasRoom (cells depth frame text memory bottom size : ℕ) : Type 0 where
-  pub few_text : text ≤ 109084672
+  pub few_text : text ≤ 176193536
   pub behind : text_start + text ≤ memory
-  pub near : memory ≤ 109154304
+  pub near : memory ≤ 176263168
   pub memory_page : memory % 4096 ≡ 0
   pub some_cells : 36 + 32 * cells ≤ bottom
   pub few_cells : bottom ≤ 33558563
@@ -95,7 +110,7 @@ module _ {cells depth : ℕ} {runtime program : Placed} {words : Words} (is_runt
 
   pub has-ground : (text memory size : ℕ) → text ≡ text_bytes runtime program → memory ≡ memory_of runtime program → 1 ≤ depth → ArePlaceable runtime program
       → HasRoom cells depth (frame_size (placed_functions program)) text memory runtime.memory.stack_bottom size
-      → Ground (map_of runtime program) (placed_functions program) depth memory stop_address (code_in words) (two_parts text memory size)
+      → Ground (map_of runtime program) (pool_in cells runtime program) (placed_functions program) depth memory stop_address (code_in words) (two_parts text memory size)
   has-ground text memory size text_is memory_is some_depth placeable room =
       let code : Code = code_in words in
       let stands = runtime-stands in
@@ -114,7 +129,8 @@ module _ {cells depth : ℕ} {runtime program : Placed} {words : Words} (is_runt
         in_range = omega (arith, room.near, room.few_cells, room.few_frames);
         loads = λ at low high word. memory-loaded text memory size at 4 (omega arith) (omega (arith, room.size_is));
         stores = λ at low high word. memory-stored text memory size at 4 (omega arith) (omega (arith, room.size_is));
-        buffer_below = omega (arith, room.some_cells);
+        buffer_below = omega (arith, memory_is);
+        cells_below = omega (arith, room.some_cells);
         buffer_loads = memory-loaded text memory size memory buffer_bytes (omega arith) (omega (arith, room.size_is, room.some_cells));
         buffer_stores = memory-stored text memory size memory buffer_bytes (omega arith) (omega (arith, room.size_is, room.some_cells));
         byte_loads = memory-loaded text memory size memory 1 (omega arith) (omega (arith, room.size_is, room.some_cells));
@@ -123,6 +139,10 @@ module _ {cells depth : ℕ} {runtime program : Placed} {words : Words} (is_runt
         constants_load = λ at count low high. text-loaded text memory size at count (omega arith) (omega arith);
         constants_kept = λ x count allowed some. let behind = stored-behind text memory size x count allowed some in inl (omega (arith, room.behind));
         runtime_word = refl;
+        take = routine-at (symbol.Routine routine.Take) 15 (IsTake (pool_in cells runtime program) code) behind_take stands.take;
+        give_up = routine-at (symbol.Routine routine.Drop) 32 (IsDrop code) behind_drop stands.give_up;
+        hold = routine-at symbol.Hold 60 (IsHold (pool_in cells runtime program) code) behind_hold stands.hold;
+        unhold = routine-at symbol.Unhold 66 (IsUnhold (pool_in cells runtime program) code) behind_unhold stands.unhold;
         print_int = routine-at (symbol.Routine routine.PrintInt) 70 (IsPrintInt memory code) behind_print_int (rw memory_is stands.print_int);
         print_text = routine-at (symbol.Routine routine.PrintText) 94 (IsPrintText code) behind_print_text stands.print_text;
         read_byte = routine-at (symbol.Routine routine.ReadByte) 100 (IsReadByte memory code) behind_read_byte (rw memory_is stands.read_byte);

@@ -19,13 +19,16 @@ use Rattle.cell_runtime.specs.Lines.{words_of}
 use Rattle.cell_runtime.specs.Layouts.{layout_of}
 use Rattle.cell_runtime.specs.Starts.{AfterStart, IsStart}
 use Rattle.cell_runtime.specs.Texts.{pool_of}
-use Rattle.rv_world.specs.World.{primitives}
+use Rattle.cell_heap.specs.Blocks.{unused_cells}
+use Rattle.cell_heap.specs.Known.{HoldsCells}
+use Rattle.cell_runtime.proofs.Blocks.{start_holds}
+use Rattle.rv_world.specs.World.{first_world, primitives}
 use Rattle.rv_place.specs.declared.words.Words.{Words}
 use Rattle.rv_place.specs.Addresses.{frame_size, entries_from}
 use Rattle.rv_place.specs.declared.reach.Reach.{Reach}
 use Rattle.rv_place.specs.Lines.{FunctionAt}
-use Rattle.rv_place.specs.Texts.{text_bytes, memory_of, constants_of, map_of, jumps_of}
-use Rattle.rv_place.specs.Images.{first_processor, parts_of, code_in, main_entry, first_world, outside_lines, IsPlacedImage}
+use Rattle.rv_place.specs.Texts.{text_bytes, memory_of, pool_in, constants_of, map_of, jumps_of}
+use Rattle.rv_place.specs.Images.{first_processor, parts_of, code_in, main_entry, outside_lines, IsPlacedImage}
 use Rattle.rv_place.specs.Grounds.{stack_end, constant_bytes, Ground, Rests}
 use Rattle.rv_place.specs.Running.{NeverStuck, Related, Any}
 use Rattle.rv_place.proofs.RunningLines.{function_found}
@@ -49,7 +52,7 @@ module _ {cells depth : ℕ} {runtime program : Placed} {words : Words} {text : 
       subst (λ n. HasRoom cells depth (frame_size (placed_functions program)) n (memory_start n) runtime.memory.stack_bottom runtime.memory.size) (sym bytes_are)
       (has-room image.sizes.few_cells image.sizes.small_depth image.runtime_is image.placeable)
 
-  pub image-ground : Ground (map_of runtime program) (placed_functions program) depth (memory_start (length text)) stop_address (code_in words) (parts_of text runtime)
+  pub image-ground : Ground (map_of runtime program) (pool_in cells runtime program) (placed_functions program) depth (memory_start (length text)) stop_address (code_in words) (parts_of text runtime)
   image-ground =
       has-ground image.runtime_is image.words_are (length text) (memory_start (length text)) runtime.memory.size bytes_are (ap memory_start bytes_are) image.sizes.some_depth image.placeable room
 
@@ -88,7 +91,7 @@ module _ {cells depth : ℕ} {runtime program : Placed} {words : Words} {text : 
           constants = ap (λ memory. bytes_at memory constants.first (constant_bytes (map_of runtime program))) started.1.memory ∙ rests.constants;
         }
 
-    before-main : IsBefore (map_of runtime program) depth stop_address main_entry (code_in words) (parts_of text runtime) input started.0
+    before-main : IsBefore (map_of runtime program) (pool_in cells runtime program) depth stop_address main_entry (code_in words) (parts_of text runtime) input started.0
     before-main = record {
       rests = started-rests;
       pc_is = started.1.goes_to;
@@ -96,10 +99,11 @@ module _ {cells depth : ℕ} {runtime program : Placed} {words : Words} {text : 
       base_is = started.1.stack ∙ stack_ends;
       trace_is = started.1.trace;
       left_is = started.1.left;
+      cells = subst (λ pool. HoldsCells pool (unused_cells pool) [] started.0) (ap (λ n. pool_of cells n) (ap memory_start bytes_are)) (start_holds started.1.cells);
     }
 
     -- 13 silent instructions lead to the begin of main's lines
-    pub image-begins : Begins (map_of runtime program) (placed_functions program) depth stop_address (code_in words) (parts_of text runtime) main input 13 (first_processor text runtime.memory.size input)
+    pub image-begins : Begins (map_of runtime program) (pool_in cells runtime program) (placed_functions program) depth stop_address (code_in words) (parts_of text runtime) main input 13 (first_processor text runtime.memory.size input)
     image-begins =
         let frame : ℕ = frame_size (placed_functions program) in
         let base : ℕ = stack_end (map_of runtime program) depth - frame in
@@ -108,13 +112,13 @@ module _ {cells depth : ℕ} {runtime program : Placed} {words : Words} {text : 
         record { after = behind.after; leads = Leads-then started.1.leads behind.leads; told = behind.told ∙ started.1.trace; running = behind.running }
 
     -- and where the processor simulates the machine, they agree
-    module _ (pace : ℕ) (simulates : Simulates (placed_machine (primitives (constants_of runtime program)) depth (placed_functions program)) (processor_machine rv32im) (Related (map_of runtime program) (placed_functions program) depth stop_address (code_in words) (parts_of text runtime)) Any pace)
-        (never : NeverStuck (map_of runtime program) (placed_functions program) depth (placed_start main (first_world input))) where
-      begins-agree : Agree (placed_machine (primitives (constants_of runtime program)) depth (placed_functions program)) (processor_machine rv32im) 3 (λ m. m * pace + length main.code + 1) (placed_start main (first_world input)) (goes image-begins.after)
+    module _ (pace : ℕ) (simulates : Simulates (placed_machine (primitives (constants_of runtime program) (pool_in cells runtime program)) depth (placed_functions program)) (processor_machine rv32im) (Related (map_of runtime program) (pool_in cells runtime program) (placed_functions program) depth stop_address (code_in words) (parts_of text runtime)) Any pace)
+        (never : NeverStuck (map_of runtime program) (pool_in cells runtime program) (placed_functions program) depth (placed_start main (first_world (pool_in cells runtime program) input))) where
+      begins-agree : Agree (placed_machine (primitives (constants_of runtime program) (pool_in cells runtime program)) depth (placed_functions program)) (processor_machine rv32im) 3 (λ m. m * pace + length main.code + 1) (placed_start main (first_world (pool_in cells runtime program) input)) (goes image-begins.after)
       begins-agree =
-          simulates_agree _ _ _ _ pace simulates 3 (length main.code) (placed_start main (first_world input)) (goes image-begins.after)
+          simulates_agree _ _ _ _ pace simulates 3 (length main.code) (placed_start main (first_world (pool_in cells runtime program) input)) (goes image-begins.after)
           (never, (image-begins.after, refl, omega arith, omega arith, image-begins.running))
 
-      pub image-agrees : Agree (placed_machine (primitives (constants_of runtime program)) depth (placed_functions program)) (processor_machine rv32im) outside_lines (λ m. m * pace + length main.code + 1) (placed_start main (first_world input)) (goes (first_processor text runtime.memory.size input))
+      pub image-agrees : Agree (placed_machine (primitives (constants_of runtime program) (pool_in cells runtime program)) depth (placed_functions program)) (processor_machine rv32im) outside_lines (λ m. m * pace + length main.code + 1) (placed_start main (first_world (pool_in cells runtime program) input)) (goes (first_processor text runtime.memory.size input))
       image-agrees =
-          agree_after_instructions _ 3 13 (λ m. m * pace + length main.code + 1) (placed_start main (first_world input)) (first_processor text runtime.memory.size input) image-begins.after image-begins.leads image-begins.told begins-agree
+          agree_after_instructions _ 3 13 (λ m. m * pace + length main.code + 1) (placed_start main (first_world (pool_in cells runtime program) input)) (first_processor text runtime.memory.size input) image-begins.after image-begins.leads image-begins.told begins-agree

@@ -21,7 +21,7 @@ use Rattle.rv_place.specs.Bytes.{IsTextOf}
 
 -- ---- how many instructions code is
 
-operation_most : (operation : Operation) → words_of_operation operation ≤ 3
+operation_most : (operation : Operation) → words_of_operation operation ≤ 5
 operation_most (Operation.Register operation) = omega arith
 operation_most (Operation.Immediate operation immediate) = omega arith
 operation_most (Operation.Shift operation amount) = omega arith
@@ -30,12 +30,14 @@ operation_most Operation.Mv = omega arith
 operation_most (Operation.La index) = omega arith
 operation_most (Operation.Lw offset) = omega arith
 operation_most (Operation.Sw offset) = omega arith
+operation_most Operation.Dup = omega arith
+operation_most Operation.Free = omega arith
 
-action_most : (forms : Forms) (action : Action) → words_of_action forms action ≤ 3
+action_most : (forms : Forms) (action : Action) → words_of_action forms action ≤ 5
 action_most forms (Compute operation) = operation_most operation
 action_most forms (Label l) = omega arith
 action_most forms (Jump l) = omega (arith, jump_most forms.jumps)
-action_most forms (Branch condition l) = branch_most forms.jumps forms.branches
+action_most forms (Branch condition l) = omega (arith, branch_most forms.jumps forms.branches)
 action_most forms (Call f) = omega (arith, jump_most forms.jumps)
 action_most forms (TailCall f) = omega (arith, jump_most forms.jumps)
 action_most forms Return = omega arith
@@ -43,15 +45,15 @@ action_most forms (Routine routine) = omega (arith, jump_most forms.jumps)
 action_most forms Hold = omega (arith, jump_most forms.jumps)
 action_most forms Unhold = omega (arith, jump_most forms.jumps)
 
-line_most : (forms : Forms) (line : PlacedLine) → words_of_line forms line ≤ 3
+line_most : (forms : Forms) (line : PlacedLine) → words_of_line forms line ≤ 5
 line_most forms (does alive action args into) = action_most forms action
 line_most forms (moves alive value way) = omega arith
 
-lines_most : (forms : Forms) (lines : List PlacedLine) → words_of_lines forms lines ≤ 3 * length lines
+lines_most : (forms : Forms) (lines : List PlacedLine) → words_of_lines forms lines ≤ 5 * length lines
 lines_most forms [] = omega arith
 lines_most forms (line ∷ lines) = omega (arith, line_most forms line, lines_most forms lines)
 
-pub functions_most : (jumps : Reach) (functions : List PlacedLines) → words_of_functions jumps functions ≤ 6 * length functions + 3 * all_items functions
+pub functions_most : (jumps : Reach) (functions : List PlacedLines) → words_of_functions jumps functions ≤ 6 * length functions + 5 * all_items functions
 functions_most jumps [] = omega arith
 functions_most jumps (function ∷ functions) = omega (arith, jump_most jumps, lines_most (forms_of jumps function.code) function.code, functions_most jumps functions)
 
@@ -82,14 +84,14 @@ stack_most depth frame few small = mul-le depth frame greatest_depth 2044 few sm
 -- ---- the text
 
 module _ {runtime program : Placed} (placeable : ArePlaceable runtime program) where
-  pub words_most : text_words runtime program ≤ 25174016
+  pub words_most : text_words runtime program ≤ 41951232
   words_most =
       omega (arith, functions_most (jumps_of runtime program) (placed_functions program), placeable.runtime_size, placeable.few_functions, placeable.few_items)
 
-  pub bytes_most : text_bytes runtime program ≤ 109084672
+  pub bytes_most : text_bytes runtime program ≤ 176193536
   bytes_most = omega (arith, words_most, placeable.few_bytes)
 
-  pub memory_most : memory_of runtime program ≤ 109154304
+  pub memory_most : memory_of runtime program ≤ 176263168
   memory_most = omega (arith, bytes_most, memory_near (text_bytes runtime program))
 
 -- the bytes of a text are as many as its instructions and constants take

@@ -1,13 +1,16 @@
 pub mod RunningReaches
 pub mod RunningExecuting
 pub mod RunningFrames
+pub mod RunningLinks
 pub mod RunningRows
 pub mod RunningLines
 pub mod RunningWords
 pub mod RunningComes
 pub mod RunningMoves
+pub mod RunningCells
 pub mod RunningJumps
 pub mod RunningRoutines
+pub mod RunningTokens
 pub mod RunningSimulating
 pub mod BootAgreements
 pub mod BootBytes

@@ -5,7 +5,7 @@ use Rattle.rv_isa.specs.declared.register.Register.{Register}
 use Rattle.rv_isa.specs.declared.immediate.Immediate.{Immediate}
 use Rattle.rv_isa.specs.declared.immediate.ShiftAmount.{ShiftAmount}
 use Rattle.rv_isa.specs.declared.instr.Instr.{Instr}
-use Rattle.rv_isa.specs.declared.instr.Instr.TheVariants.{Addi}
+use Rattle.rv_isa.specs.declared.instr.Instr.TheVariants.{Addi, Lw, Sw}
 use Rattle.rv_isa.specs.declared.asm.Operation.{Operation}
 use Rattle.rv_isa.specs.declared.asm.RegisterOperation.{RegisterOperation}
 use Rattle.rv_isa.specs.declared.asm.ImmediateOperation.{ImmediateOperation}
@@ -13,7 +13,7 @@ use Rattle.rv_isa.specs.declared.asm.ShiftOperation.{ShiftOperation}
 use Rattle.rv_isa.specs.declared.placed.Operand.{Operand}
 use Rattle.rv_isa.specs.Standing.{Code}
 use Rattle.rv_world.specs.Operations.{Constants, address_in}
-use Rattle.rv_place.specs.Instructions.{Zero, LoadsWord, Computes, register_instruction, immediate_instruction, shift_instruction, words_of_operation}
+use Rattle.rv_place.specs.Instructions.{Zero, LoadsWord, RaisesCount, FreesToken, Computes, register_instruction, immediate_instruction, shift_instruction, words_of_operation}
 use Rattle.rv_place.specs.declared.chart.Chart.{Chart}
 use Rattle.rv_place.specs.Emitted.{Grew, register_or_zero, OperationBy}
 use Rattle.rv_place.proofs.Emitting.{grew_so}
@@ -54,6 +54,27 @@ module _ (constants : Constants) (code : Code) (at : ℕ) where
       → ((address : ℕ) → address_in constants.first constants.texts index ≡ Some address → LoadsWord code at rd address) → Computes constants code at (Operation.La index) registers rd
   computes_address index [] rd here = here
   computes_address index (more ∷ rest) rd here = tt
+
+  computes_load : (offset : Immediate) (registers : List Register) (rd : Register) → code at ≡ Some (Lw rd (register_in registers 0) offset) → Computes constants code at (Operation.Lw offset) registers rd
+  computes_load offset [] rd here = tt
+  computes_load offset (a ∷ []) rd here = here
+  computes_load offset (a ∷ more ∷ rest) rd here = tt
+
+  computes_store : (offset : Immediate) (registers : List Register) (rd : Register) → code at ≡ Some (Sw (register_in registers 0) (register_in registers 1) offset) → Computes constants code at (Operation.Sw offset) registers rd
+  computes_store offset [] rd here = tt
+  computes_store offset (a ∷ []) rd here = tt
+  computes_store offset (a ∷ b ∷ []) rd here = here
+  computes_store offset (a ∷ b ∷ more ∷ rest) rd here = tt
+
+  computes_dup : (registers : List Register) (rd : Register) → RaisesCount code at (register_in registers 0) → Computes constants code at Operation.Dup registers rd
+  computes_dup [] rd here = tt
+  computes_dup (a ∷ []) rd here = here
+  computes_dup (a ∷ more ∷ rest) rd here = tt
+
+  computes_free : (registers : List Register) (rd : Register) → FreesToken code at (register_in registers 0) → Computes constants code at Operation.Free registers rd
+  computes_free [] rd here = tt
+  computes_free (a ∷ []) rd here = here
+  computes_free (a ∷ more ∷ rest) rd here = tt
 
 module _ (chart : Chart) (args : List Operand) (into : Option Operand) {old new : List Instr} {operation : Operation} where
   pub on_two : {of : RegisterOperation} {rd a b : Register} {i : Instr} → operation ≡ Operation.Register of
@@ -130,4 +151,46 @@ module _ (chart : Chart) (args : List Operand) (into : Option Operand) {old new 
       computes_address map.constants code at index registers goal (λ address there.
       subst (LoadsWord code at goal) (word_is address (charts.constants index address there))
       (subst (λ r. LoadsWord code at r word) (rd_is ∙ register_of_into into goal goes) here)))
+      emitted)
+
+  pub on_load : {offset : Immediate} {rd a : Register} → operation ≡ Operation.Lw offset
+      → rd ≡ register_or_zero into → a ≡ register_or_zero (slice_get args 0)
+      → Grew 1 (λ code at. code at ≡ Some (Lw rd a offset)) old new → Grew (words_of_operation operation) (OperationBy chart operation args into) old new
+  on_load {offset} {rd} {a} is rd_is a_is emitted =
+      subst (λ o. Grew (words_of_operation o) (OperationBy chart o args into) old new) (sym is)
+      (grew_so refl
+      (λ code at here map charts registers goal are goes.
+      let to : rd ≡ goal = rd_is ∙ register_of_into into goal goes in
+      let first : a ≡ register_in registers 0 = a_is ∙ operand_register args registers 0 are in
+      computes_load map.constants code at offset registers goal (here ∙ ap Some (ap (λ r. Lw r a offset) to ∙ ap (λ r. Lw goal r offset) first)))
+      emitted)
+
+  pub on_store : {offset : Immediate} {a b : Register} → operation ≡ Operation.Sw offset
+      → a ≡ register_or_zero (slice_get args 0) → b ≡ register_or_zero (slice_get args 1)
+      → Grew 1 (λ code at. code at ≡ Some (Sw a b offset)) old new → Grew (words_of_operation operation) (OperationBy chart operation args into) old new
+  on_store {offset} {a} {b} is a_is b_is emitted =
+      subst (λ o. Grew (words_of_operation o) (OperationBy chart o args into) old new) (sym is)
+      (grew_so refl
+      (λ code at here map charts registers goal are goes.
+      let first : a ≡ register_in registers 0 = a_is ∙ operand_register args registers 0 are in
+      let second : b ≡ register_in registers 1 = b_is ∙ operand_register args registers 1 are in
+      computes_store map.constants code at offset registers goal (here ∙ ap Some (ap (λ r. Sw r b offset) first ∙ ap (λ r. Sw (register_in registers 0) r offset) second)))
+      emitted)
+
+  pub on_dup : {a : Register} → operation ≡ Operation.Dup → a ≡ register_or_zero (slice_get args 0)
+      → Grew 5 (λ code at. RaisesCount code at a) old new → Grew (words_of_operation operation) (OperationBy chart operation args into) old new
+  on_dup {a} is a_is emitted =
+      subst (λ o. Grew (words_of_operation o) (OperationBy chart o args into) old new) (sym is)
+      (grew_so refl
+      (λ code at here map charts registers goal are goes.
+      computes_dup map.constants code at registers goal (subst (λ r. RaisesCount code at r) (a_is ∙ operand_register args registers 0 are) here))
+      emitted)
+
+  pub on_free : {a : Register} → operation ≡ Operation.Free → a ≡ register_or_zero (slice_get args 0)
+      → Grew 3 (λ code at. FreesToken code at a) old new → Grew (words_of_operation operation) (OperationBy chart operation args into) old new
+  on_free {a} is a_is emitted =
+      subst (λ o. Grew (words_of_operation o) (OperationBy chart o args into) old new) (sym is)
+      (grew_so refl
+      (λ code at here map charts registers goal are goes.
+      computes_free map.constants code at registers goal (subst (λ r. FreesToken code at r) (a_is ∙ operand_register args registers 0 are) here))
       emitted)

@@ -13,13 +13,18 @@ use Rattle.rv_isa.specs.Execution.{rv32im, run, Leads}
 use Rattle.rv_isa.specs.Standing.{Code}
 use Rattle.rv_isa.proofs.Memory.{bytes_at-with_number_apart}
 use Rattle.rv_isa.proofs.Runs.{run-zero, Leads-run}
+use Rattle.cell_heap.specs.Blocks.{Cells}
+use Rattle.cell_heap.specs.Known.{HoldsCells}
 use Rattle.cell_runtime.specs.Registers.{IsOutside}
-use Rattle.rv_world.specs.World.{World, primitives}
+use Rattle.std.specs.List.{list_any}
+use Rattle.cell_heap.specs.Pool.{Pool}
+use Rattle.rv_world.specs.World.{World, with_cells, primitives}
 use Rattle.rv_place.specs.Lines.{Map}
 use Rattle.rv_place.specs.Grounds.{Ground, stack_end, constant_bytes}
-use Rattle.rv_place.specs.Running.{most_lines, IsIn, FramesAt, Agrees, Running, lines_left, StandsFor}
+use Rattle.rv_place.specs.Running.{most_lines, IsIn, FramesAt, links_of, Agrees, Running, lines_left, StandsFor}
 use Rattle.rv_place.proofs.RunningExecuting.{Done, Gets}
 use Rattle.rv_place.proofs.RunningFrames.{handed_apart, agrees_put, agrees_kept, frames_sum}
+use Rattle.rv_place.proofs.RunningLinks.{is_own, roots_done, cells_done}
 
 -- ---- turns
 
@@ -88,14 +93,14 @@ agrees_got {rd = rd} {word = word} s known w gets handed new agrees =
 
 -- ---- what is come to
 
-module _ (map : Map) (functions : List PlacedLines) (depth stop : ℕ) (code : Code) (parts : List Part) where
+module _ (map : Map) (pool : Pool) (functions : List PlacedLines) (depth stop : ℕ) (code : Code) (parts : List Part) where
   -- The processor comes to what stands for a turn, by so many instructions at most. Where there is none, a line is behind it.
   pub record Comes (most old : ℕ) (turn : PlacedTurn World Ending) (s : Processor) : Type 0 where
     pub steps : ℕ
     pub after : Progress
     pub runs : run steps s ≡ after
-    pub stands_for : (credit idle : ℕ) → 3 ≤ credit → left_in turn ≤ idle → StandsFor map functions depth stop code parts credit idle turn after
-    pub told : placed_told (primitives map.constants) turn ≡ after.processor.trace
+    pub stands_for : (credit idle : ℕ) → 3 ≤ credit → left_in turn ≤ idle → StandsFor map pool functions depth stop code parts credit idle turn after
+    pub told : placed_told (primitives map.constants pool) turn ≡ after.processor.trace
     pub within : steps ≤ most + spare turn
     pub moves : 1 + left_in turn ≤ steps * suc (most_lines functions) + old
 
@@ -110,7 +115,7 @@ module _ (map : Map) (functions : List PlacedLines) (depth stop : ℕ) (code : C
   some_moves zero left most old some few = omega arith
   some_moves (suc n) left most old some few = let more = suc-mul n (suc most) in omega arith
 
-  pub comes_go : (most old : ℕ) (t : PlacedState World) (s u : Processor) (n : ℕ) → Leads n s u → Running map functions depth stop code parts t u → 1 ≤ n → n ≤ most → Comes most old (go t) s
+  pub comes_go : (most old : ℕ) (t : PlacedState World) (s u : Processor) (n : ℕ) → Leads n s u → Running map pool functions depth stop code parts t u → 1 ≤ n → n ≤ most → Comes most old (go t) s
   comes_go most old t s u n leads running some within = record {
     steps = n;
     after = goes u;
@@ -122,7 +127,7 @@ module _ (map : Map) (functions : List PlacedLines) (depth stop : ℕ) (code : C
   }
 
   -- nothing is done, and a line is behind
-  pub comes_idle : (most old : ℕ) (t : PlacedState World) (s : Processor) → Running map functions depth stop code parts t s → 1 + lines_left t.frames ≤ old → Comes most old (go t) s
+  pub comes_idle : (most old : ℕ) (t : PlacedState World) (s : Processor) → Running map pool functions depth stop code parts t s → 1 + lines_left t.frames ≤ old → Comes most old (go t) s
   comes_idle most old t s running less = record {
     steps = 0;
     after = goes s;
@@ -134,7 +139,7 @@ module _ (map : Map) (functions : List PlacedLines) (depth stop : ℕ) (code : C
   }
 
   -- the end of a run
-  pub comes_ended : (most old : ℕ) (how : Ending) (world : World) (s : Processor) (n : ℕ) (after : Progress) → run n s ≡ after → StandsFor map functions depth stop code parts 3 0 (ended how world) after → 1 ≤ n → n ≤ most + 3 → Comes most old (ended how world) s
+  pub comes_ended : (most old : ℕ) (how : Ending) (world : World) (s : Processor) (n : ℕ) (after : Progress) → run n s ≡ after → StandsFor map pool functions depth stop code parts 3 0 (ended how world) after → 1 ≤ n → n ≤ most + 3 → Comes most old (ended how world) s
   comes_ended most old how world s n after runs stands some within = record {
     steps = n;
     after = after;
@@ -147,12 +152,12 @@ module _ (map : Map) (functions : List PlacedLines) (depth stop : ℕ) (code : C
 
   -- ---- the relation is kept
 
-  pub runs_on : {n : ℕ} {changed : List ℕ} {memory : ℕ → ℕ} {next : ℕ} (t : PlacedState World) (s u : Processor) (frames : List (Frame PlacedLine)) (known : ℕ → Option ℕ) (base : ℕ)
-      → Running map functions depth stop code parts t s → Done code n changed memory next s u
+  pub runs_on : {n : ℕ} {changed : List ℕ} {memory : ℕ → ℕ} {next : ℕ} (t : PlacedState World) (cells : Cells) (s u : Processor) (frames : List (Frame PlacedLine)) (known : ℕ → Option ℕ) (base : ℕ)
+      → Running map pool functions depth stop code parts t s → Done code n changed memory next s u
       → bytes_at memory map.constants.first (constant_bytes map) ≡ bytes_at s.memory map.constants.first (constant_bytes map)
       → length frames ≤ depth → value u.registers 2 ≡ base → FramesAt map code (most_lines functions) stop (stack_end map depth) memory next base frames → Agrees known u.registers
-      → Running map functions depth stop code parts (record { frames = frames; registers = known; shared = t.shared }) u
-  runs_on {memory = memory} {next = next} t s u frames known base running done same room base_is stand agrees =
+      → HoldsCells pool cells (links_of map base frames) u → Running map pool functions depth stop code parts (record { frames = frames; registers = known; shared = with_cells t.shared cells }) u
+  runs_on {memory = memory} {next = next} t cells s u frames known base running done same room base_is stand agrees holds =
       let at_pc : FramesAt map code (most_lines functions) stop (stack_end map depth) memory u.pc base frames = subst (λ a. FramesAt map code (most_lines functions) stop (stack_end map depth) memory a base frames) (sym done.pc_is) stand in
       let at_base : FramesAt map code (most_lines functions) stop (stack_end map depth) memory u.pc (value u.registers 2) frames = subst (λ b. FramesAt map code (most_lines functions) stop (stack_end map depth) memory u.pc b frames) (sym base_is) at_pc in
       record {
@@ -167,13 +172,14 @@ module _ (map : Map) (functions : List PlacedLines) (depth stop : ℕ) (code : C
         room = room;
         frames = subst (λ m. FramesAt map code (most_lines functions) stop (stack_end map depth) m u.pc (value u.registers 2) frames) (sym done.memory_is) at_base;
         registers = agrees;
+        cells = subst (λ b. HoldsCells pool cells (links_of map b frames) u) (sym base_is) holds;
       }
 
 -- ---- a line of the newest frame
 
-module _ {map : Map} {functions : List PlacedLines} {depth buffer stop : ℕ} {code : Code} {parts : List Part} (ground : Ground map functions depth buffer stop code parts)
+module _ {map : Map} {pool : Pool} {functions : List PlacedLines} {depth buffer stop : ℕ} {code : Code} {parts : List Part} (ground : Ground map pool functions depth buffer stop code parts)
     (f : Frame PlacedLine) (fs : List (Frame PlacedLine)) (known : ℕ → Option ℕ) (world : World) (s : Processor)
-    (running : Running map functions depth stop code parts (record { frames = f ∷ fs; registers = known; shared = world }) s) where
+    (running : Running map pool functions depth stop code parts (record { frames = f ∷ fs; registers = known; shared = world }) s) where
   base_sum : value s.registers 2 + suc (length fs) * map.frame ≡ map.bottom + depth * map.frame
   base_sum = frames_sum map code (most_lines functions) stop (stack_end map depth) s.memory s.pc (value s.registers 2) (f ∷ fs) running.frames
 
@@ -198,11 +204,11 @@ module _ {map : Map} {functions : List PlacedLines} {depth buffer stop : ℕ} {c
   constants_kept at v allowed = bytes_at-with_number_apart at 4 v s.memory map.constants.first (constant_bytes map) (ground.constants_kept at 4 allowed (lit< tt))
 
   -- instructions that change no memory lead on in the same frame
-  pub stays : (most old : ℕ) {n : ℕ} {changed : List ℕ} {next : ℕ} (u : Processor) (behind : List PlacedLine) (known' : ℕ → Option ℕ) → Done code n changed s.memory next s u → IsOutside 2 changed
+  pub stays : (most old : ℕ) {n : ℕ} {changed : List ℕ} {next : ℕ} (u : Processor) (behind : List PlacedLine) (known' : ℕ → Option ℕ) → Done code n changed s.memory next s u → IsOutside 2 changed → list_any is_own changed ≡ false
       → IsIn map code (most_lines functions) next (record f { code = behind }) → Agrees known' u.registers → 1 ≤ n → n ≤ most
-      → Comes map functions depth stop code parts most old (placed_goes (record f { code = behind }) fs known' world) s
-  stays most old {n = n} u behind known' done outside is_in agrees some within =
+      → Comes map pool functions depth stop code parts most old (placed_goes (record f { code = behind }) fs known' world) s
+  stays most old {n = n} u behind known' done outside none is_in agrees some within =
       let stand = running.frames in
-      comes_go map functions depth stop code parts most old (record { frames = record f { code = behind } ∷ fs; registers = known'; shared = world }) s u n done.leads
-      (runs_on map functions depth stop code parts (record { frames = f ∷ fs; registers = known; shared = world }) s u (record f { code = behind } ∷ fs) known' (value s.registers 2) running done refl running.room
-      (done.kept 2 outside) (is_in, stand.1, stand.2, stand.3, stand.4) agrees) some within
+      comes_go map pool functions depth stop code parts most old (record { frames = record f { code = behind } ∷ fs; registers = known'; shared = world }) s u n done.leads
+      (runs_on map pool functions depth stop code parts (record { frames = f ∷ fs; registers = known; shared = world }) world.cells s u (record f { code = behind } ∷ fs) known' (value s.registers 2) running done refl running.room
+      (done.kept 2 outside) (is_in, stand.1, stand.2, stand.3) agrees (cells_done running.cells (roots_done done none) done.memory_is)) some within

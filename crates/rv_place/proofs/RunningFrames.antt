@@ -51,12 +51,12 @@ module _ (map : Map) (code : Code) (most stop roof : ℕ) where
   pub frames_sum : (memory : ℕ → ℕ) (at base : ℕ) (frames : List (Frame PlacedLine)) → FramesAt map code most stop roof memory at base frames → base + length frames * map.frame ≡ roof
   frames_sum memory at base [] stand = let is = stand.1 in omega arith
   frames_sum memory at base (frame ∷ frames) stand =
-      more_frames base (length frames) map.frame roof (frames_sum memory (number_at memory base 4) (base + map.frame) frames stand.4)
+      more_frames base (length frames) map.frame roof (frames_sum memory (number_at memory base 4) (base + map.frame) frames stand.3)
 
   -- the newest frame ends within the stack
   pub frame_below : (memory : ℕ → ℕ) (at base : ℕ) (frame : Frame PlacedLine) (frames : List (Frame PlacedLine)) → FramesAt map code most stop roof memory at base (frame ∷ frames) → base + map.frame ≤ roof
   frame_below memory at base frame frames stand =
-      let sum = frames_sum memory (number_at memory base 4) (base + map.frame) frames stand.4 in omega arith
+      let sum = frames_sum memory (number_at memory base 4) (base + map.frame) frames stand.3 in omega arith
 
   -- frames whose words are the same stand in another memory
   pub slots_kept : (memory after : ℕ → ℕ) (base : ℕ) (cells : ℕ → Option ℕ)
@@ -71,12 +71,11 @@ module _ (map : Map) (code : Code) (most stop roof : ℕ) where
   frames_kept some memory after at base (frame ∷ frames) same stand =
       let ends = frame_below memory at base frame frames stand in
       let rest : FramesAt map code most stop roof after (number_at memory base 4) (base + map.frame) frames =
-      frames_kept some memory after (number_at memory base 4) (base + map.frame) frames (λ x low high. same x (omega arith) high) stand.4 in
+      frames_kept some memory after (number_at memory base 4) (base + map.frame) frames (λ x low high. same x (omega arith) high) stand.3 in
       let way : number_at after base 4 ≡ number_at memory base 4 = same base (omega arith) (omega arith) in (
         stand.0,
         slots_kept memory after base frame.cells (λ x low high. same x low (omega arith)) stand.1,
         stand.2,
-        stand.3,
         subst (λ w. FramesAt map code most stop roof after w (base + map.frame) frames) (sym way) rest,
       )
 
@@ -112,30 +111,28 @@ module _ (map : Map) (memory : ℕ → ℕ) (base slot v : ℕ) (inside : slot_o
 module _ (map : Map) (code : Code) (most stop roof : ℕ) where
   -- the frames behind a store to a slot of the newest one
   pub frames_put : 4 ≤ map.frame → (memory : ℕ → ℕ) (base slot v at next : ℕ) (word : Option ℕ) (frame frame' : Frame PlacedLine) (frames : List (Frame PlacedLine))
-      → slot_offset slot + 4 ≤ map.frame → ((w : ℕ) → word ≡ Some w → (v ≡ w) × (w < 2 ^ 32)) → frame'.cells ≡ put slot word frame.cells → frame'.held ≡ frame.held → frame'.into ≡ frame.into → IsIn map code most next frame'
+      → slot_offset slot + 4 ≤ map.frame → ((w : ℕ) → word ≡ Some w → (v ≡ w) × (w < 2 ^ 32)) → frame'.cells ≡ put slot word frame.cells → frame'.into ≡ frame.into → IsIn map code most next frame'
       → FramesAt map code most stop roof memory at base (frame ∷ frames) → FramesAt map code most stop roof (with_number (base + slot_offset slot) 4 v memory) next base (frame' ∷ frames)
-  frames_put some memory base slot v at next word frame frame' frames inside new cells_are held_is into_is here stand =
+  frames_put some memory base slot v at next word frame frame' frames inside new cells_are into_is here stand =
       let after = with_number (base + slot_offset slot) 4 v memory in
       let rest : FramesAt map code most stop roof after (number_at memory base 4) (base + map.frame) frames =
-      frames_kept map code most stop roof some memory after (number_at memory base 4) (base + map.frame) frames (λ x low high. store_behind map memory base slot v inside x low) stand.4 in (
+      frames_kept map code most stop roof some memory after (number_at memory base 4) (base + map.frame) frames (λ x low high. store_behind map memory base slot v inside x low) stand.3 in (
         here,
         subst (Slots map after base) (sym cells_are) (slots_put map memory base slot v inside word frame.cells new stand.1),
-        held_is ∙ stand.2,
-        rw into_is stand.3,
+        rw into_is stand.2,
         subst (λ w. FramesAt map code most stop roof after w (base + map.frame) frames) (sym (store_way map memory base slot v inside)) rest,
       )
 
   -- a new frame under the others, whose first word is where the newest of them goes on
   pub frames_pushed : 4 ≤ map.frame → (memory : ℕ → ℕ) (base way : ℕ) (next : ℕ) (frame : Frame PlacedLine) (frames : List (Frame PlacedLine)) → way < 2 ^ 32 → IsIn map code most next frame
-      → ((k w : ℕ) → frame.cells k ≡ Some w → ⊥) → frame.held ≡ [] → frame.into ≡ None
+      → ((k w : ℕ) → frame.cells k ≡ Some w → ⊥) → frame.into ≡ None
       → FramesAt map code most stop roof memory way (base + map.frame) frames → FramesAt map code most stop roof (with_number base 4 way memory) next base (frame ∷ frames)
-  frames_pushed some memory base way next frame frames fits here unknown none waits_none stand =
+  frames_pushed some memory base way next frame frames fits here unknown waits_none stand =
       let after = with_number base 4 way memory in
       let rest : FramesAt map code most stop roof after way (base + map.frame) frames =
       frames_kept map code most stop roof some memory after way (base + map.frame) frames (λ x low high. word-apart base way memory x (inr (omega arith))) stand in (
         here,
         (λ k w is. absurd (unknown k w is)),
-        none,
         rw waits_none tt,
         subst (λ w. FramesAt map code most stop roof after w (base + map.frame) frames) (sym (word-same base way memory fits)) rest,
       )

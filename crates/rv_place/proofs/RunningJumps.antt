@@ -21,9 +21,14 @@ use Rattle.rv_isa.specs.Processor.{Processor, Ending, exited, value, can_store}
 use Rattle.rv_isa.specs.Execution.{run, Leads}
 use Rattle.rv_isa.specs.Standing.{Code}
 use Rattle.rv_isa.specs.declared.placed.Symbol.TheVariants as symbol
+use Rattle.rv_isa.proofs.Memory.{word-apart}
+use Rattle.cell_heap.specs.Known.{HoldsCells, SameRoots}
+use Rattle.cell_heap.proofs.Frames.{SameInside, SameInside-store}
+use Rattle.cell_heap.proofs.Blocks.{outside-holds}
 use Rattle.cell_runtime.specs.Calls.{Exits}
 use Rattle.cell_runtime.specs.Registers.{IsOutside}
 use Rattle.rv_world.specs.Operations.{holds}
+use Rattle.cell_heap.specs.Pool.{Pool}
 use Rattle.rv_world.specs.World.{World, primitives}
 use Rattle.rv_place.specs.Registers.{zero_register, ra}
 use Rattle.rv_place.specs.Addresses.{label_address, entry_words}
@@ -33,10 +38,11 @@ use Rattle.rv_place.specs.declared.reach.Reach.{Reach}
 use Rattle.rv_place.specs.declared.reach.Reach.TheVariants.{Far}
 use Rattle.rv_place.specs.Lines.{Map, ReturnsFrom, BranchesTo, FunctionAt, ActsAt, IsSymbolAt}
 use Rattle.rv_place.specs.Grounds.{Ground, stack_end}
-use Rattle.rv_place.specs.Running.{AllPlain, most_lines, IsIn, AwaitsFirst, FramesAt, Agrees, Running}
+use Rattle.rv_place.specs.Running.{AllPlain, most_lines, IsIn, AwaitsFirst, FramesAt, links_in, links_of, Agrees, Running}
 use Rattle.rv_place.proofs.RunningExecuting.{Goes, done_then, done_as}
 use Rattle.rv_place.proofs.RunningRows.{Shifts, jump_to, jump_last, branch_last, entry_full, entry_takes, return_goes}
 use Rattle.rv_place.proofs.RunningFrames.{known_put, agrees_put, frames_pushed}
+use Rattle.rv_place.proofs.RunningLinks.{roots_done, cells_done, cells_ended, slots_below}
 use Rattle.rv_place.proofs.RunningLines.{Labelled, label_found, label_there, jump_below, function_found, plain_found, few_found, entered_in, goes_to_label, jump_some, jump_most, branch_some, branch_most, branch_below}
 use Rattle.rv_place.proofs.RunningWords.{words_in, in_registers, passed_known, branches_taken, branches_passed}
 use Rattle.rv_place.proofs.RunningComes.{or_stuck_some, Comes, comes_go, comes_ended, runs_on, agrees_done, sp_low, sp_word, sp_high, sp_room, sp_last, constants_kept, stays}
@@ -63,19 +69,19 @@ passed_high n (word ∷ words) x w is = by (passed_high (suc n) words x w) (know
 outside_entry : (x : ℕ) → 10 ≤ x → IsOutside x (1 ∷ 1 ∷ 5 ∷ 2 ∷ [])
 outside_entry x high = ((λ e. omega arith), ((λ e. omega arith), ((λ e. omega arith), ((λ e. omega arith), tt))))
 
-none_held : {S H W : Type 0} (held : List ℕ) (next turn : Turn S H W) → held ≡ [] → unless_held held next ≡ turn → next ≡ turn
-none_held [] next turn none is = is
-none_held (k ∷ ks) next turn none is = cc
+none_held : {S H W : Type 0} (held : List ℕ) (next turn : Turn S H W) → unless_held held next ≡ turn → turn ≢ stuck → (held ≡ []) × (next ≡ turn)
+none_held [] next turn is good = (refl, is)
+none_held (k ∷ ks) next turn is good = absurd (good (sym is))
 
 -- a run that leads to an exit
-exit_runs : {n number count : ℕ} (s u : Processor) → Leads n s u → (exits : Exits number count u) → run (n + count) s ≡ record { processor = exits.last; ending = exited number }
+pub exit_runs : {n number count : ℕ} (s u : Processor) → Leads n s u → (exits : Exits number count u) → run (n + count) s ≡ record { processor = exits.last; ending = exited number }
 exit_runs {n} {number} {count} s u leads exits = leads.by count ∙ (ap (λ k. run k u) (sym (add-zero count)) ∙ exits.ends 0)
 
 -- ---- jumps and branches
 
-module _ {map_of : Map} {functions : List PlacedLines} {depth buffer stop : ℕ} {code : Code} {parts : List Part} (ground : Ground map_of functions depth buffer stop code parts)
+module _ {map_of : Map} {pool : Pool} {functions : List PlacedLines} {depth buffer stop : ℕ} {code : Code} {parts : List Part} (ground : Ground map_of pool functions depth buffer stop code parts)
     (f : Frame PlacedLine) (fs : List (Frame PlacedLine)) (known : ℕ → Option ℕ) (world : World) (s : Processor)
-    (running : Running map_of functions depth stop code parts (record { frames = f ∷ fs; registers = known; shared = world }) s) (rest : List PlacedLine) (old : ℕ) where
+    (running : Running map_of pool functions depth stop code parts (record { frames = f ∷ fs; registers = known; shared = world }) s) (rest : List PlacedLine) (old : ℕ) where
   abbrev behind : Frame PlacedLine
   behind = record f { code = rest }
 
@@ -87,20 +93,20 @@ module _ {map_of : Map} {functions : List PlacedLines} {depth buffer stop : ℕ}
 
   -- instructions that lead to a label
   to_label : (most : ℕ) {n : ℕ} (l : ℕ) (lines : List PlacedLine) (label : Labelled map_of stands_in.forms code stands_in.start f.whole (most_lines functions) (label_address stands_in.forms l stands_in.start f.whole) lines) → label.target < 2 ^ 32
-      → Goes code n (1 ∷ 0 ∷ []) s.memory label.target s → 1 ≤ n → n ≤ most → Comes map_of functions depth stop code parts most old (placed_goes (record f { code = lines }) fs known world) s
+      → Goes code n (1 ∷ 0 ∷ []) s.memory label.target s → 1 ≤ n → n ≤ most → Comes map_of pool functions depth stop code parts most old (placed_goes (record f { code = lines }) fs known world) s
   to_label most l lines label fits goes some within =
-      stays ground f fs known world s running most old goes.after lines known goes.done ((λ e. cc), ((λ e. cc), tt))
+      stays ground f fs known world s running most old goes.after lines known goes.done ((λ e. cc), ((λ e. cc), tt)) refl
       (goes_to_label stands_in l lines (record f { code = lines }) refl refl label fits) (agrees_done s goes.after known goes.done (refl, (refl, tt)) running.registers) some within
 
   pub follow_jump : (l : ℕ) (args : List Operand) (into : Option Operand) (words : List ℕ) (turn : PlacedTurn World Ending) → ActsAt map_of stands_in.forms code stands_in.start f.whole s.pc (Jump l) args into
-      → placed_acts (primitives map_of.constants) depth functions behind fs known world (Jump l) args into words ≡ turn → turn ≢ stuck → Comes map_of functions depth stop code parts 2 old turn s
+      → placed_acts (primitives map_of.constants pool) depth functions behind fs known world (Jump l) args into words ≡ turn → turn ≢ stuck → Comes map_of pool functions depth stop code parts 2 old turn s
   follow_jump l args into words turn here is good =
       let result = or_stuck_some (found (is_label_line l) f.whole) (λ lines. placed_goes (record behind { code = lines }) fs known world) turn is good in
       let label = labelled l result.0 result.1 in
       let reach : Reach = stands_in.forms.jumps in
       let jumps : JumpsTo reach code s.pc label.target = here label.target label.target_is in
       let gets = jump_to ground.below running.rests.stands reach s.pc refl zero_register label.target jumps label.word in
-      subst (λ t. Comes map_of functions depth stop code parts 2 old t s) result.2
+      subst (λ t. Comes map_of pool functions depth stop code parts 2 old t s) result.2
       (to_label 2 l result.0 label (jump_below reach code s.pc zero_register label.target jumps) (record { after = gets.after; done = gets.done }) (jump_some reach) (jump_most reach))
 
   -- the address behind a branch, and that of its label, are words
@@ -120,23 +126,23 @@ module _ {map_of : Map} {functions : List PlacedLines} {depth buffer stop : ℕ}
   module _ (is_behind : (next : ℕ) → s.pc + 4 * words_of_branch stands_in.forms.jumps stands_in.forms.branches ≡ next → next < 2 ^ 32 → IsIn map_of code (most_lines functions) next behind) (condition : Condition) (l : ℕ) where
     branch_by : (taken : Bool) (rs : List Register) (turn : PlacedTurn World Ending) (lines : List PlacedLine) → found (is_label_line l) f.whole ≡ Some lines → holds condition (words_in s.registers rs) ≡ Some taken
         → (label : Labelled map_of stands_in.forms code stands_in.start f.whole (most_lines functions) (label_address stands_in.forms l stands_in.start f.whole) lines) → BranchesTo stands_in.forms code s.pc condition rs label.target
-        → cond taken (placed_jumps l behind fs known world) (placed_goes behind fs known world) ≡ turn → turn ≢ stuck → Comes map_of functions depth stop code parts 3 old turn s
+        → cond taken (placed_jumps l behind fs known world) (placed_goes behind fs known world) ≡ turn → turn ≢ stuck → Comes map_of pool functions depth stop code parts 3 old turn s
     branch_by true rs turn lines there holds_is label branch is good =
         let result = or_stuck_some (found (is_label_line l) f.whole) (λ lines. placed_goes (record behind { code = lines }) fs known world) turn is good in
         let same : lines ≡ result.0 = some_same lines result.0 (sym there ∙ result.1) in
         let fits = branch_fits condition rs label.target true holds_is branch in
         let goes = branches_taken ground.below running.rests.stands s.pc refl stands_in.forms condition label.target rs label.word holds_is branch in
-        subst (λ t. Comes map_of functions depth stop code parts 3 old t s) (ap (λ c. placed_goes (record behind { code = c }) fs known world) same ∙ result.2)
+        subst (λ t. Comes map_of pool functions depth stop code parts 3 old t s) (ap (λ c. placed_goes (record behind { code = c }) fs known world) same ∙ result.2)
         (to_label 3 l lines label fits.0 goes (branch_some stands_in.forms.jumps stands_in.forms.branches) (branch_most stands_in.forms.jumps stands_in.forms.branches))
     branch_by false rs turn lines there holds_is label branch is good =
         let fits = branch_fits condition rs label.target false holds_is branch in
         let goes = branches_passed ground.below running.rests.stands s.pc refl stands_in.forms condition label.target rs holds_is branch in
-        subst (λ t. Comes map_of functions depth stop code parts 3 old t s) is
-        (stays ground f fs known world s running 3 old goes.after rest known goes.done tt (is_behind (s.pc + 4 * words_of_branch stands_in.forms.jumps stands_in.forms.branches) refl fits.1) (agrees_done s goes.after known goes.done tt running.registers) (omega arith) (omega arith))
+        subst (λ t. Comes map_of pool functions depth stop code parts 3 old t s) is
+        (stays ground f fs known world s running 3 old goes.after rest known goes.done tt refl (is_behind (s.pc + 4 * words_of_branch stands_in.forms.jumps stands_in.forms.branches) refl fits.1) (agrees_done s goes.after known goes.done tt running.registers) (omega arith) (omega arith))
 
     pub follow_branch : (args : List Operand) (into : Option Operand) (words : List ℕ) (turn : PlacedTurn World Ending)
         → ActsAt map_of stands_in.forms code stands_in.start f.whole s.pc (Branch condition l) args into → IsSome (found (is_label_line l) f.whole) → conforms (Branch condition l) args into ≡ true → all_of (map (λ (arg : Operand). read_at known f.cells arg.place) args) ≡ Some words
-        → placed_acts (primitives map_of.constants) depth functions behind fs known world (Branch condition l) args into words ≡ turn → turn ≢ stuck → Comes map_of functions depth stop code parts 3 old turn s
+        → placed_acts (primitives map_of.constants pool) depth functions behind fs known world (Branch condition l) args into words ≡ turn → turn ≢ stuck → Comes map_of pool functions depth stop code parts 3 old turn s
     follow_branch args into words turn here there conform words_are is good =
         let fit = and_parts (take_from (Branch condition l) 0 args) (gives_into (Branch condition l) into) conform in
         let values = in_registers known f.cells s.registers running.registers (Branch condition l) 0 args words (λ k place is_one. is_one) fit.0 words_are in
@@ -147,9 +153,9 @@ module _ {map_of : Map} {functions : List PlacedLines} {depth buffer stop : ℕ}
 
 -- ---- calls
 
-module _ {map_of : Map} {functions : List PlacedLines} {depth buffer stop : ℕ} {code : Code} {parts : List Part} (ground : Ground map_of functions depth buffer stop code parts) (plain : AllPlain functions)
+module _ {map_of : Map} {pool : Pool} {functions : List PlacedLines} {depth buffer stop : ℕ} {code : Code} {parts : List Part} (ground : Ground map_of pool functions depth buffer stop code parts) (plain : AllPlain functions)
     (f : Frame PlacedLine) (fs : List (Frame PlacedLine)) (known : ℕ → Option ℕ) (world : World) (s : Processor)
-    (running : Running map_of functions depth stop code parts (record { frames = f ∷ fs; registers = known; shared = world }) s) (rest : List PlacedLine) (old : ℕ) (forms : Forms) where
+    (running : Running map_of pool functions depth stop code parts (record { frames = f ∷ fs; registers = known; shared = world }) s) (rest : List PlacedLine) (old : ℕ) (forms : Forms) where
   abbrev left_behind : Frame PlacedLine
   left_behind = record f { code = rest }
 
@@ -165,24 +171,26 @@ module _ {map_of : Map} {functions : List PlacedLines} {depth buffer stop : ℕ}
 
   pub follow_tail_call : (g : ℕ) (args : List Operand) (into : Option Operand) (words : List ℕ) (start : ℕ) (turn : PlacedTurn World Ending)
       → ActsAt map_of forms code start f.whole s.pc (TailCall g) args into → conforms (TailCall g) args into ≡ true → all_of (map (λ (arg : Operand). read_at known f.cells arg.place) args) ≡ Some words
-      → placed_acts (primitives map_of.constants) depth functions left_behind fs known world (TailCall g) args into words ≡ turn → turn ≢ stuck → Comes map_of functions depth stop code parts 2 old turn s
+      → placed_acts (primitives map_of.constants pool) depth functions left_behind fs known world (TailCall g) args into words ≡ turn → turn ≢ stuck → Comes map_of pool functions depth stop code parts 2 old turn s
   follow_tail_call g args into words start turn here conform words_are is good =
       let fit = and_parts (take_from (TailCall g) 0 args) (gives_into (TailCall g) into) conform in
       let stand = running.frames in
-      let result = or_stuck_some (slice_get functions g) (λ callee. placed_goes (placed_entered callee) fs (passed 0 words) world) turn (none_held f.held (or_stuck (slice_get functions g) (λ callee. placed_goes (placed_entered callee) fs (passed 0 words) world)) turn stand.2 is) good in
+      let free = none_held f.held (or_stuck (slice_get functions g) (λ callee. placed_goes (placed_entered callee) fs (passed 0 words) world)) turn is good in
+      let result = or_stuck_some (slice_get functions g) (λ callee. placed_goes (placed_entered callee) fs (passed 0 words) world) turn free.1 good in
       let function = function_found map_of code map_of.entries functions ground.functions_at g result.0 result.1 in
       let inside = callee_in g result.0 function.0 result.1 function.2 in
       let gets = jump_to ground.below running.rests.stands forms.jumps s.pc refl zero_register (function.0 + 4 * entry_words map_of.jumps) (here function.0 function.1) inside.at_word in
-      subst (λ t. Comes map_of functions depth stop code parts 2 old t s) result.2
-      (comes_go map_of functions depth stop code parts 2 old (record { frames = placed_entered result.0 ∷ fs; registers = passed 0 words; shared = world }) s gets.after (words_of_jump forms.jumps) gets.done.leads
-      (runs_on map_of functions depth stop code parts (record { frames = f ∷ fs; registers = known; shared = world }) s gets.after (placed_entered result.0 ∷ fs) (passed 0 words) (value s.registers 2) running gets.done refl running.room
-      (gets.done.kept 2 ((λ e. cc), ((λ e. cc), tt))) (inside, (λ k w none. cc), refl, tt, stand.4)
-      (agrees_done s gets.after (passed 0 words) gets.done (refl, (refl, tt)) (passed_agree (TailCall g) args words (λ k place is_one. is_one) fit.0 words_are))) (jump_some forms.jumps) (jump_most forms.jumps))
+      subst (λ t. Comes map_of pool functions depth stop code parts 2 old t s) result.2
+      (comes_go map_of pool functions depth stop code parts 2 old (record { frames = placed_entered result.0 ∷ fs; registers = passed 0 words; shared = world }) s gets.after (words_of_jump forms.jumps) gets.done.leads
+      (runs_on map_of pool functions depth stop code parts (record { frames = f ∷ fs; registers = known; shared = world }) world.cells s gets.after (placed_entered result.0 ∷ fs) (passed 0 words) (value s.registers 2) running gets.done refl running.room
+      (gets.done.kept 2 ((λ e. cc), ((λ e. cc), tt))) (inside, (λ k w none. cc), tt, stand.3)
+      (agrees_done s gets.after (passed 0 words) gets.done (refl, (refl, tt)) (passed_agree (TailCall g) args words (λ k place is_one. is_one) fit.0 words_are))
+      (subst (λ links. HoldsCells pool world.cells links gets.after) (ap (λ held. links_in (value s.registers 2) f.cells held (links_of map_of (value s.registers 2 + map_of.frame) fs)) free.0) (cells_done running.cells (roots_done gets.done refl) gets.done.memory_is))) (jump_some forms.jumps) (jump_most forms.jumps))
 
   -- ---- a call that finds no frame left
 
   full_comes : (g : ℕ) (callee : PlacedLines) (entry : ℕ) → FunctionAt map_of code entry callee → CallsTo forms.jumps code s.pc entry → depth ≤ length (f ∷ fs)
-      → Comes map_of functions depth stop code parts 12 old (ended (primitives map_of.constants).stack_full world) s
+      → Comes map_of pool functions depth stop code parts 7 old (ended (primitives map_of.constants pool).stack_full world) s
   full_comes g callee entry function calls full =
       let word = running.rests.stands.aligned entry _ function.entry.sets in
       let full_at = ground.stack_full in
@@ -191,8 +199,9 @@ module _ {map_of : Map} {functions : List PlacedLines} {depth buffer stop : ℕ}
       let goes = entry_full ground.below called.done.stands map_of entry called.done.pc_is function.entry full_at.0 full_at.1 (symbol_word full_at.0 full_at.1) last in
       let done = done_then called.done goes.done in
       let exits = full_at.2 goes.after (record { stands = done.stands; pc_is = done.pc_is }) in
-      comes_ended map_of functions depth stop code parts 12 old (primitives map_of.constants).stack_full world s (words_of_jump forms.jumps + (1 + words_of_branch map_of.jumps Far) + 3) (record { processor = exits.last; ending = exited 102 }) (exit_runs s goes.after done.leads exits)
-      (refl, exits.trace ∙ (done.trace_is ∙ running.trace)) (omega arith) (omega (arith, jump_most forms.jumps, jump_most map_of.jumps))
+      comes_ended map_of pool functions depth stop code parts 7 old (primitives map_of.constants pool).stack_full world s (words_of_jump forms.jumps + (1 + words_of_branch map_of.jumps Far) + 3) (record { processor = exits.last; ending = exited 102 }) (exit_runs s goes.after done.leads exits)
+      (refl, exits.trace ∙ (done.trace_is ∙ running.trace), (links_of map_of (value s.registers 2) (f ∷ fs), cells_ended (cells_done running.cells (roots_done done refl) (done.memory_is ∙ called.done.memory_is)) exits))
+      (omega arith) (omega (arith, jump_most forms.jumps, jump_most map_of.jumps))
     where
       symbol_word : (target : ℕ) → IsSymbolAt map_of symbol.StackFull target → target % 4 ≡ 0
       symbol_word target (before, behind, is) = let word = ground.runtime_word in omega arith
@@ -207,10 +216,21 @@ module _ {map_of : Map} {functions : List PlacedLines} {depth buffer stop : ℕ}
       by (register r) gives = eqb-true r.number 10 gives
       by (slot k) gives = tt
 
+  -- the cells behind a store of the way back, below the frames
+  pushed_cells : (base : ℕ) → value s.registers 2 ≡ base + map_of.frame → (u : Processor) → SameRoots s u → u.memory ≡ with_number base 4 (s.pc + 4 * words_of_jump forms.jumps) s.memory → map_of.bottom ≤ base
+      → HoldsCells pool world.cells (links_of map_of (base + map_of.frame) (f ∷ fs)) u
+  pushed_cells base base_is u roots stored low =
+      let under = ground.cells_below in
+      let way = s.pc + 4 * words_of_jump forms.jumps in
+      let some = ground.some_frame in
+      subst (λ b. HoldsCells pool world.cells (links_of map_of b (f ∷ fs)) u) base_is
+      (outside-holds running.cells roots (subst (λ m. SameInside pool s.memory m) (sym stored) (SameInside-store pool s.memory base way (inr (omega arith))))
+      (slots_below map_of (value s.registers 2) (f ∷ fs) s.memory u.memory (λ x above. ap (λ m. number_at m x 4) stored ∙ word-apart base way s.memory x (inr (omega arith)))))
+
   call_comes : (g : ℕ) (callee : PlacedLines) (entry : ℕ) (args : List Operand) (into : Option Operand) (words : List ℕ) → slice_get functions g ≡ Some callee → FunctionAt map_of code entry callee → CallsTo forms.jumps code s.pc entry
       → ((next : ℕ) → s.pc + 4 * words_of_jump forms.jumps ≡ next → next < 2 ^ 32 → IsIn map_of code (most_lines functions) next (record left_behind { into = awaited into }))
       → gives_into (Call g) into ≡ true → Agrees (passed 0 words) s.registers → suc (length (f ∷ fs)) ≤ depth
-      → Comes map_of functions depth stop code parts 12 old (placed_goes (placed_entered callee) (record left_behind { into = awaited into } ∷ fs) (passed 0 words) world) s
+      → Comes map_of pool functions depth stop code parts 7 old (placed_goes (placed_entered callee) (record left_behind { into = awaited into } ∷ fs) (passed 0 words) world) s
   call_comes g callee entry args into words callee_is function calls is_behind gives agrees room =
       let stand = running.frames in
       let word = running.rests.stands.aligned entry _ function.entry.sets in
@@ -233,22 +253,23 @@ module _ {map_of : Map} {functions : List PlacedLines} {depth buffer stop : ℕ}
       let after : PlacedState World = record { frames = placed_entered callee ∷ record left_behind { into = awaited into } ∷ fs; registers = passed 0 words; shared = world } in
       let waiting : FramesAt map_of code (most_lines functions) stop (stack_end map_of depth) s.memory (s.pc + 4 * words_of_jump forms.jumps) (base + map_of.frame) (record left_behind { into = awaited into } ∷ fs) =
       subst (λ b. FramesAt map_of code (most_lines functions) stop (stack_end map_of depth) s.memory (s.pc + 4 * words_of_jump forms.jumps) b (record left_behind { into = awaited into } ∷ fs)) base_is
-      (is_behind (s.pc + 4 * words_of_jump forms.jumps) refl (omega arith), stand.1, stand.2, awaits_first g into gives, stand.4) in
-      comes_go map_of functions depth stop code parts 12 old after s takes.after (words_of_jump forms.jumps + 4) done.leads
-      (runs_on map_of functions depth stop code parts (record { frames = f ∷ fs; registers = known; shared = world }) s takes.after after.frames (passed 0 words) base running done
+      (is_behind (s.pc + 4 * words_of_jump forms.jumps) refl (omega arith), stand.1, awaits_first g into gives, stand.3) in
+      comes_go map_of pool functions depth stop code parts 7 old after s takes.after (words_of_jump forms.jumps + 4) done.leads
+      (runs_on map_of pool functions depth stop code parts (record { frames = f ∷ fs; registers = known; shared = world }) world.cells s takes.after after.frames (passed 0 words) base running done
       (constants_kept ground f fs known world s running base (s.pc + 4 * words_of_jump forms.jumps) allowed) room takes.base_is
       (frames_pushed map_of code (most_lines functions) stop (stack_end map_of depth) ground.some_frame s.memory base (s.pc + 4 * words_of_jump forms.jumps) (entry + 4 * entry_words map_of.jumps) (placed_entered callee) (record left_behind { into = awaited into } ∷ fs) (omega arith)
-      (callee_in g callee entry callee_is function) (λ k w none. cc) refl refl waiting)
-      (agrees_same (passed 0 words) s.registers takes.after.registers agrees (λ x w is. done.kept x (outside_entry x (passed_high 0 words x w is))))) (omega arith) (omega (arith, jump_most forms.jumps))
+      (callee_in g callee entry callee_is function) (λ k w none. cc) refl waiting)
+      (agrees_same (passed 0 words) s.registers takes.after.registers agrees (λ x w is. done.kept x (outside_entry x (passed_high 0 words x w is))))
+      (pushed_cells base base_is takes.after (roots_done done refl) done.memory_is (omega arith))) (omega arith) (omega (arith, jump_most forms.jumps))
 
   -- what a call comes to, by whether the stack is full
   abbrev called : Option Operand → List ℕ → Bool → PlacedLines → PlacedTurn World Ending
-  called into words full callee = cond full (ended (primitives map_of.constants).stack_full world) (placed_goes (placed_entered callee) (record left_behind { into = awaited into } ∷ fs) (passed 0 words) world)
+  called into words full callee = cond full (ended (primitives map_of.constants pool).stack_full world) (placed_goes (placed_entered callee) (record left_behind { into = awaited into } ∷ fs) (passed 0 words) world)
 
   call_by : (full : Bool) (g : ℕ) (callee : PlacedLines) (args : List Operand) (into : Option Operand) (words : List ℕ) → nat_le depth (length (f ∷ fs)) ≡ full → slice_get functions g ≡ Some callee
       → ((entry : ℕ) → slice_get map_of.entries g ≡ Some entry → CallsTo forms.jumps code s.pc entry)
       → ((next : ℕ) → s.pc + 4 * words_of_jump forms.jumps ≡ next → next < 2 ^ 32 → IsIn map_of code (most_lines functions) next (record left_behind { into = awaited into }))
-      → gives_into (Call g) into ≡ true → Agrees (passed 0 words) s.registers → Comes map_of functions depth stop code parts 12 old (called into words full callee) s
+      → gives_into (Call g) into ≡ true → Agrees (passed 0 words) s.registers → Comes map_of pool functions depth stop code parts 7 old (called into words full callee) s
   call_by true g callee args into words test callee_is here is_behind gives agrees =
       let function = function_found map_of code map_of.entries functions ground.functions_at g callee callee_is in
       let full : depth ≤ length (f ∷ fs) = grind (arith, nat_tests) in
@@ -261,17 +282,17 @@ module _ {map_of : Map} {functions : List PlacedLines} {depth buffer stop : ℕ}
   pub follow_call : (g : ℕ) (args : List Operand) (into : Option Operand) (words : List ℕ) (start : ℕ) (turn : PlacedTurn World Ending)
       → ((next : ℕ) → s.pc + 4 * words_of_jump forms.jumps ≡ next → next < 2 ^ 32 → IsIn map_of code (most_lines functions) next (record left_behind { into = awaited into }))
       → ActsAt map_of forms code start f.whole s.pc (Call g) args into → conforms (Call g) args into ≡ true → all_of (map (λ (arg : Operand). read_at known f.cells arg.place) args) ≡ Some words
-      → placed_acts (primitives map_of.constants) depth functions left_behind fs known world (Call g) args into words ≡ turn → turn ≢ stuck → Comes map_of functions depth stop code parts 12 old turn s
+      → placed_acts (primitives map_of.constants pool) depth functions left_behind fs known world (Call g) args into words ≡ turn → turn ≢ stuck → Comes map_of pool functions depth stop code parts 7 old turn s
   follow_call g args into words start turn is_behind here conform words_are is good =
       let fit = and_parts (take_from (Call g) 0 args) (gives_into (Call g) into) conform in
       let full = nat_le depth (length (f ∷ fs)) in
       let result = or_stuck_some (slice_get functions g) (called into words full) turn is good in
-      subst (λ t. Comes map_of functions depth stop code parts 12 old t s) result.2
+      subst (λ t. Comes map_of pool functions depth stop code parts 7 old t s) result.2
       (call_by full g result.0 args into words refl result.1 here is_behind fit.1 (passed_agree (Call g) args words (λ k place is_one. is_one) fit.0 words_are))
 
 -- ---- returns
 
-module _ {map_of : Map} {functions : List PlacedLines} {depth buffer stop : ℕ} {code : Code} {parts : List Part} (ground : Ground map_of functions depth buffer stop code parts)
+module _ {map_of : Map} {pool : Pool} {functions : List PlacedLines} {depth buffer stop : ℕ} {code : Code} {parts : List Part} (ground : Ground map_of pool functions depth buffer stop code parts)
     (f : Frame PlacedLine) (known : ℕ → Option ℕ) (world : World) (s : Processor) (old : ℕ) (returns : ReturnsFrom map_of code s.pc) where
   abbrev state_of : List (Frame PlacedLine) → PlacedState World
   state_of fs = record { frames = f ∷ fs; registers = known; shared = world }
@@ -280,11 +301,11 @@ module _ {map_of : Map} {functions : List PlacedLines} {depth buffer stop : ℕ}
   way_fits memory way base [] stand = let e : way ≡ stop = stand.0 in (rw e ground.stop_word, rw e ground.stop_below)
   way_fits memory way base (g ∷ gs) stand = (stand.0.at_word, stand.0.below)
 
-  back : (fs : List (Frame PlacedLine)) → Running map_of functions depth stop code parts (state_of fs) s
+  back : (fs : List (Frame PlacedLine)) → Running map_of pool functions depth stop code parts (state_of fs) s
       → Shifts code 3 (1 ∷ 2 ∷ 0 ∷ []) s.memory (value s.registers 2 + map_of.frame) (number_at s.memory (value s.registers 2) 4) s
   back fs running =
       let sp = value s.registers 2 in
-      let fits = way_fits s.memory (number_at s.memory sp 4) (sp + map_of.frame) fs running.frames.4 in
+      let fits = way_fits s.memory (number_at s.memory sp 4) (sp + map_of.frame) fs running.frames.3 in
       let low = sp_low ground f fs known world s running in
       let high = sp_high ground f fs known world s running in
       let some = ground.some_frame in
@@ -292,22 +313,23 @@ module _ {map_of : Map} {functions : List PlacedLines} {depth buffer stop : ℕ}
       let word = sp_word ground f fs known world s running in
       return_goes ground.below running.rests.stands map_of s.pc refl returns sp (number_at s.memory sp 4) refl refl fits.0 fits.1 (omega arith) word (rw running.rests.parts_are (ground.loads sp low (omega arith) word))
 
-  return_last : Running map_of functions depth stop code parts (state_of []) s → Comes map_of functions depth stop code parts 5 old (ended (primitives map_of.constants).finished world) s
+  return_last : Running map_of pool functions depth stop code parts (state_of []) s → Comes map_of pool functions depth stop code parts 3 old (ended (primitives map_of.constants pool).finished world) s
   return_last running =
       let goes = back [] running in
-      let at_stop : goes.after.pc ≡ stop = goes.done.pc_is ∙ running.frames.4.0 in
+      let at_stop : goes.after.pc ≡ stop = goes.done.pc_is ∙ running.frames.3.0 in
       let exits = ground.ends goes.after (record { stands = goes.done.stands; pc_is = at_stop }) in
-      comes_ended map_of functions depth stop code parts 5 old (primitives map_of.constants).finished world s 6 (record { processor = exits.last; ending = exited 0 }) (exit_runs s goes.after goes.done.leads exits)
-      (refl, exits.trace ∙ (goes.done.trace_is ∙ running.trace)) (omega arith) (omega arith)
+      comes_ended map_of pool functions depth stop code parts 3 old (primitives map_of.constants pool).finished world s 6 (record { processor = exits.last; ending = exited 0 }) (exit_runs s goes.after goes.done.leads exits)
+      (refl, exits.trace ∙ (goes.done.trace_is ∙ running.trace), (links_of map_of (value s.registers 2) (f ∷ []), cells_ended (cells_done running.cells (roots_done goes.done refl) goes.done.memory_is) exits)) (omega arith) (omega arith)
 
-  return_to : (g : Frame PlacedLine) (gs : List (Frame PlacedLine)) (running : Running map_of functions depth stop code parts (state_of (g ∷ gs)) s) (known' : ℕ → Option ℕ)
-      → ((u : Processor) → value u.registers 10 ≡ value s.registers 10 → Agrees known' u.registers) → Comes map_of functions depth stop code parts 5 old (placed_goes g gs known' world) s
-  return_to g gs running known' agrees =
+  return_to : f.held ≡ [] → (g : Frame PlacedLine) (gs : List (Frame PlacedLine)) (running : Running map_of pool functions depth stop code parts (state_of (g ∷ gs)) s) (known' : ℕ → Option ℕ)
+      → ((u : Processor) → value u.registers 10 ≡ value s.registers 10 → Agrees known' u.registers) → Comes map_of pool functions depth stop code parts 3 old (placed_goes g gs known' world) s
+  return_to free g gs running known' agrees =
       let goes = back (g ∷ gs) running in
       let room : length (g ∷ gs) ≤ depth = (let all = running.room in omega arith) in
-      comes_go map_of functions depth stop code parts 5 old (record { frames = g ∷ gs; registers = known'; shared = world }) s goes.after 3 goes.done.leads
-      (runs_on map_of functions depth stop code parts (state_of (g ∷ gs)) s goes.after (g ∷ gs) known' (value s.registers 2 + map_of.frame) running goes.done refl room goes.base_is running.frames.4
-      (agrees goes.after (goes.done.kept 10 ((λ e. cc), ((λ e. cc), ((λ e. cc), tt)))))) (omega arith) (omega arith)
+      comes_go map_of pool functions depth stop code parts 3 old (record { frames = g ∷ gs; registers = known'; shared = world }) s goes.after 3 goes.done.leads
+      (runs_on map_of pool functions depth stop code parts (state_of (g ∷ gs)) world.cells s goes.after (g ∷ gs) known' (value s.registers 2 + map_of.frame) running goes.done refl room goes.base_is running.frames.3
+      (agrees goes.after (goes.done.kept 10 ((λ e. cc), ((λ e. cc), ((λ e. cc), tt)))))
+      (subst (λ links. HoldsCells pool world.cells links goes.after) (ap (λ held. links_in (value s.registers 2) f.cells held (links_of map_of (value s.registers 2 + map_of.frame) (g ∷ gs))) free) (cells_done running.cells (roots_done goes.done refl) goes.done.memory_is))) (omega arith) (omega arith)
 
   -- what a frame gets is in the first register of arguments
   got_result : (waits : Option ℕ) (result : Option ℕ) (known' : ℕ → Option ℕ) → AwaitsFirst waits → ((w : ℕ) → result ≡ Some w → known 10 ≡ Some w) → Agrees known s.registers → received waits result empty ≡ Some known'
@@ -320,25 +342,25 @@ module _ {map_of : Map} {functions : List PlacedLines} {depth buffer stop : ℕ}
       subst (λ k. Agrees k u.registers) put_is (agrees_put at (Some word) empty u.registers u.registers (λ x w none. cc) (rw awaits refl)
       (λ w is. let e : word ≡ w = cc in (rw awaits (same ∙ (holds.1 ∙ e)), subst (λ v. v < 2 ^ 32) e holds.2)) (λ x handed apart. refl))
 
-  returned : (fs : List (Frame PlacedLine)) (result : Option ℕ) (turn : PlacedTurn World Ending) → Running map_of functions depth stop code parts (state_of fs) s → ((w : ℕ) → result ≡ Some w → known 10 ≡ Some w)
-      → placed_returns (primitives map_of.constants) fs world result ≡ turn → turn ≢ stuck → Comes map_of functions depth stop code parts 5 old turn s
-  returned [] result turn running first is good = subst (λ t. Comes map_of functions depth stop code parts 5 old t s) is (return_last running)
-  returned (g ∷ gs) result turn running first is good =
+  returned : f.held ≡ [] → (fs : List (Frame PlacedLine)) (result : Option ℕ) (turn : PlacedTurn World Ending) → Running map_of pool functions depth stop code parts (state_of fs) s → ((w : ℕ) → result ≡ Some w → known 10 ≡ Some w)
+      → placed_returns (primitives map_of.constants pool) fs world result ≡ turn → turn ≢ stuck → Comes map_of pool functions depth stop code parts 3 old turn s
+  returned free [] result turn running first is good = subst (λ t. Comes map_of pool functions depth stop code parts 3 old t s) is (return_last running)
+  returned free (g ∷ gs) result turn running first is good =
       let got = or_stuck_some (received g.into result empty) (λ registers. placed_goes g gs registers world) turn is good in
-      subst (λ t. Comes map_of functions depth stop code parts 5 old t s) got.2
-      (return_to g gs running got.0 (got_result g.into result got.0 running.frames.4.3 first running.registers got.1))
+      subst (λ t. Comes map_of pool functions depth stop code parts 3 old t s) got.2
+      (return_to free g gs running got.0 (got_result g.into result got.0 running.frames.3.2 first running.registers got.1))
 
   result_words : (words : List ℕ) (result : Option ℕ) (w : ℕ) → result_of words ≡ Some result → result ≡ Some w → passed 0 words 10 ≡ Some w
   result_words [] result w is some = cc
   result_words (word ∷ []) result w is some = let e : word ≡ w = cc in ap Some e
   result_words (word ∷ other ∷ more) result w is some = cc
 
-  pub follow_return : (fs : List (Frame PlacedLine)) (rest : List PlacedLine) (args : List Operand) (into : Option Operand) (words : List ℕ) (turn : PlacedTurn World Ending) → Running map_of functions depth stop code parts (state_of fs) s
+  pub follow_return : (fs : List (Frame PlacedLine)) (rest : List PlacedLine) (args : List Operand) (into : Option Operand) (words : List ℕ) (turn : PlacedTurn World Ending) → Running map_of pool functions depth stop code parts (state_of fs) s
       → conforms Return args into ≡ true → all_of (map (λ (arg : Operand). read_at known f.cells arg.place) args) ≡ Some words
-      → placed_acts (primitives map_of.constants) depth functions (record f { code = rest }) fs known world Return args into words ≡ turn → turn ≢ stuck → Comes map_of functions depth stop code parts 5 old turn s
+      → placed_acts (primitives map_of.constants pool) depth functions (record f { code = rest }) fs known world Return args into words ≡ turn → turn ≢ stuck → Comes map_of pool functions depth stop code parts 3 old turn s
   follow_return fs rest args into words turn running conform words_are is good =
       let fit = and_parts (take_from Return 0 args) (gives_into Return into) conform in
-      let next = none_held f.held (or_stuck (result_of words) (λ result. placed_returns (primitives map_of.constants) fs world result)) turn running.frames.2 is in
-      let result = or_stuck_some (result_of words) (λ result. placed_returns (primitives map_of.constants) fs world result) turn next good in
-      returned fs result.0 turn running
+      let next = none_held f.held (or_stuck (result_of words) (λ result. placed_returns (primitives map_of.constants pool) fs world result)) turn is good in
+      let result = or_stuck_some (result_of words) (λ result. placed_returns (primitives map_of.constants pool) fs world result) turn next.1 good in
+      returned next.0 fs result.0 turn running
       (λ w some. passed_known known f.cells s.registers running.registers Return 0 args words (λ k place is_one. is_one) fit.0 words_are 10 w (result_words words result.0 w result.1 some)) result.2 good

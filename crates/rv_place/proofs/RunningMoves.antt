@@ -1,6 +1,6 @@
 -- Labels, moves and operations of the machine of the placed form, followed by the processor.
-use Rattle.std.proofs.Common.{◌≡◌, ◌≢◌, ◌≤◌, ◌<◌, ℕ, ◌+◌, ◌*◌, ◌%◌, ◌^◌, List, [], ◌∷◌, length, Option, Some, None, true, false, map, option_map, refl, sym, ap, ◌∙◌, subst, arith}
-use Rattle.std.proofs.lemmas.Bool.{and_parts}
+use Rattle.std.proofs.Common.{◌≡◌, ◌≢◌, ◌≤◌, ◌<◌, inl, inr, ℕ, ◌+◌, ◌*◌, ◌%◌, ◌^◌, List, [], ◌∷◌, length, Option, Some, None, true, false, map, option_map, refl, sym, ap, ◌∙◌, subst, arith}
+use Rattle.std.proofs.lemmas.Bool.{and_parts, or_from}
 use Rattle.kk_base.specs.Memory.{Part}
 use Rattle.rv_isa.specs.declared.register.Register.{Register}
 use Rattle.rv_isa.specs.declared.instr.Instr.TheVariants as Instr
@@ -17,22 +17,28 @@ use Rattle.rv_isa.specs.Arithmetic.{sum_word}
 use Rattle.rv_isa.specs.Conventions.{is_handed_out, is_register, conforms, computes_at, gives_into, take_from}
 use Rattle.rv_isa.specs.Costs.{operation_instructions}
 use Rattle.rv_isa.specs.Primitives.{stuck}
-use Rattle.rv_isa.specs.Frames.{Frame, put, all_of}
-use Rattle.rv_isa.specs.PlacedMachine.{PlacedState, PlacedTurn, read_at, placed_goes, placed_writes, placed_gives, placed_acts}
-use Rattle.rv_isa.specs.Bytes.{number_at}
+use Rattle.rv_isa.specs.Frames.{Frame, put, all_of, is_among}
+use Rattle.rv_isa.specs.PlacedMachine.{PlacedState, PlacedTurn, is_held, read_at, placed_goes, placed_writes, placed_gives, placed_acts}
+use Rattle.rv_isa.specs.Bytes.{number_at, with_number}
 use Rattle.rv_isa.specs.Processor.{Processor, Ending, value, can_load, can_store}
 use Rattle.rv_isa.specs.Standing.{Code}
+use Rattle.rv_isa.proofs.Memory.{word-apart}
+use Rattle.cell_heap.specs.Known.{HoldsCells, SameRoots}
+use Rattle.cell_heap.proofs.Frames.{SameInside, SameInside-store}
+use Rattle.cell_heap.proofs.Blocks.{outside-holds}
 use Rattle.rv_world.specs.Operations.{computed}
-use Rattle.rv_world.specs.World.{World, primitives}
+use Rattle.cell_heap.specs.Pool.{Pool}
+use Rattle.rv_world.specs.World.{World, computed_in, primitives}
 use Rattle.rv_place.specs.Registers.{zero_register, sp}
 use Rattle.rv_place.specs.Addresses.{slot_offset}
 use Rattle.rv_place.specs.Instructions.{words_of_operation}
 use Rattle.rv_place.specs.Lines.{Map, register_into, MovesBy, ActsAt}
 use Rattle.rv_place.specs.declared.reach.Forms.{Forms}
 use Rattle.rv_place.specs.Grounds.{Ground, stack_end}
-use Rattle.rv_place.specs.Running.{IsHandedOut, GivesHandedOut, most_lines, IsIn, Running}
+use Rattle.rv_place.specs.Running.{IsHandedOut, GivesHandedOut, most_lines, IsIn, links_of, Running}
 use Rattle.rv_place.proofs.RunningExecuting.{Gets, addi_row, plain_gets, load_gets, store_goes}
 use Rattle.rv_place.proofs.RunningFrames.{handed_apart, agrees_kept, frames_put}
+use Rattle.rv_place.proofs.RunningLinks.{is_own, handed_own, roots_done, links_put, slots_apart}
 use Rattle.rv_place.proofs.RunningWords.{words_in, in_registers, Computed, computes}
 use Rattle.rv_place.proofs.RunningComes.{or_stuck_some, mapped_some, Comes, comes_go, comes_idle, runs_on, agrees_got, sp_low, sp_word, sp_high, constants_kept, stays}
 
@@ -50,6 +56,8 @@ computes_register OfOperation.Mv place is = is
 computes_register (OfOperation.La index) place is = is
 computes_register (OfOperation.Lw imm) place is = is
 computes_register (OfOperation.Sw imm) place is = cc
+computes_register OfOperation.Dup place is = cc
+computes_register OfOperation.Free place is = cc
 
 -- an operation is as many instructions as it weighs
 operation_weighs : (operation : Operation) → (1 ≤ words_of_operation operation) × (words_of_operation operation ≤ operation_instructions operation)
@@ -61,26 +69,29 @@ operation_weighs OfOperation.Mv = (omega arith, omega arith)
 operation_weighs (OfOperation.La index) = (omega arith, omega arith)
 operation_weighs (OfOperation.Lw imm) = (omega arith, omega arith)
 operation_weighs (OfOperation.Sw imm) = (omega arith, omega arith)
+operation_weighs OfOperation.Dup = (omega arith, omega arith)
+operation_weighs OfOperation.Free = (omega arith, omega arith)
 
-module _ {map_of : Map} {functions : List PlacedLines} {depth buffer stop : ℕ} {code : Code} {parts : List Part} (ground : Ground map_of functions depth buffer stop code parts)
+module _ {map_of : Map} {pool : Pool} {functions : List PlacedLines} {depth buffer stop : ℕ} {code : Code} {parts : List Part} (ground : Ground map_of pool functions depth buffer stop code parts)
     (f : Frame PlacedLine) (fs : List (Frame PlacedLine)) (known : ℕ → Option ℕ) (world : World) (s : Processor)
-    (running : Running map_of functions depth stop code parts (record { frames = f ∷ fs; registers = known; shared = world }) s) (rest : List PlacedLine) where
+    (running : Running map_of pool functions depth stop code parts (record { frames = f ∷ fs; registers = known; shared = world }) s) (rest : List PlacedLine) where
   abbrev behind : Frame PlacedLine
   behind = record f { code = rest }
 
   -- ---- labels
 
-  pub follow_label : (old : ℕ) → IsIn map_of code (most_lines functions) s.pc behind → 1 + length rest ≤ old → Comes map_of functions depth stop code parts 0 old (placed_goes behind fs known world) s
+  pub follow_label : (old : ℕ) → IsIn map_of code (most_lines functions) s.pc behind → 1 + length rest ≤ old → Comes map_of pool functions depth stop code parts 0 old (placed_goes behind fs known world) s
   follow_label old is_in less =
       let stand = running.frames in
-      comes_idle map_of functions depth stop code parts 0 old (record { frames = behind ∷ fs; registers = known; shared = world }) s (record {
+      comes_idle map_of pool functions depth stop code parts 0 old (record { frames = behind ∷ fs; registers = known; shared = world }) s (record {
         rests = running.rests;
         trace = running.trace;
         left = running.left;
         bytes = running.bytes;
         room = running.room;
-        frames = (is_in, stand.1, stand.2, stand.3, stand.4);
+        frames = (is_in, stand.1, stand.2, stand.3);
         registers = running.registers;
+        cells = running.cells;
       }) less
 
   -- ---- moves
@@ -113,26 +124,38 @@ module _ {map_of : Map} {functions : List PlacedLines} {depth buffer stop : ℕ}
         let word = sp_word ground f fs known world s running in
         ground.stores (value s.registers 2 + slot_offset k) (omega arith) (omega arith) (slot_word (value s.registers 2) k word)
 
+    -- a word was stored in a slot that holds no held token
+    slot_stored : (k : ℕ) (word : Option ℕ) (v : ℕ) → slot_offset k + 4 ≤ map_of.frame → is_among k f.held ≡ false → (u : Processor) → SameRoots s u → u.memory ≡ with_number (value s.registers 2 + slot_offset k) 4 v s.memory
+        → HoldsCells pool world.cells (links_of map_of (value s.registers 2) (record behind { cells = put k word f.cells } ∷ fs)) u
+    slot_stored k word v inside unheld u roots stored =
+        let base = value s.registers 2 in
+        let low = sp_low ground f fs known world s running in
+        let under = ground.cells_below in
+        let below = links_of map_of (base + map_of.frame) fs in
+        subst (λ links. HoldsCells pool world.cells links u) (sym (links_put base k word f.cells f.held below unheld))
+        (outside-holds running.cells roots (subst (λ m. SameInside pool s.memory m) (sym stored) (SameInside-store pool s.memory (base + slot_offset k) v (inr (omega arith))))
+        (record { same = λ slot some. ap (λ m. number_at m slot 4) stored ∙ word-apart (base + slot_offset k) v s.memory slot (slots_apart map_of base k f fs inside unheld slot some) }))
+
     -- a register gets what a place holds
     got_stays : (rd : Register) (w : Option ℕ) (word : ℕ) → Gets code 1 (rd.number ∷ []) rd.number word (s.pc + 4) s → s.pc + 4 < 2 ^ 32 → is_handed_out rd.number ≡ true → ((v : ℕ) → w ≡ Some v → (word ≡ v) × (v < 2 ^ 32))
-        → Comes map_of functions depth stop code parts 4 old (placed_goes behind fs (put rd.number w known) world) s
+        → Comes map_of pool functions depth stop code parts 1 old (placed_goes behind fs (put rd.number w known) world) s
     got_stays rd w word gets fits handed new =
-        stays ground f fs known world s running 4 old gets.after rest (put rd.number w known) gets.done ((λ e. handed_apart rd.number 2 refl handed (sym e)), tt) (is_in f.cells (s.pc + 4) refl fits)
+        stays ground f fs known world s running 1 old gets.after rest (put rd.number w known) gets.done ((λ e. handed_apart rd.number 2 refl handed (sym e)), tt) (or_from (is_own rd.number) false (handed_own rd.number handed) refl) (is_in f.cells (s.pc + 4) refl fits)
         (agrees_got s known w gets handed new running.registers) (omega arith) (omega arith)
 
-    pub follow_move : (way : Way) → MovesBy map_of code s.pc way → IsHandedOut (to_of way)
-        → Comes map_of functions depth stop code parts 4 old (placed_writes (to_of way) (read_at known f.cells (from_of way)) behind fs known world) s
-    follow_move (Copy from to) (imm, none, here) handed =
+    pub follow_move : (way : Way) → MovesBy map_of code s.pc way → IsHandedOut (to_of way) → is_held f.held (to_of way) ≡ false
+        → Comes map_of pool functions depth stop code parts 1 old (placed_writes (to_of way) (read_at known f.cells (from_of way)) behind fs known world) s
+    follow_move (Copy from to) (imm, none, here) handed unheld =
         got_stays to (known from.number) (sum_word (value s.registers from.number) imm.word) (plain_gets ground.below running.rests.stands refl (addi_row to from imm) here) (ground.below s.pc (Instr.Addi to from imm) here) handed
         (copied from.number imm.word none)
-    follow_move (Load from to) (offset, offset_is, here) handed =
+    follow_move (Load from to) (offset, offset_is, here) handed unheld =
         let address = slot_address from offset.word offset_is.0 offset_is.1 in
         let word = slot_word (value s.registers 2) from (sp_word ground f fs known world s running) in
         let gets = load_gets ground.below running.rests.stands refl {rd = to} {base = sp} {offset = offset} {address = value s.registers 2 + slot_offset from} {word = number_at s.memory (value s.registers 2 + slot_offset from) 4}
         here address word (slot_loads from offset_is.1) refl in
         got_stays to (f.cells from) (number_at s.memory (value s.registers 2 + slot_offset from) 4) gets (ground.below s.pc (Instr.Lw to sp offset) here) handed
         (λ v is. let holds = running.frames.1 from v is in (holds.1, holds.2))
-    follow_move (Store from to) (offset, offset_is, here) handed =
+    follow_move (Store from to) (offset, offset_is, here) handed unheld =
         let address = slot_address to offset.word offset_is.0 offset_is.1 in
         let word = slot_word (value s.registers 2) to (sp_word ground f fs known world s running) in
         let allowed = slot_stores to offset_is.1 in
@@ -140,47 +163,50 @@ module _ {map_of : Map} {functions : List PlacedLines} {depth buffer stop : ℕ}
         let goes = store_goes ground.below running.rests.stands refl {base = sp} {from = from} {offset = offset} {address = value s.registers 2 + slot_offset to} {word = value s.registers from.number}
         here address refl word (rw running.rests.parts_are allowed) in
         let after : PlacedState World = record { frames = record behind { cells = put to (known from.number) f.cells } ∷ fs; registers = known; shared = world } in
-        comes_go map_of functions depth stop code parts 4 old after s goes.after 1 goes.done.leads
-        (runs_on map_of functions depth stop code parts (record { frames = f ∷ fs; registers = known; shared = world }) s goes.after after.frames known base running goes.done
+        comes_go map_of pool functions depth stop code parts 1 old after s goes.after 1 goes.done.leads
+        (runs_on map_of pool functions depth stop code parts (record { frames = f ∷ fs; registers = known; shared = world }) world.cells s goes.after after.frames known base running goes.done
         (constants_kept ground f fs known world s running (base + slot_offset to) (value s.registers from.number) allowed) running.room (goes.done.kept 2 tt)
         (frames_put map_of code (most_lines functions) stop (stack_end map_of depth) ground.some_frame s.memory base to (value s.registers from.number) s.pc (s.pc + 4) (known from.number) f (record behind { cells = put to (known from.number) f.cells }) fs
-        offset_is.1 (λ w is. let holds = running.registers from.number w is in (holds.1, holds.2)) refl refl refl
+        offset_is.1 (λ w is. let holds = running.registers from.number w is in (holds.1, holds.2)) refl refl
         (is_in (put to (known from.number) f.cells) (s.pc + 4) refl (ground.below s.pc (Instr.Sw sp from offset) here)) running.frames)
-        (agrees_kept known s.registers goes.after.registers running.registers (λ x handed. goes.done.kept x tt))) (omega arith) (omega arith)
+        (agrees_kept known s.registers goes.after.registers running.registers (λ x handed. goes.done.kept x tt))
+        (slot_stored to (known from.number) (value s.registers from.number) offset_is.1 unheld goes.after (roots_done goes.done refl) goes.done.memory_is)) (omega arith) (omega arith)
 
   -- ---- operations
 
   module _ (old : ℕ) (operation : Operation) (is_in : (next : ℕ) → s.pc + 4 * words_of_operation operation ≡ next → next < 2 ^ 32 → IsIn map_of code (most_lines functions) next behind) where
-    gives_word : (into : Option Operand) (word : ℕ) → gives_into (Compute operation) into ≡ true → GivesHandedOut into
+    pub gives_word : (into : Option Operand) (word : ℕ) → gives_into (Compute operation) into ≡ true → GivesHandedOut into
         → ((rd : Register) → register_into into ≡ Some rd → Computed ground.below running.rests.stands map_of.constants s.pc refl rd operation word)
-        → Comes map_of functions depth stop code parts (operation_instructions operation) old (placed_gives into word behind fs known world) s
+        → Comes map_of pool functions depth stop code parts (operation_instructions operation) old (placed_gives into word behind fs known world) s
     gives_word None word gives handed computed =
         let result = computed zero_register refl in
         let size = operation_weighs operation in
-        stays ground f fs known world s running (operation_instructions operation) old result.gets.after rest known result.gets.done ((λ e. cc), tt) (is_in (s.pc + 4 * words_of_operation operation) refl result.next_fits)
+        stays ground f fs known world s running (operation_instructions operation) old result.gets.after rest known result.gets.done ((λ e. cc), tt) refl (is_in (s.pc + 4 * words_of_operation operation) refl result.next_fits)
         (agrees_kept known s.registers result.gets.after.registers running.registers (λ x some. result.gets.done.kept x (handed_apart x 0 refl some, tt))) size.0 size.1
     gives_word (Some into) word gives handed computed = at_place into.place refl
       where
-        at_place : (place : Place) → into.place ≡ place → Comes map_of functions depth stop code parts (operation_instructions operation) old (placed_writes into.place (Some word) behind fs known world) s
+        at_place : (place : Place) → into.place ≡ place → Comes map_of pool functions depth stop code parts (operation_instructions operation) old (placed_writes into.place (Some word) behind fs known world) s
         at_place (slot k) is = let one : is_register into.place ≡ true = computes_register operation into.place gives in let none : is_register into.place ≡ false = rw is refl in cc
         at_place (register r) is =
             let result = computed r (rw is refl) in
             let some : is_handed_out r.number ≡ true = subst (λ place. IsHandedOut place) is handed in
             let size = operation_weighs operation in
-            rw is (stays ground f fs known world s running (operation_instructions operation) old result.gets.after rest (put r.number (Some word) known) result.gets.done ((λ e. handed_apart r.number 2 refl some (sym e)), tt)
+            rw is (stays ground f fs known world s running (operation_instructions operation) old result.gets.after rest (put r.number (Some word) known) result.gets.done ((λ e. handed_apart r.number 2 refl some (sym e)), tt) (or_from (is_own r.number) false (handed_own r.number some) refl)
             (is_in (s.pc + 4 * words_of_operation operation) refl result.next_fits)
             (agrees_got s known (Some word) result.gets some (λ v same. let e : word ≡ v = cc in (e, subst (λ w. w < 2 ^ 32) e result.fits)) running.registers) size.0 size.1)
 
-    pub follow_compute : (forms : Forms) (start : ℕ) (args : List Operand) (into : Option Operand) (words : List ℕ) (turn : PlacedTurn World Ending) → ActsAt map_of forms code start f.whole s.pc (Compute operation) args into
+    -- an operation on words alone
+    pub follow_words : (forms : Forms) (start : ℕ) (args : List Operand) (into : Option Operand) (words : List ℕ) (turn : PlacedTurn World Ending) → ActsAt map_of forms code start f.whole s.pc (Compute operation) args into
+        → ((ws : List ℕ) → computed_in map_of.constants operation ws world ≡ option_map (λ word. (word, world)) (computed map_of.constants operation ws))
         → conforms (Compute operation) args into ≡ true → GivesHandedOut into → all_of (map (λ (arg : Operand). read_at known f.cells arg.place) args) ≡ Some words
-        → placed_acts (primitives map_of.constants) depth functions behind fs known world (Compute operation) args into words ≡ turn → turn ≢ stuck
-        → Comes map_of functions depth stop code parts (operation_instructions operation) old turn s
-    follow_compute forms start args into words turn here conform handed words_are is good =
+        → placed_acts (primitives map_of.constants pool) depth functions behind fs known world (Compute operation) args into words ≡ turn → turn ≢ stuck
+        → Comes map_of pool functions depth stop code parts (operation_instructions operation) old turn s
+    follow_words forms start args into words turn here alone conform handed words_are is good =
         let fit = and_parts (take_from (Compute operation) 0 args) (gives_into (Compute operation) into) conform in
         let values = in_registers known f.cells s.registers running.registers (Compute operation) 0 args words (λ k place is_one. is_one) fit.0 words_are in
-        let result = or_stuck_some (option_map (λ (word : ℕ). (word, world)) (computed map_of.constants operation words)) (λ r. placed_gives into r.0 behind fs known r.1) turn is good in
-        let word = mapped_some (λ (word : ℕ). (word, world)) (computed map_of.constants operation words) result.0 result.1 in
+        let result = or_stuck_some (computed_in map_of.constants operation words world) (λ r. placed_gives into r.0 behind fs known r.1) turn is good in
+        let word = mapped_some (λ (word : ℕ). (word, world)) (computed map_of.constants operation words) result.0 (sym (alone words) ∙ result.1) in
         let gives : placed_gives into word.0 behind fs known world ≡ turn = subst (λ (r : ℕ × World). placed_gives into r.0 behind fs known r.1 ≡ turn) (sym word.2) result.2 in
         let word_is : computed map_of.constants operation (words_in s.registers values.rs) ≡ Some word.0 = ap (computed map_of.constants operation) (sym values.words_are) ∙ word.1 in
-        subst (λ t. Comes map_of functions depth stop code parts (operation_instructions operation) old t s) gives
+        subst (λ t. Comes map_of pool functions depth stop code parts (operation_instructions operation) old t s) gives
         (gives_word into word.0 fit.1 handed (λ rd into_is. computes ground.below running.rests.stands map_of.constants s.pc refl rd operation values.rs word.0 values.fit word_is (here values.rs rd values.rs_are into_is)))

@@ -7,17 +7,18 @@ use Rattle.rv_isa.specs.declared.asm.Action.{Action}
 use Rattle.rv_isa.specs.declared.asm.Action.TheVariants.{Compute, Label, Jump, Branch, Call, TailCall, Return, Routine, Hold, Unhold}
 use Rattle.rv_isa.specs.declared.placed.Operand.{Operand}
 use Rattle.rv_isa.specs.declared.placed.Listed.{Listed}
-use Rattle.rv_isa.specs.PlacedCode.{PlacedLine, does, moves, PlacedLines}
+use Rattle.rv_isa.specs.PlacedCode.{PlacedLine, does, moves, PlacedLines, from_of, to_of}
 use Rattle.rv_isa.specs.Conventions.{conforms}
 use Rattle.rv_isa.specs.Costs.{instructions_of, operation_instructions}
 use Rattle.rv_isa.specs.Primitives.{Turn, go, ended, stuck, or_stuck, end_of}
 use Rattle.rv_isa.specs.Frames.{Frame, all_of, top}
-use Rattle.rv_isa.specs.PlacedMachine.{PlacedTurn, read_at, awaited, placed_acts, placed_line, placed_running, placed_next, placed_told, placed_line_weight, placed_frames_weight, placed_weight, placed_machine}
+use Rattle.rv_isa.specs.PlacedMachine.{PlacedTurn, is_held, read_at, awaited, placed_writes, placed_acts, placed_line, placed_running, placed_next, placed_told, placed_line_weight, placed_frames_weight, placed_weight, placed_machine}
 use Rattle.rv_isa.specs.Processor.{Processor, Ending, Progress, goes}
 use Rattle.rv_isa.specs.ProcessorMachine as OfProcessor
 use Rattle.rv_isa.specs.ProcessorMachine.{processor_machine}
 use Rattle.rv_isa.specs.Execution.{rv32im}
 use Rattle.rv_isa.specs.Standing.{Code}
+use Rattle.cell_heap.specs.Pool.{Pool}
 use Rattle.rv_world.specs.World.{World, primitives}
 use Rattle.rv_place.specs.Addresses.{words_of_line}
 use Rattle.rv_place.specs.Lines.{Map}
@@ -26,17 +27,23 @@ use Rattle.rv_place.specs.Running.{AllPlain, most_lines, Running, lines_left, Ne
 use Rattle.rv_place.proofs.RunningReaches.{reaches}
 use Rattle.rv_place.proofs.RunningLines.{line_at, line_plain, goes_behind}
 use Rattle.rv_place.proofs.RunningComes.{or_stuck_some, Comes}
-use Rattle.rv_place.proofs.RunningMoves.{follow_label, follow_move, follow_compute}
+use Rattle.rv_place.proofs.RunningMoves.{follow_label, follow_move}
+use Rattle.rv_place.proofs.RunningCells.{follow_compute}
 use Rattle.rv_place.proofs.RunningJumps.{follow_jump, follow_branch, follow_tail_call, follow_call, follow_return}
 use Rattle.rv_place.proofs.RunningRoutines.{follow_routine}
+use Rattle.rv_place.proofs.RunningTokens.{follow_hold, follow_unhold}
 
 cond_true : {S H W : Type 0} (test : Bool) (next turn : Turn S H W) → cond test next stuck ≡ turn → turn ≢ stuck → (test ≡ true) × (next ≡ turn)
 cond_true true next turn is good = (refl, is)
 cond_true false next turn is good = absurd (good (sym is))
 
-module _ {map_of : Map} {functions : List PlacedLines} {depth buffer stop : ℕ} {code : Code} {parts : List Part} (ground : Ground map_of functions depth buffer stop code parts) (plain : AllPlain functions) where
+cond_false : {S H W : Type 0} (test : Bool) (next turn : Turn S H W) → cond test stuck next ≡ turn → turn ≢ stuck → (test ≡ false) × (next ≡ turn)
+cond_false true next turn is good = absurd (good (sym is))
+cond_false false next turn is good = (refl, is)
+
+module _ {map_of : Map} {pool : Pool} {functions : List PlacedLines} {depth buffer stop : ℕ} {code : Code} {parts : List Part} (ground : Ground map_of pool functions depth buffer stop code parts) (plain : AllPlain functions) where
   -- more instructions may be taken
-  comes_within : {most old : ℕ} {turn : PlacedTurn World Ending} {s : Processor} (more : ℕ) → most ≤ more → Comes map_of functions depth stop code parts most old turn s → Comes map_of functions depth stop code parts more old turn s
+  comes_within : {most old : ℕ} {turn : PlacedTurn World Ending} {s : Processor} (more : ℕ) → most ≤ more → Comes map_of pool functions depth stop code parts most old turn s → Comes map_of pool functions depth stop code parts more old turn s
   comes_within more less comes = record {
     steps = comes.steps;
     after = comes.after;
@@ -48,22 +55,22 @@ module _ {map_of : Map} {functions : List PlacedLines} {depth buffer stop : ℕ}
   }
 
   module _ (f : Frame PlacedLine) (fs : List (Frame PlacedLine)) (known : ℕ → Option ℕ) (world : World) (s : Processor)
-      (running : Running map_of functions depth stop code parts (record { frames = f ∷ fs; registers = known; shared = world }) s) (rest : List PlacedLine) where
+      (running : Running map_of pool functions depth stop code parts (record { frames = f ∷ fs; registers = known; shared = world }) s) (rest : List PlacedLine) where
     module _ (alive : List Listed) (args : List Operand) (into : Option Operand) (words : List ℕ) (words_are : all_of (map (λ (arg : Operand). read_at known f.cells arg.place) args) ≡ Some words) (turn : PlacedTurn World Ending) (good : turn ≢ stuck) where
       -- what an action does
       follow_action : (action : Action) → f.code ≡ does alive action args into ∷ rest → conforms action args into ≡ true
-          → placed_acts (primitives map_of.constants) depth functions (record f { code = rest }) fs known world action args into words ≡ turn
-          → Comes map_of functions depth stop code parts (instructions_of (primitives map_of.constants) action (Some words) (top (f ∷ fs)) world) (suc (length rest)) turn s
+          → placed_acts (primitives map_of.constants pool) depth functions (record f { code = rest }) fs known world action args into words ≡ turn
+          → Comes map_of pool functions depth stop code parts (instructions_of (primitives map_of.constants pool) action (Some words) (top (f ∷ fs)) world) (suc (length rest)) turn s
       follow_action (Compute operation) code_is conform is =
           let line = does alive (Compute operation) args into in
           let writes = line_plain running.frames.0 line rest code_is in
           comes_within (operation_instructions operation + 0) (omega arith)
           (follow_compute ground f fs known world s running rest (suc (length rest)) operation (λ next next_is below. goes_behind running.frames.0 line rest code_is next (record f { code = rest }) refl refl next_is below)
-          running.frames.0.forms running.frames.0.start args into words turn (line_at running.frames.0 line rest code_is) conform writes.1 words_are is good)
+          running.frames.0.forms running.frames.0.start args into words turn (line_at running.frames.0 line rest code_is) conform writes.0 words_are is good)
       follow_action (Label l) code_is conform is =
           let line = does alive (Label l) args into in
           let here : s.pc + 4 * words_of_line running.frames.0.forms line ≡ s.pc = omega arith in
-          subst (λ t. Comes map_of functions depth stop code parts 0 (suc (length rest)) t s) is
+          subst (λ t. Comes map_of pool functions depth stop code parts 0 (suc (length rest)) t s) is
           (follow_label ground f fs known world s running rest (suc (length rest)) (goes_behind running.frames.0 line rest code_is s.pc (record f { code = rest }) refl refl here running.frames.0.below) (omega arith))
       follow_action (Jump l) code_is conform is =
           follow_jump ground f fs known world s running rest (suc (length rest)) l args into words turn (line_at running.frames.0 (does alive (Jump l) args into) rest code_is) is good
@@ -71,7 +78,7 @@ module _ {map_of : Map} {functions : List PlacedLines} {depth buffer stop : ℕ}
           let line = does alive (Branch condition l) args into in
           let writes = line_plain running.frames.0 line rest code_is in
           follow_branch ground f fs known world s running rest (suc (length rest)) (λ next next_is below. goes_behind running.frames.0 line rest code_is next (record f { code = rest }) refl refl next_is below) condition l
-          args into words turn (line_at running.frames.0 line rest code_is) writes.2 conform words_are is good
+          args into words turn (line_at running.frames.0 line rest code_is) writes.1 conform words_are is good
       follow_action (Call g) code_is conform is =
           let line = does alive (Call g) args into in
           follow_call ground plain f fs known world s running rest (suc (length rest)) running.frames.0.forms g args into words running.frames.0.start turn
@@ -84,74 +91,81 @@ module _ {map_of : Map} {functions : List PlacedLines} {depth buffer stop : ℕ}
           let line = does alive (Routine routine) args into in
           follow_routine ground f fs known world s running rest (suc (length rest)) running.frames.0.forms (λ next next_is below. goes_behind running.frames.0 line rest code_is next (record f { code = rest }) refl refl next_is below) into turn good
           routine running.frames.0.start args words (line_at running.frames.0 line rest code_is) conform words_are is
-      follow_action Hold code_is conform is = absurd (line_plain running.frames.0 (does alive Hold args into) rest code_is).0
-      follow_action Unhold code_is conform is = absurd (line_plain running.frames.0 (does alive Unhold args into) rest code_is).0
+      follow_action Hold code_is conform is =
+          let line = does alive Hold args into in
+          follow_hold ground f fs known world s running rest (suc (length rest)) running.frames.0.forms (λ next next_is below. goes_behind running.frames.0 line rest code_is next (record f { code = rest }) refl refl next_is below) args into words turn good words_are
+          (line_at running.frames.0 line rest code_is) is
+      follow_action Unhold code_is conform is =
+          let line = does alive Unhold args into in
+          follow_unhold ground f fs known world s running rest (suc (length rest)) running.frames.0.forms (λ next next_is below. goes_behind running.frames.0 line rest code_is next (record f { code = rest }) refl refl next_is below) args into words turn good words_are
+          (line_at running.frames.0 line rest code_is) is
 
-    follow_line : (line : PlacedLine) (turn : PlacedTurn World Ending) → f.code ≡ line ∷ rest → placed_line (primitives map_of.constants) depth functions f fs known world (line ∷ rest) ≡ turn → turn ≢ stuck
-        → Comes map_of functions depth stop code parts (placed_line_weight (primitives map_of.constants) (f ∷ fs) known world f (line ∷ rest)) (suc (length rest)) turn s
+    follow_line : (line : PlacedLine) (turn : PlacedTurn World Ending) → f.code ≡ line ∷ rest → placed_line (primitives map_of.constants pool) depth functions f fs known world (line ∷ rest) ≡ turn → turn ≢ stuck
+        → Comes map_of pool functions depth stop code parts (placed_line_weight (primitives map_of.constants pool) (f ∷ fs) known world f (line ∷ rest)) (suc (length rest)) turn s
     follow_line (does alive action args into) turn code_is is good =
         let words_of : Option (List ℕ) = all_of (map (λ (arg : Operand). read_at known f.cells arg.place) args) in
-        let conform = cond_true (conforms action args into) (or_stuck words_of (λ words. placed_acts (primitives map_of.constants) depth functions (record f { code = rest }) fs known world action args into words)) turn is good in
-        let words = or_stuck_some words_of (λ words. placed_acts (primitives map_of.constants) depth functions (record f { code = rest }) fs known world action args into words) turn conform.1 good in
-        subst (λ o. Comes map_of functions depth stop code parts (instructions_of (primitives map_of.constants) action o (top (f ∷ fs)) world) (suc (length rest)) turn s) (sym words.1)
+        let conform = cond_true (conforms action args into) (or_stuck words_of (λ words. placed_acts (primitives map_of.constants pool) depth functions (record f { code = rest }) fs known world action args into words)) turn is good in
+        let words = or_stuck_some words_of (λ words. placed_acts (primitives map_of.constants pool) depth functions (record f { code = rest }) fs known world action args into words) turn conform.1 good in
+        subst (λ o. Comes map_of pool functions depth stop code parts (instructions_of (primitives map_of.constants pool) action o (top (f ∷ fs)) world) (suc (length rest)) turn s) (sym words.1)
         (follow_action alive args into words.0 words.1 turn good action code_is conform.0 words.2)
     follow_line (moves alive value way) turn code_is is good =
         let line = moves alive value way in
-        subst (λ t. Comes map_of functions depth stop code parts 4 (suc (length rest)) t s) is
+        let next = cond_false (is_held f.held (to_of way)) (placed_writes (to_of way) (read_at known f.cells (from_of way)) (record f { code = rest }) fs known world) turn is good in
+        subst (λ t. Comes map_of pool functions depth stop code parts 1 (suc (length rest)) t s) next.1
         (follow_move ground f fs known world s running rest (suc (length rest)) (λ cells next next_is below. goes_behind running.frames.0 line rest code_is next (record f { code = rest; cells = cells }) refl refl next_is below)
-        way (line_at running.frames.0 line rest code_is) (line_plain running.frames.0 line rest code_is))
+        way (line_at running.frames.0 line rest code_is) (line_plain running.frames.0 line rest code_is) next.0)
 
   -- ---- one step
 
   follow_code : (f : Frame PlacedLine) (fs : List (Frame PlacedLine)) (known : ℕ → Option ℕ) (world : World) (s : Processor) (lines : List PlacedLine)
-      → Running map_of functions depth stop code parts (record { frames = f ∷ fs; registers = known; shared = world }) s → f.code ≡ lines
-      → placed_line (primitives map_of.constants) depth functions f fs known world lines ≢ stuck
-      → Comes map_of functions depth stop code parts (placed_line_weight (primitives map_of.constants) (f ∷ fs) known world f lines) (length lines) (placed_line (primitives map_of.constants) depth functions f fs known world lines) s
+      → Running map_of pool functions depth stop code parts (record { frames = f ∷ fs; registers = known; shared = world }) s → f.code ≡ lines
+      → placed_line (primitives map_of.constants pool) depth functions f fs known world lines ≢ stuck
+      → Comes map_of pool functions depth stop code parts (placed_line_weight (primitives map_of.constants pool) (f ∷ fs) known world f lines) (length lines) (placed_line (primitives map_of.constants pool) depth functions f fs known world lines) s
   follow_code f fs known world s [] running code_is good = absurd (good refl)
   follow_code f fs known world s (line ∷ rest) running code_is good =
-      follow_line f fs known world s running rest line (placed_line (primitives map_of.constants) depth functions f fs known world (line ∷ rest)) code_is refl good
+      follow_line f fs known world s running rest line (placed_line (primitives map_of.constants pool) depth functions f fs known world (line ∷ rest)) code_is refl good
 
-  follows : (frames : List (Frame PlacedLine)) (known : ℕ → Option ℕ) (world : World) (s : Processor) → Running map_of functions depth stop code parts (record { frames = frames; registers = known; shared = world }) s
-      → placed_running (primitives map_of.constants) depth functions frames known world ≢ stuck
-      → Comes map_of functions depth stop code parts (placed_frames_weight (primitives map_of.constants) frames known world) (lines_left frames) (placed_running (primitives map_of.constants) depth functions frames known world) s
+  follows : (frames : List (Frame PlacedLine)) (known : ℕ → Option ℕ) (world : World) (s : Processor) → Running map_of pool functions depth stop code parts (record { frames = frames; registers = known; shared = world }) s
+      → placed_running (primitives map_of.constants pool) depth functions frames known world ≢ stuck
+      → Comes map_of pool functions depth stop code parts (placed_frames_weight (primitives map_of.constants pool) frames known world) (lines_left frames) (placed_running (primitives map_of.constants pool) depth functions frames known world) s
   follows [] known world s running good = absurd (good refl)
   follows (f ∷ fs) known world s running good = follow_code f fs known world s f.code running refl good
 
   -- ---- the simulation
 
-  reaches_next : (most credit idle old : ℕ) (before : PlacedTurn World Ending) (next : PlacedTurn World Ending) (s : Processor) → Comes map_of functions depth stop code parts most old next s → 3 ≤ credit → old ≤ idle → NeverStuck map_of functions depth next
-      → placed_told (primitives map_of.constants) before ≡ s.trace
-      → Reaches (processor_machine rv32im) (Related map_of functions depth stop code parts) Any (suc (most_lines functions)) (most + credit) 1 idle
-      (drop (length (placed_told (primitives map_of.constants) before)) (placed_told (primitives map_of.constants) next)) next (goes s)
+  reaches_next : (most credit idle old : ℕ) (before : PlacedTurn World Ending) (next : PlacedTurn World Ending) (s : Processor) → Comes map_of pool functions depth stop code parts most old next s → 3 ≤ credit → old ≤ idle → NeverStuck map_of pool functions depth next
+      → placed_told (primitives map_of.constants pool) before ≡ s.trace
+      → Reaches (processor_machine rv32im) (Related map_of pool functions depth stop code parts) Any (suc (most_lines functions)) (most + credit) 1 idle
+      (drop (length (placed_told (primitives map_of.constants pool) before)) (placed_told (primitives map_of.constants pool) next)) next (goes s)
   reaches_next most credit idle old before (go t) s comes saved left never told =
       let within = comes.within in
       let moves = comes.moves in
-      reaches (Related map_of functions depth stop code parts) (suc (most_lines functions)) (most + credit) idle comes.steps credit (lines_left t.frames) s comes.after (placed_told (primitives map_of.constants) before) (placed_told (primitives map_of.constants) (go t)) (go t)
+      reaches (Related map_of pool functions depth stop code parts) (suc (most_lines functions)) (most + credit) idle comes.steps credit (lines_left t.frames) s comes.after (placed_told (primitives map_of.constants pool) before) (placed_told (primitives map_of.constants pool) (go t)) (go t)
       comes.runs told comes.told (omega arith) (omega arith) (never, comes.stands_for credit (lines_left t.frames) saved (omega arith))
   reaches_next most credit idle old before (ended how world) s comes saved left never told =
       let within = comes.within in
       let moves = comes.moves in
-      reaches (Related map_of functions depth stop code parts) (suc (most_lines functions)) (most + credit) idle comes.steps 0 0 s comes.after (placed_told (primitives map_of.constants) before) (placed_told (primitives map_of.constants) (ended how world)) (ended how world)
+      reaches (Related map_of pool functions depth stop code parts) (suc (most_lines functions)) (most + credit) idle comes.steps 0 0 s comes.after (placed_told (primitives map_of.constants pool) before) (placed_told (primitives map_of.constants pool) (ended how world)) (ended how world)
       comes.runs told comes.told (omega arith) (omega arith) (never, comes.stands_for 3 0 (omega arith) (omega arith))
   reaches_next most credit idle old before stuck s comes saved left never told = absurd (never 0 refl)
 
-  steps_by : (credit idle : ℕ) (turn : PlacedTurn World Ending) (progress : Progress) → Related map_of functions depth stop code parts credit idle turn progress
-      → Reaches (processor_machine rv32im) (Related map_of functions depth stop code parts) Any (suc (most_lines functions)) ((placed_machine (primitives map_of.constants) depth functions).weight turn + credit) 1 idle
-      ((placed_machine (primitives map_of.constants) depth functions).step turn).0 ((placed_machine (primitives map_of.constants) depth functions).step turn).1 progress
+  steps_by : (credit idle : ℕ) (turn : PlacedTurn World Ending) (progress : Progress) → Related map_of pool functions depth stop code parts credit idle turn progress
+      → Reaches (processor_machine rv32im) (Related map_of pool functions depth stop code parts) Any (suc (most_lines functions)) ((placed_machine (primitives map_of.constants pool) depth functions).weight turn + credit) 1 idle
+      ((placed_machine (primitives map_of.constants pool) depth functions).step turn).0 ((placed_machine (primitives map_of.constants pool) depth functions).step turn).1 progress
   steps_by credit idle (go t) progress (never, (s, progress_is, saved, left, running)) =
-      subst (λ p. Reaches (processor_machine rv32im) (Related map_of functions depth stop code parts) Any (suc (most_lines functions)) (placed_weight (primitives map_of.constants) (go t) + credit) 1 idle
-      (drop (length (placed_told (primitives map_of.constants) (go t))) (placed_told (primitives map_of.constants) (placed_next (primitives map_of.constants) depth functions (go t)))) (placed_next (primitives map_of.constants) depth functions (go t)) p) (sym progress_is)
-      (reaches_next (placed_weight (primitives map_of.constants) (go t)) credit idle (lines_left t.frames) (go t) (placed_next (primitives map_of.constants) depth functions (go t)) s
+      subst (λ p. Reaches (processor_machine rv32im) (Related map_of pool functions depth stop code parts) Any (suc (most_lines functions)) (placed_weight (primitives map_of.constants pool) (go t) + credit) 1 idle
+      (drop (length (placed_told (primitives map_of.constants pool) (go t))) (placed_told (primitives map_of.constants pool) (placed_next (primitives map_of.constants pool) depth functions (go t)))) (placed_next (primitives map_of.constants pool) depth functions (go t)) p) (sym progress_is)
+      (reaches_next (placed_weight (primitives map_of.constants pool) (go t)) credit idle (lines_left t.frames) (go t) (placed_next (primitives map_of.constants pool) depth functions (go t)) s
       (follows t.frames t.registers t.shared s running (never 1)) saved left (λ n. never (suc n)) (sym running.trace))
   steps_by credit idle (ended how world) progress related =
-      ended_reaches (placed_machine (primitives map_of.constants) depth functions) (processor_machine rv32im) (Related map_of functions depth stop code parts) Any (suc (most_lines functions)) credit idle (ended how world) progress how
+      ended_reaches (placed_machine (primitives map_of.constants pool) depth functions) (processor_machine rv32im) (Related map_of pool functions depth stop code parts) Any (suc (most_lines functions)) credit idle (ended how world) progress how
       (omega arith) related refl related.1.0 tt
   steps_by credit idle stuck progress related = absurd related.1
 
-  ends_alike : (credit idle : ℕ) (turn : PlacedTurn World Ending) (progress : Progress) → Related map_of functions depth stop code parts credit idle turn progress → OfProcessor.ended progress.ending ≡ end_of turn
+  ends_alike : (credit idle : ℕ) (turn : PlacedTurn World Ending) (progress : Progress) → Related map_of pool functions depth stop code parts credit idle turn progress → OfProcessor.ended progress.ending ≡ end_of turn
   ends_alike credit idle (go t) progress (never, (s, progress_is, saved, left, running)) = ap (λ (p : Progress). OfProcessor.ended p.ending) progress_is
   ends_alike credit idle (ended how world) progress related = related.1.0
   ends_alike credit idle stuck progress related = absurd related.1
 
-  pub simulates : Simulates (placed_machine (primitives map_of.constants) depth functions) (processor_machine rv32im) (Related map_of functions depth stop code parts) Any (suc (most_lines functions))
+  pub simulates : Simulates (placed_machine (primitives map_of.constants pool) depth functions) (processor_machine rv32im) (Related map_of pool functions depth stop code parts) Any (suc (most_lines functions))
   simulates = record { by = steps_by; alike = ends_alike }

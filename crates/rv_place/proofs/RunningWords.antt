@@ -11,7 +11,7 @@ use Rattle.rv_isa.specs.declared.placed.Place.{Place}
 use Rattle.rv_isa.specs.declared.placed.Place.TheVariants.{Register as register, Slot as slot}
 use Rattle.rv_isa.specs.declared.placed.Operand.{Operand}
 use Rattle.rv_isa.specs.Arithmetic.{sum_word}
-use Rattle.rv_isa.specs.Conventions.{argument, is_in, is_register, takes_at, take_from}
+use Rattle.rv_isa.specs.Conventions.{argument, is_handed_out, is_in, is_register, takes_at, take_from}
 use Rattle.rv_isa.specs.Frames.{all_of}
 use Rattle.rv_isa.specs.PlacedMachine.{read_at, passed}
 use Rattle.rv_isa.specs.Processor.{Processor, value}
@@ -35,6 +35,11 @@ abbrev pub AllFit : (ℕ → ℕ) → List Register → Type 0
 AllFit registers [] = Unit {0}
 AllFit registers (r ∷ rs) = (value registers r.number < 2 ^ 32) × AllFit registers rs
 
+-- and values may have the registers
+abbrev pub AllHanded : List Register → Type 0
+AllHanded [] = Unit {0}
+AllHanded (r ∷ rs) = (is_handed_out r.number ≡ true) × AllHanded rs
+
 -- ---- arguments in registers
 
 some_cons : (first : Option ℕ) (rest : List (Option ℕ)) (words : List ℕ) → all_of (first ∷ rest) ≡ Some words → (word : ℕ) × (more : List ℕ) × (first ≡ Some word) × (all_of rest ≡ Some more) × (words ≡ word ∷ more)
@@ -51,6 +56,7 @@ pub record InRegisters (args : List Operand) (registers : ℕ → ℕ) (words : 
   pub rs_are : registers_of args ≡ Some rs
   pub words_are : words ≡ words_in registers rs
   pub fit : AllFit registers rs
+  pub handed : AllHanded rs
 
 module _ (known cells : ℕ → Option ℕ) (registers : ℕ → ℕ) (agrees : Agrees known registers) where
   abbrev read : Operand → Option ℕ
@@ -68,11 +74,12 @@ module _ (known cells : ℕ → Option ℕ) (registers : ℕ → ℕ) (agrees : 
         rs_are = rw rs_are refl;
         words_are = rw (words_are, holds.1) refl;
         fit = (rw holds.1 holds.2, rest.fit);
+        handed = (holds.0, rest.handed);
       }
 
   pub in_registers : (action : Action) (n : ℕ) (args : List Operand) (words : List ℕ) → ((k : ℕ) (place : Place) → takes_at action k place ≡ true → is_register place ≡ true) → take_from action n args ≡ true
       → all_of (map read args) ≡ Some words → InRegisters args registers words
-  in_registers action n [] words takes taken is = record { rs = []; rs_are = refl; words_are = cc; fit = tt }
+  in_registers action n [] words takes taken is = record { rs = []; rs_are = refl; words_are = cc; fit = tt; handed = tt }
   in_registers action n (arg ∷ args) words takes taken is =
       let both = and_parts (takes_at action n arg.place) (take_from action (suc n) args) taken in
       let parts = some_cons (read arg) (map read args) words is in
@@ -163,6 +170,8 @@ module _ {code : Code} (below : (at : ℕ) (i : Instr) → code at ≡ Some i �
   computes (OfOperation.La index) (a ∷ rs) word fit is here = cc
   computes (OfOperation.Lw imm) rs word fit is here = cc
   computes (OfOperation.Sw imm) rs word fit is here = cc
+  computes OfOperation.Dup rs word fit is here = cc
+  computes OfOperation.Free rs word fit is here = cc
 
 -- ---- conditions
 

@@ -21,10 +21,11 @@ use Rattle.rv_isa.specs.Standing.{Code, Has}
 use Rattle.cell_runtime.specs.Lines.{Spells}
 use Rattle.cell_runtime.specs.Lines as OfRuntime
 use Rattle.rv_world.specs.Operations.{address_in}
-use Rattle.rv_place.specs.Addresses.{words_of_action, words_of_line, words_of_lines, words_of_function, words_of_functions, branch_words, jump_words, entry_words, entries_from, IsBehind, label_address}
+use Rattle.rv_place.specs.Addresses.{words_of_action, words_of_line, words_of_lines, words_of_function, words_of_functions, branch_words, jump_words, entry_words, entries_from, slot_offset, IsBehind, label_address}
 use Rattle.rv_place.specs.Lines.{Map, ActsAt, LineAt, LinesAt, FunctionAt, FunctionsAt, EntersAt, MovesBy, ReturnsFrom, registers_of, register_into}
-use Rattle.rv_place.specs.Registers.{zero_register, ra, sp}
-use Rattle.rv_place.specs.Instructions.{Zero, Computes}
+use Rattle.rv_place.specs.Registers.{zero_register, ra, sp, a0}
+use Rattle.rv_isa.specs.PlacedMachine.{only_slot}
+use Rattle.rv_place.specs.Instructions.{Zero, Computes, CallsTo}
 use Rattle.rv_place.specs.declared.chart.Chart.{Chart}
 use Rattle.rv_place.specs.declared.labels.Labels.{Labels}
 use Rattle.rv_place.specs.declared.reach.Reach.{Reach}
@@ -140,6 +141,11 @@ or_next None next = next
 -- labels are those of lines that stand at an address
 abbrev pub HasLabels : Labels → ℕ → List PlacedLine → Type 0
 HasLabels labels start whole = (l : ℕ) → get nat_cmp labels.addresses l ≡ label_address labels.forms l start whole
+
+-- the address of the slot of a token goes to a0, and a routine is called: code that was emitted for an address
+pub record TokenCalled (jumps : Reach) (args : List Operand) (target from : ℕ) (code : Code) (at : ℕ) : Type 0 where
+  pub sets : (k : ℕ) → only_slot args ≡ Some k → (offset : Immediate) × (offset.word ≡ slot_offset k) × (code at ≡ Some (Addi a0 sp offset))
+  pub calls : at ≡ from → JumpReaches jumps (at + 4) target → CallsTo jumps code (at + 4) target
 
 -- code of each kind that was emitted for an address, `from`, by every map that the chart is of; lines are those of a function that has these labels
 abbrev pub ActionBy : Chart → Labels → ℕ → Action → List Operand → Option Operand → Code → ℕ → Type 0

@@ -12,6 +12,10 @@ use Rattle.rv_isa.specs.Standing.{Code, Stands}
 use Rattle.cell_runtime.specs.declared.stop.Ending.TheVariants as ending
 use Rattle.cell_runtime.specs.Prints.{buffer_bytes, IsPrintInt, IsPrintText, IsReadByte}
 use Rattle.cell_runtime.specs.Stops.{IsStop}
+use Rattle.cell_runtime.specs.Takes.{IsTake}
+use Rattle.cell_runtime.specs.Drops.{IsDrop}
+use Rattle.cell_runtime.specs.Tokens.{IsHold, IsUnhold}
+use Rattle.cell_heap.specs.Pool.{Pool, end_of}
 use Rattle.rv_world.specs.Operations.{all_bytes}
 use Rattle.rv_place.specs.Lines.{Map, IsSymbolAt, FunctionsAt}
 
@@ -28,9 +32,9 @@ abbrev pub stack_end : Map → ℕ → ℕ
 stack_end map depth = map.bottom + depth * map.frame
 
 -- The functions and the routines stand in the code, whose addresses are below 2^32. The frames of the stack are words that may be loaded and
--- stored; the buffer of the prints lies below them. The constants may be loaded, and no store reaches them. Behind the end of main the run comes
--- to a stop.
-pub record Ground (map : Map) (functions : List PlacedLines) (depth buffer stop : ℕ) (code : Code) (parts : List Part) : Type 0 where
+-- stored; the cells lie below them, and the buffer of the prints below these. The constants may be loaded, and no store reaches them. Behind the
+-- end of main the run comes to a stop.
+pub record Ground (map : Map) (pool : Pool) (functions : List PlacedLines) (depth buffer stop : ℕ) (code : Code) (parts : List Part) : Type 0 where
   pub functions_at : FunctionsAt map code map.entries functions
   pub below : (at : ℕ) (i : Instr) → code at ≡ Some i → at + 4 < 2 ^ 32
   pub small_frame : map.frame ≤ 2044
@@ -41,7 +45,8 @@ pub record Ground (map : Map) (functions : List PlacedLines) (depth buffer stop 
   pub in_range : stack_end map depth < 2 ^ 32
   pub loads : (at : ℕ) → map.bottom ≤ at → at + 4 ≤ stack_end map depth → at % 4 ≡ 0 → can_load parts at 4 ≡ true
   pub stores : (at : ℕ) → map.bottom ≤ at → at + 4 ≤ stack_end map depth → at % 4 ≡ 0 → can_store parts at 4 ≡ true
-  pub buffer_below : buffer + buffer_bytes ≤ map.bottom
+  pub buffer_below : buffer + buffer_bytes ≤ pool.first
+  pub cells_below : end_of pool ≤ map.bottom
   pub buffer_loads : can_load parts buffer buffer_bytes ≡ true
   pub buffer_stores : can_store parts buffer buffer_bytes ≡ true
   pub byte_loads : can_load parts buffer 1 ≡ true
@@ -50,6 +55,10 @@ pub record Ground (map : Map) (functions : List PlacedLines) (depth buffer stop 
   pub constants_load : (at count : ℕ) → map.constants.first ≤ at → at + count ≤ map.constants.first + constant_bytes map → can_load parts at count ≡ true
   pub constants_kept : (x count : ℕ) → can_store parts x count ≡ true → 0 < count → Apart x count map.constants.first (constant_bytes map)
   pub runtime_word : map.runtime % 4 ≡ 0
+  pub take : HasRoutine map (symbol.Routine routine.Take) (IsTake pool code)
+  pub give_up : HasRoutine map (symbol.Routine routine.Drop) (IsDrop code)
+  pub hold : HasRoutine map symbol.Hold (IsHold pool code)
+  pub unhold : HasRoutine map symbol.Unhold (IsUnhold pool code)
   pub print_int : HasRoutine map (symbol.Routine routine.PrintInt) (IsPrintInt buffer code)
   pub print_text : HasRoutine map (symbol.Routine routine.PrintText) (IsPrintText code)
   pub read_byte : HasRoutine map (symbol.Routine routine.ReadByte) (IsReadByte buffer code)

@@ -10,7 +10,6 @@ use Rattle.rv_isa.specs.Processor.{Processor, start, bare}
 use Rattle.rv_isa.specs.Standing.{Code, code_of}
 use Rattle.cell_runtime.specs.declared.start.TheConstants.{TEXT_WORDS}
 use Rattle.cell_runtime.specs.Texts.{IsText}
-use Rattle.rv_world.specs.World.{World}
 use Rattle.rv_place.specs.declared.words.Words.{Words}
 use Rattle.rv_place.specs.Addresses.{frame_size}
 use Rattle.rv_place.specs.Texts.{ArePlaceable, ArePlacedWords}
@@ -36,16 +35,11 @@ code_in words = code_of text_start words.instructions.items
 abbrev pub main_entry : ℕ
 main_entry = text_start + 4 * TEXT_WORDS
 
--- the world before anything was done
-abbrev pub first_world : List ℕ → World
-first_world input = record { left = input; trace = [] }
-
 -- what a run does beside the lines of the program: 9 instructions of the start, 4 of main's entry, and 3 of the exit
 abbrev pub outside_lines : ℕ
 outside_lines = 9 + 4 + 3
 
--- A text whose image does what its program does: the runtime is that of these sizes and of the program's frames; the program can be placed, and
--- holds no token; the text is the bytes of their words; and `main` is the first function.
+-- A text whose image does what its program does: the runtime is that of these sizes and of the program's frames; the program can be placed; the text is the bytes of their words; and `main` is the first function.
 pub record IsPlacedImage (cells depth : ℕ) (runtime program : Placed) (words : Words) (text : List ℕ) (main : PlacedLines) : Type 0 where
   pub sizes : AreSizes cells depth
   pub runtime_is : IsText cells depth (frame_size (placed_functions program)) runtime

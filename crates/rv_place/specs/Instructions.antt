@@ -1,7 +1,7 @@
 -- The instructions of the assembler's operations, jumps and calls, as they stand in code at an address.
 use Rattle.std.specs.Prelude.{◌≡◌, ℕ, ◌+◌, ◌*◌, List, [], ◌∷◌, Some}
 use Rattle.rv_isa.specs.declared.register.Register.{Register}
-use Rattle.rv_place.specs.Registers.{zero_register, ra}
+use Rattle.rv_place.specs.Registers.{zero_register, ra, s0}
 use Rattle.rv_isa.specs.declared.immediate.Immediate.{Immediate}
 use Rattle.rv_isa.specs.declared.immediate.BranchOffset.{BranchOffset}
 use Rattle.rv_isa.specs.declared.immediate.JumpOffset.{JumpOffset}
@@ -116,6 +116,20 @@ BranchesOn jumps Far code at condition a b target =
     (over : BranchOffset) × (over.word ≡ 4 + 4 * words_of_jump jumps) × (code at ≡ Some (branch_instruction (opposite condition) a b over))
     × JumpsTo jumps code (at + 4) target
 
+-- The count of the cell to which a register refers is raised: it is loaded to ra, and stored again. A branch leads over this where the reference
+-- is odd, which names no cell.
+abbrev pub RaisesCount : Code → ℕ → Register → Type 0
+RaisesCount code at a =
+    (one : Immediate) × (over : BranchOffset) × (zero : Immediate) × (one.word ≡ 1) × (over.word ≡ 16) × Zero zero
+    × Has code at (Instr.Andi ra a one ∷ Instr.Bne ra zero_register over ∷ Instr.Lw ra a zero ∷ Instr.Addi ra ra one ∷ Instr.Sw a ra zero ∷ [])
+
+-- The token in a register is put before the free cells: its first word is the first of them, and s0 is its address. A branch leads over this where
+-- it is null.
+abbrev pub FreesToken : Code → ℕ → Register → Type 0
+FreesToken code at a =
+    (over : BranchOffset) × (zero : Immediate) × (over.word ≡ 12) × Zero zero
+    × Has code at (Instr.Beq a zero_register over ∷ Instr.Sw a s0 zero ∷ Instr.Addi s0 a zero ∷ [])
+
 -- an operation whose arguments are in registers, and whose result goes to one. One with another number of arguments is none.
 abbrev pub Computes : Constants → Code → ℕ → Operation → List Register → Register → Type 0
 Computes constants code at (Operation.Register operation) (a ∷ b ∷ []) rd = code at ≡ Some (register_instruction operation rd a b)
@@ -125,10 +139,16 @@ Computes constants code at (Operation.Li word) [] rd = LoadsWord code at rd word
 Computes constants code at Operation.Mv (a ∷ []) rd = (imm : Immediate) × Zero imm × (code at ≡ Some (Instr.Addi rd a imm))
 Computes constants code at (Operation.La index) [] rd =
     (address : ℕ) → address_in constants.first constants.texts index ≡ Some address → LoadsWord code at rd address
+Computes constants code at (Operation.Lw offset) (a ∷ []) rd = code at ≡ Some (Instr.Lw rd a offset)
+Computes constants code at (Operation.Sw offset) (a ∷ b ∷ []) rd = code at ≡ Some (Instr.Sw a b offset)
+Computes constants code at Operation.Dup (a ∷ []) rd = RaisesCount code at a
+Computes constants code at Operation.Free (a ∷ []) rd = FreesToken code at a
 Computes constants code at operation args rd = Unit {0}
 
 -- how many instructions an operation is
 abbrev pub words_of_operation : Operation → ℕ
 words_of_operation (Operation.Li word) = 2
 words_of_operation (Operation.La index) = 2
+words_of_operation Operation.Dup = 5
+words_of_operation Operation.Free = 3
 words_of_operation _ = 1

@@ -1,7 +1,7 @@
 -- Placed code as it stands in memory: the instructions of each line, from an address on.
 use Rattle.std.specs.Prelude.{◌≡◌, ℕ, ◌+◌, ◌-◌, ◌*◌, ◌^◌, ◌≤◌, List, [], ◌∷◌, Option, Some, None, slice_get}
 use Rattle.rv_isa.specs.declared.register.Register.{Register}
-use Rattle.rv_place.specs.Registers.{zero_register, ra, sp, t0}
+use Rattle.rv_place.specs.Registers.{zero_register, ra, sp, t0, a0}
 use Rattle.rv_isa.specs.declared.immediate.Immediate.{Immediate}
 use Rattle.rv_isa.specs.declared.immediate.UpperImmediate.{UpperImmediate}
 use Rattle.rv_isa.specs.declared.instr.Instr.TheVariants.{Addi, Jalr, Lui, Lw, Sw}
@@ -17,6 +17,7 @@ use Rattle.rv_isa.specs.declared.placed.Symbol.TheVariants as symbol
 use Rattle.rv_isa.specs.declared.placed.Way.{Way}
 use Rattle.rv_isa.specs.declared.placed.Way.TheVariants.{Copy, Load, Store}
 use Rattle.rv_isa.specs.PlacedCode.{PlacedLine, does, moves, PlacedLines}
+use Rattle.rv_isa.specs.PlacedMachine.{only_slot}
 use Rattle.rv_isa.specs.Standing.{Code, Has}
 use Rattle.rv_world.specs.Operations.{Constants}
 use Rattle.rv_place.specs.Instructions.{Zero, words_of_jump, JumpsTo, CallsTo, BranchesOn, Computes}
@@ -84,8 +85,14 @@ ReturnsFrom map code at =
     (zero : Immediate) × (frame : Immediate) × Zero zero × (frame.word ≡ map.frame)
     × Has code at (Lw ra sp zero ∷ Addi sp sp frame ∷ Jalr zero_register ra zero ∷ [])
 
+-- a token is held or taken back: the routine is called with the address of its slot in a0
+abbrev pub CallsForToken : Map → Forms → Code → ℕ → Symbol → List Operand → Type 0
+CallsForToken map forms code at name args =
+    (k : ℕ) → only_slot args ≡ Some k → (target : ℕ) → IsSymbolAt map name target
+    → ((offset : Immediate) × IsOffsetOf map k offset × (code at ≡ Some (Addi a0 sp offset))) × CallsTo forms.jumps code (at + 4) target
+
 -- What stands at an address for an action of a function of these forms whose lines, `whole`, stand at `start`. Of what is none, as a jump to a label that is
--- not there, nothing is said; nor of tokens yet.
+-- not there, nothing is said.
 abbrev pub ActsAt : Map → Forms → Code → ℕ → List PlacedLine → ℕ → Action → List Operand → Option Operand → Type 0
 ActsAt map forms code start whole at (Compute operation) args into =
     (registers : List Register) (rd : Register) → registers_of args ≡ Some registers → register_into into ≡ Some rd
@@ -99,8 +106,8 @@ ActsAt map forms code start whole at (Call f) args into = (entry : ℕ) → slic
 ActsAt map forms code start whole at (TailCall f) args into = (entry : ℕ) → slice_get map.entries f ≡ Some entry → JumpsTo forms.jumps code at (entry + 4 * entry_words map.jumps)
 ActsAt map forms code start whole at Return args into = ReturnsFrom map code at
 ActsAt map forms code start whole at (Routine routine) args into = (target : ℕ) → IsSymbolAt map (symbol.Routine routine) target → CallsTo forms.jumps code at target
-ActsAt map forms code start whole at Hold args into = Unit {0}
-ActsAt map forms code start whole at Unhold args into = Unit {0}
+ActsAt map forms code start whole at Hold args into = CallsForToken map forms code at symbol.Hold args
+ActsAt map forms code start whole at Unhold args into = CallsForToken map forms code at symbol.Unhold args
 
 abbrev pub LineAt : Map → Forms → Code → ℕ → List PlacedLine → ℕ → PlacedLine → Type 0
 LineAt map forms code start whole at (does alive action args into) = ActsAt map forms code start whole at action args into

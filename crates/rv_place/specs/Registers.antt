@@ -14,6 +14,14 @@ ra = record { number = 1; in_range = lit< tt }
 abbrev pub sp : Register
 sp = record { number = 2; in_range = lit< tt }
 
+-- a saved register: the first cell of the chain of free cells
+abbrev pub s0 : Register
+s0 = record { number = 8; in_range = lit< tt }
+
+-- the first register of arguments
+abbrev pub a0 : Register
+a0 = record { number = 10; in_range = lit< tt }
+
 -- a temporary
 abbrev pub t0 : Register
 t0 = record { number = 5; in_range = lit< tt }

@@ -9,7 +9,6 @@ use Rattle.rv_isa.specs.declared.placed.Place.TheVariants.{Register as register,
 use Rattle.rv_isa.specs.declared.placed.Operand.{Operand}
 use Rattle.rv_isa.specs.PlacedCode.{PlacedLine, does, moves, PlacedLines, to_of}
 use Rattle.rv_isa.specs.Conventions.{is_handed_out}
-use Rattle.rv_isa.specs.WellFormed.{HoldsNone}
 use Rattle.rv_isa.specs.Primitives.{go, ended, stuck}
 use Rattle.rv_isa.specs.Frames.{Frame, found}
 use Rattle.rv_isa.specs.PlacedMachine.{PlacedState, PlacedTurn, is_label_line, placed_machine}
@@ -17,6 +16,10 @@ use Rattle.rv_isa.specs.Bytes.{number_at}
 use Rattle.rv_isa.specs.Processor.{Processor, Ending, Progress, goes, value}
 use Rattle.rv_isa.specs.ProcessorMachine as OfProcessor
 use Rattle.rv_isa.specs.Standing.{Code}
+use Rattle.cell_heap.specs.Pool.{Pool}
+use Rattle.cell_heap.specs.View.{Link}
+use Rattle.cell_heap.specs.Blocks.{Cells}
+use Rattle.cell_heap.specs.Known.{HoldsCells}
 use Rattle.rv_world.specs.World.{World, primitives}
 use Rattle.rv_place.specs.Addresses.{slot_offset}
 use Rattle.rv_place.specs.Lines.{Map, LinesAt}
@@ -39,9 +42,9 @@ abbrev pub HasLabel : List PlacedLine → Action → Type 0
 HasLabel whole (Branch condition l) = IsSome (found (is_label_line l) whole)
 HasLabel whole _ = Unit {0}
 
--- a line of a function, `whole`: it holds no token yet, writes only what is handed out, and has its label
+-- a line of a function, `whole`: it writes only what is handed out, and has its label
 abbrev pub IsPlain : List PlacedLine → PlacedLine → Type 0
-IsPlain whole (does alive action args into) = HoldsNone action × GivesHandedOut into × HasLabel whole action
+IsPlain whole (does alive action args into) = GivesHandedOut into × HasLabel whole action
 IsPlain whole (moves alive value way) = IsHandedOut (to_of way)
 
 abbrev pub ArePlain : List PlacedLine → List PlacedLine → Type 0
@@ -88,15 +91,29 @@ AwaitsFirst (Some x) = x ≡ 10
 abbrev pub FramesAt : Map → Code → ℕ → ℕ → ℕ → (ℕ → ℕ) → ℕ → ℕ → List (Frame PlacedLine) → Type 0
 FramesAt map code most stop roof memory at base [] = (at ≡ stop) × (base ≡ roof)
 FramesAt map code most stop roof memory at base (frame ∷ frames) =
-    IsIn map code most at frame × Slots map memory base frame.cells × (frame.held ≡ []) × AwaitsFirst frame.into
+    IsIn map code most at frame × Slots map memory base frame.cells × AwaitsFirst frame.into
     × FramesAt map code most stop roof memory (number_at memory base 4) (base + map.frame) frames
+
+-- the held tokens of frames from the newest one on, whose base is an address: each by its cell and its slot
+abbrev pub word_of : Option ℕ → ℕ
+word_of None = 0
+word_of (Some word) = word
+
+abbrev pub links_in : ℕ → (ℕ → Option ℕ) → List ℕ → List Link → List Link
+links_in base cells [] below = below
+links_in base cells (k ∷ ks) below = record { cell = word_of (cells k); slot = base + slot_offset k } ∷ links_in base cells ks below
+
+abbrev pub links_of : Map → ℕ → List (Frame PlacedLine) → List Link
+links_of map base [] = []
+links_of map base (frame ∷ frames) = links_in base frame.cells frame.held (links_of map (base + map.frame) frames)
 
 -- a register whose word is known is handed out, and holds it
 abbrev pub Agrees : (ℕ → Option ℕ) → (ℕ → ℕ) → Type 0
 Agrees known registers = (x word : ℕ) → known x ≡ Some word → (is_handed_out x ≡ true) × (value registers x ≡ word) × (word < 2 ^ 32)
 
--- the processor stands for a state: its frames number `depth` at most, and what is left of the input are bytes
-pub record Running (map : Map) (functions : List PlacedLines) (depth stop : ℕ) (code : Code) (parts : List Part) (t : PlacedState World) (s : Processor) : Type 0 where
+-- the processor stands for a state: its frames number `depth` at most, what is left of the input are bytes, and memory has the cells and the held
+-- tokens
+pub record Running (map : Map) (pool : Pool) (functions : List PlacedLines) (depth stop : ℕ) (code : Code) (parts : List Part) (t : PlacedState World) (s : Processor) : Type 0 where
   pub rests : Rests map code parts s
   pub trace : s.trace ≡ t.shared.trace
   pub left : s.left ≡ t.shared.left
@@ -104,29 +121,34 @@ pub record Running (map : Map) (functions : List PlacedLines) (depth stop : ℕ)
   pub room : length t.frames ≤ depth
   pub frames : FramesAt map code (most_lines functions) stop (stack_end map depth) s.memory s.pc (value s.registers 2) t.frames
   pub registers : Agrees t.registers s.registers
+  pub cells : HoldsCells pool t.shared.cells (links_of map (value s.registers 2) t.frames) s
 
 -- the lines that are left of the running frame
 abbrev pub lines_left : List (Frame PlacedLine) → ℕ
 lines_left [] = 0
 lines_left (frame ∷ frames) = length frame.code
 
+-- memory has the cells, with some held tokens
+abbrev pub HasCells : Pool → Cells → Processor → Type 0
+HasCells pool cells s = (links : List Link) × HoldsCells pool cells links s
+
 -- What a run has come to stands for a turn. While it goes on, 3 instructions are saved for the exit behind main, and labels, which are no
--- instructions, go by within the lines that are left.
-abbrev pub StandsFor : Map → List PlacedLines → ℕ → ℕ → Code → List Part → ℕ → ℕ → PlacedTurn World Ending → Progress → Type 0
-StandsFor map functions depth stop code parts credit idle (go t) progress =
-    (s : Processor) × (progress ≡ goes s) × (3 ≤ credit) × (lines_left t.frames ≤ idle) × Running map functions depth stop code parts t s
-StandsFor map functions depth stop code parts credit idle (ended how shared) progress =
-    (OfProcessor.ended progress.ending ≡ Some how) × (progress.processor.trace ≡ shared.trace)
-StandsFor map functions depth stop code parts credit idle stuck progress = ⊥
+-- instructions, go by within the lines that are left. At an end memory has the cells of the world.
+abbrev pub StandsFor : Map → Pool → List PlacedLines → ℕ → ℕ → Code → List Part → ℕ → ℕ → PlacedTurn World Ending → Progress → Type 0
+StandsFor map pool functions depth stop code parts credit idle (go t) progress =
+    (s : Processor) × (progress ≡ goes s) × (3 ≤ credit) × (lines_left t.frames ≤ idle) × Running map pool functions depth stop code parts t s
+StandsFor map pool functions depth stop code parts credit idle (ended how shared) progress =
+    (OfProcessor.ended progress.ending ≡ Some how) × (progress.processor.trace ≡ shared.trace) × HasCells pool shared.cells progress.processor
+StandsFor map pool functions depth stop code parts credit idle stuck progress = ⊥
 
 -- no run from a turn comes to one that can do nothing more
-abbrev pub NeverStuck : Map → List PlacedLines → ℕ → PlacedTurn World Ending → Type 0
-NeverStuck map functions depth turn = (n : ℕ) → state (placed_machine (primitives map.constants) depth functions) n turn ≢ stuck
+abbrev pub NeverStuck : Map → Pool → List PlacedLines → ℕ → PlacedTurn World Ending → Type 0
+NeverStuck map pool functions depth turn = (n : ℕ) → state (placed_machine (primitives map.constants pool) depth functions) n turn ≢ stuck
 
 -- what the simulation keeps
-abbrev pub Related : Map → List PlacedLines → ℕ → ℕ → Code → List Part → ℕ → ℕ → PlacedTurn World Ending → Progress → Type 0
-Related map functions depth stop code parts credit idle turn progress =
-    NeverStuck map functions depth turn × StandsFor map functions depth stop code parts credit idle turn progress
+abbrev pub Related : Map → Pool → List PlacedLines → ℕ → ℕ → Code → List Part → ℕ → ℕ → PlacedTurn World Ending → Progress → Type 0
+Related map pool functions depth stop code parts credit idle turn progress =
+    NeverStuck map pool functions depth turn × StandsFor map pool functions depth stop code parts credit idle turn progress
 
 -- the processor may pass any state
 abbrev pub Any : Progress → Type 0

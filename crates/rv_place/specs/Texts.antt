@@ -6,7 +6,8 @@ use Rattle.rv_isa.specs.declared.placed.Placed.{Placed}
 use Rattle.rv_isa.specs.PlacedCode.{PlacedLines, placed_functions, placed_constants}
 use Rattle.rv_isa.specs.Standing.{code_of}
 use Rattle.cell_runtime.specs.Lines.{Spells, AreWithin, words_of, labels_of}
-use Rattle.cell_runtime.specs.Texts.{greatest_reach}
+use Rattle.cell_heap.specs.Pool.{Pool}
+use Rattle.cell_runtime.specs.Texts.{pool_of, greatest_reach}
 use Rattle.rv_world.specs.Operations.{Constants, all_bytes}
 use Rattle.rv_place.specs.Addresses.{reach_of, jump_words, words_of_functions, entries_from, frame_size}
 use Rattle.rv_place.specs.Lines.{Map, FunctionsAt}
@@ -50,6 +51,10 @@ text_bytes runtime program = 4 * text_words runtime program + length (all_bytes 
 -- the address of the memory behind it
 abbrev pub memory_of : Placed → Placed → ℕ
 memory_of runtime program = memory_start (text_bytes runtime program)
+
+-- the cells, which are so many
+abbrev pub pool_in : ℕ → Placed → Placed → Pool
+pool_in cells runtime program = pool_of cells (memory_of runtime program)
 
 abbrev pub constants_of : Placed → Placed → Constants
 constants_of runtime program = record { first = text_start + 4 * text_words runtime program; texts = placed_constants program }

@@ -8,11 +8,11 @@ ghost use Rattle.rv_isa.specs.PlacedCode.{PlacedLines, placed_functions};
 ghost use Rattle.rv_isa.specs.PlacedMachine.{placed_machine, placed_start};
 ghost use Rattle.rv_isa.specs.Processor.{goes};
 ghost use Rattle.rv_isa.specs.ProcessorMachine.{processor_machine};
-ghost use Rattle.rv_world.specs.World.{primitives};
+ghost use Rattle.rv_world.specs.World.{first_world, primitives};
 ghost use Rattle.rv_place.specs.declared.words.Words.{Words};
-ghost use Rattle.rv_place.specs.Images.{first_processor, first_world, outside_lines, IsPlacedImage};
+ghost use Rattle.rv_place.specs.Images.{first_processor, outside_lines, IsPlacedImage};
 ghost use Rattle.rv_place.specs.Running.{NeverStuck};
-ghost use Rattle.rv_place.specs.Texts.{constants_of, map_of};
+ghost use Rattle.rv_place.specs.Texts.{pool_in, constants_of, map_of};
 
 /// The image of a placed text does what the machine of the placed form does from `main` on: each trace of one is a prefix
 /// of one of the other, and one ends if and only if the other does, alike. It executes no more instructions than the lines
@@ -21,6 +21,6 @@ ghost use Rattle.rv_place.specs.Texts.{constants_of, map_of};
 pub fn placed_text_agrees()
     ensures { (cells depth : ℕ) (runtime program : Placed) (words : Words) (text input : List ℕ) (main : PlacedLines)
         → IsPlacedImage cells depth runtime program words text main → All (λ byte. byte < 256) input
-        → NeverStuck (map_of runtime program) (placed_functions program) depth (placed_start main (first_world input))
-        → (up : ℕ → ℕ) × Agree (placed_machine (primitives (constants_of runtime program)) depth (placed_functions program)) (processor_machine rv32im) outside_lines up (placed_start main (first_world input)) (goes (first_processor text runtime.memory.size input)) }
+        → NeverStuck (map_of runtime program) (pool_in cells runtime program) (placed_functions program) depth (placed_start main (first_world (pool_in cells runtime program) input))
+        → (up : ℕ → ℕ) × Agree (placed_machine (primitives (constants_of runtime program) (pool_in cells runtime program)) depth (placed_functions program)) (processor_machine rv32im) outside_lines up (placed_start main (first_world (pool_in cells runtime program) input)) (goes (first_processor text runtime.memory.size input)) }
 {}

@@ -6,6 +6,7 @@ ghost use Rattle.rv_isa.specs.PlacedMachine.{placed_machine};
 ghost use Rattle.rv_isa.specs.Execution.{rv32im};
 ghost use Rattle.rv_isa.specs.ProcessorMachine.{processor_machine};
 ghost use Rattle.rv_isa.specs.Standing.{Code};
+ghost use Rattle.cell_heap.specs.Pool.{Pool};
 ghost use Rattle.rv_world.specs.World.{primitives};
 ghost use Rattle.rv_place.specs.Lines.{Map};
 ghost use Rattle.rv_place.specs.Grounds.{Ground};
@@ -15,9 +16,9 @@ ghost use Rattle.rv_place.specs.Running.{AllPlain, most_lines, Related, Any};
 ///
 /// Where the code of functions, the runtime and the data stand as they must, the processor simulates the machine of the
 /// placed form: each line is a few instructions, within its weight, with the same events, and both end alike. The functions
-/// hold no tokens, write only registers that values may have, and branch only to labels of their own. A run must never come
-/// to a state in which it can do nothing more. It is a law, and does nothing.
+/// write only registers that values may have, and branch only to labels of their own. A run must never come to a state in
+/// which it can do nothing more. At the end the memory has the cells of the world. It is a law, and does nothing.
 pub fn placed_code_keeps_meaning()
-    ensures { (map : Map) (functions : List PlacedLines) (depth buffer stop : ℕ) (code : Code) (parts : List Part) → Ground map functions depth buffer stop code parts → AllPlain functions
-        → Simulates (placed_machine (primitives map.constants) depth functions) (processor_machine rv32im) (Related map functions depth stop code parts) Any (suc (most_lines functions)) }
+    ensures { (map : Map) (pool : Pool) (functions : List PlacedLines) (depth buffer stop : ℕ) (code : Code) (parts : List Part) → Ground map pool functions depth buffer stop code parts → AllPlain functions
+        → Simulates (placed_machine (primitives map.constants pool) depth functions) (processor_machine rv32im) (Related map pool functions depth stop code parts) Any (suc (most_lines functions)) }
 {}

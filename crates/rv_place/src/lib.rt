@@ -3,6 +3,7 @@
 
 mod boot;
 mod bytes;
+mod cells;
 mod chart;
 mod emit;
 mod labels;

@@ -1,63 +1,22 @@
 // Lines and functions as instructions.
 
-ghost use Rattle.std.specs.Prelude.{◌≡◌, ⊤, ℕ, ◌+◌, ◌*◌, ◌^◌, ◌<◌, ◌≤◌, Some, OnOk, length, map, slice_get};
+ghost use Rattle.std.specs.Prelude.{◌≡◌, ℕ, ◌+◌, ◌*◌, ◌^◌, ◌<◌, ◌≤◌, Some, OnOk, length, map, slice_get};
 ghost use Rattle.rv_isa.specs.PlacedCode.{placed_line_of, placed_lines_of};
 ghost use Rattle.rv_isa.specs.PlacedMachine.{is_label_line};
-ghost use Rattle.rv_place.specs.Instructions.{words_of_jump};
 ghost use Rattle.rv_place.specs.Addresses.{words_of_action, words_of_line, words_of_lines, words_of_function, words_of_functions, label_address, slots_of_operands, slots_of_line, slots_of_lines, slots_of_functions};
 ghost use Rattle.rv_place.specs.Texts.{all_items};
 ghost use Rattle.rv_place.specs.Emitted.{Grew, ActionBy, LineBy, LinesBy, FunctionBy, FunctionsBy};
 
+use crate::cells::emit_token;
 use crate::chart::Chart;
-use crate::emit::{
-    emit, emit_branch, emit_call, emit_entry, emit_jump, emit_move, emit_return, slot_offset,
-};
+use crate::emit::{emit_branch, emit_call, emit_entry, emit_jump, emit_move, emit_return};
 use crate::labels::Labels;
 use crate::operations::{argument, emit_operation};
 use crate::reach::Reach;
 use crate::sizes::{forms_of, words_of_function, words_of_item};
 use kk_base::NoMemory;
-use rv_isa::{Action, Immediate, Instr, Item, Operand, Place, PlacedFunction, Register};
+use rv_isa::{Action, Instr, Item, Operand, PlacedFunction};
 use std::alloc::Global;
-
-/// The offset of the slot of a token from the stack pointer.
-fn token_offset(args: &[Operand]) -> Immediate
-    requires { 4 * slots_of_operands args.now + 4 ≤ 2044 }
-{
-    match args.first() {
-        Some(
-            Operand {
-                place: Place::Slot(slot),
-                ..
-            },
-        ) => slot_offset(*slot),
-        _ => Immediate::ZERO,
-    }
-}
-
-/// A token that is held or taken back, at the address `at`: a call with the address of its slot in `a0`.
-fn emit_token(
-    code: &mut Vec<Instr>,
-    at: u32,
-    jumps: Reach,
-    args: &[Operand],
-    target: u32,
-) -> Result<(), NoMemory>
-    requires at { at ≤ 536870912 }
-    requires slots { 4 * slots_of_operands args.now + 4 ≤ 2044 }
-    ensures { OnOk result (Grew (1 + words_of_jump jumps) (λ c p. ⊤) code.old.items code.new.items) }
-{
-    emit(
-        code,
-        Instr::Addi {
-            rd: Register::A0,
-            rs1: Register::SP,
-            imm: token_offset(args),
-        },
-    )?;
-    emit_call(code, at + 4, jumps, target)?;
-    Ok(())
-}
 
 /// An action of a function that has these labels, at the address `at`.
 fn emit_action(
@@ -177,7 +136,7 @@ pub fn emit_functions(
     entry: u32,
     functions: &[PlacedFunction],
 ) -> Result<(), NoMemory>
-    requires entry { entry ≤ 134217728 }
+    requires entry { entry ≤ 1048576 }
     requires few { length functions.now ≤ 1024 }
     requires items { all_items (map placed_lines_of functions.now) ≤ 8388608 }
     requires some_frame { 1 ≤ chart.now.frame }

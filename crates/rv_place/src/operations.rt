@@ -4,6 +4,7 @@ ghost use Rattle.std.specs.Prelude.{◌≡◌, OnOk, slice_get};
 ghost use Rattle.rv_place.specs.Instructions.{register_instruction, immediate_instruction, shift_instruction, words_of_operation};
 ghost use Rattle.rv_place.specs.Emitted.{Grew, register_or_zero, OperationBy};
 
+use crate::cells::{emit_dup, emit_free};
 use crate::chart::Chart;
 use crate::emit::{emit, emit_load};
 use kk_base::NoMemory;
@@ -122,5 +123,7 @@ pub fn emit_operation(
         Operation::La(index) => emit_load(code, rd, chart.constant(index)),
         Operation::Lw(imm) => emit(code, Instr::Lw { rd, rs1, imm }),
         Operation::Sw(imm) => emit(code, Instr::Sw { rs1, rs2, imm }),
+        Operation::Dup => emit_dup(code, rs1),
+        Operation::Free => emit_free(code, rs1),
     }
 }

@@ -40,7 +40,7 @@ fn jumps_of(runtime: &Placed, program: &Placed) -> Reach
 fn text_words(runtime: &Placed, program: &Placed) -> u32
     requires { ArePlaceable runtime.now program.now }
     ensures words { result ≡ text_words runtime.now program.now }
-    ensures few { result ≤ 25174016 }
+    ensures few { result ≤ 41951232 }
 {
     let jumps = jumps_of(runtime, program);
     words_of_natives(&runtime.natives) + words_of_functions(jumps, &program.functions)
@@ -50,7 +50,7 @@ fn text_words(runtime: &Placed, program: &Placed) -> u32
 fn memory_of(runtime: &Placed, program: &Placed) -> u32
     requires { ArePlaceable runtime.now program.now }
     ensures address { result ≡ memory_of runtime.now program.now }
-    ensures low { result ≤ 134217728 }
+    ensures low { result ≤ 268435456 }
 {
     let bytes = 4 * text_words(runtime, program) + bytes_of_constants(&program.constants);
     (TEXT_START + bytes).next_multiple_of(PAGE_SIZE)
@@ -87,7 +87,7 @@ fn entries(
 
 /// The addresses of constants that stand one behind the other.
 fn constant_addresses(alloc: Global, first: u32, constants: &[Text]) -> Result<Vec<u32>, NoMemory>
-    requires first { first ≤ 134217728 }
+    requires first { first ≤ 268435456 }
     requires few { length (all_bytes constants.now) ≤ 8388608 }
     ensures { IfOk result (λ addresses. addresses.items ≡ addresses_from first constants.now) }
 {
@@ -132,7 +132,7 @@ fn chart_of(alloc: Global, runtime: &Placed, program: &Placed) -> Result<Chart, 
 
 /// A line of a runtime, where the memory that it may write begins at an address.
 fn emit_native(code: &mut Vec<Instr>, memory: u32, line: &Native) -> Result<(), NoMemory>
-    requires memory { memory ≤ 134217728 }
+    requires memory { memory ≤ 268435456 }
     requires line { AreWithin greatest_reach (line.now ∷ []) }
     ensures { OnOk result (NativeGrew memory line.now code.old.items code.new.items) }
 {
@@ -145,7 +145,7 @@ fn emit_native(code: &mut Vec<Instr>, memory: u32, line: &Native) -> Result<(), 
 
 /// The lines of a runtime.
 fn natives_code(alloc: Global, memory: u32, natives: &[Native]) -> Result<Vec<Instr>, NoMemory>
-    requires memory { memory ≤ 134217728 }
+    requires memory { memory ≤ 268435456 }
     requires lines { AreWithin greatest_reach natives.now }
     ensures spelled { IfOk result (λ code. Spells memory natives.now code.items) }
     ensures size { IfOk result (λ code. length code.items ≡ words_of natives.now) }

@@ -3,4 +3,4 @@ use Rattle.rv_place.proofs.RunningSimulating.{simulates}
 use Rattle.rv_place.proofs.law.placed_code_keeps_meaning.Goals as goal
 
 pub returns : goal.returns
-returns c = λ map functions depth buffer stop code parts ground plain. simulates ground plain
+returns c = λ map pool functions depth buffer stop code parts ground plain. simulates ground plain

@@ -1,5 +1,5 @@
 use Rattle.rv_place.proofs.Emitting.{on_so}
-use Rattle.rv_place.proofs.Acting.{on_operation, on_jump, on_branch, on_call, on_tail_call, on_return, on_routine}
+use Rattle.rv_place.proofs.Acting.{on_operation, on_jump, on_branch, on_call, on_tail_call, on_return, on_routine, on_hold, on_unhold}
 use Rattle.rv_place.proofs.lines.emit_action.Goals as goal
 
 pub returns-in-Compute : goal.returns-in-Compute
@@ -43,3 +43,15 @@ returns-in-Routine c =
     on_so c.emit_call-in-Routine.result
     (on_routine c.args.chart.now c.args.labels.now c.args.at c.args.args.now c.args.into c.in-Routine.is c.routine.ensures)
     c.emit_call-in-Routine.ensures
+
+pub returns-in-Hold : goal.returns-in-Hold
+returns-in-Hold c =
+    on_so c.emit_token.result
+    (on_hold c.args.chart.now c.args.labels.now c.args.at c.args.args.now c.args.into c.in-Hold.is c.requires.slots (λ runtime names are. are.hold))
+    c.emit_token.ensures
+
+pub returns-in-Unhold : goal.returns-in-Unhold
+returns-in-Unhold c =
+    on_so c.emit_token-in-Unhold.result
+    (on_unhold c.args.chart.now c.args.labels.now c.args.at c.args.args.now c.args.into c.in-Unhold.is c.requires.slots (λ runtime names are. are.unhold))
+    c.emit_token-in-Unhold.ensures

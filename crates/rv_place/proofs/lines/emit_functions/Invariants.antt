@@ -16,5 +16,5 @@ invariant-loop-function l =
           → Grew (words_of_functions l.chart.jumps whole) (FunctionsBy l.chart l.entry whole) l.fn.code.items new;
       slots : slots_of_functions rest ≤ slots_of_functions whole;
       items : all_items rest ≤ all_items whole;
-      low : l.at + 12 * all_items rest ≤ l.entry + 28 * l.function-index + 12 * all_items whole;
+      low : l.at + 20 * all_items rest ≤ l.entry + 28 * l.function-index + 20 * all_items whole;
     }

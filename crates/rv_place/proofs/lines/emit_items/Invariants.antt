@@ -14,5 +14,5 @@ invariant-loop-item l =
       grows : (new : List Instr) → Grew (words_of_lines l.labels.forms rest) (LinesBy l.chart l.labels l.at rest) l.code.items new
           → Grew (words_of_lines l.labels.forms whole) (LinesBy l.chart l.labels l.start whole) l.fn.code.items new;
       slots : slots_of_lines rest ≤ slots_of_lines whole;
-      low : l.at ≤ l.start + 12 * l.item-index;
+      low : l.at ≤ l.start + 20 * l.item-index;
     }

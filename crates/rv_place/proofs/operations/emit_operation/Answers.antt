@@ -1,6 +1,6 @@
 use Rattle.std.proofs.Common.{refl}
 use Rattle.rv_place.proofs.Emitting.{on_so}
-use Rattle.rv_place.proofs.Operating.{on_two, on_immediate, on_shift, on_copy, on_word, on_address}
+use Rattle.rv_place.proofs.Operating.{on_two, on_immediate, on_shift, on_copy, on_word, on_address, on_load, on_store, on_dup, on_free}
 use Rattle.rv_place.proofs.operations.emit_operation.Goals as goal
 
 pub returns-in-Register : goal.returns-in-Register
@@ -31,3 +31,16 @@ returns-in-Mv c =
 pub returns-in-La : goal.returns-in-La
 returns-in-La c =
     on_so c.emit_load-in-La.result (on_address c.args.chart.now c.args.args.now c.args.into c.in-La.is c.register_or_zero-rd.ensures c.constant.ensures) c.emit_load-in-La.ensures
+
+pub returns-in-Lw : goal.returns-in-Lw
+returns-in-Lw c =
+    on_so c.emit-in-Lw.result (on_load c.args.chart.now c.args.args.now c.args.into c.in-Lw.is c.register_or_zero-rd.ensures c.argument-rs1.ensures) c.emit-in-Lw.ensures
+
+pub returns-in-Sw : goal.returns-in-Sw
+returns-in-Sw c = on_so c.emit-in-Sw.result (on_store c.args.chart.now c.args.args.now c.args.into c.in-Sw.is c.argument-rs1.ensures c.argument-rs2.ensures) c.emit-in-Sw.ensures
+
+pub returns-in-Dup : goal.returns-in-Dup
+returns-in-Dup c = on_so c.emit_dup.result (on_dup c.args.chart.now c.args.args.now c.args.into c.in-Dup.is c.argument-rs1.ensures) c.emit_dup.ensures
+
+pub returns-in-Free : goal.returns-in-Free
+returns-in-Free c = on_so c.emit_free.result (on_free c.args.chart.now c.args.args.now c.args.into c.in-Free.is c.argument-rs1.ensures) c.emit_free.ensures

@@ -10,6 +10,6 @@ invariant-loop-function l =
     let whole = map placed_lines_of l.functions in
     record {
       words : l.words + words_of_functions l.jumps rest ≡ words_of_functions l.jumps whole;
-      few : l.words + 3 * all_items rest ≤ 6 * l.function-index + 3 * all_items whole;
+      few : l.words + 5 * all_items rest ≤ 6 * l.function-index + 5 * all_items whole;
       items : all_items rest ≤ all_items whole;
     }

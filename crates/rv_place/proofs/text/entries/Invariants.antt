@@ -11,5 +11,5 @@ invariant-loop-function l =
     record {
       same : l.entries.items ++ entries_from l.jumps l.at rest ≡ entries_from l.jumps l.first whole;
       items : all_items rest ≤ all_items whole;
-      low : l.at + 12 * all_items rest ≤ l.first + 28 * l.function-index + 12 * all_items whole;
+      low : l.at + 20 * all_items rest ≤ l.first + 28 * l.function-index + 20 * all_items whole;
     }

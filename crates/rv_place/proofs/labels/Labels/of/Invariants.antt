@@ -11,5 +11,5 @@ abbrev pub invariant-loop-item : goal.invariant-loop-item
 invariant-loop-item l = record {
   same : (label : ℕ) → or_next (get nat_cmp l.addresses label) (label_address l.forms label l.at (map placed_line_of (drop l.item-index l.items)))
       ≡ label_address l.forms label l.start (map placed_line_of l.items);
-  low : l.at ≤ l.start + 12 * l.item-index;
+  low : l.at ≤ l.start + 20 * l.item-index;
 }

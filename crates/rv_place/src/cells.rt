@@ -1,0 +1,133 @@
+// Counts and tokens as instructions.
+
+ghost use Rattle.std.specs.Prelude.{◌≡◌, ℕ, ◌+◌, ◌*◌, ◌≤◌, Some, OnOk};
+ghost use Rattle.rv_isa.specs.PlacedMachine.{only_slot};
+ghost use Rattle.rv_place.specs.Addresses.{slot_offset, slots_of_operands};
+ghost use Rattle.rv_place.specs.Instructions.{RaisesCount, FreesToken, words_of_jump};
+ghost use Rattle.rv_place.specs.Emitted.{Grew, TokenCalled};
+
+use crate::emit::{emit, emit_call, slot_offset};
+use crate::reach::Reach;
+use kk_base::NoMemory;
+use rv_isa::{BranchOffset, Immediate, Instr, Operand, Place, Register};
+
+/// Raises the count of the cell to which a register refers; an odd reference names none.
+pub fn emit_dup(code: &mut Vec<Instr>, reference: Register) -> Result<(), NoMemory>
+    ensures { OnOk result (Grew 5 (λ c at. RaisesCount c at reference) code.old.items code.new.items) }
+{
+    let one = Immediate::new(1);
+    let over = BranchOffset::new(16);
+    emit(
+        code,
+        Instr::Andi {
+            rd: Register::RA,
+            rs1: reference,
+            imm: one,
+        },
+    )?;
+    emit(
+        code,
+        Instr::Bne {
+            rs1: Register::RA,
+            rs2: Register::ZERO,
+            offset: over,
+        },
+    )?;
+    emit(
+        code,
+        Instr::Lw {
+            rd: Register::RA,
+            rs1: reference,
+            imm: Immediate::ZERO,
+        },
+    )?;
+    emit(
+        code,
+        Instr::Addi {
+            rd: Register::RA,
+            rs1: Register::RA,
+            imm: one,
+        },
+    )?;
+    emit(
+        code,
+        Instr::Sw {
+            rs1: reference,
+            rs2: Register::RA,
+            imm: Immediate::ZERO,
+        },
+    )?;
+    Ok(())
+}
+
+/// Puts the token in a register before the free cells; the null token is none.
+pub fn emit_free(code: &mut Vec<Instr>, token: Register) -> Result<(), NoMemory>
+    ensures { OnOk result (Grew 3 (λ c at. FreesToken c at token) code.old.items code.new.items) }
+{
+    let over = BranchOffset::new(12);
+    emit(
+        code,
+        Instr::Beq {
+            rs1: token,
+            rs2: Register::ZERO,
+            offset: over,
+        },
+    )?;
+    emit(
+        code,
+        Instr::Sw {
+            rs1: token,
+            rs2: Register::S0,
+            imm: Immediate::ZERO,
+        },
+    )?;
+    emit(
+        code,
+        Instr::Addi {
+            rd: Register::S0,
+            rs1: token,
+            imm: Immediate::ZERO,
+        },
+    )?;
+    Ok(())
+}
+
+/// The offset of the slot of a token from the stack pointer.
+fn token_offset(args: &[Operand]) -> Immediate
+    requires { 4 * slots_of_operands args.now + 4 ≤ 2044 }
+    ensures { (k : ℕ) → only_slot args.now ≡ Some k → result.word ≡ slot_offset k }
+{
+    match args.first() {
+        Some(
+            Operand {
+                place: Place::Slot(slot),
+                ..
+            },
+        ) => slot_offset(*slot),
+        _ => Immediate::ZERO,
+    }
+}
+
+/// A token that is held or taken back, at the address `at`: a call with the address of its slot in `a0`.
+pub fn emit_token(
+    code: &mut Vec<Instr>,
+    at: u32,
+    jumps: Reach,
+    args: &[Operand],
+    target: u32,
+) -> Result<(), NoMemory>
+    requires at { at ≤ 536870912 }
+    requires slots { 4 * slots_of_operands args.now + 4 ≤ 2044 }
+    ensures { OnOk result (Grew (1 + words_of_jump jumps) (TokenCalled jumps args.now target at) code.old.items code.new.items) }
+{
+    emit(
+        code,
+        Instr::Addi {
+            rd: Register::A0,
+            rs1: Register::SP,
+            imm: token_offset(args),
+        },
+    )?;
+    emit_call(code, at + 4, jumps, target)?;
+    Ok(())
+}
