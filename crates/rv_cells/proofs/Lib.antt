@@ -13,3 +13,4 @@ pub mod Values
 pub mod Spots
 pub mod Rows
 pub mod Openings
+pub mod Constructing
