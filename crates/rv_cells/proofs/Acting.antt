@@ -1,16 +1,19 @@
 -- What one line does that touches cells.
-use Rattle.std.proofs.Common.{◌≡◌, ◌≢◌, ◌<◌, ◌≤◌, ℕ, suc, ◌+◌, ◌*◌, List, [], ◌∷◌, length, drop, map, Option, Some, None, option_map, Bool, false, cond, refl, sym, ◌∙◌, ap, subst, arith, ne_eqb}
+use Rattle.std.proofs.Common.{◌≡◌, ◌≢◌, ◌<◌, ◌≤◌, ℕ, suc, ◌+◌, ◌*◌, List, [], ◌∷◌, length, drop, map, Option, Some, None, option_map, Bool, true, false, not, nat_eq, cond, refl, sym, ◌∙◌, ap, subst, arith, ne_eqb}
 use Rattle.std.specs.Prelude.{◌==◌}
 use Rattle.rv_isa.specs.declared.asm.Action.{Action}
-use Rattle.rv_isa.specs.declared.asm.Action.TheVariants.{Compute, Routine as Calls}
+use Rattle.rv_isa.specs.declared.asm.Action.TheVariants.{Compute, Label, Jump, Branch, Routine as Calls}
+use Rattle.rv_isa.specs.declared.asm.Condition.TheVariants.{NotEqual}
+use Rattle.rv_isa.specs.declared.asm.ImmediateOperation.TheVariants.{Addi}
+use Rattle.rv_isa.specs.Arithmetic.{sum_word}
 use Rattle.rv_isa.specs.declared.asm.Operation.{Operation}
 use Rattle.rv_isa.specs.declared.asm.Operation.TheVariants as Op
 use Rattle.rv_isa.specs.declared.immediate.Immediate.{Immediate}
 use Rattle.rv_isa.specs.declared.routine.Routine.TheVariants.{Take, Drop}
 use Rattle.rv_isa.specs.Processor.{Ending, exited}
 use Rattle.rv_isa.specs.AsmCode.{Line}
-use Rattle.rv_isa.specs.AsmMachine.{AsmTurn, asm_goes, asm_served}
-use Rattle.rv_isa.specs.Frames.{Frame, put, put_into, all_of, top}
+use Rattle.rv_isa.specs.AsmMachine.{AsmTurn, is_label, asm_goes, asm_jumps, asm_served}
+use Rattle.rv_isa.specs.Frames.{Frame, put, put_into, all_of, top, found}
 use Rattle.rv_isa.specs.Primitives.{Reply, go, ended, or_stuck, by_token}
 use Rattle.cell_heap.specs.Turns.{Work}
 use Rattle.cell_heap.specs.Blocks.{Cells, load, store, dup, release, request, drop_cells, merged_cells}
@@ -110,4 +113,39 @@ module _ (target : Target) (rest : List Line) (f : Frame Line) (fs : List (Frame
   full_runs into is =
       line_runs target 10 (record { action = Calls Take; args = []; into = Some into }) rest f fs world [] (ended (exited (number_of OfEnding.HeapFull)) world) refl
       (ap (λ o. asm_served (Some into) (left_at rest f ∷ fs) (takes_cell o world)) is)
+      (λ held. omega arith) (silent target world)
+
+  -- a value and an immediate
+  pub addi_runs : (from into word : ℕ) (immediate : Immediate) → f.cells from ≡ Some word
+      → Runs target (target.moves + 2) 1 (turn_of (computes (Op.Immediate Addi immediate) (from ∷ []) into ∷ rest) f fs world) (turn_of rest (put_in into (sum_word word immediate.word) f) fs world)
+  addi_runs from into word immediate is =
+      sets_value 2 (Op.Immediate Addi immediate) (from ∷ []) into (word ∷ []) (sum_word word immediate.word) (one_word from word is) refl (omega arith)
+
+  -- ---- labels and jumps
+
+  pub label_runs : (l : ℕ) → Runs target (target.moves + 0) 1 (turn_of (acts (Label l) [] ∷ rest) f fs world) (turn_of rest f fs world)
+  label_runs l = line_runs target 0 (acts (Label l) []) rest f fs world [] (turn_of rest f fs world) refl refl (λ held. omega arith) (silent target world)
+
+  -- the lines from a label on
+  abbrev pub Finds : ℕ → List Line → Type 0
+  Finds l there = found (λ line. is_label l line.action) f.whole ≡ Some there
+
+  jumps_to : (l : ℕ) (there : List Line) → Finds l there → asm_jumps {W = Ending} l (left_at rest f) fs world ≡ turn_of there f fs world
+  jumps_to l there finds = ap (λ o. or_stuck o (λ code. asm_goes (record f { code = code }) fs world)) finds
+
+  pub jump_runs : (l : ℕ) (there : List Line) → Finds l there → Runs target (target.moves + 2) 1 (turn_of (acts (Jump l) [] ∷ rest) f fs world) (turn_of there f fs world)
+  jump_runs l there finds =
+      line_runs target 2 (acts (Jump l) []) rest f fs world [] (turn_of there f fs world) refl (jumps_to l there finds) (λ held. omega arith) (silent target world)
+
+  pub falls_runs : (l x y word other : ℕ) → f.cells x ≡ Some word → f.cells y ≡ Some other → nat_eq word other ≡ true
+      → Runs target (target.moves + 3) 1 (turn_of (acts (Branch NotEqual l) (x ∷ y ∷ []) ∷ rest) f fs world) (turn_of rest f fs world)
+  falls_runs l x y word other is also equal =
+      line_runs target 3 (acts (Branch NotEqual l) (x ∷ y ∷ [])) rest f fs world (word ∷ other ∷ []) (turn_of rest f fs world) (two_words x y word other is also)
+      (ap (λ b. or_stuck (Some (not b)) (λ taken. cond taken (asm_jumps {W = Ending} l (left_at rest f) fs world) (asm_goes (left_at rest f) fs world))) equal) (λ held. omega arith) (silent target world)
+
+  pub branch_runs : (l x y word other : ℕ) (there : List Line) → f.cells x ≡ Some word → f.cells y ≡ Some other → nat_eq word other ≡ false → Finds l there
+      → Runs target (target.moves + 3) 1 (turn_of (acts (Branch NotEqual l) (x ∷ y ∷ []) ∷ rest) f fs world) (turn_of there f fs world)
+  branch_runs l x y word other there is also differ finds =
+      line_runs target 3 (acts (Branch NotEqual l) (x ∷ y ∷ [])) rest f fs world (word ∷ other ∷ []) (turn_of there f fs world) (two_words x y word other is also)
+      (ap (λ b. or_stuck (Some (not b)) (λ taken. cond taken (asm_jumps {W = Ending} l (left_at rest f) fs world) (asm_goes (left_at rest f) fs world))) differ ∙ jumps_to l there finds)
       (λ held. omega arith) (silent target world)

@@ -295,6 +295,9 @@ module _ (known : Known) (rest : List Line) (fs : List (Frame Line)) (s : Spot) 
           was = λ y words is. none_was took.at y words is;
           left = refl;
           trace = refl;
+          whole = refl;
+          held = refl;
+          into = refl;
         },
       )
 

@@ -14,3 +14,4 @@ pub mod Spots
 pub mod Rows
 pub mod Openings
 pub mod Constructing
+pub mod Uniques

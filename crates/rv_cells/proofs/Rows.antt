@@ -112,6 +112,9 @@ read_did known rest fs s x c fields lines named here reads loads =
       was = λ at ws is. is;
       left = refl;
       trace = refl;
+      whole = refl;
+      held = refl;
+      into = refl;
     }
 
 -- ---- dups and drops

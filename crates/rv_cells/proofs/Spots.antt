@@ -54,7 +54,7 @@ pub record Here (known : Known) (s : Spot) : Type 0 where
 abbrev pub saved : Heap → ℕ
 saved heap = 52 * busy heap + 8 * weight heap
 
--- Lines lead from a spot to another, at this cost beyond what was saved. What is in hand stays so.
+-- Lines lead from a spot to another, at this cost beyond what was saved. What is in hand stays so, and of the frame only values change.
 pub record Did (known : Known) (most : ℕ) (lines rest : List Line) (fs : List (Frame Line)) (s t : Spot) : Type 0 where
   pub cost : ℕ
   pub steps : ℕ
@@ -65,6 +65,9 @@ pub record Did (known : Known) (most : ℕ) (lines rest : List Line) (fs : List 
   pub was : (at : ℕ) (words : ℕ → Option ℕ) → t.owners at ≡ in_hand words → s.owners at ≡ in_hand words
   pub left : t.world.left ≡ s.world.left
   pub trace : t.world.trace ≡ s.world.trace
+  pub whole : t.frame.whole ≡ s.frame.whole
+  pub held : t.frame.held ≡ s.frame.held
+  pub into : t.frame.into ≡ s.frame.into
 
 pub did_none : (known : Known) (rest : List Line) (fs : List (Frame Line)) (s : Spot) → Here known s → Did known 0 [] rest fs s s
 did_none known rest fs s here = record {
@@ -77,6 +80,9 @@ did_none known rest fs s here = record {
   was = λ at words is. is;
   left = refl;
   trace = refl;
+  whole = refl;
+  held = refl;
+  into = refl;
 }
 
 pub did_then : (known : Known) (most others : ℕ) (lines more rest : List Line) (fs : List (Frame Line)) (s t u : Spot)
@@ -95,6 +101,9 @@ did_then known most others lines more rest fs s t u first second =
       was = λ at words is. first.was at words (second.was at words is);
       left = second.left ∙ first.left;
       trace = second.trace ∙ first.trace;
+      whole = second.whole ∙ first.whole;
+      held = second.held ∙ first.held;
+      into = second.into ∙ first.into;
     }
 
 -- ---- heaps of the same cells
@@ -219,6 +228,9 @@ same_did known most rest fs s next here same =
         was = λ at words is. is;
         left = refl;
         trace = refl;
+        whole = refl;
+        held = refl;
+        into = refl;
       }),
     )
 
@@ -244,6 +256,9 @@ module _ (known : Known) (rest : List Line) (fs : List (Frame Line)) (s : Spot) 
           was = λ at words is. is;
           left = refl;
           trace = refl;
+          whole = refl;
+          held = refl;
+          into = refl;
         },
       )
 
@@ -285,6 +300,9 @@ module _ (known : Known) (rest : List Line) (fs : List (Frame Line)) (s : Spot) 
           was = λ at words is. still_was next (s.owners at) words is;
           left = refl;
           trace = refl;
+          whole = refl;
+          held = refl;
+          into = refl;
         },
       )
 

@@ -70,8 +70,9 @@ abbrev pub UniqueLines : ℕ → (ℕ → Bool) → ℕ → ℕ → ℕ → List
 UniqueLines base holds shared behind x fields used lines =
     (test : Line) × (loads : List Line) × (count : Line) × (less : Immediate) × (store : Line)
     × Loads x 0 base test × AllLoads x 2 fields loads × Loads x 0 base count × (less.word ≡ 2 ^ 32 - 1) × Stores x 0 base store
-    × (lines ≡
-    (test ∷ sets 1 (base + 1) ∷ acts (Branch NotEqual shared) (base ∷ (base + 1) ∷ []) ∷ [])
-    ++ (loads ++ (drops_lines base holds (filter (λ y. not (is_among used y)) fields) ++ (acts (Compute Op.Free) (x ∷ []) ∷ acts (Jump behind) [] ∷ [])))
-    ++ (acts (Label shared) [] ∷ (loads ++ (count ∷ computes (Op.Immediate Addi less) (base ∷ []) base ∷ store ∷ dups_lines holds (filter (is_among used) fields))))
-    ++ acts (Label behind) [] ∷ [])
+    × (lines ≡ test ∷ sets 1 (base + 1) ∷ acts (Branch NotEqual shared) (base ∷ (base + 1) ∷ []) ∷
+    ((loads ++ (drops_lines base holds (filter (λ y. not (is_among used y)) fields)
+    ++ (acts (Compute Op.Free) (x ∷ []) ∷ acts (Jump behind) [] ∷ [])))
+    ++ ((acts (Label shared) [] ∷ (loads ++ (count ∷ computes (Op.Immediate Addi less) (base ∷ []) base ∷ store
+    ∷ dups_lines holds (filter (is_among used) fields))))
+    ++ (acts (Label behind) [] ∷ []))))
