@@ -229,10 +229,149 @@ module _ (known : Known) (rest : List Line) (fs : List (Frame Line)) (s : Spot) 
                 chosen_other y at nobody dropped.1 differ ∙ did.kept y words (chosen_other y at (in_hand stands.words) s.owners differ ∙ is);
             was = λ y words. chosen_by (λ o. o ≡ in_hand words → s.owners y ≡ in_hand words) y at nobody dropped.1 (λ e is. cc)
                 (λ differ is. sym (chosen_other y at (in_hand stands.words) s.owners differ) ∙ did.was y words is);
-            left = refl;
-            trace = refl;
+            left = refl {a = s.world.left};
+            trace = refl {a = s.world.trace};
             whole = did.whole;
             held = did.held;
             into = did.into;
           },
         )
+
+  -- ---- a cell of several references
+
+  module _ (n : ℕ) (several : count_at s.heap named.at ≡ suc (suc n)) (given : dup_all (used_values used fields named.fields) (set_count named.at (suc n) s.heap) ≡ Some next)
+      (small : AreSmall (length (filter (is_among used) fields)) s.heap) (finds : found (λ line. is_label shared line.action) s.frame.whole ≡ Some (for_shared ++ ending)) where
+    read_shared : Did known (row_cost fields (known.target.moves + 2)) loads (lowers ++ ending) fs (at_frame s tests) one
+    read_shared = read_did known (lowers ++ ending) fs (at_frame s tests) x c fields loads named here_tests (still_reads known s tests x c fields named reads) uniques.6
+
+    -- the frame behind the count that is lowered, and the cells
+    abbrev counts : Frame Line
+    counts = put_in known.base (suc n) (put_in known.base (suc (suc n)) one.frame)
+
+    abbrev stored : Cells
+    stored = with_block (s.address named.at) (own (with_word 0 (suc n) stands.words)) s.world.cells
+
+    abbrev three : Spot
+    three = record one { heap = set_count named.at (suc n) s.heap; frame = counts; world = with_cells s.world stored }
+
+    less_one : sum_word (suc (suc n)) uniques.3.word ≡ suc n
+    less_one = let word = uniques.8 in let bound = small named.at in omega arith
+
+    x_in_one : one.frame.cells x ≡ Some (s.address named.at)
+    x_in_one =
+        read_shared.here.values.words x (bound_older fields s.bound x reads.bound) ∙ ap (λ v. Some (word_in known.layout s.address v)) same_x
+
+    below_base : x < known.base
+    below_base = here.values.below x reads.bound
+
+    here_three : Here known three
+    here_three = record {
+      follows = recount here.follows named.at n stands.words counted stands.is;
+      values = subst (λ k. HasValues known.layout s.address known.holds known.base k one.bound one.environment counts.cells) (sym (set_length named.at (suc n) s.heap))
+          (has_temporary (has_temporary read_shared.here.values known.base (suc (suc n)) (omega arith)) known.base (suc n) (omega arith));
+    }
+
+    lowers_run : Runs known.target ((known.target.moves + 2) + ((known.target.moves + 2) + (known.target.moves + 2))) (1 + (1 + 1)) (turn_of (lowers ++ ending) one.frame fs s.world)
+        (turn_of (dups ++ ending) counts fs (with_cells s.world stored))
+    lowers_run =
+        let moves = known.target.moves in
+        let target = known.target in
+        let f1 = put_in known.base (suc (suc n)) one.frame in
+        let low = below_base in
+        let count_is : stands.words 0 ≡ Some (suc (suc n)) = count_there ∙ ap Some several in
+        let adds = uniques.4 ∷ (dups ++ ending) in
+        let loaded = load_runs target (computes (Op.Immediate Addi uniques.3) (known.base ∷ []) known.base ∷ adds) one.frame fs s.world x 0 known.base (s.address named.at) (suc (suc n)) uniques.2 uniques.7 x_in_one
+        (load_own s.world.cells (s.address named.at) 0 (suc (suc n)) stands.words stands.is (omega arith) count_is) in
+        let added = addi_runs target adds f1 fs s.world known.base known.base (suc (suc n)) uniques.3 (put_same known.base (suc (suc n)) one.frame.cells) in
+        let t1 = turn_of (lowers ++ ending) one.frame fs s.world in
+        let t2 = turn_of (computes (Op.Immediate Addi uniques.3) (known.base ∷ []) known.base ∷ adds) f1 fs s.world in
+        let t3 = turn_of adds counts fs s.world in
+        let t4 = turn_of (dups ++ ending) counts fs (with_cells s.world stored) in
+        let adding : Runs target (moves + 2) 1 t2 t3 = subst (λ w. Runs target (moves + 2) 1 t2 (turn_of adds (put_in known.base w f1) fs s.world)) less_one added in
+        let x_here : counts.cells x ≡ Some (s.address named.at) =
+            put_other known.base (suc n) x f1.cells (λ e. omega arith) ∙ put_other known.base (suc (suc n)) x one.frame.cells (λ e. omega arith) ∙ x_in_one in
+        let storing = store_runs target (dups ++ ending) counts fs s.world x 0 known.base (s.address named.at) (suc n) uniques.4 stored uniques.9 x_here (put_same known.base (suc n) f1.cells)
+        (store_own s.world.cells (s.address named.at) 0 (suc n) stands.words stands.is (omega arith)) in
+        runs_then target (moves + 2) ((moves + 2) + (moves + 2)) 1 (1 + 1) t1 t2 t4 loaded (runs_then target (moves + 2) (moves + 2) 1 1 t2 t3 t4 adding storing)
+
+    fewer_counts : (name : ℕ) → count_at (set_count named.at (suc n) s.heap) name ≤ count_at s.heap name
+    fewer_counts name =
+        elim (cases_eq named.at name) [
+          | inl e ↦
+              (let now = count_set named.at (suc n) (suc n) s.heap several in
+              let there = ap (count_at (set_count named.at (suc n) s.heap)) e in
+              let was = ap (count_at s.heap) e in omega arith)
+          | inr differ ↦ (let other = ap count_in (held_other named.at (suc n) name s.heap differ) in omega arith)
+        ]
+
+    shared_did : Opened
+    shared_did =
+        let moves = known.target.moves in
+        let target = known.target in
+        let part = filter (is_among used) fields in
+        let values : values_of one.environment part ≡ used_values used fields named.fields = where_values (is_among used) fields named.fields s.environment apart many in
+        let dupped = dups_did known ending fs part three next here_three (bound_fields (is_among used) fields s.bound) (ap (λ vs. dup_all vs (set_count named.at (suc n) s.heap)) values ∙ given)
+        (λ name. let all = small name in let fewer = fewer_counts name in omega arith) in
+        let did = dupped.2 in
+        let world = with_cells s.world dupped.1 in
+        let test : nat_eq (count_at s.heap named.at) 1 ≡ false = grind (arith, nat_tests) in
+        let jumps = branch_runs target (for_unique ++ (for_shared ++ ending)) tests fs s.world shared known.base (known.base + 1) (count_at s.heap named.at) 1 (for_shared ++ ending) first_temporary second_temporary test finds in
+        let enters = label_runs target ((loads ++ lowers) ++ ending) tests fs s.world shared in
+        let leaves = label_runs target rest counts fs world behind in
+        let t0 = turn_of (tested ∷ sets 1 (known.base + 1) ∷ acts (Branch NotEqual shared) (known.base ∷ (known.base + 1) ∷ []) ∷ (for_unique ++ (for_shared ++ ending))) s.frame fs s.world in
+        let t1 = turn_of (acts (Branch NotEqual shared) (known.base ∷ (known.base + 1) ∷ []) ∷ (for_unique ++ (for_shared ++ ending))) tests fs s.world in
+        let t2 = turn_of (for_shared ++ ending) tests fs s.world in
+        let t3 = turn_of ((loads ++ lowers) ++ ending) tests fs s.world in
+        let t4 = turn_of (lowers ++ ending) one.frame fs s.world in
+        let t5 = turn_of (dups ++ ending) counts fs (with_cells s.world stored) in
+        let t6 = turn_of ending counts fs world in
+        let t7 = turn_of rest counts fs world in
+        let read = read_shared in
+        let reading : Runs target read.cost read.steps t3 t4 =
+            subst (λ ls. Runs target read.cost read.steps (turn_of ls tests fs s.world) t4) (sym (append_assoc loads lowers ending)) read.runs in
+        let lowering = (moves + 2) + ((moves + 2) + (moves + 2)) in
+        let end_two = runs_then target did.cost (moves + 0) did.steps 1 t5 t6 t7 did.runs leaves in
+        let end_three = runs_then target lowering (did.cost + (moves + 0)) (1 + (1 + 1)) (did.steps + 1) t4 t5 t7 lowers_run end_two in
+        let end_four = runs_then target read.cost (lowering + (did.cost + (moves + 0))) read.steps ((1 + (1 + 1)) + (did.steps + 1)) t3 t4 t7 reading end_three in
+        let end_five = runs_then target (moves + 0) (read.cost + (lowering + (did.cost + (moves + 0)))) 1 (read.steps + ((1 + (1 + 1)) + (did.steps + 1))) t2 t3 t7 enters end_four in
+        let end_six = runs_then target (moves + 3) ((moves + 0) + (read.cost + (lowering + (did.cost + (moves + 0))))) 1 (1 + (read.steps + ((1 + (1 + 1)) + (did.steps + 1)))) t1 t2 t7 jumps end_five in
+        let whole = runs_then target ((moves + 2) + (moves + 2)) ((moves + 3) + ((moves + 0) + (read.cost + (lowering + (did.cost + (moves + 0)))))) (1 + 1) (1 + (1 + (read.steps + ((1 + (1 + 1)) + (did.steps + 1))))) t0 t1 t7
+        (loads_count (acts (Branch NotEqual shared) (known.base ∷ (known.base + 1) ∷ []) ∷ (for_unique ++ (for_shared ++ ending)))) end_six in
+        let cells = busy_set named.at (suc n) (suc n) s.heap several in
+        let weights = kept_weight named.at n (suc n) s.heap several in
+        let cheap_read = read.within in
+        let cheap = did.within in
+        (
+          counts,
+          dupped.0,
+          dupped.1,
+          record {
+            cost = ((moves + 2) + (moves + 2)) + ((moves + 3) + ((moves + 0) + (read.cost + (lowering + (did.cost + (moves + 0))))));
+            steps = (1 + 1) + (1 + (1 + (read.steps + ((1 + (1 + 1)) + (did.steps + 1)))));
+            within = omega arith;
+            runs = subst (λ ls. Runs target (((moves + 2) + (moves + 2)) + ((moves + 3) + ((moves + 0) + (read.cost + (lowering + (did.cost + (moves + 0)))))))
+                ((1 + 1) + (1 + (1 + (read.steps + ((1 + (1 + 1)) + (did.steps + 1)))))) (turn_of ls s.frame fs s.world) t7) (sym whole_lines) whole;
+            here = did.here;
+            kept = did.kept;
+            was = did.was;
+            left = refl {a = s.world.left};
+            trace = refl {a = s.world.trace};
+            whole = did.whole;
+            held = did.held;
+            into = did.into;
+          },
+        )
+
+  -- ---- either way
+
+  pub opens_by_count : unique_heap (count_at s.heap named.at) named.at (used_values used fields named.fields) (other_values used fields named.fields) s.heap ≡ Some next
+      → AreSmall (length (filter (is_among used) fields)) s.heap → 0 < known.target.pool.first
+      → found (λ line. is_label shared line.action) s.frame.whole ≡ Some (for_shared ++ ending)
+      → found (λ line. is_label behind line.action) s.frame.whole ≡ Some ending → Opened
+  opens_by_count given small some finds_shared finds_behind = by (count_at s.heap named.at) refl given
+    where
+      by : (count : ℕ) → count_at s.heap named.at ≡ count
+          → unique_heap count named.at (used_values used fields named.fields) (other_values used fields named.fields) s.heap ≡ Some next → Opened
+      by zero counts given = cc
+      by (suc zero) counts given = unique_did counts given some finds_behind
+      by (suc (suc n)) counts given = shared_did n counts given small finds_shared
