@@ -42,8 +42,8 @@ module _ (target : Target) (rest : List Line) (f : Frame Line) (fs : List (Frame
       (λ held. omega (arith, light)) (silent target world)
 
   changes_cells : (cost : ℕ) (operation : Operation) (args : List ℕ) (words : List ℕ) (next : Cells)
-      → all_of (map f.cells args) ≡ Some words → computed_in target.constants operation words world ≡ Some
-      (0, with_cells world next)
+      → all_of (map f.cells args) ≡ Some words → computed_in target.constants operation words world
+      ≡ Some (0, with_cells world next)
       → operation_instructions operation ≤ cost
       → Runs target (target.moves + cost) 1 (turn_of (acts (Compute operation) args ∷ rest) f fs world)
       (turn_of rest f fs (with_cells world next))
@@ -56,8 +56,8 @@ module _ (target : Target) (rest : List Line) (f : Frame Line) (fs : List (Frame
   pub one_word : (x word : ℕ) → f.cells x ≡ Some word → all_of (map f.cells (x ∷ [])) ≡ Some (word ∷ [])
   one_word x word is = ap (λ o. all_of (o ∷ [])) is
 
-  pub two_words : (x y word other : ℕ) → f.cells x ≡ Some word → f.cells y ≡ Some other → all_of (map f.cells (x ∷ y ∷ [])) ≡ Some
-      (word ∷ other ∷ [])
+  pub two_words : (x y word other : ℕ) → f.cells x ≡ Some word → f.cells y ≡ Some other → all_of (map f.cells (x ∷ y ∷ []))
+      ≡ Some (word ∷ other ∷ [])
   two_words x y word other is also = ap (λ o. all_of (o ∷ f.cells y ∷ [])) is ∙ ap (λ o. all_of (Some word ∷ o ∷ [])) also
 
   -- a constant, and a copy
@@ -117,8 +117,8 @@ module _ (target : Target) (rest : List Line) (f : Frame Line) (fs : List (Frame
       (λ held. omega (arith, ap drop_count given)) (silent target world)
 
   -- a cell is taken
-  pub take_runs : (into at : ℕ) (next : Cells) → request target.pool (top (left_at rest f ∷ fs)) world.cells ≡ Some
-      (at, next, false)
+  pub take_runs : (into at : ℕ) (next : Cells) → request target.pool (top (left_at rest f ∷ fs)) world.cells
+      ≡ Some (at, next, false)
       → Runs target (target.moves + 10) 1 (turn_of (record { action = Calls Take; args = []; into = Some into } ∷ rest) f fs world)
       (turn_of rest (put_in into at f) fs (with_cells world next))
   take_runs into at next is =

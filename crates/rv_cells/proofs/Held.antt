@@ -29,15 +29,15 @@ held_within (first ∷ heap) at held there = by (length heap == at) refl (held_w
     by false is later = omega (arith, later (sym (held_below first heap at is) ∙ there))
 
 -- another count
-pub held_set : (at n : ℕ) (heap : Heap) (held : Held) → held_at heap at ≡ Some held → held_at (set_count at n heap) at ≡ Some
-    (record held { count = n })
+pub held_set : (at n : ℕ) (heap : Heap) (held : Held) → held_at heap at ≡ Some held → held_at (set_count at n heap) at
+    ≡ Some (record held { count = n })
 held_set at n [] held there = cc
 held_set at n (first ∷ heap) held there = by (length heap == at) refl (held_set at n heap held)
   where
     by : (t : Bool) → (length heap == at) ≡ t
         → (held_at heap at ≡ Some held → held_at (set_count at n heap) at ≡ Some (record held { count = n }))
-        → held_at (if t then record first { count = n } ∷ heap else first ∷ set_count at n heap) at ≡ Some
-        (record held { count = n })
+        → held_at (if t then record first { count = n } ∷ heap else first ∷ set_count at n heap) at
+        ≡ Some (record held { count = n })
     by true is later =
         let same : first ≡ held = some-is (sym (held_top first heap at is) ∙ there) in
         held_top (record first { count = n }) heap at is ∙ ap (λ (h : Held). Some (record h { count = n })) same
