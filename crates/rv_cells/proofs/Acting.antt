@@ -1,17 +1,18 @@
 -- What one line does that touches cells.
-use Rattle.std.proofs.Common.{◌≡◌, ◌≢◌, ◌<◌, ◌≤◌, ℕ, suc, ◌+◌, ◌*◌, List, [], ◌∷◌, length, drop, map, Option, Some, None, option_map, Bool, false, cond, refl, sym, ◌∙◌, ap, subst, arith, ne_eqb}
-use Rattle.std.specs.Prelude.{◌==◌}
-use Rattle.rv_isa.specs.declared.asm.Action.{Action}
-use Rattle.rv_isa.specs.declared.asm.Action.TheVariants.{Compute, Routine as Calls}
+use Rattle.std.proofs.Common.{◌≡◌, ◌≢◌, ◌≤◌, ℕ, ◌+◌, ◌*◌, List, [], ◌∷◌, map, Some, None, option_map, true, false, not, nat_eq, cond, refl, sym, ◌∙◌, ap, subst, arith, ne_eqb}
+use Rattle.rv_isa.specs.declared.asm.Action.TheVariants.{Compute, Label, Jump, Branch, Routine as Calls}
+use Rattle.rv_isa.specs.declared.asm.Condition.TheVariants.{NotEqual}
+use Rattle.rv_isa.specs.declared.asm.ImmediateOperation.TheVariants.{Addi}
+use Rattle.rv_isa.specs.Arithmetic.{sum_word}
 use Rattle.rv_isa.specs.declared.asm.Operation.{Operation}
 use Rattle.rv_isa.specs.declared.asm.Operation.TheVariants as Op
 use Rattle.rv_isa.specs.declared.immediate.Immediate.{Immediate}
 use Rattle.rv_isa.specs.declared.routine.Routine.TheVariants.{Take, Drop}
 use Rattle.rv_isa.specs.Processor.{Ending, exited}
 use Rattle.rv_isa.specs.AsmCode.{Line}
-use Rattle.rv_isa.specs.AsmMachine.{AsmTurn, asm_goes, asm_served}
-use Rattle.rv_isa.specs.Frames.{Frame, put, put_into, all_of, top}
-use Rattle.rv_isa.specs.Primitives.{Reply, go, ended, or_stuck, by_token}
+use Rattle.rv_isa.specs.AsmMachine.{is_label, asm_goes, asm_jumps, asm_served}
+use Rattle.rv_isa.specs.Frames.{Frame, put, put_into, all_of, top, found}
+use Rattle.rv_isa.specs.Primitives.{ended, or_stuck, by_token}
 use Rattle.cell_heap.specs.Turns.{Work}
 use Rattle.cell_heap.specs.Blocks.{Cells, load, store, dup, release, request, drop_cells, merged_cells}
 use Rattle.cell_runtime.specs.declared.stop.Ending.TheVariants as OfEnding
@@ -31,64 +32,83 @@ module _ (target : Target) (rest : List Line) (f : Frame Line) (fs : List (Frame
   sets_value : (cost : ℕ) (operation : Operation) (args : List ℕ) (into : ℕ) (words : List ℕ) (word : ℕ)
       → all_of (map f.cells args) ≡ Some words → computed_in target.constants operation words world ≡ Some (word, world)
       → operation_instructions operation ≤ cost
-      → Runs target (target.moves + cost) 1 (turn_of (computes operation args into ∷ rest) f fs world) (turn_of rest (put_in into word f) fs world)
+      → Runs target (target.moves + cost) 1 (turn_of (computes operation args into ∷ rest) f fs world)
+      (turn_of rest (put_in into word f) fs world)
   sets_value cost operation args into words word words_are is light =
-      line_runs target cost (computes operation args into) rest f fs world words (turn_of rest (put_in into word f) fs world) words_are
-      (ap (λ o. or_stuck o (λ (r : ℕ × World). asm_goes (record (left_at rest f) { cells = put_into (Some into) r.0 f.cells }) fs r.1)) is)
+      line_runs target cost (computes operation args into) rest f fs world words (turn_of rest (put_in into word f) fs world)
+      words_are
+      (ap (λ o. or_stuck o (λ (r : ℕ × World). asm_goes (record (left_at rest f) { cells = put_into (Some into) r.0 f.cells }) fs
+      r.1)) is)
       (λ held. omega (arith, light)) (silent target world)
 
   changes_cells : (cost : ℕ) (operation : Operation) (args : List ℕ) (words : List ℕ) (next : Cells)
-      → all_of (map f.cells args) ≡ Some words → computed_in target.constants operation words world ≡ Some (0, with_cells world next)
+      → all_of (map f.cells args) ≡ Some words → computed_in target.constants operation words world
+      ≡ Some (0, with_cells world next)
       → operation_instructions operation ≤ cost
-      → Runs target (target.moves + cost) 1 (turn_of (acts (Compute operation) args ∷ rest) f fs world) (turn_of rest f fs (with_cells world next))
+      → Runs target (target.moves + cost) 1 (turn_of (acts (Compute operation) args ∷ rest) f fs world)
+      (turn_of rest f fs (with_cells world next))
   changes_cells cost operation args words next words_are is light =
-      line_runs target cost (acts (Compute operation) args) rest f fs world words (turn_of rest f fs (with_cells world next)) words_are
+      line_runs target cost (acts (Compute operation) args) rest f fs world words (turn_of rest f fs (with_cells world next))
+      words_are
       (ap (λ o. or_stuck o (λ (r : ℕ × World). asm_goes (record (left_at rest f) { cells = put_into None r.0 f.cells }) fs r.1)) is)
       (λ held. omega (arith, light)) (silent target world)
 
   pub one_word : (x word : ℕ) → f.cells x ≡ Some word → all_of (map f.cells (x ∷ [])) ≡ Some (word ∷ [])
   one_word x word is = ap (λ o. all_of (o ∷ [])) is
 
-  pub two_words : (x y word other : ℕ) → f.cells x ≡ Some word → f.cells y ≡ Some other → all_of (map f.cells (x ∷ y ∷ [])) ≡ Some (word ∷ other ∷ [])
+  pub two_words : (x y word other : ℕ) → f.cells x ≡ Some word → f.cells y ≡ Some other → all_of (map f.cells (x ∷ y ∷ []))
+      ≡ Some (word ∷ other ∷ [])
   two_words x y word other is also = ap (λ o. all_of (o ∷ f.cells y ∷ [])) is ∙ ap (λ o. all_of (Some word ∷ o ∷ [])) also
 
   -- a constant, and a copy
-  pub sets_runs : (word into : ℕ) → Runs target (target.moves + 2) 1 (turn_of (sets word into ∷ rest) f fs world) (turn_of rest (put_in into word f) fs world)
+  pub sets_runs : (word into : ℕ) → Runs target (target.moves + 2) 1 (turn_of (sets word into ∷ rest) f fs world)
+      (turn_of rest (put_in into word f) fs world)
   sets_runs word into = sets_value 2 (Op.Li word) [] into [] word refl refl (omega arith)
 
-  pub copy_runs : (from into word : ℕ) → f.cells from ≡ Some word → Runs target (target.moves + 2) 1 (turn_of (copies_to from into ∷ rest) f fs world) (turn_of rest (put_in into word f) fs world)
+  pub copy_runs : (from into word : ℕ) → f.cells from ≡ Some word → Runs target (target.moves + 2) 1
+      (turn_of (copies_to from into ∷ rest) f fs world) (turn_of rest (put_in into word f) fs world)
   copy_runs from into word is = sets_value 2 Op.Mv (from ∷ []) into (word ∷ []) word (one_word from word is) refl (omega arith)
 
   -- a load, and a store
-  pub load_runs : (cell i into at word : ℕ) (line : Line) → Loads cell i into line → f.cells cell ≡ Some at → load at (4 * i) world.cells ≡ Some word
+  pub load_runs : (cell i into at word : ℕ) (line : Line) → Loads cell i into line → f.cells cell ≡ Some at
+      → load at (4 * i) world.cells ≡ Some word
       → Runs target (target.moves + 2) 1 (turn_of (line ∷ rest) f fs world) (turn_of rest (put_in into word f) fs world)
   load_runs cell i into at word line loads is loaded =
-      subst (λ l. Runs target (target.moves + 2) 1 (turn_of (l ∷ rest) f fs world) (turn_of rest (put_in into word f) fs world)) (sym loads.2)
+      subst (λ l. Runs target (target.moves + 2) 1 (turn_of (l ∷ rest) f fs world) (turn_of rest (put_in into word f) fs world))
+      (sym loads.2)
       (sets_value 2 (Op.Lw loads.0) (cell ∷ []) into (at ∷ []) word (one_word cell at is)
       (ap (option_map (λ w. (w, world))) (ap (λ o. load at o world.cells) loads.1 ∙ loaded)) (omega arith))
 
-  pub store_runs : (cell i from at word : ℕ) (line : Line) (next : Cells) → Stores cell i from line → f.cells cell ≡ Some at → f.cells from ≡ Some word → store at (4 * i) word world.cells ≡ Some next
+  pub store_runs : (cell i from at word : ℕ) (line : Line) (next : Cells) → Stores cell i from line → f.cells cell ≡ Some at
+      → f.cells from ≡ Some word → store at (4 * i) word world.cells ≡ Some next
       → Runs target (target.moves + 2) 1 (turn_of (line ∷ rest) f fs world) (turn_of rest f fs (with_cells world next))
   store_runs cell i from at word line next stores is also stored =
-      subst (λ l. Runs target (target.moves + 2) 1 (turn_of (l ∷ rest) f fs world) (turn_of rest f fs (with_cells world next))) (sym stores.2)
+      subst (λ l. Runs target (target.moves + 2) 1 (turn_of (l ∷ rest) f fs world) (turn_of rest f fs (with_cells world next)))
+      (sym stores.2)
       (changes_cells 2 (Op.Sw stores.0) (cell ∷ from ∷ []) (at ∷ word ∷ []) next (two_words cell from at word is also)
       (ap (option_map (λ c. (0, with_cells world c))) (ap (λ o. store at o word world.cells) stores.1 ∙ stored)) (omega arith))
 
   -- a reference more, and a cell that is given back
   pub dup_runs : (x word : ℕ) (next : Cells) → f.cells x ≡ Some word → dup word world.cells ≡ Some next
-      → Runs target (target.moves + 5) 1 (turn_of (acts (Compute Op.Dup) (x ∷ []) ∷ rest) f fs world) (turn_of rest f fs (with_cells world next))
+      → Runs target (target.moves + 5) 1 (turn_of (acts (Compute Op.Dup) (x ∷ []) ∷ rest) f fs world)
+      (turn_of rest f fs (with_cells world next))
   dup_runs x word next is dupped =
-      changes_cells 5 Op.Dup (x ∷ []) (word ∷ []) next (one_word x word is) (ap (option_map (λ c. (0, with_cells world c))) dupped) (omega arith)
+      changes_cells 5 Op.Dup (x ∷ []) (word ∷ []) next (one_word x word is) (ap (option_map (λ c. (0, with_cells world c))) dupped)
+      (omega arith)
 
   pub free_runs : (x word : ℕ) (next : Cells) → f.cells x ≡ Some word → word ≢ 0 → release word world.cells ≡ Some next
-      → Runs target (target.moves + 5) 1 (turn_of (acts (Compute Op.Free) (x ∷ []) ∷ rest) f fs world) (turn_of rest f fs (with_cells world next))
+      → Runs target (target.moves + 5) 1 (turn_of (acts (Compute Op.Free) (x ∷ []) ∷ rest) f fs world)
+      (turn_of rest f fs (with_cells world next))
   free_runs x word next is some freed =
-      let act : by_token release word world.cells ≡ Some next = ap (λ b. cond b (Some world.cells) (release word world.cells)) (ne_eqb word 0 some) ∙ freed in
-      changes_cells 5 Op.Free (x ∷ []) (word ∷ []) next (one_word x word is) (ap (option_map (λ c. (0, with_cells world c))) act) (omega arith)
+      let act : by_token release word world.cells ≡ Some next = ap (λ b. cond b (Some world.cells) (release word world.cells))
+      (ne_eqb word 0 some) ∙ freed in
+      changes_cells 5 Op.Free (x ∷ []) (word ∷ []) next (one_word x word is) (ap (option_map (λ c. (0, with_cells world c))) act)
+      (omega arith)
 
   -- a reference is given up by the runtime
   pub drop_runs : (x word : ℕ) (work : Work) → f.cells x ≡ Some word → drop_cells target.pool word world.cells ≡ Some work
-      → Runs target (target.moves + (8 * work.gave + 52 * work.freed + 7)) 1 (turn_of (acts (Calls Drop) (x ∷ []) ∷ rest) f fs world)
+      → Runs target (target.moves + (8 * work.gave + 52 * work.freed + 7)) 1
+      (turn_of (acts (Calls Drop) (x ∷ []) ∷ rest) f fs world)
       (turn_of rest f fs (with_cells world (merged_cells work world.cells)))
   drop_runs x word work is given =
       line_runs target (8 * work.gave + 52 * work.freed + 7) (acts (Calls Drop) (x ∷ [])) rest f fs world (word ∷ [])
@@ -97,17 +117,73 @@ module _ (target : Target) (rest : List Line) (f : Frame Line) (fs : List (Frame
       (λ held. omega (arith, ap drop_count given)) (silent target world)
 
   -- a cell is taken
-  pub take_runs : (into at : ℕ) (next : Cells) → request target.pool (top (left_at rest f ∷ fs)) world.cells ≡ Some (at, next, false)
-      → Runs target (target.moves + 10) 1 (turn_of (record { action = Calls Take; args = []; into = Some into } ∷ rest) f fs world) (turn_of rest (put_in into at f) fs (with_cells world next))
+  pub take_runs : (into at : ℕ) (next : Cells) → request target.pool (top (left_at rest f ∷ fs)) world.cells
+      ≡ Some (at, next, false)
+      → Runs target (target.moves + 10) 1 (turn_of (record { action = Calls Take; args = []; into = Some into } ∷ rest) f fs world)
+      (turn_of rest (put_in into at f) fs (with_cells world next))
   take_runs into at next is =
-      line_runs target 10 (record { action = Calls Take; args = []; into = Some into }) rest f fs world [] (turn_of rest (put_in into at f) fs (with_cells world next)) refl
+      line_runs target 10 (record { action = Calls Take; args = []; into = Some into }) rest f fs world []
+      (turn_of rest (put_in into at f) fs (with_cells world next)) refl
       (ap (λ o. asm_served (Some into) (left_at rest f ∷ fs) (takes_cell o world)) is)
       (λ held. omega arith) (silent target world)
 
   -- the heap is full
   pub full_runs : (into : ℕ) → request target.pool (top (left_at rest f ∷ fs)) world.cells ≡ None
-      → Runs target (target.moves + 10) 1 (turn_of (record { action = Calls Take; args = []; into = Some into } ∷ rest) f fs world) (ended (exited (number_of OfEnding.HeapFull)) world)
+      → Runs target (target.moves + 10) 1 (turn_of (record { action = Calls Take; args = []; into = Some into } ∷ rest) f fs world)
+      (ended (exited (number_of OfEnding.HeapFull)) world)
   full_runs into is =
-      line_runs target 10 (record { action = Calls Take; args = []; into = Some into }) rest f fs world [] (ended (exited (number_of OfEnding.HeapFull)) world) refl
+      line_runs target 10 (record { action = Calls Take; args = []; into = Some into }) rest f fs world []
+      (ended (exited (number_of OfEnding.HeapFull)) world) refl
       (ap (λ o. asm_served (Some into) (left_at rest f ∷ fs) (takes_cell o world)) is)
+      (λ held. omega arith) (silent target world)
+
+  -- a value and an immediate
+  pub addi_runs : (from into word : ℕ) (immediate : Immediate) → f.cells from ≡ Some word
+      → Runs target (target.moves + 2) 1 (turn_of (computes (Op.Immediate Addi immediate) (from ∷ []) into ∷ rest) f fs world)
+      (turn_of rest (put_in into (sum_word word immediate.word) f) fs world)
+  addi_runs from into word immediate is =
+      sets_value 2 (Op.Immediate Addi immediate) (from ∷ []) into (word ∷ []) (sum_word word immediate.word)
+      (one_word from word is) refl (omega arith)
+
+  -- ---- labels and jumps
+
+  pub label_runs : (l : ℕ) → Runs target (target.moves + 0) 1 (turn_of (acts (Label l) [] ∷ rest) f fs world)
+      (turn_of rest f fs world)
+  label_runs l = line_runs target 0 (acts (Label l) []) rest f fs world [] (turn_of rest f fs world) refl refl (λ held. omega arith)
+      (silent target world)
+
+  -- the lines from a label on
+  abbrev pub Finds : ℕ → List Line → Type 0
+  Finds l there = found (λ line. is_label l line.action) f.whole ≡ Some there
+
+  jumps_to : (l : ℕ) (there : List Line) → Finds l there → asm_jumps {W = Ending} l (left_at rest f) fs world ≡ turn_of there f fs
+      world
+  jumps_to l there finds = ap (λ o. or_stuck o (λ code. asm_goes (record f { code = code }) fs world)) finds
+
+  pub jump_runs : (l : ℕ) (there : List Line) → Finds l there → Runs target (target.moves + 2) 1
+      (turn_of (acts (Jump l) [] ∷ rest) f fs world) (turn_of there f fs world)
+  jump_runs l there finds =
+      line_runs target 2 (acts (Jump l) []) rest f fs world [] (turn_of there f fs world) refl (jumps_to l there finds)
+      (λ held. omega arith) (silent target world)
+
+  pub falls_runs : (l x y word other : ℕ) → f.cells x ≡ Some word → f.cells y ≡ Some other → nat_eq word other ≡ true
+      → Runs target (target.moves + 3) 1 (turn_of (acts (Branch NotEqual l) (x ∷ y ∷ []) ∷ rest) f fs world)
+      (turn_of rest f fs world)
+  falls_runs l x y word other is also equal =
+      line_runs target 3 (acts (Branch NotEqual l) (x ∷ y ∷ [])) rest f fs world (word ∷ other ∷ []) (turn_of rest f fs world)
+      (two_words x y word other is also)
+      (ap (λ b. or_stuck (Some (not b))
+      (λ taken. cond taken (asm_jumps {W = Ending} l (left_at rest f) fs world) (asm_goes (left_at rest f) fs world))) equal)
+      (λ held. omega arith) (silent target world)
+
+  pub branch_runs : (l x y word other : ℕ) (there : List Line) → f.cells x ≡ Some word → f.cells y ≡ Some other
+      → nat_eq word other ≡ false → Finds l there
+      → Runs target (target.moves + 3) 1 (turn_of (acts (Branch NotEqual l) (x ∷ y ∷ []) ∷ rest) f fs world)
+      (turn_of there f fs world)
+  branch_runs l x y word other there is also differ finds =
+      line_runs target 3 (acts (Branch NotEqual l) (x ∷ y ∷ [])) rest f fs world (word ∷ other ∷ []) (turn_of there f fs world)
+      (two_words x y word other is also)
+      (ap (λ b. or_stuck (Some (not b))
+      (λ taken. cond taken (asm_jumps {W = Ending} l (left_at rest f) fs world) (asm_goes (left_at rest f) fs world))) differ
+      ∙ jumps_to l there finds)
       (λ held. omega arith) (silent target world)

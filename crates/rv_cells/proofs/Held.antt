@@ -29,30 +29,36 @@ held_within (first ∷ heap) at held there = by (length heap == at) refl (held_w
     by false is later = omega (arith, later (sym (held_below first heap at is) ∙ there))
 
 -- another count
-pub held_set : (at n : ℕ) (heap : Heap) (held : Held) → held_at heap at ≡ Some held → held_at (set_count at n heap) at ≡ Some (record held { count = n })
+pub held_set : (at n : ℕ) (heap : Heap) (held : Held) → held_at heap at ≡ Some held → held_at (set_count at n heap) at
+    ≡ Some (record held { count = n })
 held_set at n [] held there = cc
 held_set at n (first ∷ heap) held there = by (length heap == at) refl (held_set at n heap held)
   where
-    by : (t : Bool) → (length heap == at) ≡ t → (held_at heap at ≡ Some held → held_at (set_count at n heap) at ≡ Some (record held { count = n }))
-        → held_at (if t then record first { count = n } ∷ heap else first ∷ set_count at n heap) at ≡ Some (record held { count = n })
+    by : (t : Bool) → (length heap == at) ≡ t
+        → (held_at heap at ≡ Some held → held_at (set_count at n heap) at ≡ Some (record held { count = n }))
+        → held_at (if t then record first { count = n } ∷ heap else first ∷ set_count at n heap) at
+        ≡ Some (record held { count = n })
     by true is later =
         let same : first ≡ held = some-is (sym (held_top first heap at is) ∙ there) in
         held_top (record first { count = n }) heap at is ∙ ap (λ (h : Held). Some (record h { count = n })) same
     by false is later =
-        held_below first (set_count at n heap) at (ap (λ m. m == at) (set_length at n heap) ∙ is) ∙ later (sym (held_below first heap at is) ∙ there)
+        held_below first (set_count at n heap) at (ap (λ m. m == at) (set_length at n heap) ∙ is)
+        ∙ later (sym (held_below first heap at is) ∙ there)
 
 pub held_other : (at n q : ℕ) (heap : Heap) → at ≢ q → held_at (set_count at n heap) q ≡ held_at heap q
 held_other at n q [] differ = refl
 held_other at n q (first ∷ heap) differ = by (length heap == at) refl (length heap == q) refl (held_other at n q heap differ)
   where
-    by : (t : Bool) → (length heap == at) ≡ t → (s : Bool) → (length heap == q) ≡ s → held_at (set_count at n heap) q ≡ held_at heap q
+    by : (t : Bool) → (length heap == at) ≡ t → (s : Bool) → (length heap == q) ≡ s
+        → held_at (set_count at n heap) q ≡ held_at heap q
         → held_at (if t then record first { count = n } ∷ heap else first ∷ set_count at n heap) q ≡ held_at (first ∷ heap) q
     by true is true there later = absurd (differ (sym (eqb-true (length heap) at is) ∙ eqb-true (length heap) q there))
     by true is false there later = held_below (record first { count = n }) heap q there ∙ sym (held_below first heap q there)
     by false is true there later =
         held_top first (set_count at n heap) q (ap (λ m. m == q) (set_length at n heap) ∙ there) ∙ sym (held_top first heap q there)
     by false is false there later =
-        held_below first (set_count at n heap) q (ap (λ m. m == q) (set_length at n heap) ∙ there) ∙ (later ∙ sym (held_below first heap q there))
+        held_below first (set_count at n heap) q (ap (λ m. m == q) (set_length at n heap) ∙ there)
+        ∙ (later ∙ sym (held_below first heap q there))
 
 -- a cell that is counted is held
 counted_in : (held : Option Held) → 1 ≤ count_in held → (one : Held) × (held ≡ Some one)

@@ -13,3 +13,5 @@ pub mod Values
 pub mod Spots
 pub mod Rows
 pub mod Openings
+pub mod Constructing
+pub mod Uniques

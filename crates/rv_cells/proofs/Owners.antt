@@ -10,7 +10,8 @@ use Rattle.rv_cells.specs.Follows.{AreFrom, Owner, nobody, cell_of, in_hand, IsC
 
 -- ---- functions with another value at one number
 
-pub chosen_by : {A : Type 0} (P : A → Type 0) (x at : ℕ) (a : A) (f : ℕ → A) → (x ≡ at → P a) → (x ≢ at → P (f x)) → P (if nat_eq x at then a else f x)
+pub chosen_by : {A : Type 0} (P : A → Type 0) (x at : ℕ) (a : A) (f : ℕ → A) → (x ≡ at → P a) → (x ≢ at → P (f x))
+    → P (if nat_eq x at then a else f x)
 chosen_by P x at a f same other = by (nat_eq x at) refl
   where
     by : (b : Bool) → nat_eq x at ≡ b → P (if b then a else f x)
@@ -35,9 +36,11 @@ own-words e = cc
 pub record Stays (layout : Layout) (address later : ℕ → ℕ) (heap next : Heap) (name : ℕ) : Type 0 where
   pub at : later name ≡ address name
   pub held : held_at next name ≡ held_at heap name
-  pub fields : (one : Held) → held_at heap name ≡ Some one → words_in layout later one.cell.fields ≡ words_in layout address one.cell.fields
+  pub fields : (one : Held) → held_at heap name ≡ Some one → words_in layout later one.cell.fields ≡ words_in layout address
+      one.cell.fields
 
-pub cell_stays : {pool : Pool} {layout : Layout} {address later : ℕ → ℕ} {heap next : Heap} {name x : ℕ} {block : Block} → Stays layout address later heap next name
+pub cell_stays : {pool : Pool} {layout : Layout} {address later : ℕ → ℕ} {heap next : Heap} {name x : ℕ} {block : Block}
+    → Stays layout address later heap next name
     → IsCellOf pool layout address heap name x block → IsCellOf pool layout later next name x block
 cell_stays stays is = record {
   cell = is.cell;
@@ -56,14 +59,16 @@ cell_stays stays is = record {
 }
 
 pub block_stays : (pool : Pool) (layout : Layout) (address later : ℕ → ℕ) (heap next : Heap) (x : ℕ) (owner : Owner) (block : Block)
-    → ((name : ℕ) → owner ≡ cell_of name → Stays layout address later heap next name) → BlockOf pool layout address heap x owner block → BlockOf pool layout later next x owner block
+    → ((name : ℕ) → owner ≡ cell_of name → Stays layout address later heap next name)
+    → BlockOf pool layout address heap x owner block → BlockOf pool layout later next x owner block
 block_stays pool layout address later heap next x nobody block stays is = is
 block_stays pool layout address later heap next x (cell_of name) block stays is = cell_stays (stays name refl) is
 block_stays pool layout address later heap next x (in_hand words) block stays is = is
 
 -- ---- the relation with another owner of one address
 
-pub put_owner : {pool : Pool} {layout : Layout} {address : ℕ → ℕ} {owners : ℕ → Owner} {heap : Heap} {cells : Cells} → Follows pool layout address owners heap cells
+pub put_owner : {pool : Pool} {layout : Layout} {address : ℕ → ℕ} {owners : ℕ → Owner} {heap : Heap} {cells : Cells}
+    → Follows pool layout address owners heap cells
     → (at : ℕ) (owner : Owner) (later : ℕ → ℕ) (next : Heap) (now : Cells) → BlockOf pool layout later next at owner (now.blocks at)
     → ((x : ℕ) → x ≢ at → now.blocks x ≡ cells.blocks x)
     → ((x name : ℕ) → x ≢ at → owners x ≡ cell_of name → Stays layout address later heap next name)
@@ -74,7 +79,8 @@ put_owner {pool} {layout} {address} {owners} {heap} {cells} follows at owner lat
   blocks = λ x. chosen_by (λ o. BlockOf pool layout later next x o (now.blocks x)) x at owner owners
       (λ e. subst (λ y. BlockOf pool layout later next y owner (now.blocks y)) (sym e) here)
       (λ differ. subst (BlockOf pool layout later next x (owners x)) (sym (others x differ))
-      (block_stays pool layout address later heap next x (owners x) (cells.blocks x) (λ name is. stays x name differ is) (follows.blocks x)));
+      (block_stays pool layout address later heap next x (owners x) (cells.blocks x) (λ name is. stays x name differ is)
+      (follows.blocks x)));
   chain = chain;
 }
 
@@ -82,7 +88,8 @@ put_owner {pool} {layout} {address} {owners} {heap} {cells} follows at owner lat
 
 module _ {pool : Pool} {cells : Cells} (chain : HasChain pool cells) where
   -- where other blocks are free
-  pub chain_same : (now : Cells) → now.frees ≡ cells.frees → now.border ≡ cells.border → ((x : ℕ) → now.blocks x ≡ unused → cells.blocks x ≡ unused)
+  pub chain_same : (now : Cells) → now.frees ≡ cells.frees → now.border ≡ cells.border
+      → ((x : ℕ) → now.blocks x ≡ unused → cells.blocks x ≡ unused)
       → ((x : ℕ) → cells.blocks x ≡ unused → now.blocks x ≡ unused) → HasChain pool now
   chain_same now frees border less more = record {
     aligned = subst (λ b. b % 32 ≡ 0) (sym border) chain.aligned;
@@ -100,6 +107,7 @@ module _ {pool : Pool} {cells : Cells} (chain : HasChain pool cells) where
   pub chain_over : (at : ℕ) (block : Block) → cells.blocks at ≢ unused → block ≢ unused → HasChain pool (with_block at block cells)
   chain_over at block was is =
       chain_same (with_block at block cells) refl refl
-      (λ x. chosen_by (λ b. b ≡ unused → cells.blocks x ≡ unused) x at block cells.blocks (λ e free. absurd (is free)) (λ differ free. free))
+      (λ x. chosen_by (λ b. b ≡ unused → cells.blocks x ≡ unused) x at block cells.blocks (λ e free. absurd (is free))
+      (λ differ free. free))
       (λ x free. chosen_by (λ b. b ≡ unused) x at block cells.blocks
       (λ e. absurd (was (ap cells.blocks (sym e) ∙ free))) (λ differ. free))

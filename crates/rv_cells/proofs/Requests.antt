@@ -23,7 +23,8 @@ total-all f (p ∷ places) all =
     let first = all p (occurs-first p places) in
     let rest = total-all f places (λ q some. all q (occurs-later q p places some)) in omega arith
 
-total-less : (f : ℕ → ℕ) (at : ℕ) (places : List ℕ) → ((p : ℕ) → f p ≤ 1) → f at ≡ 0 → occurs at places ≢ 0 → total f places < length places
+total-less : (f : ℕ → ℕ) (at : ℕ) (places : List ℕ) → ((p : ℕ) → f p ≤ 1) → f at ≡ 0 → occurs at places ≢ 0
+    → total f places < length places
 total-less f at [] most none some = absurd (some refl)
 total-less f at (p ∷ places) most none some =
     elim (occurs-by at p places some) [
@@ -46,21 +47,28 @@ is_cell pool at =
           ]
     ]
 
-module _ {pool : Pool} {layout : Layout} {address : ℕ → ℕ} {owners : ℕ → Owner} {heap : Heap} {cells : Cells} (follows : Follows pool layout address owners heap cells) where
+module _ {pool : Pool} {layout : Layout} {address : ℕ → ℕ} {owners : ℕ → Owner} {heap : Heap} {cells : Cells}
+    (follows : Follows pool layout address owners heap cells) where
   -- ---- a free block is nobody's
 
   pub free_is : (at : ℕ) → cells.blocks at ≡ unused → (owners at ≡ nobody) × IsCell pool at
   free_is at is = by (owners at) refl (follows.blocks at)
     where
-      by : (owner : Owner) → owners at ≡ owner → BlockOf pool layout address heap at owner (cells.blocks at) → (owner ≡ nobody) × IsCell pool at
-      by nobody owns free =
-          (refl, elim (is_cell pool at) [ inl cell ↦ cell | inr not ↦ (let both : no_block ≡ unused = sym (free.none not) ∙ is in cc) ])
+      by : (owner : Owner) → owners at ≡ owner → BlockOf pool layout address heap at owner (cells.blocks at) → (owner ≡ nobody)
+          × IsCell pool at
+      by nobody owns free = (
+        refl,
+        elim (is_cell pool at)
+            [ inl cell ↦ cell | inr not ↦ (let both : no_block ≡ unused = sym (free.none not) ∙ is in cc) ],
+      )
       by (cell_of name) owns stands = absurd (own-unused (sym stands.is ∙ is))
       by (in_hand words) owns block = absurd (own-unused (sym block.1 ∙ is))
 
-  pub named_over : (at : ℕ) (owner : Owner) → ((name : ℕ) → owners at ≢ cell_of name) → (name : ℕ) → 1 ≤ count_at heap name → with_owner at owner owners (address name) ≡ cell_of name
+  pub named_over : (at : ℕ) (owner : Owner) → ((name : ℕ) → owners at ≢ cell_of name) → (name : ℕ) → 1 ≤ count_at heap name
+      → with_owner at owner owners (address name) ≡ cell_of name
   named_over at owner none name some =
-      chosen_other (address name) at owner owners (λ e. none name (ap owners (sym e) ∙ follows.named name some)) ∙ follows.named name some
+      chosen_other (address name) at owner owners (λ e. none name (ap owners (sym e) ∙ follows.named name some))
+      ∙ follows.named name some
 
   pub nobody_named : (at name : ℕ) → owners at ≡ nobody → owners at ≢ cell_of name
   nobody_named at name is other = let both : nobody ≡ cell_of name = sym is ∙ other in cc
@@ -87,7 +95,8 @@ module _ {pool : Pool} {layout : Layout} {address : ℕ → ℕ} {owners : ℕ �
         aligned = chain.aligned;
         behind = chain.behind;
         within = chain.within;
-        fresh = λ x cell high. chosen_by (λ b. b ≡ unused) x at (own nothing) cells.blocks (λ e. let low = first.1 in absurd (omega arith)) (λ differ. chain.fresh x cell high);
+        fresh = λ x cell high. chosen_by (λ b. b ≡ unused) x at (own nothing) cells.blocks
+            (λ e. let low = first.1 in absurd (omega arith)) (λ differ. chain.fresh x cell high);
         chained = λ x. chosen_by (λ b. b ≡ unused → x < cells.border → occurs x frees ≡ 1) x at (own nothing) cells.blocks
             (λ e free. absurd (own-unused free))
             (λ differ free low. sym (occurs-other x at frees differ) ∙ ap (occurs x) (sym is) ∙ chain.chained x free low);
@@ -104,7 +113,8 @@ module _ {pool : Pool} {layout : Layout} {address : ℕ → ℕ} {owners : ℕ �
             );
       }
 
-  chain_border : pool.first % 32 ≡ 0 → cells.frees ≡ [] → cells.border < end_of pool → HasChain pool (takes cells.border [] (cells.border + 32) cells)
+  chain_border : pool.first % 32 ≡ 0 → cells.frees ≡ [] → cells.border < end_of pool
+      → HasChain pool (takes cells.border [] (cells.border + 32) cells)
   chain_border aligned none room =
       let chain = follows.chain in
       let whole = chain.aligned in
@@ -112,8 +122,10 @@ module _ {pool : Pool} {layout : Layout} {address : ℕ → ℕ} {owners : ℕ �
         aligned = omega arith;
         behind = let behind = chain.behind in omega arith;
         within = omega arith;
-        fresh = λ x cell high. chosen_by (λ b. b ≡ unused) x cells.border (own nothing) cells.blocks (λ e. absurd (omega arith)) (λ differ. chain.fresh x cell (omega (arith, high)));
-        chained = λ x. chosen_by (λ b. b ≡ unused → x < cells.border + 32 → occurs x [] ≡ 1) x cells.border (own nothing) cells.blocks
+        fresh = λ x cell high. chosen_by (λ b. b ≡ unused) x cells.border (own nothing) cells.blocks (λ e. absurd (omega arith))
+            (λ differ. chain.fresh x cell (omega (arith, high)));
+        chained = λ x. chosen_by (λ b. b ≡ unused → x < cells.border + 32 → occurs x [] ≡ 1) x cells.border
+            (own nothing) cells.blocks
             (λ e free. absurd (own-unused free))
             (λ differ free low. elim (cases_lt x cells.border) [
               | inl below ↦ ap (occurs x) (sym none) ∙ chain.chained x free below
@@ -166,11 +178,13 @@ module _ {pool : Pool} {layout : Layout} {address : ℕ → ℕ} {owners : ℕ �
     pub served : (top : Option ℕ) → busy heap < pool.cells → Served pool layout address owners heap cells top
     served top room = by cells.frees refl
       where
-        by_border : (low : Bool) → nat_lt cells.border (end_of pool) ≡ low → cells.frees ≡ [] → Served pool layout address owners heap cells top
+        by_border : (low : Bool) → nat_lt cells.border (end_of pool) ≡ low → cells.frees ≡ []
+            → Served pool layout address owners heap cells top
         by_border true test no_free =
             let low : cells.border < end_of pool = grind (arith, nat_tests) in
             let chain = follows.chain in
-            let is = chain.fresh cells.border (record { behind = chain.behind; before = low; aligned = chain.aligned }) (omega arith) in
+            let is = chain.fresh cells.border (record { behind = chain.behind; before = low; aligned = chain.aligned })
+            (omega arith) in
             record {
               at = cells.border;
               next = takes cells.border [] (cells.border + 32) cells;
@@ -202,7 +216,8 @@ module _ {pool : Pool} {layout : Layout} {address : ℕ → ℕ} {owners : ℕ �
         by_border true test no_free =
             let low : cells.border < end_of pool = grind (arith, nat_tests) in
             let chain = follows.chain in
-            let is = chain.fresh cells.border (record { behind = chain.behind; before = low; aligned = chain.aligned }) (omega arith) in
+            let is = chain.fresh cells.border (record { behind = chain.behind; before = low; aligned = chain.aligned })
+            (omega arith) in
             let less = some_free cells.border is in absurd (omega arith)
         by_border false test no_free = rw (no_free, test) refl
 

@@ -21,7 +21,8 @@ abbrev names_counted : Heap → ℕ → ℕ
 names_counted heap zero = 0
 names_counted heap (suc n) = one_if_counted (count_at heap n) + names_counted heap n
 
-names_same : (heap other : Heap) (n : ℕ) → ((name : ℕ) → name < n → count_at heap name ≡ count_at other name) → names_counted heap n ≡ names_counted other n
+names_same : (heap other : Heap) (n : ℕ) → ((name : ℕ) → name < n → count_at heap name ≡ count_at other name)
+    → names_counted heap n ≡ names_counted other n
 names_same heap other zero same = refl
 names_same heap other (suc n) same =
     let first = ap one_if_counted (same n (omega arith)) in
@@ -31,7 +32,8 @@ names_busy : (heap : Heap) → names_counted heap (length heap) ≡ busy heap
 names_busy [] = refl
 names_busy (held ∷ heap) =
     let first = ap one_if_counted (count_top held heap (length heap) (itself (length heap))) in
-    let rest = names_same (held ∷ heap) heap (length heap) (λ name less. ap count_in (held_older held heap name (λ e. omega (arith, e, less)))) in
+    let rest = names_same (held ∷ heap) heap (length heap)
+    (λ name less. ap count_in (held_older held heap name (λ e. omega (arith, e, less)))) in
     let all = names_busy heap in omega arith
 
 -- ---- the cells that they own
@@ -64,7 +66,8 @@ one_here n = let less : nat_lt n (suc n) ≡ true = grind (arith, nat_tests) in 
 none_here : (n : ℕ) → one_below n (cell_of n) ≡ 0
 none_here n = let not_less : nat_lt n n ≡ false = grind (arith, nat_tests) in rw not_less refl
 
-one_used : (n : ℕ) (owner : Owner) → ((name : ℕ) → owner ≡ cell_of name → name < n) → ((words : ℕ → Option ℕ) → owner ≢ in_hand words) → one_below n owner ≡ used owner
+one_used : (n : ℕ) (owner : Owner) → ((name : ℕ) → owner ≡ cell_of name → name < n)
+    → ((words : ℕ → Option ℕ) → owner ≢ in_hand words) → one_below n owner ≡ used owner
 one_used n nobody within none = refl
 one_used n (in_hand words) within none = absurd (none words refl)
 one_used n (cell_of name) within none =
@@ -76,12 +79,14 @@ used-most nobody = omega arith
 used-most (cell_of name) = omega arith
 used-most (in_hand words) = omega arith
 
-module _ {pool : Pool} {layout : Layout} {address : ℕ → ℕ} {owners : ℕ → Owner} {heap : Heap} {cells : Cells} (aligned : pool.first % 32 ≡ 0) (follows : Follows pool layout address owners heap cells) where
+module _ {pool : Pool} {layout : Layout} {address : ℕ → ℕ} {owners : ℕ → Owner} {heap : Heap} {cells : Cells}
+    (aligned : pool.first % 32 ≡ 0) (follows : Follows pool layout address owners heap cells) where
   -- what stands at the address of a cell that somebody owns
   pub owned_cell : (name at : ℕ) → owners at ≡ cell_of name → IsCellOf pool layout address heap name at (cells.blocks at)
   owned_cell name at is = subst (λ o. BlockOf pool layout address heap at o (cells.blocks at)) is (follows.blocks at)
 
-  pub named_cell : (name : ℕ) → 1 ≤ count_at heap name → IsCellOf pool layout address heap name (address name) (cells.blocks (address name))
+  pub named_cell : (name : ℕ) → 1 ≤ count_at heap name → IsCellOf pool layout address heap name (address name)
+      (cells.blocks (address name))
   named_cell name some = owned_cell name (address name) (follows.named name some)
 
   once : (at : ℕ) → IsCell pool at → occurs at (places pool) ≡ 1
@@ -125,7 +130,8 @@ module _ {pool : Pool} {layout : Layout} {address : ℕ → ℕ} {owners : ℕ �
   pub used_busy : NoneInHand owners → total (λ at. used (owners at)) (places pool) ≡ busy heap
   used_busy none =
       total-same (λ at. used (owners at)) (λ at. one_below (length heap) (owners at)) (places pool)
-      (λ at. sym (one_used (length heap) (owners at) (λ name is. let stands = owned_cell name at is in held_within heap name stands.held stands.there) (none at)))
+      (λ at. sym (one_used (length heap) (owners at)
+      (λ name is. let stands = owned_cell name at is in held_within heap name stands.held stands.there) (none at)))
       ∙ names_own (length heap) ∙ names_busy heap
 
   -- and no more than there are

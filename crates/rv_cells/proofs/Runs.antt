@@ -1,12 +1,11 @@
 -- Runs of the assembler's machine over the lines of the forms that touch cells. No such line tells an event.
-use Rattle.std.proofs.Common.{◌≡◌, ◌≢◌, ◌<◌, ◌≤◌, ℕ, suc, ◌+◌, ◌-◌, ◌*◌, List, [], ◌∷◌, ◌++◌, length, drop, map, Option, Some, None, refl, sym, ◌∙◌, ap, subst, inl, inr, arith}
+use Rattle.std.proofs.Common.{◌≡◌, ◌≢◌, ◌<◌, ◌≤◌, ℕ, ◌+◌, ◌-◌, ◌*◌, List, [], ◌∷◌, ◌++◌, length, drop, map, Option, Some, refl, sym, ◌∙◌, ap, subst, inl, inr, arith}
 use Rattle.std.proofs.Math.Seq.{drop-length}
 use Rattle.std.proofs.lemmas.List.{append-nil}
 use Rattle.std.proofs.lemmas.Bool.{cases_lt}
 use Rattle.kk_base.specs.Trace.{Event}
 use Rattle.kk_base.specs.Machines.{Machine, trace, state, weight_of}
 use Rattle.kk_base.proofs.Machines.{state-add, trace-add, weight_of-add}
-use Rattle.rv_isa.specs.declared.asm.Action.{Action}
 use Rattle.rv_isa.specs.Processor.{Ending}
 use Rattle.rv_isa.specs.AsmCode.{Line, Lines}
 use Rattle.rv_isa.specs.AsmMachine.{AsmTurn, asm_acts, asm_next, asm_machine, asm_told}
@@ -17,7 +16,8 @@ use Rattle.cell_heap.specs.Pool.{Pool}
 use Rattle.rv_world.specs.Operations.{Constants}
 use Rattle.rv_world.specs.World.{World, primitives}
 
--- the assembler's machine of a program: its constants, its cells, how many moves may stand before a line, the depth, and its functions
+-- the assembler's machine of a program: its constants, its cells, how many moves may stand before a line, the depth, and its
+-- functions
 pub record Target : Type 0 where
   pub constants : Constants
   pub pool : Pool
@@ -60,7 +60,8 @@ module _ (target : Target) where
             (subst (λ (s : AsmTurn World Ending). s ≢ stuck) (sym (state-add machine n (k - n) t)) (behind (k - n) (omega arith)))
       ]
 
-  pub runs_then : (cost more n m : ℕ) (t u v : AsmTurn World Ending) → Runs cost n t u → Runs more m u v → Runs (cost + more) (n + m) t v
+  pub runs_then : (cost more n m : ℕ) (t u v : AsmTurn World Ending) → Runs cost n t u → Runs more m u v
+      → Runs (cost + more) (n + m) t v
   runs_then cost more n m t u v before behind =
       let there : Runs more m (state machine n t) v = subst (λ s. Runs more m s v) (sym before.arrives) behind in
       record {
@@ -70,12 +71,15 @@ module _ (target : Target) where
         arrives = state-add machine n m t ∙ there.arrives;
       }
 
-  goes_not : (s : AsmTurn World Ending) (lines : List Line) (f : Frame Line) (fs : List (Frame Line)) (world : World) → s ≡ turn_of lines f fs world → s ≢ stuck
+  goes_not : (s : AsmTurn World Ending) (lines : List Line) (f : Frame Line) (fs : List (Frame Line)) (world : World)
+      → s ≡ turn_of lines f fs world → s ≢ stuck
   goes_not s lines f fs world is at =
-      subst (λ (t : AsmTurn World Ending). elim t as (λ _. Type 0) [ go u ↦ Unit {0} | ended how shared ↦ Unit {0} | stuck ↦ ⊥ ]) (sym is ∙ at) tt
+      subst (λ (t : AsmTurn World Ending). elim t as (λ _. Type 0) [ go u ↦ Unit {0} | ended how shared ↦ Unit {0} | stuck ↦ ⊥ ])
+      (sym is ∙ at) tt
 
   -- a line whose arguments have words
-  pub line_runs : (cost : ℕ) (line : Line) (rest : List Line) (f : Frame Line) (fs : List (Frame Line)) (world : World) (words : List ℕ) (u : AsmTurn World Ending)
+  pub line_runs : (cost : ℕ) (line : Line) (rest : List Line) (f : Frame Line) (fs : List (Frame Line)) (world : World)
+      (words : List ℕ) (u : AsmTurn World Ending)
       → all_of (map f.cells line.args) ≡ Some words
       → asm_acts world_primitives target.depth target.functions (left_at rest f) fs world line.action line.args line.into words ≡ u
       → ((held : Option ℕ) → instructions_of world_primitives line.action (Some words) held world ≤ cost)
@@ -84,16 +88,21 @@ module _ (target : Target) where
   line_runs cost line rest f fs world words u words_are acts light told_are =
       let t : AsmTurn World Ending = turn_of (line ∷ rest) f fs world in
       let next : asm_next world_primitives target.depth target.functions t ≡ u
-      = ap (λ o. or_stuck o (λ ws. asm_acts world_primitives target.depth target.functions (left_at rest f) fs world line.action line.args line.into ws)) words_are ∙ acts in
-      let told : drop (length world.trace) (asm_told world_primitives (asm_next world_primitives target.depth target.functions t)) ≡ []
+      = ap (λ o. or_stuck o
+      (λ ws. asm_acts world_primitives target.depth target.functions (left_at rest f) fs world line.action line.args line.into
+      ws)) words_are ∙ acts in
+      let told : drop (length world.trace) (asm_told world_primitives (asm_next world_primitives target.depth target.functions t))
+      ≡ []
       = ap (λ (s : AsmTurn World Ending). drop (length world.trace) (asm_told world_primitives s)) next ∙ told_are in
       let held : Option ℕ = top (left_at (line ∷ rest) f ∷ fs) in
       let weighs : machine.weight t ≡ target.moves * 1 + instructions_of world_primitives line.action (Some words) held world
       = ap (λ o. target.moves * 1 + instructions_of world_primitives line.action o held world) words_are in
       record {
         within = omega (arith, weighs, light held);
-        silent = append-nil (drop (length world.trace) (asm_told world_primitives (asm_next world_primitives target.depth target.functions t))) ∙ told;
-        passes = λ k less. let first : k ≡ 0 = omega arith in subst (λ j. state machine j t ≢ stuck) (sym first) (goes_not t (line ∷ rest) f fs world refl);
+        silent = append-nil (drop (length world.trace)
+            (asm_told world_primitives (asm_next world_primitives target.depth target.functions t))) ∙ told;
+        passes = λ k less. let first : k ≡ 0 = omega arith in subst (λ j. state machine j t ≢ stuck) (sym first)
+            (goes_not t (line ∷ rest) f fs world refl);
         arrives = next;
       }
 

@@ -1,11 +1,10 @@
 -- A spot in a run of lines: a counted heap with its cells, and a frame with its variables. Lines lead from one to another.
-use Rattle.std.proofs.Common.{◌≡◌, ◌≢◌, ◌<◌, ◌≤◌, ℕ, zero, suc, ◌+◌, ◌*◌, ◌%◌, ◌^◌, Bool, true, false, List, [], ◌∷◌, ◌++◌, length, Option, Some, None, refl, sym, ◌∙◌, ap, subst, arith, append_assoc}
+use Rattle.std.proofs.Common.{◌≡◌, ◌<◌, ◌≤◌, ℕ, zero, suc, ◌+◌, ◌*◌, ◌%◌, ◌^◌, Bool, true, false, List, [], ◌∷◌, ◌++◌, length, Option, Some, None, refl, sym, ◌∙◌, ap, subst, arith, append_assoc}
 use Rattle.kk_syntax.specs.Shapes.{is_among}
 use Rattle.kk_source.specs.State.{Value, integer, unit, constant, place, Environment}
 use Rattle.kk_source.specs.Live.{value_of}
-use Rattle.kk_source.specs.Matching.{and_then}
-use Rattle.kk_counted.specs.Heaps.{Heap, count_at, set_count, more, busy, weight, one_if_counted, dup_value, dup_all, drop_value, drop_all, give_up, fields_held}
-use Rattle.kk_counted.proofs.Counting.{set_length, kept_weight}
+use Rattle.kk_counted.specs.Heaps.{Heap, count_at, set_count, more, busy, weight, dup_value, drop_value, give_up, fields_held}
+use Rattle.kk_counted.proofs.Counting.{set_length}
 use Rattle.kk_counted.proofs.Cost.{dup_weight}
 use Rattle.std.specs.Prelude.{if◌then◌else◌}
 use Rattle.rv_isa.specs.declared.asm.Action.TheVariants.{Compute, Routine as Calls}
@@ -14,12 +13,11 @@ use Rattle.rv_isa.specs.declared.routine.Routine.TheVariants.{Drop}
 use Rattle.rv_lower.specs.Lines.{copies_to, acts}
 use Rattle.rv_isa.specs.AsmCode.{Line}
 use Rattle.rv_isa.specs.Frames.{Frame}
-use Rattle.cell_heap.specs.Pool.{Pool}
 use Rattle.cell_heap.specs.Blocks.{Cells, merged_cells}
 use Rattle.rv_world.specs.World.{World, with_cells}
 use Rattle.rv_cells.specs.Layout.{Layout, IsNarrow, word_in, FitsField}
 use Rattle.rv_cells.specs.Follows.{Owner, nobody, cell_of, in_hand, Follows, still, still_count}
-use Rattle.rv_cells.specs.CellLines.{dup_lines, drop_lines, dups_lines, drops_lines}
+use Rattle.rv_cells.specs.CellLines.{dup_lines, drop_lines}
 use Rattle.rv_cells.proofs.Held.{some-is}
 use Rattle.rv_cells.proofs.Values.{HasValues, has_temporary, put_same}
 use Rattle.rv_cells.proofs.Cascades.{busy_set}
@@ -54,7 +52,8 @@ pub record Here (known : Known) (s : Spot) : Type 0 where
 abbrev pub saved : Heap → ℕ
 saved heap = 52 * busy heap + 8 * weight heap
 
--- Lines lead from a spot to another, at this cost beyond what was saved. What is in hand stays so.
+-- Lines lead from a spot to another, at this cost beyond what was saved. What is in hand stays so, and of the frame only values
+-- change.
 pub record Did (known : Known) (most : ℕ) (lines rest : List Line) (fs : List (Frame Line)) (s t : Spot) : Type 0 where
   pub cost : ℕ
   pub steps : ℕ
@@ -65,6 +64,9 @@ pub record Did (known : Known) (most : ℕ) (lines rest : List Line) (fs : List 
   pub was : (at : ℕ) (words : ℕ → Option ℕ) → t.owners at ≡ in_hand words → s.owners at ≡ in_hand words
   pub left : t.world.left ≡ s.world.left
   pub trace : t.world.trace ≡ s.world.trace
+  pub whole : t.frame.whole ≡ s.frame.whole
+  pub held : t.frame.held ≡ s.frame.held
+  pub into : t.frame.into ≡ s.frame.into
 
 pub did_none : (known : Known) (rest : List Line) (fs : List (Frame Line)) (s : Spot) → Here known s → Did known 0 [] rest fs s s
 did_none known rest fs s here = record {
@@ -77,10 +79,14 @@ did_none known rest fs s here = record {
   was = λ at words is. is;
   left = refl;
   trace = refl;
+  whole = refl;
+  held = refl;
+  into = refl;
 }
 
 pub did_then : (known : Known) (most others : ℕ) (lines more rest : List Line) (fs : List (Frame Line)) (s t u : Spot)
-    → Did known most lines (more ++ rest) fs s t → Did known others more rest fs t u → Did known (most + others) (lines ++ more) rest fs s u
+    → Did known most lines (more ++ rest) fs s t → Did known others more rest fs t u → Did known (most + others)
+    (lines ++ more) rest fs s u
 did_then known most others lines more rest fs s t u first second =
     let cheap = first.within in
     let cheap_too = second.within in
@@ -88,13 +94,19 @@ did_then known most others lines more rest fs s t u first second =
       cost = first.cost + second.cost;
       steps = first.steps + second.steps;
       within = omega arith;
-      runs = subst (λ ls. Runs known.target (first.cost + second.cost) (first.steps + second.steps) (turn_of ls s.frame fs s.world) (turn_of rest u.frame fs u.world)) (sym (append_assoc lines more rest))
-          (runs_then known.target first.cost second.cost first.steps second.steps (turn_of (lines ++ (more ++ rest)) s.frame fs s.world) (turn_of (more ++ rest) t.frame fs t.world) (turn_of rest u.frame fs u.world) first.runs second.runs);
+      runs = subst (λ ls. Runs known.target (first.cost + second.cost) (first.steps + second.steps) (turn_of ls s.frame fs s.world)
+          (turn_of rest u.frame fs u.world)) (sym (append_assoc lines more rest))
+          (runs_then known.target first.cost second.cost first.steps second.steps
+          (turn_of (lines ++ (more ++ rest)) s.frame fs s.world) (turn_of (more ++ rest) t.frame fs t.world)
+          (turn_of rest u.frame fs u.world) first.runs second.runs);
       here = second.here;
       kept = λ at words is. second.kept at words (first.kept at words is);
       was = λ at words is. first.was at words (second.was at words is);
       left = second.left ∙ first.left;
       trace = second.trace ∙ first.trace;
+      whole = second.whole ∙ first.whole;
+      held = second.held ∙ first.held;
+      into = second.into ∙ first.into;
     }
 
 -- ---- heaps of the same cells
@@ -146,16 +158,20 @@ drop_plain (constant c) heap next fits is = given (weight heap) is
     given (suc turns) is = some-is is
 drop_plain (place at) heap next fits is = absurd fits
 
-give_one : (turns at : ℕ) (vs : List Value) (heap next : Heap) (n : ℕ) → count_at heap at ≡ n → give_up (suc turns) (place at ∷ vs) heap ≡ Some next
-    → ((ws : List Value) (other : Heap) → give_up turns ws other ≡ Some next → length next ≡ length other) → length next ≡ length heap
+give_one : (turns at : ℕ) (vs : List Value) (heap next : Heap) (n : ℕ) → count_at heap at ≡ n
+    → give_up (suc turns) (place at ∷ vs) heap ≡ Some next
+    → ((ws : List Value) (other : Heap) → give_up turns ws other ≡ Some next → length next ≡ length other)
+    → length next ≡ length heap
 give_one turns at vs heap next zero counts is again =
     let none : give_up (suc turns) (place at ∷ vs) heap ≡ None = rw (counts, give_up) refl in
     let both = sym none ∙ is in cc
 give_one turns at vs heap next (suc zero) counts is again =
-    let step : give_up (suc turns) (place at ∷ vs) heap ≡ give_up turns (fields_held heap at ++ vs) (set_count at 0 heap) = rw (counts, give_up) refl in
+    let step : give_up (suc turns) (place at ∷ vs) heap ≡ give_up turns (fields_held heap at ++ vs) (set_count at 0 heap) = rw
+    (counts, give_up) refl in
     again (fields_held heap at ++ vs) (set_count at 0 heap) (sym step ∙ is) ∙ set_length at 0 heap
 give_one turns at vs heap next (suc (suc others)) counts is again =
-    let step : give_up (suc turns) (place at ∷ vs) heap ≡ give_up turns vs (set_count at (suc others) heap) = rw (counts, give_up) refl in
+    let step : give_up (suc turns) (place at ∷ vs) heap ≡ give_up turns vs (set_count at (suc others) heap) = rw
+    (counts, give_up) refl in
     again vs (set_count at (suc others) heap) (sym step ∙ is) ∙ set_length at (suc others) heap
 
 give_length : (turns : ℕ) (vs : List Value) (heap next : Heap) → give_up turns vs heap ≡ Some next → length next ≡ length heap
@@ -183,7 +199,8 @@ AreSmall heap = (name : ℕ) → suc (count_at heap name) < 2 ^ 32
 values_there : (known : Known) (s : Spot) (next : Heap) → length next ≡ length s.heap → Here known s
     → HasValues known.layout s.address known.holds known.base (length next) s.bound s.environment s.frame.cells
 values_there known s next long here =
-    subst (λ n. HasValues known.layout s.address known.holds known.base n s.bound s.environment s.frame.cells) (sym long) here.values
+    subst (λ n. HasValues known.layout s.address known.holds known.base n s.bound s.environment s.frame.cells)
+    (sym long) here.values
 
 still_kept : (next : Heap) (owner : Owner) (words : ℕ → Option ℕ) → owner ≡ in_hand words → still next owner ≡ in_hand words
 still_kept next owner words is = ap (still next) is
@@ -203,12 +220,12 @@ Changed known most lines rest fs s next =
     (owners : ℕ → Owner) × (cells : Cells) × Did known most lines rest fs s (with_heap s next owners cells)
 
 -- a heap that is the same
-same_did : (known : Known) (most : ℕ) (rest : List Line) (fs : List (Frame Line)) (s : Spot) (next : Heap) → Here known s → s.heap ≡ next → Changed known most [] rest fs s next
-same_did known most rest fs s next here same =
-    (
-      s.owners,
-      s.world.cells,
-      subst (λ h. Did known most [] rest fs s (with_heap s h s.owners s.world.cells)) same
+same_did : (known : Known) (most : ℕ) (rest : List Line) (fs : List (Frame Line)) (s : Spot) (next : Heap) → Here known s
+    → s.heap ≡ next → Changed known most [] rest fs s next
+same_did known most rest fs s next here same = (
+  s.owners,
+  s.world.cells,
+  subst (λ h. Did known most [] rest fs s (with_heap s h s.owners s.world.cells)) same
       (record {
         cost = 0;
         steps = 0;
@@ -219,36 +236,46 @@ same_did known most rest fs s next here same =
         was = λ at words is. is;
         left = refl;
         trace = refl;
+        whole = refl;
+        held = refl;
+        into = refl;
       }),
-    )
+)
 
-module _ (known : Known) (rest : List Line) (fs : List (Frame Line)) (s : Spot) (here : Here known s) (x : ℕ) (bound : is_among s.bound x ≡ true) (next : Heap) where
-  dup_by : (b : Bool) → FitsField b (value_of s.environment x) → dup_value (value_of s.environment x) s.heap ≡ Some next → AreSmall s.heap
+module _ (known : Known) (rest : List Line) (fs : List (Frame Line)) (s : Spot) (here : Here known s) (x : ℕ)
+    (bound : is_among s.bound x ≡ true) (next : Heap) where
+  dup_by : (b : Bool) → FitsField b (value_of s.environment x) → dup_value (value_of s.environment x) s.heap ≡ Some next
+      → AreSmall s.heap
       → Changed known (known.target.moves + 5) (if b then acts (Compute Op.Dup) (x ∷ []) ∷ [] else []) rest fs s next
-  dup_by false fits is small = same_did known (known.target.moves + 5) rest fs s next here (dup_plain (value_of s.environment x) s.heap next fits is)
+  dup_by false fits is small = same_did known (known.target.moves + 5) rest fs s next here
+      (dup_plain (value_of s.environment x) s.heap next fits is)
   dup_by true fits is small =
       let done = dupped here.follows (value_of s.environment x) next fits is small in
       let long = dup_length (value_of s.environment x) s.heap next is in
       let cells = dup_busy (value_of s.environment x) s.heap next is in
-      let fields = dup_weight (value_of s.environment x) s.heap next is in
-      (
+      let fields = dup_weight (value_of s.environment x) s.heap next is in (
         s.owners,
         done.now,
         record {
           cost = known.target.moves + 5;
           steps = 1;
           within = omega arith;
-          runs = dup_runs known.target rest s.frame fs s.world x (word_in known.layout s.address (value_of s.environment x)) done.now (here.values.words x bound) done.is;
+          runs = dup_runs known.target rest s.frame fs s.world x (word_in known.layout s.address (value_of s.environment x))
+              done.now (here.values.words x bound) done.is;
           here = record { follows = done.holds; values = values_there known s next long here };
           kept = λ at words is. is;
           was = λ at words is. is;
           left = refl;
           trace = refl;
+          whole = refl;
+          held = refl;
+          into = refl;
         },
       )
 
   -- a dup
-  pub dup_did : dup_value (value_of s.environment x) s.heap ≡ Some next → AreSmall s.heap → Changed known (known.target.moves + 5) (dup_lines known.holds x) rest fs s next
+  pub dup_did : dup_value (value_of s.environment x) s.heap ≡ Some next → AreSmall s.heap → Changed known (known.target.moves + 5)
+      (dup_lines known.holds x) rest fs s next
   dup_did is small = dup_by (known.holds x) (here.values.fits x bound) is small
 
   with_temporary : (t word : ℕ) → Spot
@@ -256,9 +283,12 @@ module _ (known : Known) (rest : List Line) (fs : List (Frame Line)) (s : Spot) 
 
   drop_by : (b : Bool) → FitsField b (value_of s.environment x) → drop_value (value_of s.environment x) s.heap ≡ Some next
       → (frame : Frame Line) × (owners : ℕ → Owner) × (cells : Cells)
-      × Did known (2 * known.target.moves + 17) (if b then copies_to x known.base ∷ acts (Calls Drop) (known.base ∷ []) ∷ [] else []) rest fs s (record (with_heap s next owners cells) { frame = frame })
+      × Did known (2 * known.target.moves + 17)
+      (if b then copies_to x known.base ∷ acts (Calls Drop) (known.base ∷ []) ∷ [] else []) rest fs s
+      (record (with_heap s next owners cells) { frame = frame })
   drop_by false fits is =
-      let same = same_did known (2 * known.target.moves + 17) rest fs s next here (drop_plain (value_of s.environment x) s.heap next fits is) in
+      let same = same_did known (2 * known.target.moves + 17) rest fs s next here
+      (drop_plain (value_of s.environment x) s.heap next fits is) in
       (s.frame, same.0, same.1, same.2)
   drop_by true fits is =
       let word = word_in known.layout s.address (value_of s.environment x) in
@@ -266,9 +296,10 @@ module _ (known : Known) (rest : List Line) (fs : List (Frame Line)) (s : Spot) 
       let paid = drop_paid (value_of s.environment x) s.heap next done.work is done.few done.freed in
       let long = drop_length (value_of s.environment x) s.heap next is in
       let copied = put_in known.base word s.frame in
-      let first = copy_runs known.target (acts (Calls Drop) (known.base ∷ []) ∷ rest) s.frame fs s.world x known.base word (here.values.words x bound) in
-      let second = drop_runs known.target rest copied fs s.world known.base word done.work (put_same known.base word s.frame.cells) done.is in
-      (
+      let first = copy_runs known.target (acts (Calls Drop) (known.base ∷ []) ∷ rest) s.frame fs s.world x known.base word
+      (here.values.words x bound) in
+      let second = drop_runs known.target rest copied fs s.world known.base word done.work (put_same known.base word s.frame.cells)
+      done.is in (
         copied,
         (λ at. still next (s.owners at)),
         merged_cells done.work s.world.cells,
@@ -276,20 +307,29 @@ module _ (known : Known) (rest : List Line) (fs : List (Frame Line)) (s : Spot) 
           cost = (known.target.moves + 2) + (known.target.moves + (8 * done.work.gave + 52 * done.work.freed + 7));
           steps = 2;
           within = omega arith;
-          runs = runs_then known.target (known.target.moves + 2) (known.target.moves + (8 * done.work.gave + 52 * done.work.freed + 7)) 1 1
+          runs = runs_then known.target (known.target.moves + 2)
+              (known.target.moves + (8 * done.work.gave + 52 * done.work.freed + 7)) 1 1
               (turn_of (copies_to x known.base ∷ acts (Calls Drop) (known.base ∷ []) ∷ rest) s.frame fs s.world)
               (turn_of (acts (Calls Drop) (known.base ∷ []) ∷ rest) copied fs s.world)
               (turn_of rest copied fs (with_cells s.world (merged_cells done.work s.world.cells))) first second;
-          here = record { follows = done.holds; values = has_temporary (values_there known s next long here) known.base word (omega arith) };
+          here = record {
+            follows = done.holds;
+            values = has_temporary (values_there known s next long here) known.base word
+                (omega arith);
+          };
           kept = λ at words is. still_kept next (s.owners at) words is;
           was = λ at words is. still_was next (s.owners at) words is;
           left = refl;
           trace = refl;
+          whole = refl;
+          held = refl;
+          into = refl;
         },
       )
 
   -- a drop with all that it frees
   pub drop_did : drop_value (value_of s.environment x) s.heap ≡ Some next
       → (frame : Frame Line) × (owners : ℕ → Owner) × (cells : Cells)
-      × Did known (2 * known.target.moves + 17) (drop_lines known.base known.holds x) rest fs s (record (with_heap s next owners cells) { frame = frame })
+      × Did known (2 * known.target.moves + 17) (drop_lines known.base known.holds x) rest fs s
+      (record (with_heap s next owners cells) { frame = frame })
   drop_did is = drop_by (known.holds x) (here.values.fits x bound) is

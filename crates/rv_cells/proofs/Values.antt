@@ -1,9 +1,9 @@
 -- The values of a frame have the words of its variables.
-use Rattle.std.proofs.Common.{◌≡◌, ◌≢◌, ◌<◌, ◌≤◌, ◌⊎◌, inl, inr, ℕ, zero, suc, ◌+◌, ◌==◌, Bool, true, false, cond, List, [], ◌∷◌, length, map, Option, Some, None, refl, sym, ◌∙◌, ap, subst, arith, eqb-true, ne_eqb}
+use Rattle.std.proofs.Common.{◌≡◌, ◌≢◌, ◌<◌, ◌≤◌, ◌⊎◌, inl, inr, ℕ, zero, suc, ◌==◌, Bool, true, false, cond, List, [], ◌∷◌, length, map, Option, Some, None, refl, sym, ◌∙◌, ap, subst, arith, eqb-true, ne_eqb}
 use Rattle.std.specs.Prelude.{◌||◌, ◌&&◌, if◌then◌else◌}
 use Rattle.std.proofs.lemmas.Bool.{cases_eq}
 use Rattle.kk_syntax.specs.Shapes.{is_among}
-use Rattle.kk_source.specs.State.{Value, integer, unit, constant, place, Cell, Environment}
+use Rattle.kk_source.specs.State.{Value, integer, unit, constant, place, Environment}
 use Rattle.kk_source.specs.Live.{value_of}
 use Rattle.kk_source.specs.Matching.{and_then}
 use Rattle.kk_source.specs.Sound.{Within, AllWithin}
@@ -13,12 +13,13 @@ use Rattle.kk_counted.specs.CountedMachine.{Named, cell_named, if_made_by}
 use Rattle.rv_isa.specs.Frames.{put}
 use Rattle.rv_cells.specs.Layout.{Layout, word_in, words_in, FitsField, FitFields}
 use Rattle.rv_cells.specs.Follows.{assign}
-use Rattle.rv_cells.proofs.Owners.{chosen_other}
 use Rattle.rv_cells.proofs.Words.{value_older, within_more}
 
--- Each bound variable is below the temporaries, and has the word of its value; it is of a type with cells or not as its value is; and it names an
+-- Each bound variable is below the temporaries, and has the word of its value; it is of a type with cells or not as its value is;
+-- and it names an
 -- older cell than the next one.
-pub record HasValues (layout : Layout) (address : ℕ → ℕ) (holds : ℕ → Bool) (base next : ℕ) (bound : List ℕ) (environment : Environment) (values : ℕ → Option ℕ) : Type 0 where
+pub record HasValues (layout : Layout) (address : ℕ → ℕ) (holds : ℕ → Bool) (base next : ℕ) (bound : List ℕ)
+    (environment : Environment) (values : ℕ → Option ℕ) : Type 0 where
   pub below : (x : ℕ) → is_among bound x ≡ true → x < base
   pub words : (x : ℕ) → is_among bound x ≡ true → values x ≡ Some (word_in layout address (value_of environment x))
   pub fits : (x : ℕ) → is_among bound x ≡ true → FitsField (holds x) (value_of environment x)
@@ -66,26 +67,32 @@ among_none x xs z not = by (x == z) refl not
     by true same among = cc
     by false other among = (λ e. let itself : (x == z) ≡ true = grind arith in let both = sym other ∙ itself in cc, among)
 
-pub value_same : (x z : ℕ) (v : Value) (environment : Environment) → x ≡ z → value_of (record { variable = x; value = v } ∷ environment) z ≡ v
+pub value_same : (x z : ℕ) (v : Value) (environment : Environment) → x ≡ z
+    → value_of (record { variable = x; value = v } ∷ environment) z ≡ v
 value_same x z v environment e = let itself : (x == z) ≡ true = grind arith in rw itself refl
 
-pub value_other : (x z : ℕ) (v : Value) (environment : Environment) → x ≢ z → value_of (record { variable = x; value = v } ∷ environment) z ≡ value_of environment z
+pub value_other : (x z : ℕ) (v : Value) (environment : Environment) → x ≢ z
+    → value_of (record { variable = x; value = v } ∷ environment) z ≡ value_of environment z
 value_other x z v environment differ = rw (ne_eqb x z differ) refl
 
-module _ {layout : Layout} {address : ℕ → ℕ} {holds : ℕ → Bool} {base next : ℕ} {bound : List ℕ} {environment : Environment} {values : ℕ → Option ℕ} (has : HasValues layout address holds base next bound environment values) where
+module _ {layout : Layout} {address : ℕ → ℕ} {holds : ℕ → Bool} {base next : ℕ} {bound : List ℕ} {environment : Environment}
+    {values : ℕ → Option ℕ} (has : HasValues layout address holds base next bound environment values) where
   -- a variable more
   pub has_bound : (x : ℕ) (v : Value) → x < base → FitsField (holds x) v → Within next v
-      → HasValues layout address holds base next (x ∷ bound) (record { variable = x; value = v } ∷ environment) (put x (Some (word_in layout address v)) values)
+      → HasValues layout address holds base next (x ∷ bound) (record { variable = x; value = v } ∷ environment)
+      (put x (Some (word_in layout address v)) values)
   has_bound x v low fit within = record {
     below = λ z is. elim (among_by x bound z is) [ inl e ↦ omega (arith, e, low) | inr among ↦ has.below z among ];
     words = λ z is. by_case z is (λ w. put x (Some (word_in layout address v)) values z ≡ Some (word_in layout address w))
         (λ e. ap (put x (Some (word_in layout address v)) values) (sym e) ∙ put_same x (word_in layout address v) values)
         (λ differ among. put_other x (word_in layout address v) z values (λ e. differ (sym e)) ∙ has.words z among);
-    fits = λ z is. by_case z is (FitsField (holds z)) (λ e. subst (λ y. FitsField (holds y) v) e fit) (λ differ among. has.fits z among);
+    fits = λ z is. by_case z is (FitsField (holds z)) (λ e. subst (λ y. FitsField (holds y) v) e fit)
+        (λ differ among. has.fits z among);
     older = λ z is. by_case z is (Within next) (λ e. within) (λ differ among. has.older z among);
   }
     where
-      by_case : (z : ℕ) → is_among (x ∷ bound) z ≡ true → (P : Value → Type 0) → (x ≡ z → P v) → (x ≢ z → is_among bound z ≡ true → P (value_of environment z))
+      by_case : (z : ℕ) → is_among (x ∷ bound) z ≡ true → (P : Value → Type 0) → (x ≡ z → P v)
+          → (x ≢ z → is_among bound z ≡ true → P (value_of environment z))
           → P (value_of (record { variable = x; value = v } ∷ environment) z)
       by_case z is P same other =
           elim (cases_eq x z) [
@@ -96,10 +103,12 @@ module _ {layout : Layout} {address : ℕ → ℕ} {holds : ℕ → Bool} {base 
           ]
 
   -- a temporary is written
-  pub has_temporary : (t word : ℕ) → base ≤ t → HasValues layout address holds base next bound environment (put t (Some word) values)
+  pub has_temporary : (t word : ℕ) → base ≤ t → HasValues layout address holds base next bound environment
+      (put t (Some word) values)
   has_temporary t word high = record {
     below = has.below;
-    words = λ x among. let low = has.below x among in put_other t word x values (λ e. omega (arith, e, low, high)) ∙ has.words x among;
+    words = λ x among. let low = has.below x among in put_other t word x values (λ e. omega (arith, e, low, high))
+        ∙ has.words x among;
     fits = has.fits;
     older = has.older;
   }
@@ -108,15 +117,19 @@ module _ {layout : Layout} {address : ℕ → ℕ} {holds : ℕ → Bool} {base 
   pub has_cell : (at : ℕ) → HasValues layout (assign next at address) holds base (suc next) bound environment values
   has_cell at = record {
     below = has.below;
-    words = λ x among. has.words x among ∙ ap Some (sym (value_older layout next at address (value_of environment x) (has.older x among)));
+    words = λ x among. has.words x among
+        ∙ ap Some (sym (value_older layout next at address (value_of environment x) (has.older x among)));
     fits = has.fits;
     older = λ x among. within_more next (suc next) (value_of environment x) (omega arith) (has.older x among);
   }
 
 -- a list of variables more
-pub has_list : {layout : Layout} {address : ℕ → ℕ} {holds : ℕ → Bool} {base next : ℕ} (xs : List ℕ) (vs : List Value) {bound : List ℕ} {environment : Environment} {values : ℕ → Option ℕ}
-    → HasValues layout address holds base next bound environment values → AreBelow base xs → FitFields (map holds xs) vs → AllWithin next vs
-    → HasValues layout address holds base next (bound_list xs bound) (bind_fields xs vs environment) (put_list xs (words_in layout address vs) values)
+pub has_list : {layout : Layout} {address : ℕ → ℕ} {holds : ℕ → Bool} {base next : ℕ} (xs : List ℕ)
+    (vs : List Value) {bound : List ℕ} {environment : Environment} {values : ℕ → Option ℕ}
+    → HasValues layout address holds base next bound environment values → AreBelow base xs → FitFields (map holds xs) vs
+    → AllWithin next vs
+    → HasValues layout address holds base next (bound_list xs bound) (bind_fields xs vs environment)
+    (put_list xs (words_in layout address vs) values)
 has_list [] vs has low fits within = has
 has_list {holds = holds} (x ∷ xs) [] has low fits within = absurd (no_fit (holds x) (map holds xs) fits)
   where
@@ -127,7 +140,8 @@ has_list {holds = holds} (x ∷ xs) (v ∷ vs) has low fits within =
     let parts = fit_parts (holds x) (map holds xs) v vs fits in
     has_list xs vs (has_bound has x v low.0 parts.0 within.0) low.1 parts.1 within.1
   where
-    fit_parts : (b : Bool) (bits : List Bool) (v : Value) (vs : List Value) → FitFields (b ∷ bits) (v ∷ vs) → FitsField b v × FitFields bits vs
+    fit_parts : (b : Bool) (bits : List Bool) (v : Value) (vs : List Value) → FitFields (b ∷ bits) (v ∷ vs) → FitsField b v
+        × FitFields bits vs
     fit_parts true bits v vs fits = (fits.0, fits.1)
     fit_parts false bits v vs fits = (fits.0, fits.1)
 
@@ -146,14 +160,17 @@ both_true : (a b : Bool) → (a && b) ≡ true → (a ≡ true) × (b ≡ true)
 both_true true b is = (refl, is)
 both_true false b is = cc
 
-pub named_made : (c count : ℕ) (heap : Heap) (v : Value) (named : Named) → cell_named c count heap v ≡ Some named → MadeBy c count heap v named
+pub named_made : (c count : ℕ) (heap : Heap) (v : Value) (named : Named) → cell_named c count heap v ≡ Some named
+    → MadeBy c count heap v named
 named_made c count heap (integer n) named is = cc
 named_made c count heap unit named is = cc
 named_made c count heap (constant d) named is = cc
 named_made c count heap (place at) named is = by_held (held_at heap at) refl is
   where
-    by_test : (held : Held) (n : ℕ) → held_at heap at ≡ Some held → held.count ≡ suc n → (t : Bool) → ((held.cell.made_by == c) && (length held.cell.fields == count)) ≡ t
-        → and_then (if t then Some held.cell.fields else None) (λ fields. Some (record { at = at; fields = fields })) ≡ Some named → MadeBy c count heap (place at) named
+    by_test : (held : Held) (n : ℕ) → held_at heap at ≡ Some held → held.count ≡ suc n → (t : Bool)
+        → ((held.cell.made_by == c) && (length held.cell.fields == count)) ≡ t
+        → and_then (if t then Some held.cell.fields else None) (λ fields. Some (record { at = at; fields = fields })) ≡ Some named
+        → MadeBy c count heap (place at) named
     by_test held n here counted false test is = cc
     by_test held n here counted true test is =
         let parts = both_true (held.cell.made_by == c) (length held.cell.fields == count) test in
@@ -172,11 +189,16 @@ named_made c count heap (place at) named is = by_held (held_at heap at) refl is
         some_is e = cc
 
     by_count : (held : Held) (n : ℕ) → held_at heap at ≡ Some held → held.count ≡ n
-        → and_then (if_counted n held.cell) (λ cell. and_then (if_made_by c count cell) (λ fields. Some (record { at = at; fields = fields }))) ≡ Some named → MadeBy c count heap (place at) named
+        → and_then (if_counted n held.cell)
+        (λ cell. and_then (if_made_by c count cell) (λ fields. Some (record { at = at; fields = fields }))) ≡ Some named
+        → MadeBy c count heap (place at) named
     by_count held zero here counted is = cc
-    by_count held (suc n) here counted is = by_test held n here counted ((held.cell.made_by == c) && (length held.cell.fields == count)) refl is
+    by_count held (suc n) here counted is = by_test held n here counted
+        ((held.cell.made_by == c) && (length held.cell.fields == count)) refl is
 
     by_held : (found : Option Held) → held_at heap at ≡ found
-        → and_then (and_then found (λ held. if_counted held.count held.cell)) (λ cell. and_then (if_made_by c count cell) (λ fields. Some (record { at = at; fields = fields }))) ≡ Some named → MadeBy c count heap (place at) named
+        → and_then (and_then found (λ held. if_counted held.count held.cell))
+        (λ cell. and_then (if_made_by c count cell) (λ fields. Some (record { at = at; fields = fields }))) ≡ Some named
+        → MadeBy c count heap (place at) named
     by_held None here is = cc
     by_held (Some held) here is = by_count held held.count here refl is

@@ -23,27 +23,34 @@ index_at i low =
     let index : (4 * i) / 4 ≡ i = omega arith in
     rw (whole, below) (ap Some index)
 
-pub load_own : (cells : Cells) (at i w : ℕ) (words : ℕ → Option ℕ) → cells.blocks at ≡ own words → i < 8 → words i ≡ Some w → load at (4 * i) cells ≡ Some w
+pub load_own : (cells : Cells) (at i w : ℕ) (words : ℕ → Option ℕ) → cells.blocks at ≡ own words → i < 8 → words i ≡ Some w
+    → load at (4 * i) cells ≡ Some w
 load_own cells at i w words is low known = rw (is, index_at i low) known
 
-pub store_own : (cells : Cells) (at i w : ℕ) (words : ℕ → Option ℕ) → cells.blocks at ≡ own words → i < 8 → store at (4 * i) w cells ≡ Some (with_block at (own (with_word i w words)) cells)
+pub store_own : (cells : Cells) (at i w : ℕ) (words : ℕ → Option ℕ) → cells.blocks at ≡ own words → i < 8
+    → store at (4 * i) w cells ≡ Some (with_block at (own (with_word i w words)) cells)
 store_own cells at i w words is low = rw (is, index_at i low) refl
 
 -- what is known behind a word does not change with it
 pub from_later : (i w j : ℕ) (words : ℕ → Option ℕ) (ws : List ℕ) → i < j → AreFrom words j ws → AreFrom (with_word i w words) j ws
 from_later i w j words [] less known = tt
-from_later i w j words (v ∷ ws) less known =
-    (chosen_other j i (Some w) words (λ e. omega (arith, e, less)) ∙ known.0, from_later i w (suc j) words ws (omega (arith, less)) known.1)
+from_later i w j words (v ∷ ws) less known = (
+  chosen_other j i (Some w) words (λ e. omega (arith, e, less)) ∙ known.0,
+  from_later i w (suc j) words ws
+      (omega (arith, less)) known.1,
+)
 
 -- ---- addresses of older names
 
-pub value_older : (layout : Layout) (name at : ℕ) (address : ℕ → ℕ) (v : Value) → Within name v → word_in layout (assign name at address) v ≡ word_in layout address v
+pub value_older : (layout : Layout) (name at : ℕ) (address : ℕ → ℕ) (v : Value) → Within name v
+    → word_in layout (assign name at address) v ≡ word_in layout address v
 value_older layout name at address (integer n) older = refl
 value_older layout name at address unit older = refl
 value_older layout name at address (constant c) older = refl
 value_older layout name at address (place other) older = chosen_other other name at address (λ e. omega (arith, e, older))
 
-pub words_older : (layout : Layout) (name at : ℕ) (address : ℕ → ℕ) (vs : List Value) → AllWithin name vs → words_in layout (assign name at address) vs ≡ words_in layout address vs
+pub words_older : (layout : Layout) (name at : ℕ) (address : ℕ → ℕ) (vs : List Value) → AllWithin name vs
+    → words_in layout (assign name at address) vs ≡ words_in layout address vs
 words_older layout name at address [] older = refl
 words_older layout name at address (v ∷ vs) older =
     let first = value_older layout name at address v older.0 in
@@ -66,11 +73,13 @@ same_owner at owner owners is =
 
 -- ---- the cells
 
-module _ {pool : Pool} {layout : Layout} {address : ℕ → ℕ} {owners : ℕ → Owner} {heap : Heap} {cells : Cells} (follows : Follows pool layout address owners heap cells) where
+module _ {pool : Pool} {layout : Layout} {address : ℕ → ℕ} {owners : ℕ → Owner} {heap : Heap} {cells : Cells}
+    (follows : Follows pool layout address owners heap cells) where
   pub cell_owned : (name at : ℕ) → owners at ≡ cell_of name → IsCellOf pool layout address heap name at (cells.blocks at)
   cell_owned name at is = subst (λ o. BlockOf pool layout address heap at o (cells.blocks at)) is (follows.blocks at)
 
-  pub cell_named : (name : ℕ) → 1 ≤ count_at heap name → IsCellOf pool layout address heap name (address name) (cells.blocks (address name))
+  pub cell_named : (name : ℕ) → 1 ≤ count_at heap name → IsCellOf pool layout address heap name (address name)
+      (cells.blocks (address name))
   cell_named name some = cell_owned name (address name) (follows.named name some)
 
   pub hand_owned : (at : ℕ) (words : ℕ → Option ℕ) → owners at ≡ in_hand words → IsCell pool at × (cells.blocks at ≡ own words)
@@ -80,7 +89,8 @@ module _ {pool : Pool} {layout : Layout} {address : ℕ → ℕ} {owners : ℕ �
   not_cell at name words is other = let both : in_hand words ≡ cell_of name = sym is ∙ other in cc
 
   -- no counted name has an address that is not a cell's of a name
-  pub kept_names : (at : ℕ) (owner : Owner) (next : Heap) → ((name : ℕ) → owners at ≢ cell_of name) → ((name : ℕ) → 1 ≤ count_at next name → 1 ≤ count_at heap name)
+  pub kept_names : (at : ℕ) (owner : Owner) (next : Heap) → ((name : ℕ) → owners at ≢ cell_of name)
+      → ((name : ℕ) → 1 ≤ count_at next name → 1 ≤ count_at heap name)
       → (name : ℕ) → 1 ≤ count_at next name → with_owner at owner owners (address name) ≡ cell_of name
   kept_names at owner next none fewer name some =
       let owns = follows.named name (fewer name some) in
@@ -88,7 +98,8 @@ module _ {pool : Pool} {layout : Layout} {address : ℕ → ℕ} {owners : ℕ �
 
   -- a word of a cell in hand is stored
   pub written : (at i w : ℕ) (words : ℕ → Option ℕ) → owners at ≡ in_hand words
-      → Follows pool layout address (with_owner at (in_hand (with_word i w words)) owners) heap (with_block at (own (with_word i w words)) cells)
+      → Follows pool layout address (with_owner at (in_hand (with_word i w words)) owners) heap
+      (with_block at (own (with_word i w words)) cells)
   written at i w words is =
       let stands = hand_owned at words is in
       put_owner follows at (in_hand (with_word i w words)) address heap (with_block at (own (with_word i w words)) cells)
@@ -99,9 +110,11 @@ module _ {pool : Pool} {layout : Layout} {address : ℕ → ℕ} {owners : ℕ �
       (chain_over follows.chain at (own (with_word i w words)) (λ e. own-unused (sym stands.1 ∙ e)) own-unused)
 
   -- a cell in hand whose words are there is counted, under a new name
-  pub built : (at : ℕ) (words : ℕ → Option ℕ) (cell : Cell) → owners at ≡ in_hand words → ((name : ℕ) → AllWithin name (fields_held heap name)) → AllWithin (length heap) cell.fields
+  pub built : (at : ℕ) (words : ℕ → Option ℕ) (cell : Cell) → owners at ≡ in_hand words
+      → ((name : ℕ) → AllWithin name (fields_held heap name)) → AllWithin (length heap) cell.fields
       → IsBlockOf layout address (record { count = 1; cell = cell }) words
-      → Follows pool layout (assign (length heap) at address) (with_owner at (cell_of (length heap)) owners) (record { count = 1; cell = cell } ∷ heap) cells
+      → Follows pool layout (assign (length heap) at address) (with_owner at (cell_of (length heap)) owners)
+      (record { count = 1; cell = cell } ∷ heap) cells
   built at words cell is older within shows =
       let stands = hand_owned at words is in
       let newest : Held = record { count = 1; cell = cell } in
@@ -126,7 +139,8 @@ module _ {pool : Pool} {layout : Layout} {address : ℕ → ℕ} {owners : ℕ �
       (λ name some. named name some)
       follows.chain
     where
-      stays : (name x : ℕ) → owners x ≡ cell_of name → Stays layout address (assign (length heap) at address) heap (record { count = 1; cell = cell } ∷ heap) name
+      stays : (name x : ℕ) → owners x ≡ cell_of name → Stays layout address (assign (length heap) at address) heap
+          (record { count = 1; cell = cell } ∷ heap) name
       stays name x owns =
           let stands = cell_owned name x owns in
           let less = held_within heap name stands.held stands.there in
@@ -134,7 +148,8 @@ module _ {pool : Pool} {layout : Layout} {address : ℕ → ℕ} {owners : ℕ �
             at = chosen_other name (length heap) at address (λ e. omega (arith, e, less));
             held = held_older (record { count = 1; cell = cell }) heap name (λ e. omega (arith, e, less));
             fields = λ one there. words_older layout (length heap) at address one.cell.fields
-                (all_within_more name (length heap) one.cell.fields (omega (arith, less)) (subst (AllWithin name) (held_fields heap name one there) (older name)));
+                (all_within_more name (length heap) one.cell.fields (omega (arith, less))
+                (subst (AllWithin name) (held_fields heap name one there) (older name)));
           }
 
       named : (name : ℕ) → 1 ≤ count_at (record { count = 1; cell = cell } ∷ heap) name
@@ -142,13 +157,15 @@ module _ {pool : Pool} {layout : Layout} {address : ℕ → ℕ} {owners : ℕ �
       named name some =
           elim (cases_eq (length heap) name) [
             | inl e ↦
-                chosen_same (assign (length heap) at address name) at (cell_of (length heap)) owners (chosen_same name (length heap) at address (sym e)) ∙ ap cell_of e
+                chosen_same (assign (length heap) at address name) at (cell_of (length heap)) owners
+                (chosen_same name (length heap) at address (sym e)) ∙ ap cell_of e
             | inr differ ↦
                 (let same = ap count_in (held_older (record { count = 1; cell = cell }) heap name differ) in
                 let owns = follows.named name (omega arith) in
                 let there = chosen_other name (length heap) at address (λ e. differ (sym e)) in
                 ap (with_owner at (cell_of (length heap)) owners) there
-                ∙ chosen_other (address name) at (cell_of (length heap)) owners (λ e. not_cell at name words is (ap owners (sym e) ∙ owns)) ∙ owns)
+                ∙ chosen_other (address name) at (cell_of (length heap)) owners
+                (λ e. not_cell at name words is (ap owners (sym e) ∙ owns)) ∙ owns)
           ]
 
   -- ---- counts
@@ -161,7 +178,8 @@ module _ {pool : Pool} {layout : Layout} {address : ℕ → ℕ} {owners : ℕ �
         | inr differ ↦ (let same = ap count_in (held_other name n other heap differ) in omega arith)
       ]
 
-  others_stay : (name n : ℕ) (x other : ℕ) → x ≢ address name → owners x ≡ cell_of other → Stays layout address address heap (set_count name n heap) other
+  others_stay : (name n : ℕ) (x other : ℕ) → x ≢ address name → owners x ≡ cell_of other → Stays layout address address heap
+      (set_count name n heap) other
   others_stay name n x other differ owns = record {
     at = refl;
     held = held_other name n other heap (λ e. differ (sym (cell_owned other x owns).is_at ∙ ap address (sym e)));
@@ -170,13 +188,17 @@ module _ {pool : Pool} {layout : Layout} {address : ℕ → ℕ} {owners : ℕ �
 
   -- the count of a counted cell is stored
   pub recount : (name j : ℕ) (words : ℕ → Option ℕ) → 1 ≤ count_at heap name → cells.blocks (address name) ≡ own words
-      → Follows pool layout address owners (set_count name (suc j) heap) (with_block (address name) (own (with_word 0 (suc j) words)) cells)
+      → Follows pool layout address owners (set_count name (suc j) heap)
+      (with_block (address name) (own (with_word 0 (suc j) words)) cells)
   recount name j words some is =
       let owns = follows.named name some in
       let stands = cell_named name some in
       let same = own-words (sym stands.is ∙ is) in
-      subst (λ o. Follows pool layout address o (set_count name (suc j) heap) (with_block (address name) (own (with_word 0 (suc j) words)) cells)) (same_owner (address name) (cell_of name) owners owns)
-      (put_owner follows (address name) (cell_of name) address (set_count name (suc j) heap) (with_block (address name) (own (with_word 0 (suc j) words)) cells)
+      subst (λ o. Follows pool layout address o (set_count name (suc j) heap)
+      (with_block (address name) (own (with_word 0 (suc j) words)) cells))
+      (same_owner (address name) (cell_of name) owners owns)
+      (put_owner follows (address name) (cell_of name) address (set_count name (suc j) heap)
+      (with_block (address name) (own (with_word 0 (suc j) words)) cells)
       (record {
         cell = stands.cell;
         is_at = refl;
@@ -211,7 +233,8 @@ module _ {pool : Pool} {layout : Layout} {address : ℕ → ℕ} {owners : ℕ �
       named
       follows.chain
     where
-      named : (other : ℕ) → 1 ≤ count_at (set_count name 0 heap) other → with_owner (address name) (in_hand words) owners (address other) ≡ cell_of other
+      named : (other : ℕ) → 1 ≤ count_at (set_count name 0 heap) other → with_owner (address name) (in_hand words) owners
+          (address other) ≡ cell_of other
       named other some =
           elim (cases_eq name other) [
             | inl e ↦

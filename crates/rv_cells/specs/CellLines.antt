@@ -1,6 +1,7 @@
--- The assembler lines of the counted forms that touch cells. Value x of a function's assembler code is variable x; the values from `base` on are
+-- The assembler lines of the counted forms that touch cells. Value x of a function's assembler code is variable x; the values from
+-- `base` on are
 -- temporaries.
-use Rattle.std.specs.Prelude.{◌≡◌, ℕ, suc, ◌+◌, ◌*◌, ◌-◌, ◌^◌, Bool, List, [], ◌∷◌, ◌++◌, length, filter, Some, not, if◌then◌else◌}
+use Rattle.std.specs.Prelude.{◌≡◌, ℕ, suc, ◌+◌, ◌*◌, ◌-◌, ◌^◌, Bool, List, [], ◌∷◌, ◌++◌, filter, Some, not, if◌then◌else◌}
 use Rattle.kk_syntax.specs.Shapes.{is_among}
 use Rattle.rv_isa.specs.declared.asm.Action.TheVariants.{Compute, Label, Jump, Branch, Routine as Calls}
 use Rattle.rv_isa.specs.declared.asm.Condition.TheVariants.{NotEqual}
@@ -23,11 +24,13 @@ Stores cell i from line = (offset : Immediate) × (offset.word ≡ 4 * i) × (li
 -- values are loaded from the words of a cell, from word i on, and stored there
 abbrev pub AllLoads : ℕ → ℕ → List ℕ → List Line → Type 0
 AllLoads cell i [] lines = lines ≡ []
-AllLoads cell i (x ∷ xs) lines = (first : Line) × (more : List Line) × Loads cell i x first × AllLoads cell (suc i) xs more × (lines ≡ first ∷ more)
+AllLoads cell i (x ∷ xs) lines = (first : Line) × (more : List Line) × Loads cell i x first × AllLoads cell (suc i) xs more
+    × (lines ≡ first ∷ more)
 
 abbrev pub AllStores : ℕ → ℕ → List ℕ → List Line → Type 0
 AllStores cell i [] lines = lines ≡ []
-AllStores cell i (x ∷ xs) lines = (first : Line) × (more : List Line) × Stores cell i x first × AllStores cell (suc i) xs more × (lines ≡ first ∷ more)
+AllStores cell i (x ∷ xs) lines = (first : Line) × (more : List Line) × Stores cell i x first × AllStores cell (suc i) xs more
+    × (lines ≡ first ∷ more)
 
 -- ---- references
 
@@ -51,8 +54,10 @@ drops_lines base holds (x ∷ xs) = drop_lines base holds x ++ drops_lines base 
 -- A construction: variable x takes a cell, and its header, its fields and the count 1 are stored.
 abbrev pub ConstructLines : ℕ → ℕ → ℕ → List ℕ → List Line → Type 0
 ConstructLines base x header arguments lines =
-    (head : Line) × (fields : List Line) × (count : Line) × Stores x 1 base head × AllStores x 2 arguments fields × Stores x 0 base count
-    × (lines ≡ record { action = Calls Take; args = []; into = Some x } ∷ sets header base ∷ head ∷ (fields ++ sets 1 base ∷ count ∷ []))
+    (head : Line) × (fields : List Line) × (count : Line) × Stores x 1 base head × AllStores x 2 arguments fields
+    × Stores x 0 base count
+    × (lines ≡ record { action = Calls Take; args = []; into = Some x } ∷ sets header base ∷ head ∷
+    (fields ++ sets 1 base ∷ count ∷ []))
 
 -- a reading: the fields are loaded
 abbrev pub ReadLines : ℕ → List ℕ → List Line → Type 0
@@ -64,14 +69,17 @@ OpenLines base holds x fields used lines =
     (loads : List Line) × AllLoads x 2 fields loads
     × (lines ≡ loads ++ (dups_lines holds (filter (is_among used) fields) ++ drop_lines base holds x))
 
--- An opening by the count of the cell. Behind the test of the count the fields are loaded on each way. Where the count is 1 the fields that are
--- not in use are dropped, and the cell is freed; else, from label `shared` on, the count is lowered, and the fields in use get a reference more.
+-- An opening by the count of the cell. Behind the test of the count the fields are loaded on each way. Where the count is 1 the
+-- fields that are
+-- not in use are dropped, and the cell is freed; else, from label `shared` on, the count is lowered, and the fields in use get a
+-- reference more.
 abbrev pub UniqueLines : ℕ → (ℕ → Bool) → ℕ → ℕ → ℕ → List ℕ → List ℕ → List Line → Type 0
 UniqueLines base holds shared behind x fields used lines =
     (test : Line) × (loads : List Line) × (count : Line) × (less : Immediate) × (store : Line)
     × Loads x 0 base test × AllLoads x 2 fields loads × Loads x 0 base count × (less.word ≡ 2 ^ 32 - 1) × Stores x 0 base store
-    × (lines ≡
-    (test ∷ sets 1 (base + 1) ∷ acts (Branch NotEqual shared) (base ∷ (base + 1) ∷ []) ∷ [])
-    ++ (loads ++ (drops_lines base holds (filter (λ y. not (is_among used y)) fields) ++ (acts (Compute Op.Free) (x ∷ []) ∷ acts (Jump behind) [] ∷ [])))
-    ++ (acts (Label shared) [] ∷ (loads ++ (count ∷ computes (Op.Immediate Addi less) (base ∷ []) base ∷ store ∷ dups_lines holds (filter (is_among used) fields))))
-    ++ acts (Label behind) [] ∷ [])
+    × (lines ≡ test ∷ sets 1 (base + 1) ∷ acts (Branch NotEqual shared) (base ∷ (base + 1) ∷ []) ∷
+    ((loads ++ (drops_lines base holds (filter (λ y. not (is_among used y)) fields)
+    ++ (acts (Compute Op.Free) (x ∷ []) ∷ acts (Jump behind) [] ∷ [])))
+    ++ ((acts (Label shared) [] ∷ (loads ++ (count ∷ computes (Op.Immediate Addi less) (base ∷ []) base ∷ store
+    ∷ dups_lines holds (filter (is_among used) fields))))
+    ++ (acts (Label behind) [] ∷ []))))

@@ -10,7 +10,8 @@ use Rattle.rv_cells.specs.Layout.{Layout, word_in}
 use Rattle.rv_cells.specs.Follows.{Owner, nobody, in_hand, Follows, with_owner, still}
 
 -- a request is served by a free cell, which is in hand then
-pub record Served (pool : Pool) (layout : Layout) (address : ℕ → ℕ) (owners : ℕ → Owner) (heap : Heap) (cells : Cells) (top : Option ℕ) : Type 0 where
+pub record Served (pool : Pool) (layout : Layout) (address : ℕ → ℕ) (owners : ℕ → Owner) (heap : Heap) (cells : Cells)
+    (top : Option ℕ) : Type 0 where
   pub at : ℕ
   pub next : Cells
   pub is : request pool top cells ≡ Some (at, next, false)
@@ -18,14 +19,17 @@ pub record Served (pool : Pool) (layout : Layout) (address : ℕ → ℕ) (owner
   pub holds : Follows pool layout address (with_owner at (in_hand nothing) owners) heap next
 
 -- a value got a reference more, and the cells hold the heap that is left
-pub record Dupped (pool : Pool) (layout : Layout) (address : ℕ → ℕ) (owners : ℕ → Owner) (next : Heap) (cells : Cells) (v : Value) : Type 0 where
+pub record Dupped (pool : Pool) (layout : Layout) (address : ℕ → ℕ) (owners : ℕ → Owner) (next : Heap) (cells : Cells)
+    (v : Value) : Type 0 where
   pub now : Cells
   pub is : dup (word_in layout address v) cells ≡ Some now
   pub holds : Follows pool layout address owners next now
 
--- A reference of a value was given up in the turns of the runtime's routine. It gives up no more references than the heap does, and frees as many
+-- A reference of a value was given up in the turns of the runtime's routine. It gives up no more references than the heap does, and
+-- frees as many
 -- cells.
-pub record Dropped (pool : Pool) (layout : Layout) (address : ℕ → ℕ) (owners : ℕ → Owner) (heap next : Heap) (cells : Cells) (v : Value) : Type 0 where
+pub record Dropped (pool : Pool) (layout : Layout) (address : ℕ → ℕ) (owners : ℕ → Owner) (heap next : Heap) (cells : Cells)
+    (v : Value) : Type 0 where
   pub work : Work
   pub is : drop_cells pool (word_in layout address v) cells ≡ Some work
   pub holds : Follows pool layout address (λ x. still next (owners x)) next (merged_cells work cells)
@@ -38,7 +42,8 @@ IsPaid heap next work =
     8 * work.gave + 52 * work.freed + (52 * busy next + 8 * weight next) ≤ 8 + (52 * busy heap + 8 * weight heap)
 
 -- a cell in hand was given back
-pub record Released (pool : Pool) (layout : Layout) (address : ℕ → ℕ) (owners : ℕ → Owner) (heap : Heap) (cells : Cells) (at : ℕ) : Type 0 where
+pub record Released (pool : Pool) (layout : Layout) (address : ℕ → ℕ) (owners : ℕ → Owner) (heap : Heap) (cells : Cells)
+    (at : ℕ) : Type 0 where
   pub now : Cells
   pub is : release at cells ≡ Some now
   pub holds : Follows pool layout address (with_owner at nobody owners) heap now

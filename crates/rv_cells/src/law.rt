@@ -51,8 +51,8 @@ pub fn references_are_duplicated()
         → ((name : ℕ) → suc (count_at heap name) < 2 ^ 32) → Dupped pool layout address owners next cells v }
 {}
 
-/// A drop with all that it frees is done by the turns of the runtime's routine, and what the heap has saved pays for it. It is a law,
-/// and does nothing.
+/// A drop with all that it frees is done by the turns of the runtime's routine, and what the heap has saved pays for it. It is a
+/// law, and does nothing.
 pub fn references_are_dropped()
     ensures { (pool : Pool) (layout : Layout) (address : ℕ → ℕ) (owners : ℕ → Owner) (heap next : Heap) (cells : Cells) (v : Value)
         → pool.first % 32 ≡ 0 → IsNarrow layout → Follows pool layout address owners heap cells
