@@ -7,8 +7,8 @@ ghost use Rattle.kk_counted.specs.Emissions.{state};
 ghost use Rattle.kk_counted.specs.Programs.{IsFunctionOf};
 ghost use Rattle.kk_counted.specs.Works.{left_in};
 
-use crate::counted::CountedFun;
 use crate::copies::copied;
+use crate::counted::CountedFun;
 use crate::debts::{ArmEnd, Arms, Debts, Held, Kept, Owed};
 use crate::emitter::Emitter;
 use kk_core::Decisions;
