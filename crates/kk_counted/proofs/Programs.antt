@@ -1,5 +1,6 @@
 -- Programs whose functions are those of their instances are spent.
-use Rattle.std.proofs.Common.{◌≡◌, ℕ, zero, suc, ◌+◌, ◌<◌, Bool, true, false, List, [], ◌∷◌, ◌++◌, map, length, Option, Some, None, arith, refl, sym, ap, ◌∙◌, subst}
+use Rattle.std.proofs.Common.{◌≡◌, ℕ, zero, suc, ◌+◌, ◌<◌, Bool, true, false, List, [], ◌∷◌, ◌++◌, map, length, Some}
+use Rattle.std.proofs.Common.{arith, refl, sym, ap, ◌∙◌, subst}
 use Rattle.std.proofs.Math.Logic.{∥∥₁_map}
 use Rattle.std.specs.Prelude.{if◌then◌else◌, slice_get, slice_index_or}
 use Rattle.kk_syntax.specs.PositionsOf.{PositionTable}
@@ -9,7 +10,8 @@ use Rattle.kk_counted.specs.Emitting.{HaveParameters}
 use Rattle.kk_counted.specs.Programs.{function_of, IsFunctionOf, AreFunctions, program_of}
 use Rattle.kk_counted.specs.Spending.{SpendsParameters, IsSpent}
 
-pub no_functions : (positions : PositionTable) (functions : List CountedFun) → functions ≡ [] → ∥ AreFunctions positions functions ∥₁
+pub no_functions : (positions : PositionTable) (functions : List CountedFun) → functions ≡ []
+    → ∥ AreFunctions positions functions ∥₁
 no_functions positions functions none =
     ∣ (λ f fun there. absurd (nothing f fun (ap (λ all. slice_get all f) (sym none) ∙ there))) ∣₁
   where
@@ -17,8 +19,10 @@ no_functions positions functions none =
     nothing f fun there = cc
 
 -- a function more
-one_more : (positions : PositionTable) (functions : List CountedFun) (fun : CountedFun) (first : ℕ) → ((f : ℕ) (one : CountedFun) → slice_get functions f ≡ Some one → IsFunctionOf positions (first + f) one)
-    → IsFunctionOf positions (first + length functions) fun → (f : ℕ) (one : CountedFun) → slice_get (functions ++ fun ∷ []) f ≡ Some one → IsFunctionOf positions (first + f) one
+one_more : (positions : PositionTable) (functions : List CountedFun) (fun : CountedFun) (first : ℕ)
+    → ((f : ℕ) (one : CountedFun) → slice_get functions f ≡ Some one → IsFunctionOf positions (first + f) one)
+    → IsFunctionOf positions (first + length functions) fun → (f : ℕ) (one : CountedFun)
+    → slice_get (functions ++ fun ∷ []) f ≡ Some one → IsFunctionOf positions (first + f) one
 one_more positions [] fun first are next zero one there = by_same one there
   where
     by_same : (one : CountedFun) → Some fun ≡ Some one → IsFunctionOf positions (first + 0) one
@@ -34,10 +38,16 @@ one_more positions (x ∷ functions) fun first are next zero one there = are zer
 one_more positions (x ∷ functions) fun first are next (suc f) one there =
     subst (λ (n : ℕ). IsFunctionOf positions n one) {x = suc first + f} {y = first + suc f} (omega arith)
     (one_more positions functions fun (suc first)
-    (λ g other known. subst (λ (n : ℕ). IsFunctionOf positions n other) {x = first + suc g} {y = suc first + g} (omega arith) (are (suc g) other known))
-    (subst (λ (n : ℕ). IsFunctionOf positions n fun) {x = first + suc (length functions)} {y = suc first + length functions} (omega arith) next) f one there)
+    (λ g other known.
+    subst (λ (n : ℕ). IsFunctionOf positions n other) {x = first + suc g} {y = suc first + g} (omega arith)
+    (are (suc g) other known))
+    (subst (λ (n : ℕ). IsFunctionOf positions n fun) {x = first + suc (length functions)} {y = suc first + length functions}
+    (omega arith) next)
+    f one there)
 
-function_more : (positions : PositionTable) (functions all : List CountedFun) (fun : CountedFun) → ∥ AreFunctions positions functions ∥₁ → IsFunctionOf positions (length functions) fun → all ≡ functions ++ fun ∷ [] → ∥ AreFunctions positions all ∥₁
+function_more : (positions : PositionTable) (functions all : List CountedFun) (fun : CountedFun)
+    → ∥ AreFunctions positions functions ∥₁ → IsFunctionOf positions (length functions) fun → all ≡ functions ++ fun ∷ []
+    → ∥ AreFunctions positions all ∥₁
 function_more positions functions all fun are next is =
     ∥∥₁_map are (λ each f one there.
     subst (λ (n : ℕ). IsFunctionOf positions n one) {x = 0 + f} {y = f} (omega arith)
@@ -47,7 +57,8 @@ function_more positions functions all fun are next is =
     f one (sym (ap (λ (xs : List CountedFun). slice_get xs f) is) ∙ there)))
 
 -- a function is added, or there is no room for it
-pub function_pushed : (positions : PositionTable) (functions all : List CountedFun) (fun : CountedFun) (ok : Bool) → ∥ AreFunctions positions functions ∥₁ → IsFunctionOf positions (length functions) fun
+pub function_pushed : (positions : PositionTable) (functions all : List CountedFun) (fun : CountedFun) (ok : Bool)
+    → ∥ AreFunctions positions functions ∥₁ → IsFunctionOf positions (length functions) fun
     → all ≡ (if ok then functions ++ fun ∷ [] else functions) → ∥ AreFunctions positions all ∥₁
 function_pushed positions functions all fun true are next is = function_more positions functions all fun are next is
 function_pushed positions functions all fun false are next is =
@@ -59,7 +70,8 @@ function_pushed positions functions all fun false are next is =
 Found : List CountedFun → ℕ → CountedFunction → Type 0
 Found functions f function = (fun : CountedFun) × ((slice_get functions f ≡ Some fun) × (function_of fun ≡ function))
 
-found : (functions : List CountedFun) (f : ℕ) (function : CountedFunction) → slice_get (map function_of functions) f ≡ Some function → Found functions f function
+found : (functions : List CountedFun) (f : ℕ) (function : CountedFunction)
+    → slice_get (map function_of functions) f ≡ Some function → Found functions f function
 unfolding Found
 found [] f function there = absurd (nothing f there)
   where
@@ -71,7 +83,9 @@ found (fun ∷ functions) zero function there = (fun, (refl, inner there))
     inner same = cc
 found (fun ∷ functions) (suc f) function there = found functions f function there
 
-pub programs_spent : (positions : PositionTable) (functions : List CountedFun) (texts : List (List ℕ)) → 0 < length functions → slice_index_or positions 0 [] ≡ [] → ∥ AreFunctions positions functions ∥₁ → ∥ IsSpent positions (program_of functions texts) ∥₁
+pub programs_spent : (positions : PositionTable) (functions : List CountedFun) (texts : List (List ℕ)) → 0 < length functions
+    → slice_index_or positions 0 [] ≡ [] → ∥ AreFunctions positions functions ∥₁
+    → ∥ IsSpent positions (program_of functions texts) ∥₁
 unfolding Found
 programs_spent positions functions texts some none are = ∥∥₁_map are spent
   where

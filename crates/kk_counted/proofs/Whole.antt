@@ -1,11 +1,12 @@
 -- What calls change of a draft leaves each case an arm for each row.
-use Rattle.std.proofs.Common.{◌≡◌, ℕ, zero, suc, ◌+◌, ◌||◌, Bool, true, false, List, [], ◌∷◌, ◌++◌, length, map, Option, Some, None, arith, refl, sym, ap, ◌∙◌, subst, length-append}
+use Rattle.std.proofs.Common.{◌≡◌, ℕ, zero, suc, Bool, true, false, List, [], ◌∷◌, ◌++◌, length, map, Option, Some}
+use Rattle.std.proofs.Common.{None, arith, refl, ap, subst, length-append}
 use Rattle.kk_core.specs.Decisions.{NodeTree, AreOrderly}
 use Rattle.kk_counted.specs.Arms.{arm_count, HasArms, HaveArms, AllHaveArms, HaveArmsInside}
-use Rattle.kk_counted.specs.CountedCodes.{Counted, give, tail_call, case}
+use Rattle.kk_counted.specs.CountedCodes.{Counted, case}
 use Rattle.kk_counted.specs.CountedForms.{Move, computes, runs, reads, opens, opens_unique, dups, drops, plug, arms_of}
-use Rattle.kk_counted.specs.Drafts.{copies, opens_by, Split, Draft, end_code, is_tail, ended_in, entered_by, forked, resumed_as}
-use Rattle.kk_counted.specs.Emitting.{HasRows, HaveRows, IsWhole, IsWholeDraft}
+use Rattle.kk_counted.specs.Drafts.{copies, opens_by, Split, Draft, end_code, ended_in, entered_by, forked, resumed_as}
+use Rattle.kk_counted.specs.Emitting.{HaveRows, IsWhole, IsWholeDraft}
 
 -- ---- steps
 
@@ -31,7 +32,8 @@ pub opening_inside : (by_count : Bool) (x c : ℕ) (fields used : List ℕ) → 
 opening_inside true x c fields used = (tt, tt)
 opening_inside false x c fields used = (tt, tt)
 
-pub whole_more : (inside : Bool) (splits : List Split) (steps more : List Move) (ending : Option Counted) → HaveArmsInside more → IsWhole inside splits steps ending → IsWhole inside splits (steps ++ more) ending
+pub whole_more : (inside : Bool) (splits : List Split) (steps more : List Move) (ending : Option Counted) → HaveArmsInside more
+    → IsWhole inside splits steps ending → IsWhole inside splits (steps ++ more) ending
 whole_more inside splits steps more ending new whole =
     record { branches = whole.branches; written = inside_more steps more whole.written new; end = whole.end }
 
@@ -59,7 +61,13 @@ no_ending ending none code some = absurd (clash none some)
     clash : ending ≡ None → ending ≡ Some code → ⊥
     clash one two = cc
 
-pub whole_forked : (d : Draft) (on : ℕ) (decisions : List NodeTree) (each : List ℕ) (rows : ℕ) → d.inside ≡ true → d.ending ≡ None → AreOrderly decisions rows → IsWholeDraft d → IsWholeDraft (forked d on decisions each rows)
+newest_rows : (d : Draft) (split : Split) (splits : List Split) (b : Bool) → d.inside ≡ b → d.splits ≡ split ∷ splits
+    → IsWholeDraft d → HaveRows b (split ∷ splits)
+newest_rows d split splits b inside is whole =
+    subst (λ t. HaveRows t (split ∷ splits)) inside (subst (λ (all : List Split). HaveRows d.inside all) is whole.branches)
+
+pub whole_forked : (d : Draft) (on : ℕ) (decisions : List NodeTree) (each : List ℕ) (rows : ℕ) → d.inside ≡ true
+    → d.ending ≡ None → AreOrderly decisions rows → IsWholeDraft d → IsWholeDraft (forked d on decisions each rows)
 whole_forked d on decisions each rows inside ending orderly whole =
     record {
       branches = (
@@ -70,21 +78,29 @@ whole_forked d on decisions each rows inside ending orderly whole =
       end = no_ending d.ending ending;
     }
 
-pub whole_entered : (d : Draft) (split : Split) (splits : List Split) (each : List ℕ) (left : List (List ℕ)) → d.inside ≡ false → d.splits ≡ split ∷ splits → split.left ≡ each ∷ left → IsWholeDraft d → IsWholeDraft (entered_by d split splits (each ∷ left))
+pub whole_entered : (d : Draft) (split : Split) (splits : List Split) (each : List ℕ) (left : List (List ℕ)) → d.inside ≡ false
+    → d.splits ≡ split ∷ splits → split.left ≡ each ∷ left → IsWholeDraft d
+    → IsWholeDraft (entered_by d split splits (each ∷ left))
 whole_entered d split splits each left outer is left_is whole =
-    let rows : HaveRows false (split ∷ splits) = subst (λ b. HaveRows b (split ∷ splits)) outer (subst (λ (all : List Split). HaveRows d.inside all) is whole.branches) in
+    let rows : HaveRows false (split ∷ splits) = newest_rows d split splits false outer is whole in
     record {
       branches = (
-        record { decisions = rows.0.decisions; rows = omega (arith, rows.0.rows, ap length left_is); arms = rows.0.arms; before = rows.0.before },
+        record {
+          decisions = rows.0.decisions;
+          rows = omega (arith, rows.0.rows, ap length left_is);
+          arms = rows.0.arms;
+          before = rows.0.before;
+        },
         rows.1,
       );
       written = whole.written;
       end = whole.end;
     }
 
-pub whole_ended : (d : Draft) (split : Split) (splits : List Split) (code : Counted) (tails : Bool) → d.inside ≡ true → d.splits ≡ split ∷ splits → HasArms code → IsWholeDraft d → IsWholeDraft (ended_in d code tails (split ∷ splits))
+pub whole_ended : (d : Draft) (split : Split) (splits : List Split) (code : Counted) (tails : Bool) → d.inside ≡ true
+    → d.splits ≡ split ∷ splits → HasArms code → IsWholeDraft d → IsWholeDraft (ended_in d code tails (split ∷ splits))
 whole_ended d split splits code tails inside is last whole =
-    let rows : HaveRows true (split ∷ splits) = subst (λ b. HaveRows b (split ∷ splits)) inside (subst (λ (all : List Split). HaveRows d.inside all) is whole.branches) in
+    let rows : HaveRows true (split ∷ splits) = newest_rows d split splits true inside is whole in
     let body : Counted = plug d.steps code in
     record {
       branches = (
@@ -101,16 +117,18 @@ whole_ended d split splits code tails inside is last whole =
     }
 
 -- how a block ends that gives a value
-pub whole_end : (ending : Option Counted) (x : ℕ) → ((code : Counted) → ending ≡ Some code → HasArms code) → HasArms (end_code ending x)
+pub whole_end : (ending : Option Counted) (x : ℕ) → ((code : Counted) → ending ≡ Some code → HasArms code)
+    → HasArms (end_code ending x)
 whole_end None x whole = tt
 whole_end (Some code) x whole = whole code refl
 
-pub whole_joined : (d : Draft) (split : Split) (splits : List Split) (next x : ℕ) (tails : Bool) → d.inside ≡ false → d.splits ≡ split ∷ splits → split.left ≡ [] → d.ending ≡ None → IsWholeDraft d
+pub whole_joined : (d : Draft) (split : Split) (splits : List Split) (next x : ℕ) (tails : Bool) → d.inside ≡ false
+    → d.splits ≡ split ∷ splits → split.left ≡ [] → d.ending ≡ None → IsWholeDraft d
     → IsWholeDraft (resumed_as (record d { next = next; splits = splits }) split x tails)
 whole_joined d split splits next x tails outer is left ending whole = by_tails tails
   where
     rows : HaveRows false (split ∷ splits)
-    rows = subst (λ b. HaveRows b (split ∷ splits)) outer (subst (λ (all : List Split). HaveRows d.inside all) is whole.branches)
+    rows = newest_rows d split splits false outer is whole
 
     count : split.rows ≡ arm_count (arms_of split.arms)
     count = omega (arith, rows.0.rows, ap length left, count_is split.arms)
@@ -121,11 +139,18 @@ whole_joined d split splits next x tails outer is left ending whole = by_tails t
     only : (code : Counted) → Some (case split.on split.decisions (arms_of split.arms)) ≡ Some code → HasArms code
     only code same = subst HasArms (inner same) block
       where
-        inner : Some (case split.on split.decisions (arms_of split.arms)) ≡ Some code → case split.on split.decisions (arms_of split.arms) ≡ code
+        inner : Some (case split.on split.decisions (arms_of split.arms)) ≡ Some code
+            → case split.on split.decisions (arms_of split.arms) ≡ code
         inner two = cc
 
     by_tails : (t : Bool) → IsWholeDraft (resumed_as (record d { next = next; splits = splits }) split x t)
-    by_tails false = record { branches = rows.1; written = inside_more split.before (runs x (case split.on split.decisions (arms_of split.arms)) ∷ []) rows.0.before (block, tt); end = no_ending d.ending ending }
+    by_tails false =
+        record {
+          branches = rows.1;
+          written = inside_more split.before (runs x (case split.on split.decisions (arms_of split.arms)) ∷ []) rows.0.before
+              (block, tt);
+          end = no_ending d.ending ending;
+        }
     by_tails true = record { branches = rows.1; written = rows.0.before; end = only }
 
 -- ---- functions

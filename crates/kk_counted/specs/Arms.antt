@@ -1,7 +1,8 @@
 -- That a case has an arm for each row of its decisions.
 use Rattle.std.specs.Prelude.{ℕ, zero, suc, List, [], ◌∷◌}
 use Rattle.kk_core.specs.Decisions.{AreOrderly}
-use Rattle.kk_counted.specs.CountedCodes.{Counted, give, tail_call, branch, case, compute, inside, read, open_cell, if_unique, dup, drop, CountedArms, no_arm, arm}
+use Rattle.kk_counted.specs.CountedCodes.{Counted, give, tail_call, branch, case, compute, inside, read, open_cell, if_unique}
+use Rattle.kk_counted.specs.CountedCodes.{dup, drop, CountedArms, no_arm, arm}
 use Rattle.kk_counted.specs.CountedForms.{Move, runs}
 
 abbrev pub arm_count : CountedArms → ℕ

@@ -1,5 +1,6 @@
 -- That what an emitter has written spends what is owned: so a function that it finishes is spent.
-use Rattle.std.specs.Prelude.{◌≡◌, ℕ, ◌+◌, ◌<◌, ◌≤◌, Bool, true, false, not, List, [], ◌∷◌, ◌++◌, length, Option, Some, None, if◌then◌else◌, slice_get, slice_index_or}
+use Rattle.std.specs.Prelude.{◌≡◌, ℕ, ◌+◌, ◌<◌, ◌≤◌, Bool, true, false, not, List, [], ◌∷◌, ◌++◌, length, Option, Some, None}
+use Rattle.std.specs.Prelude.{if◌then◌else◌, slice_get, slice_index_or}
 use Rattle.kk_syntax.specs.Shapes.{is_among}
 use Rattle.kk_syntax.specs.PositionsOf.{PositionTable, is_lent}
 use Rattle.kk_core.specs.Decisions.{AreOrderly}
@@ -57,7 +58,7 @@ AllAre each (xs ∷ left) = (xs ≡ each) × AllAre each left
 
 -- A branch that is not joined: the steps before it lead to what its arms and the code behind them own. Each arm that is ended
 -- spends what it was to spend, and leaves what is owned outside; or nothing is owned outside, and it leaves nothing.
-pub record IsFine (positions : PositionTable) (lent : List ℕ) (next : ℕ) (began : List ℕ) (around : List ℕ) (split : Split) : Type 0 where
+pub record IsFine (positions : PositionTable) (lent : List ℕ) (next : ℕ) (began around : List ℕ) (split : Split) : Type 0 where
   pub before : Leads positions lent began (split.each ++ around) split.before
   pub on : is_among (lent ++ (split.each ++ around)) split.on ≡ true
   pub arms : split.tails ≡ false → AllSpent positions lent (Some around) (split.each ++ around) split.arms

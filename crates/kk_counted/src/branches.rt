@@ -7,6 +7,7 @@ ghost use Rattle.kk_counted.specs.Emissions.{state};
 ghost use Rattle.kk_counted.specs.Programs.{IsFunctionOf};
 ghost use Rattle.kk_counted.specs.Works.{left_in};
 
+use crate::copies::copied;
 use crate::counted::CountedFun;
 use crate::debts::{ArmEnd, Arms, Debts, Held, Kept, Owed};
 use crate::emitter::Emitter;
@@ -14,7 +15,26 @@ use kk_core::Decisions;
 
 impl<'a> Emitter<'a> {
     /// Begins a branch on a variable: an arm for each row of the decisions. Each arm owes all of the debts.
-    pub fn split(&mut self, on: u32, tests: Decisions, debts: Debts) -> Result<Arms, Kept>
+    pub fn split(&mut self, on: u32, tests: &Decisions, debts: Debts) -> Result<Arms, Kept>
+        requires writes { Writes (state self.old) }
+        requires called { (state self.old).failed ≡ false → (state self.old).uncalled ≡ [] }
+        requires owns { OwnsAll (state self.old) debts.emitter debts.variables.items }
+        requires on { (state self.old).failed ≡ false → is_among ((state self.old).lent ++ all_owed (state self.old)) on ≡ true }
+        ensures going { OnOk result ((state self.old).failed ≡ false) }
+        ensures ok { OnOk result (state self.new ≡ forked (state self.old) on (decisions_of tests.now) debts.variables.items tests.now.rows) }
+        ensures arms { IfOk result (λ arms. (arms.emitter ≡ (state self.old).instance) × AreNewest (state self.new).splits arms.depth (left_in arms.left.items)) }
+        ensures err { OnErr result (state self.new ≡ state self.old) }
+        ensures kept { IfErr result (λ kept. kept.held ≡ Held.Many debts) }
+    {
+        let Ok(copy) = copied(self.work.alloc, tests) else {
+            return Err(Kept::of_many(debts));
+        };
+        let arms = self.begin(on, copy, debts)?;
+        Ok(arms)
+    }
+
+    // Begins a branch by these decisions.
+    fn begin(&mut self, on: u32, tests: Decisions, debts: Debts) -> Result<Arms, Kept>
         requires writes { Writes (state self.old) }
         requires called { (state self.old).failed ≡ false → (state self.old).uncalled ≡ [] }
         requires owns { OwnsAll (state self.old) debts.emitter debts.variables.items }

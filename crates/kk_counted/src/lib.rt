@@ -3,6 +3,7 @@
 #![tactic(auto)]
 
 mod branches;
+mod copies;
 mod counted;
 mod debts;
 mod emitter;

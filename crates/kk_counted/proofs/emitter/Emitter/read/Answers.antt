@@ -34,7 +34,12 @@ invariant_of-self-in-Ok c =
     let constructors = c.self.inside.shape.now.constructors.items in
     let one = c.index-constructors-constructor.result in
     let less : c.args.constructor < length constructors =
-    omega (arith, c.requires.constructor, ap (λ e. length e.field_counts) c.self.view_is, length-map constructors (λ o. length o.fields.items)) in
+    omega (
+      arith,
+      c.requires.constructor,
+      ap (λ e. length e.field_counts) c.self.view_is,
+      length-map constructors (λ o. length o.fields.items),
+    ) in
     let is : one ≡ get_or constructors c.args.constructor one =
     c.index-constructors-constructor.is ∙ ap (λ xs. get_or xs c.args.constructor one) c.constructors.ensures in
     let long : c.len-count.result ≡ vec_len one.fields =
@@ -57,7 +62,12 @@ returns-in-Ok-clause-ok c =
     let constructors = c.self.inside.shape.now.constructors.items in
     let one = c.index-constructors-constructor.result in
     let less : c.args.constructor < length constructors =
-    omega (arith, c.requires.constructor, ap (λ e. length e.field_counts) c.self.view_is, length-map constructors (λ o. length o.fields.items)) in
+    omega (
+      arith,
+      c.requires.constructor,
+      ap (λ e. length e.field_counts) c.self.view_is,
+      length-map constructors (λ o. length o.fields.items),
+    ) in
     let is : one ≡ get_or constructors c.args.constructor one =
     c.index-constructors-constructor.is ∙ ap (λ xs. get_or xs c.args.constructor one) c.constructors.ensures in
     let long : c.len-count.result ≡ vec_len one.fields =

@@ -7,7 +7,7 @@ use Rattle.kk_counted.specs.Works.{left_in, draft}
 use Rattle.kk_counted.proofs.Seeing.{seen, going_now, works_now, instance_now, newest}
 use Rattle.kk_counted.proofs.Drafted.{copies_back}
 use Rattle.kk_counted.proofs.Working.{forked_works, works_same}
-use Rattle.kk_counted.proofs.emitter.Emitter.split.Goals as goal
+use Rattle.kk_counted.proofs.emitter.Emitter.begin.Goals as goal
 
 pub invariant_of-self : goal.invariant_of-self
 invariant_of-self c =
