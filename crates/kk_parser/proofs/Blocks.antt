@@ -1,7 +1,9 @@
 -- The statements of a block, as they are read one by one.
 use Rattle.std.proofs.Common.{◌≡◌, true, false, List, [], ◌∷◌, ◌++◌, map, Some, None, Result, Ok, Err, refl, ap, sym, ◌∙◌, subst, append_assoc}
 use Rattle.std.proofs.lemmas.List.{append-nil, map-append}
+use Rattle.std.specs.Global.{Box}
 use Rattle.kk_syntax.specs.declared.token.Symbol.TheVariants.{OpenBrace, CloseBrace, Semicolon}
+use Rattle.kk_syntax.specs.declared.tree.SurfaceBinder.{SurfaceBinder}
 use Rattle.kk_syntax.specs.declared.tree.SurfaceBinder.TheVariants.{Nothing}
 use Rattle.kk_syntax.specs.declared.tree.SurfaceExpr.{SurfaceExpr}
 use Rattle.kk_syntax.specs.declared.tree.SurfaceStatement.{SurfaceStatement}
@@ -15,6 +17,7 @@ use Rattle.kk_parser.specs.Kinds.{symbol}
 use Rattle.kk_parser.specs.Methods.{Read, ReadsPhrase, ReadsItems}
 use Rattle.kk_parser.specs.Phrases.{Phrase, PhraseValue, token, opener, optional, rule, ◌▸◌, block, expr}
 use Rattle.kk_parser.specs.Reading.{first, finds_rule, finds_both, finds_none, finds_absence, finds_presence, fails_rule, fails_behind}
+use Rattle.kk_parser.specs.Views.{binding_view, boxed_expr}
 use Rattle.kk_parser.proofs.Steps.{Continues, continues_as, continues_many_before, passed_on}
 use Rattle.kk_parser.proofs.Trees.{written-statement}
 
@@ -70,18 +73,25 @@ block_passes before value start here next c h s i =
     continues_many_before (rule block) (token (symbol Semicolon) ▸ optional items) (token (symbol CloseBrace)) (block_says before value) (tt, None) start here next c h (finds_both s (finds_absence i))
 
 -- a value was put behind statements as one of them
-pub stated : (before after : List SurfaceStatement) (value : SurfaceExpr) → after ≡ before ++ record { binder = Nothing; value = value } ∷ [] → map written_statement after ≡ map written_statement before ++ as_statement (written_expr value) ∷ []
-stated before after value is = ap (map written_statement) is ∙ map-append written_statement before (record { binder = Nothing; value = value } ∷ []) ∙ ap (λ s. map written_statement before ++ s ∷ []) (written-statement (record { binder = Nothing; value = value }))
+pub stated : (before after : List SurfaceStatement) (value : Box SurfaceExpr) (inner : SurfaceExpr) → inner ≡ value.value → after ≡ before ++ record { binder = Nothing; value = inner } ∷ [] → map written_statement after ≡ map written_statement before ++ as_statement (boxed_expr value) ∷ []
+stated before after value inner i is =
+    ap (map written_statement) is ∙ map-append written_statement before (record { binder = Nothing; value = inner } ∷ [])
+    ∙ ap (λ s. map written_statement before ++ s ∷ []) (written-statement (record { binder = Nothing; value = inner }) ∙ ap (λ e. as_statement (written_expr e)) i)
 
 -- a statement was read and put behind others
 bindings_of-append : (vs ws : List (PhraseValue (binding ▸ some_semicolons))) → bindings_of (vs ++ ws) ≡ bindings_of vs ++ bindings_of ws
 bindings_of-append [] ws = refl
 bindings_of-append ((statement, end) ∷ vs) ws = ap (λ ss. binding_of statement ∷ ss) (bindings_of-append vs ws)
 
-pub bound : (start : List WrittenStatement) (before after : List SurfaceStatement) (s : SurfaceStatement) (front : List (PhraseValue (binding ▸ some_semicolons))) (v : PhraseValue binding) (end : PhraseValue some_semicolons) → map written_statement before ≡ start ++ bindings_of front → after ≡ before ++ s ∷ [] → binding_of v ≡ written_statement s → map written_statement after ≡ start ++ bindings_of (front ++ (v, end) ∷ [])
-bound start before after s front v end h is e =
-    ap (map written_statement) is ∙ map-append written_statement before (s ∷ []) ∙ ap (λ ss. ss ++ written_statement s ∷ []) h ∙ append_assoc start (bindings_of front) (written_statement s ∷ [])
-    ∙ ap (λ ss. start ++ ss) (ap (λ t. bindings_of front ++ t ∷ []) (sym e) ∙ sym (bindings_of-append front ((v, end) ∷ [])))
+-- a statement is its binder and its value
+made_statement : (binder : SurfaceBinder) (value : Box SurfaceExpr) (inner : SurfaceExpr) → inner ≡ value.value → written_statement (record { binder = binder; value = inner }) ≡ binding_view (binder, value)
+made_statement binder value inner i = written-statement (record { binder = binder; value = inner }) ∙ ap (λ e. record { binder = binder; value = written_expr e }) i
+
+pub bound : (start : List WrittenStatement) (before after : List SurfaceStatement) (binder : SurfaceBinder) (value : Box SurfaceExpr) (inner : SurfaceExpr) (front : List (PhraseValue (binding ▸ some_semicolons))) (v : PhraseValue binding) (end : PhraseValue some_semicolons) → map written_statement before ≡ start ++ bindings_of front → inner ≡ value.value → after ≡ before ++ record { binder = binder; value = inner } ∷ [] → binding_of v ≡ binding_view (binder, value) → map written_statement after ≡ start ++ bindings_of (front ++ (v, end) ∷ [])
+bound start before after binder value inner front v end h i is e =
+    let s = written_statement (record { binder = binder; value = inner }) in
+    ap (map written_statement) is ∙ map-append written_statement before (record { binder = binder; value = inner } ∷ []) ∙ ap (λ ss. ss ++ s ∷ []) h ∙ append_assoc start (bindings_of front) (s ∷ [])
+    ∙ ap (λ ss. start ++ ss) (ap (λ t. bindings_of front ++ t ∷ []) (made_statement binder value inner i ∙ sym e) ∙ sym (bindings_of-append front ((v, end) ∷ [])))
 
 pub items_go_on : (front : List (PhraseValue (binding ▸ some_semicolons))) (u : PhraseValue (binding ▸ some_semicolons)) (start here next : Parser) → Continues items items (λ v. (front ++ v.0, v.1)) start here → is_at (first (binding ▸ some_semicolons)) here.rest.now ≡ true → Read (binding ▸ some_semicolons) u here next → Continues items items (λ v. ((front ++ u ∷ []) ++ v.0, v.1)) start next
 items_go_on front u start here next c h r =
@@ -89,11 +99,11 @@ items_go_on front u start here next c h r =
     (continues_many_before items (binding ▸ some_semicolons) (rule expr) (λ v. (front ++ v.0, v.1)) u start here next c h r)
 
 -- the last of some items was read, or failed
-pub items_end : (before after : List WrittenStatement) (front : List (PhraseValue (binding ▸ some_semicolons))) (r : Result SurfaceExpr Fault) (start here next : Parser) → after ≡ before ++ bindings_of front → Continues items items (λ v. (front ++ v.0, v.1)) start here → is_at (first (binding ▸ some_semicolons)) here.rest.now ≡ false → ReadsPhrase (rule expr) written_expr r here next → ReadsItems before after r start next
+pub items_end : (before after : List WrittenStatement) (front : List (PhraseValue (binding ▸ some_semicolons))) (r : Result (Box SurfaceExpr) Fault) (start here next : Parser) → after ≡ before ++ bindings_of front → Continues items items (λ v. (front ++ v.0, v.1)) start here → is_at (first (binding ▸ some_semicolons)) here.rest.now ≡ false → ReadsPhrase (rule expr) boxed_expr r here next → ReadsItems before after r start next
 items_end before after front (Ok x) start here next e c h r = (
-  (front, written_expr x),
+  (front, boxed_expr x),
   e,
   refl,
-  subst (λ w. Read items (w, written_expr x) start next) (append-nil front) (c.found ([], written_expr x) next.depth next.rest.now (finds_both (finds_none h) r)),
+  subst (λ w. Read items (w, boxed_expr x) start next) (append-nil front) (c.found ([], boxed_expr x) next.depth next.rest.now (finds_both (finds_none h) r)),
 )
 items_end before after front (Err y) start here next e c h r = passed_on items (rule expr) start here next (λ f s. c.failed f (fails_behind (finds_none h) s)) y r

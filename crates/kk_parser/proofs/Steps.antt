@@ -1,6 +1,7 @@
 -- The steps of the parser's methods: what a reading of a phrase comes to, from what its parts come to.
 use Rattle.std.proofs.Common.{◌≡◌, ℕ, ◌+◌, ◌<◌, ◌≤◌, Bool, true, false, List, [], ◌∷◌, Option, Some, None, option_copied, slice_get, Result, Ok, Err, IfOk, OnOk, IfErr, IsErrAnd, is_some, refl, sym, ap, ◌∙◌, subst, inl, inr}
 use Rattle.std.specs.Borrow.{Bor}
+use Rattle.std.specs.Global.{Box}
 use Rattle.kk_syntax.specs.declared.token.LocatedToken.{LocatedToken}
 use Rattle.kk_syntax.specs.declared.token.Keyword.{Keyword}
 use Rattle.kk_syntax.specs.declared.token.Symbol.{Symbol}
@@ -87,7 +88,7 @@ pub gives_up_as : {A B : Type 0} (p : Phrase) (means : PhraseValue p → B) (vie
 gives_up_as p means view (Ok x) e old new i h = absurd i
 gives_up_as p means view (Err y) e old new i h = subst (λ x. FailedBy x p old new) (sym i) h
 
-pub gives_up_items : (before after : List WrittenStatement) (r : Result SurfaceExpr Fault) (e : Fault) (old new : Parser) → IsErrAnd r (λ y. y ≡ e) → FailedBy e items old new → ReadsItems before after r old new
+pub gives_up_items : (before after : List WrittenStatement) (r : Result (Box SurfaceExpr) Fault) (e : Fault) (old new : Parser) → IsErrAnd r (λ y. y ≡ e) → FailedBy e items old new → ReadsItems before after r old new
 gives_up_items before after (Ok x) e old new i h = absurd i
 gives_up_items before after (Err y) e old new i h = subst (λ x. FailedBy x items old new) (sym i) h
 

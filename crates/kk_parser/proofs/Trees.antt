@@ -1,11 +1,15 @@
 -- What the trees that are made stand for.
-use Rattle.std.proofs.Common.{◌≡◌, ℕ, ℤ, List, Some, None, map, ap, sym, ◌∙◌}
+use Rattle.std.proofs.Common.{◌≡◌, ℕ, ℤ, List, Some, None, Result, Ok, Err, IfOk, map, ap, sym, ◌∙◌}
+use Rattle.std.specs.Global.{Box}
+use Rattle.kk_base.specs.declared.error.NoMemory.{NoMemory}
 use Rattle.kk_syntax.specs.declared.operator.PrintForm.{PrintForm}
 use Rattle.kk_syntax.specs.declared.tree.Identifier.{Identifier}
-use Rattle.kk_syntax.specs.declared.tree.SurfaceExpr.TheVariants.{Number, rolls-Number, Unit, rolls-Unit, Variable, rolls-Variable, PrintText, rolls-PrintText, Call, rolls-Call, DotCall, rolls-DotCall, Construct, rolls-Construct, Block, rolls-Block, If, rolls-If}
+use Rattle.kk_syntax.specs.declared.tree.SurfaceExpr.{SurfaceExpr}
+use Rattle.kk_syntax.specs.declared.tree.SurfaceExpr.TheVariants.{Number, rolls-Number, Unit, rolls-Unit, Variable, rolls-Variable, PrintText, rolls-PrintText, Call, rolls-Call, DotCall, rolls-DotCall, Construct, rolls-Construct, Block, rolls-Block, If, rolls-If, Unary, rolls-Unary, Binary, rolls-Binary, And, rolls-And, Or, rolls-Or}
 use Rattle.kk_syntax.specs.declared.tree.SurfaceExpr.TheFolds.{fold-roll-SurfaceExpr, fold_out-SurfaceStatement}
 use Rattle.kk_syntax.specs.declared.tree.SurfaceStatement.{SurfaceStatement}
-use Rattle.kk_syntax.specs.Surface.{Written, WrittenRow, WrittenStatement, expr_step, row_step, statement_step, written_expr, written_statement, number, unit, variable, print_text, call, dot_call, construct, branch, branch_alone, writtens_of, block_of}
+use Rattle.kk_syntax.specs.Surface.{Written, WrittenRow, WrittenStatement, expr_step, row_step, statement_step, written_expr, written_statement, number, unit, variable, print_text, call, dot_call, construct, branch, branch_alone, writtens_of, block_of, unary, binary, both, either}
+use Rattle.kk_parser.specs.Views.{boxed_expr}
 
 pub written-Number : (value : ℤ) → written_expr (Number value) ≡ number value
 written-Number value = ap written_expr (sym (rolls-Number value)) ∙ fold-roll-SurfaceExpr Written WrittenRow WrittenStatement expr_step row_step statement_step _
@@ -39,3 +43,20 @@ written-If_alone condition positive = ap written_expr (sym (rolls-If condition p
 
 pub written-statement : (s : SurfaceStatement) → written_statement s ≡ record { binder = s.binder; value = written_expr s.value }
 written-statement s = fold_out-SurfaceStatement Written WrittenRow WrittenStatement expr_step row_step statement_step s
+
+pub written-Unary : (operator : _) (operand : _) → written_expr (Unary operator operand) ≡ unary operator (written_expr operand.value)
+written-Unary operator operand = ap written_expr (sym (rolls-Unary operator operand)) ∙ fold-roll-SurfaceExpr Written WrittenRow WrittenStatement expr_step row_step statement_step _
+
+pub written-Binary : (operator : _) (left right : _) → written_expr (Binary operator left right) ≡ binary operator (written_expr left.value) (written_expr right.value)
+written-Binary operator left right = ap written_expr (sym (rolls-Binary operator left right)) ∙ fold-roll-SurfaceExpr Written WrittenRow WrittenStatement expr_step row_step statement_step _
+
+pub written-And : (left right : _) → written_expr (And left right) ≡ both (written_expr left.value) (written_expr right.value)
+written-And left right = ap written_expr (sym (rolls-And left right)) ∙ fold-roll-SurfaceExpr Written WrittenRow WrittenStatement expr_step row_step statement_step _
+
+pub written-Or : (left right : _) → written_expr (Or left right) ≡ either (written_expr left.value) (written_expr right.value)
+written-Or left right = ap written_expr (sym (rolls-Or left right)) ∙ fold-roll-SurfaceExpr Written WrittenRow WrittenStatement expr_step row_step statement_step _
+
+-- an expression was put in a box
+pub in_box : (r : Result (Box SurfaceExpr) NoMemory) (e : SurfaceExpr) (w : Written) → IfOk r (λ b. b.value ≡ e) → written_expr e ≡ w → IfOk r (λ b. boxed_expr b ≡ w)
+in_box (Ok b) e w h d = ap written_expr h ∙ d
+in_box (Err y) e w h d = tt

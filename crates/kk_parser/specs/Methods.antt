@@ -1,16 +1,18 @@
 -- What the methods of the parser promise: which phrase they read.
 use Rattle.std.specs.Prelude.{◌≡◌, ℕ, ◌+◌, ◌<◌, ◌≤◌, List, ◌++◌, Option, Some, None, Result, Ok, Err, true, false}
+use Rattle.std.specs.Global.{Box}
 use Rattle.kk_base.specs.declared.span.Span.{Span}
 use Rattle.kk_base.specs.declared.error.ParseError.{ParseError}
 use Rattle.kk_base.specs.declared.error.ParseError.TheVariants as OfError
 use Rattle.kk_syntax.specs.declared.tree.SurfaceExpr.{SurfaceExpr}
-use Rattle.kk_syntax.specs.Surface.{WrittenStatement, written_expr}
+use Rattle.kk_syntax.specs.Surface.{WrittenStatement}
 use Rattle.kk_parser.specs.Forms.{items, bindings_of}
 use Rattle.kk_parser.specs.declared.fault.Fault.{Fault}
 use Rattle.kk_parser.specs.declared.fault.Fault.TheVariants.{Unexpected, TooDeep, NoMemory}
 use Rattle.kk_parser.specs.declared.parser.Parser.{Parser}
 use Rattle.kk_parser.specs.Classes.{is_at}
 use Rattle.kk_parser.specs.Phrases.{Phrase, PhraseValue}
+use Rattle.kk_parser.specs.Views.{boxed_expr}
 pub use Rattle.kk_parser.specs.Reading.{behind}
 use Rattle.kk_parser.specs.Reading.{first, Finds, ReadingFails, unexpected, too_deep}
 
@@ -41,8 +43,8 @@ ReadsAs p means view (Ok x) old new = (v : PhraseValue p) × (means v ≡ view x
 ReadsAs p means view (Err fault) old new = FailedBy fault p old new
 
 -- a method read items: it put their statements behind others, and its result is their value
-abbrev pub ReadsItems : List WrittenStatement → List WrittenStatement → Result SurfaceExpr Fault → Parser → Parser → Type 0
-ReadsItems before after (Ok value) old new = (v : PhraseValue items) × (after ≡ before ++ bindings_of v.0) × (v.1 ≡ written_expr value) × Read items v old new
+abbrev pub ReadsItems : List WrittenStatement → List WrittenStatement → Result (Box SurfaceExpr) Fault → Parser → Parser → Type 0
+ReadsItems before after (Ok value) old new = (v : PhraseValue items) × (after ≡ before ++ bindings_of v.0) × (v.1 ≡ boxed_expr value) × Read items v old new
 ReadsItems before after (Err fault) old new = FailedBy fault items old new
 
 -- a method read a phrase where the next token may begin one, and else nothing

@@ -1,11 +1,13 @@
 -- What the parser's own types stand for.
 use Rattle.std.specs.Prelude.{List, [], ◌∷◌, map, Option, Some, None}
-use Rattle.std.specs.Global.{Vec}
+use Rattle.std.specs.Global.{Vec, Box}
 use Rattle.kk_syntax.specs.declared.tree.Effect.{Effect}
 use Rattle.kk_syntax.specs.declared.tree.Effect.TheVariants.{Total, Div, Exn, Console}
+use Rattle.kk_syntax.specs.declared.tree.Declaration.{Declaration}
+use Rattle.kk_syntax.specs.declared.tree.SurfaceBinder.{SurfaceBinder}
 use Rattle.kk_syntax.specs.declared.tree.SurfaceExpr.{SurfaceExpr}
 use Rattle.kk_syntax.specs.declared.tree.SurfaceType.{SurfaceType}
-use Rattle.kk_syntax.specs.Surface.{Written, WrittenDeclaration, function_declaration, WrittenType, written_expr, written_parameter, written_result, written_type}
+use Rattle.kk_syntax.specs.Surface.{Written, WrittenDeclaration, WrittenStatement, function_declaration, WrittenType, written_declaration, written_expr, written_parameter, written_result, written_type}
 use Rattle.kk_parser.specs.declared.name.Names.{Names}
 use Rattle.kk_parser.specs.declared.name.Names.TheVariants as OfNames
 use Rattle.kk_parser.specs.declared.name.NameClass.{NameClass as CodeClass}
@@ -43,6 +45,10 @@ classes_in OfNames.OfTypesButEffects = names_of type_name_but_effect
 abbrev pub kind_of : Names → Kind
 kind_of names = name_in (classes_in names)
 
+-- what an expression in a box stands for
+abbrev pub boxed_expr : Box SurfaceExpr → Written
+boxed_expr e = written_expr e.value
+
 -- what arguments in brackets stand for
 abbrev pub arguments_view : Option (Vec SurfaceExpr) → Option (List Written)
 arguments_view None = None
@@ -60,6 +66,14 @@ head_view head = record {
 -- the declaration of a function, from what stands before the body and from the body
 abbrev pub declaration_of : WrittenHead → Written → WrittenDeclaration
 declaration_of head body = function_declaration head.name head.parameters head.effects head.result body
+
+-- what is bound, and the value
+abbrev pub binding_view : SurfaceBinder × Box SurfaceExpr → WrittenStatement
+binding_view (binder, value) = record { binder = binder; value = boxed_expr value }
+
+-- what a declaration in a box stands for
+abbrev pub boxed_declaration : Box Declaration → WrittenDeclaration
+boxed_declaration d = written_declaration d.value
 
 -- effects and a type
 abbrev pub result_view : Vec Effect × SurfaceType → List Effect × WrittenType

@@ -1,14 +1,15 @@
 ghost use Rattle.std.specs.Prelude.{◌≡◌, ◌+◌, ◌≤◌, [], ◌∷◌, map, length, OnOk};
-ghost use Rattle.kk_syntax.specs.Surface.{written_expr, written_statement};
+ghost use Rattle.kk_syntax.specs.Surface.{written_statement};
 ghost use Rattle.kk_parser.specs.Classes.{is_at};
 ghost use Rattle.kk_parser.specs.Forms.{binding as OfBinding, binding_of, items as OfItems};
 ghost use Rattle.kk_parser.specs.Grammar.{binder as OfBinder, binder_of};
 ghost use Rattle.kk_parser.specs.Methods.{ReadsPhrase, ReadsFor, ReadsAs, ReadsItems};
 ghost use Rattle.kk_parser.specs.Phrases.{rule, block as OfBlock};
 ghost use Rattle.kk_parser.specs.Reading.{first};
+ghost use Rattle.kk_parser.specs.Views.{binding_view, boxed_expr};
 
 use crate::fault::Fault;
-use crate::made::block_of;
+use crate::made::{block_of, put};
 use crate::name::Names;
 use crate::parser::Parser;
 use kk_syntax::{Keyword, SurfaceBinder, SurfaceExpr, SurfaceStatement, Symbol};
@@ -16,8 +17,8 @@ use kk_syntax::{Keyword, SurfaceBinder, SurfaceExpr, SurfaceStatement, Symbol};
 impl<'a> Parser<'a> {
     /// `block = "{" ;* { stmt ;+ } expr ;* "}"`
     #[cycle(expr)]
-    pub fn block(&mut self) -> Result<SurfaceExpr, Fault>
-        ensures reads { ReadsPhrase (rule OfBlock) written_expr result self.old self.new }
+    pub fn block(&mut self) -> Result<Box<SurfaceExpr>, Fault>
+        ensures reads { ReadsPhrase (rule OfBlock) boxed_expr result self.old self.new }
         ensures depth { OnOk result (self.old.depth ≤ self.new.depth) }
         ensures left { length self.new.rest.now ≤ length self.old.rest.now }
     {
@@ -28,13 +29,11 @@ impl<'a> Parser<'a> {
         while self.is_at(Symbol::Semicolon) {
             self.advance();
             if self.is_at_item() {
-                match statements.push(SurfaceStatement {
+                let statement = SurfaceStatement {
                     binder: SurfaceBinder::Nothing,
-                    value,
-                }) {
-                    Ok(()) => {}
-                    Err(_) => return Err(Fault::NoMemory),
-                }
+                    value: Box::into_inner(value),
+                };
+                put(&mut statements, statement)?;
                 value = self.items(&mut statements)?;
             }
         }
@@ -44,18 +43,16 @@ impl<'a> Parser<'a> {
 
     // `{ binding ;+ } expr`: puts the statements behind others, and gives the expression.
     #[cycle(expr)]
-    fn items(&mut self, statements: &mut Vec<SurfaceStatement>) -> Result<SurfaceExpr, Fault>
+    fn items(&mut self, statements: &mut Vec<SurfaceStatement>) -> Result<Box<SurfaceExpr>, Fault>
         ensures reads { ReadsItems (map written_statement statements.old.items) (map written_statement statements.new.items) result self.old self.new }
         ensures depth { OnOk result (self.new.depth ≡ self.old.depth) }
         ensures left { length self.new.rest.now ≤ length self.old.rest.now }
     {
         while self.is_at_keyword(Keyword::Val) {
-            let statement = self.binding()?;
+            let (binder, value) = self.binding()?;
             self.some_semicolons()?;
-            match statements.push(statement) {
-                Ok(()) => {}
-                Err(_) => return Err(Fault::NoMemory),
-            }
+            let value = Box::into_inner(value);
+            put(statements, SurfaceStatement { binder, value })?;
         }
         self.expr()
     }
@@ -69,8 +66,8 @@ impl<'a> Parser<'a> {
 
     // `"val" ( name | wildcard ) "=" expr`
     #[cycle(expr)]
-    fn binding(&mut self) -> Result<SurfaceStatement, Fault>
-        ensures reads { ReadsAs OfBinding binding_of written_statement result self.old self.new }
+    fn binding(&mut self) -> Result<(SurfaceBinder, Box<SurfaceExpr>), Fault>
+        ensures reads { ReadsAs OfBinding binding_of binding_view result self.old self.new }
         ensures depth { OnOk result (self.new.depth ≡ self.old.depth) }
         ensures left { length self.new.rest.now ≤ length self.old.rest.now }
         ensures passed { OnOk result (length self.new.rest.now + 1 ≤ length self.old.rest.now) }
@@ -79,7 +76,7 @@ impl<'a> Parser<'a> {
         let binder = self.binder()?;
         self.expect(Symbol::Equals)?;
         let value = self.expr()?;
-        Ok(SurfaceStatement { binder, value })
+        Ok((binder, value))
     }
 
     // `name | wildcard`

@@ -1,5 +1,5 @@
 ghost use Rattle.std.specs.Prelude.{◌≡◌, ◌+◌, ◌≤◌, [], ◌∷◌, map, length, IfOk, OnOk};
-ghost use Rattle.kk_syntax.specs.Surface.{written_expr, unit};
+ghost use Rattle.kk_syntax.specs.Surface.{written_expr, unit as OfUnit};
 ghost use Rattle.kk_parser.specs.Classes.{is_at};
 ghost use Rattle.kk_parser.specs.Forms.{branches, branches_of, in_brackets, inside, spoken as OfSpoken, spoken_of, printed as OfPrinted, printed_of};
 ghost use Rattle.kk_parser.specs.Grammar.{arguments_given, bracketed, if_of, named_of, print_form, no_arguments};
@@ -7,10 +7,13 @@ ghost use Rattle.kk_parser.specs.Kinds.{name_but_print};
 ghost use Rattle.kk_parser.specs.Methods.{ReadsPhrase, ReadsFor, ReadsAs};
 ghost use Rattle.kk_parser.specs.Phrases.{token, optional, ◌▸◌, rule, expr as OfExpr, if_ as OfIf, or as OfOr, and as OfAnd, cmp as OfCmp, add as OfAdd, mul as OfMul, un as OfUn, post as OfPost, atom as OfAtom, args as OfArgs};
 ghost use Rattle.kk_parser.specs.Reading.{expr_first, is_quoted};
-ghost use Rattle.kk_parser.specs.Views.{arguments_view};
+ghost use Rattle.kk_parser.specs.Views.{arguments_view, boxed_expr};
 
 use crate::fault::Fault;
-use crate::made::{binary, both, branch, branch_alone, dot_call, either, unary};
+use crate::made::{
+    binary, both, branch, branch_alone, call, construct, dot_call, either, number, print_text, put,
+    unary, unit, variable,
+};
 use crate::name::Names;
 use crate::parser::Parser;
 use kk_syntax::{Keyword, SurfaceExpr, Symbol, Token};
@@ -18,8 +21,8 @@ use kk_syntax::{Keyword, SurfaceExpr, Symbol, Token};
 impl<'a> Parser<'a> {
     /// `expr = block | if | or`: the levels end that it opens.
     #[cycle(expr)]
-    pub fn expr(&mut self) -> Result<SurfaceExpr, Fault>
-        ensures reads { ReadsPhrase (rule OfExpr) written_expr result self.old self.new }
+    pub fn expr(&mut self) -> Result<Box<SurfaceExpr>, Fault>
+        ensures reads { ReadsPhrase (rule OfExpr) boxed_expr result self.old self.new }
         ensures depth { OnOk result (self.new.depth ≡ self.old.depth) }
         ensures left { length self.new.rest.now ≤ length self.old.rest.now }
     {
@@ -41,8 +44,8 @@ impl<'a> Parser<'a> {
 
     /// `if = "if" or "then" expr { "elif" or "then" expr } [ "else" expr ]`
     #[cycle(expr)]
-    fn if_(&mut self) -> Result<SurfaceExpr, Fault>
-        ensures reads { ReadsPhrase (rule OfIf) written_expr result self.old self.new }
+    fn if_(&mut self) -> Result<Box<SurfaceExpr>, Fault>
+        ensures reads { ReadsPhrase (rule OfIf) boxed_expr result self.old self.new }
         ensures depth { OnOk result (self.old.depth ≤ self.new.depth) }
         ensures left { length self.new.rest.now ≤ length self.old.rest.now }
     {
@@ -52,8 +55,8 @@ impl<'a> Parser<'a> {
 
     // What stands behind `if` or `elif`. The next `elif` is an `if` in the branch of `else`.
     #[cycle(expr)]
-    fn branches(&mut self) -> Result<SurfaceExpr, Fault>
-        ensures reads { ReadsAs branches branches_of written_expr result self.old self.new }
+    fn branches(&mut self) -> Result<Box<SurfaceExpr>, Fault>
+        ensures reads { ReadsAs branches branches_of boxed_expr result self.old self.new }
         ensures depth { OnOk result (self.old.depth ≤ self.new.depth) }
         ensures left { length self.new.rest.now ≤ length self.old.rest.now }
     {
@@ -75,8 +78,8 @@ impl<'a> Parser<'a> {
 
     /// `or = and [ "||" or ]`
     #[cycle(expr)]
-    fn or(&mut self) -> Result<SurfaceExpr, Fault>
-        ensures reads { ReadsPhrase (rule OfOr) written_expr result self.old self.new }
+    fn or(&mut self) -> Result<Box<SurfaceExpr>, Fault>
+        ensures reads { ReadsPhrase (rule OfOr) boxed_expr result self.old self.new }
         ensures depth { OnOk result (self.old.depth ≤ self.new.depth) }
         ensures left { length self.new.rest.now ≤ length self.old.rest.now }
     {
@@ -91,8 +94,8 @@ impl<'a> Parser<'a> {
 
     /// `and = cmp [ "&&" and ]`
     #[cycle(expr)]
-    fn and(&mut self) -> Result<SurfaceExpr, Fault>
-        ensures reads { ReadsPhrase (rule OfAnd) written_expr result self.old self.new }
+    fn and(&mut self) -> Result<Box<SurfaceExpr>, Fault>
+        ensures reads { ReadsPhrase (rule OfAnd) boxed_expr result self.old self.new }
         ensures depth { OnOk result (self.old.depth ≤ self.new.depth) }
         ensures left { length self.new.rest.now ≤ length self.old.rest.now }
     {
@@ -107,8 +110,8 @@ impl<'a> Parser<'a> {
 
     /// `cmp = add [ ( "==" | "!=" | "<" | "<=" | ">" | ">=" ) add ]`
     #[cycle(expr)]
-    fn cmp(&mut self) -> Result<SurfaceExpr, Fault>
-        ensures reads { ReadsPhrase (rule OfCmp) written_expr result self.old self.new }
+    fn cmp(&mut self) -> Result<Box<SurfaceExpr>, Fault>
+        ensures reads { ReadsPhrase (rule OfCmp) boxed_expr result self.old self.new }
         ensures depth { OnOk result (self.old.depth ≤ self.new.depth) }
         ensures left { length self.new.rest.now ≤ length self.old.rest.now }
     {
@@ -122,8 +125,8 @@ impl<'a> Parser<'a> {
 
     /// `add = mul { ( "+" | "-" ) mul }`, to the left.
     #[cycle(expr)]
-    fn add(&mut self) -> Result<SurfaceExpr, Fault>
-        ensures reads { ReadsPhrase (rule OfAdd) written_expr result self.old self.new }
+    fn add(&mut self) -> Result<Box<SurfaceExpr>, Fault>
+        ensures reads { ReadsPhrase (rule OfAdd) boxed_expr result self.old self.new }
         ensures depth { OnOk result (self.old.depth ≤ self.new.depth) }
         ensures left { length self.new.rest.now ≤ length self.old.rest.now }
     {
@@ -137,8 +140,8 @@ impl<'a> Parser<'a> {
 
     /// `mul = un { ( "*" | "/" | "%" ) un }`, to the left.
     #[cycle(expr)]
-    fn mul(&mut self) -> Result<SurfaceExpr, Fault>
-        ensures reads { ReadsPhrase (rule OfMul) written_expr result self.old self.new }
+    fn mul(&mut self) -> Result<Box<SurfaceExpr>, Fault>
+        ensures reads { ReadsPhrase (rule OfMul) boxed_expr result self.old self.new }
         ensures depth { OnOk result (self.old.depth ≤ self.new.depth) }
         ensures left { length self.new.rest.now ≤ length self.old.rest.now }
     {
@@ -152,8 +155,8 @@ impl<'a> Parser<'a> {
 
     /// `un = ( "!" | "~" ) un | post`
     #[cycle(expr)]
-    fn un(&mut self) -> Result<SurfaceExpr, Fault>
-        ensures reads { ReadsPhrase (rule OfUn) written_expr result self.old self.new }
+    fn un(&mut self) -> Result<Box<SurfaceExpr>, Fault>
+        ensures reads { ReadsPhrase (rule OfUn) boxed_expr result self.old self.new }
         ensures depth { OnOk result (self.old.depth ≤ self.new.depth) }
         ensures left { length self.new.rest.now ≤ length self.old.rest.now }
     {
@@ -166,8 +169,8 @@ impl<'a> Parser<'a> {
 
     /// `post = atom { "." name [ "(" args ")" ] }`, to the left.
     #[cycle(expr)]
-    fn post(&mut self) -> Result<SurfaceExpr, Fault>
-        ensures reads { ReadsPhrase (rule OfPost) written_expr result self.old self.new }
+    fn post(&mut self) -> Result<Box<SurfaceExpr>, Fault>
+        ensures reads { ReadsPhrase (rule OfPost) boxed_expr result self.old self.new }
         ensures depth { OnOk result (self.old.depth ≤ self.new.depth) }
         ensures left { length self.new.rest.now ≤ length self.old.rest.now }
     {
@@ -187,17 +190,17 @@ impl<'a> Parser<'a> {
 
     /// `atom = name [ "(" args ")" ] | Con | number | "(" ")" | "(" expr ")" | say`
     #[cycle(expr)]
-    fn atom(&mut self) -> Result<SurfaceExpr, Fault>
-        ensures reads { ReadsPhrase (rule OfAtom) written_expr result self.old self.new }
+    fn atom(&mut self) -> Result<Box<SurfaceExpr>, Fault>
+        ensures reads { ReadsPhrase (rule OfAtom) boxed_expr result self.old self.new }
         ensures depth { OnOk result (self.old.depth ≤ self.new.depth) }
         ensures left { length self.new.rest.now ≤ length self.old.rest.now }
     {
         if let Some(value) = self.number() {
-            return Ok(SurfaceExpr::Number(value));
+            return Ok(number(self.alloc, value)?);
         }
         if self.is_at_constructor() {
             let name = self.constructor()?;
-            return Ok(SurfaceExpr::Construct(name, Vec::new(self.alloc)));
+            return Ok(construct(self.alloc, name)?);
         }
         if self.is_at(Symbol::OpenParenthesis) {
             return self.in_brackets();
@@ -213,15 +216,15 @@ impl<'a> Parser<'a> {
 
     // `"(" ")" | "(" expr ")"`
     #[cycle(expr)]
-    fn in_brackets(&mut self) -> Result<SurfaceExpr, Fault>
-        ensures reads { ReadsAs (in_brackets (rule OfExpr)) (inside unit (λ e. e)) written_expr result self.old self.new }
+    fn in_brackets(&mut self) -> Result<Box<SurfaceExpr>, Fault>
+        ensures reads { ReadsAs (in_brackets (rule OfExpr)) (inside OfUnit (λ e. e)) boxed_expr result self.old self.new }
         ensures depth { OnOk result (self.old.depth ≤ self.new.depth) }
         ensures left { length self.new.rest.now ≤ length self.old.rest.now }
     {
         self.open(Symbol::OpenParenthesis)?;
         if self.is_at(Symbol::CloseParenthesis) {
             self.advance();
-            return Ok(SurfaceExpr::Unit);
+            return Ok(unit(self.alloc)?);
         }
         let inner = self.expr()?;
         self.expect(Symbol::CloseParenthesis)?;
@@ -229,8 +232,8 @@ impl<'a> Parser<'a> {
     }
 
     // `string "." ( "print" | "println" ) [ "(" ")" ]`
-    fn spoken(&mut self) -> Result<SurfaceExpr, Fault>
-        ensures reads { ReadsAs OfSpoken spoken_of written_expr result self.old self.new }
+    fn spoken(&mut self) -> Result<Box<SurfaceExpr>, Fault>
+        ensures reads { ReadsAs OfSpoken spoken_of boxed_expr result self.old self.new }
         ensures depth { OnOk result (self.old.depth ≤ self.new.depth) }
         ensures left { length self.new.rest.now ≤ length self.old.rest.now }
     {
@@ -238,7 +241,7 @@ impl<'a> Parser<'a> {
         self.open(Symbol::Dot)?;
         let (form, _) = self.print_word()?;
         self.no_arguments()?;
-        Ok(SurfaceExpr::PrintText(form, text))
+        Ok(print_text(self.alloc, form, text)?)
     }
 
     // `[ "(" ")" ]`
@@ -257,24 +260,24 @@ impl<'a> Parser<'a> {
 
     // A print's name, and what stands behind it: `[ "(" ( string ")" | args ")" ) ]`
     #[cycle(expr)]
-    fn printed(&mut self) -> Result<SurfaceExpr, Fault>
-        ensures reads { ReadsAs OfPrinted printed_of written_expr result self.old self.new }
+    fn printed(&mut self) -> Result<Box<SurfaceExpr>, Fault>
+        ensures reads { ReadsAs OfPrinted printed_of boxed_expr result self.old self.new }
         ensures depth { OnOk result (self.old.depth ≤ self.new.depth) }
         ensures left { length self.new.rest.now ≤ length self.old.rest.now }
     {
         let (form, name) = self.print_word()?;
         if !self.is_at(Symbol::OpenParenthesis) {
-            return Ok(SurfaceExpr::Variable(name));
+            return Ok(variable(self.alloc, name)?);
         }
         self.open(Symbol::OpenParenthesis)?;
         if self.is_at_quoted() {
             let text = self.string()?;
             self.expect(Symbol::CloseParenthesis)?;
-            return Ok(SurfaceExpr::PrintText(form, text));
+            return Ok(print_text(self.alloc, form, text)?);
         }
         let arguments = self.args()?;
         self.expect(Symbol::CloseParenthesis)?;
-        Ok(SurfaceExpr::Call(name, arguments))
+        Ok(call(self.alloc, name, arguments)?)
     }
 
     // Whether a string is next, and no dot behind it.
@@ -300,15 +303,15 @@ impl<'a> Parser<'a> {
 
     // Another name, and arguments in brackets or none.
     #[cycle(expr)]
-    fn named(&mut self) -> Result<SurfaceExpr, Fault>
-        ensures reads { ReadsAs (token name_but_print ▸ optional (bracketed (rule OfArgs))) (λ v. named_of v.0 v.1) written_expr result self.old self.new }
+    fn named(&mut self) -> Result<Box<SurfaceExpr>, Fault>
+        ensures reads { ReadsAs (token name_but_print ▸ optional (bracketed (rule OfArgs))) (λ v. named_of v.0 v.1) boxed_expr result self.old self.new }
         ensures depth { OnOk result (self.old.depth ≤ self.new.depth) }
         ensures left { length self.new.rest.now ≤ length self.old.rest.now }
     {
         let name = self.identifier(Names::ButPrints)?;
         match self.arguments()? {
-            Some(arguments) => Ok(SurfaceExpr::Call(name, arguments)),
-            None => Ok(SurfaceExpr::Variable(name)),
+            Some(arguments) => Ok(call(self.alloc, name, arguments)?),
+            None => Ok(variable(self.alloc, name)?),
         }
     }
 
@@ -340,17 +343,11 @@ impl<'a> Parser<'a> {
             return Ok(arguments);
         }
         let first = self.expr()?;
-        match arguments.push(first) {
-            Ok(()) => {}
-            Err(_) => return Err(Fault::NoMemory),
-        }
+        put(&mut arguments, Box::into_inner(first))?;
         while self.is_at(Symbol::Comma) {
             self.advance();
             let next = self.expr()?;
-            match arguments.push(next) {
-                Ok(()) => {}
-                Err(_) => return Err(Fault::NoMemory),
-            }
+            put(&mut arguments, Box::into_inner(next))?;
         }
         Ok(arguments)
     }

@@ -6,9 +6,10 @@ ghost use Rattle.kk_parser.specs.Grammar.{parameters as OfParameters, listed, li
 ghost use Rattle.kk_parser.specs.Methods.{ReadsPhrase, ReadsFor, ReadsAs, error_for};
 ghost use Rattle.kk_parser.specs.Parses.{AnswersParse, EachListIsParsed, OneProgram, in_u32, next_place};
 ghost use Rattle.kk_parser.specs.Phrases.{rule, program as OfProgram, decl as OfDecl, param as OfParam};
-ghost use Rattle.kk_parser.specs.Views.{declaration_of, head_view};
+ghost use Rattle.kk_parser.specs.Views.{boxed_declaration, declaration_of, head_view};
 
 use crate::fault::Fault;
+use crate::made::{boxed, put};
 use crate::name::Names;
 use crate::parser::Parser;
 use kk_base::{ParseError, Span};
@@ -103,18 +104,12 @@ impl<'a> Parser<'a> {
             return Ok(declarations);
         }
         let first = self.declaration()?;
-        match declarations.push(first) {
-            Ok(()) => {}
-            Err(_) => return Err(Fault::NoMemory),
-        }
+        put(&mut declarations, Box::into_inner(first))?;
         while self.is_at(Symbol::Semicolon) {
             self.advance();
             if self.is_at_keyword(Keyword::Fun) {
                 let next = self.declaration()?;
-                match declarations.push(next) {
-                    Ok(()) => {}
-                    Err(_) => return Err(Fault::NoMemory),
-                }
+                put(&mut declarations, Box::into_inner(next))?;
             }
         }
         Ok(declarations)
@@ -122,8 +117,8 @@ impl<'a> Parser<'a> {
 
     /// `decl = "fun" name "(" [ param { "," param } ] ")" [ ":" [ effect ] type ] expr`: the levels end that it opens. Only
     /// `main` may leave its result out.
-    fn declaration(&mut self) -> Result<Declaration, Fault>
-        ensures reads { ReadsPhrase (rule OfDecl) written_declaration result self.old self.new }
+    fn declaration(&mut self) -> Result<Box<Declaration>, Fault>
+        ensures reads { ReadsPhrase (rule OfDecl) boxed_declaration result self.old self.new }
         ensures depth { OnOk result (self.new.depth ≡ self.old.depth) }
         ensures left { length self.new.rest.now ≤ length self.old.rest.now }
     {
@@ -132,7 +127,8 @@ impl<'a> Parser<'a> {
         let head = self.head()?;
         let body = self.expr()?;
         self.depth = depth;
-        Ok(function_of(head, body))
+        let declaration = function_of(head, Box::into_inner(body));
+        Ok(boxed(self.alloc, declaration)?)
     }
 
     // What stands between `fun` and the body.
@@ -191,17 +187,11 @@ impl<'a> Parser<'a> {
             return Ok(parameters);
         }
         let first = self.parameter()?;
-        match parameters.push(first) {
-            Ok(()) => {}
-            Err(_) => return Err(Fault::NoMemory),
-        }
+        put(&mut parameters, first)?;
         while self.is_at(Symbol::Comma) {
             self.advance();
             let next = self.parameter()?;
-            match parameters.push(next) {
-                Ok(()) => {}
-                Err(_) => return Err(Fault::NoMemory),
-            }
+            put(&mut parameters, next)?;
         }
         Ok(parameters)
     }

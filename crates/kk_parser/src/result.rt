@@ -9,6 +9,7 @@ ghost use Rattle.kk_parser.specs.Reading.{first};
 ghost use Rattle.kk_parser.specs.Views.{class_of_effect, result_view};
 
 use crate::fault::Fault;
+use crate::made::put;
 use crate::name::{NameClass, Names, name_class};
 use crate::parser::Parser;
 use kk_syntax::{Effect, SurfaceType, Symbol, Token};
@@ -88,10 +89,7 @@ impl<'a> Parser<'a> {
         if self.next_effect().is_some() {
             let effect = self.eff()?;
             let mut effects = Vec::new(self.alloc);
-            match effects.push(effect) {
-                Ok(()) => {}
-                Err(_) => return Err(Fault::NoMemory),
-            }
+            put(&mut effects, effect)?;
             return Ok(effects);
         }
         self.expect(Symbol::Less)?;
@@ -110,17 +108,11 @@ impl<'a> Parser<'a> {
             return Ok(effects);
         }
         let first = self.eff()?;
-        match effects.push(first) {
-            Ok(()) => {}
-            Err(_) => return Err(Fault::NoMemory),
-        }
+        put(&mut effects, first)?;
         while self.is_at(Symbol::Comma) {
             self.advance();
             let next = self.eff()?;
-            match effects.push(next) {
-                Ok(()) => {}
-                Err(_) => return Err(Fault::NoMemory),
-            }
+            put(&mut effects, next)?;
         }
         Ok(effects)
     }

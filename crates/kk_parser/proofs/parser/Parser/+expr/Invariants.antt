@@ -5,6 +5,7 @@ use Rattle.kk_parser.specs.Forms.{items, binding, bindings_of}
 use Rattle.kk_parser.specs.Grammar.{sum_operator, sum_operator_of, product_operator, product_operator_of, to_left, dotted, bracketed, some_semicolons}
 use Rattle.kk_parser.specs.Kinds.{symbol, name}
 use Rattle.kk_parser.specs.Phrases.{PhraseValue, token, opener, optional, rule, expr, block, add, mul, un, post, args, many, ◌▸◌}
+use Rattle.kk_parser.specs.Views.{boxed_expr}
 use Rattle.kk_parser.proofs.Blocks.{block_end, block_says}
 use Rattle.kk_parser.proofs.Steps.{Continues}
 use Rattle.kk_parser.proofs.parser.Parser.+expr.Given as goal
@@ -66,31 +67,31 @@ decreases-named l = 20 * (201 - l.self.now.depth) + 2
 abbrev pub decreases-arguments : goal.decreases-arguments
 decreases-arguments l = 20 * (201 - l.self.now.depth) + 1
 
-abbrev pub invariant-add-loop-left : goal.invariant-add-loop-left
-invariant-add-loop-left l = record {
+abbrev pub invariant-add-loop-operator : goal.invariant-add-loop-operator
+invariant-add-loop-operator l = record {
   left : length l.self.rest.now ≤ length l.fn.self.rest.now;
   depth : l.fn.self.depth ≤ l.self.depth;
-  read : Continues (rule add) (many (sum_operator ▸ rule mul)) (to_left sum_operator_of (written_expr l.left)) l.fn.self l.self;
+  read : Continues (rule add) (many (sum_operator ▸ rule mul)) (to_left sum_operator_of (boxed_expr l.left)) l.fn.self l.self;
 }
 
-abbrev pub decreases-add-loop-left : goal.decreases-add-loop-left
-decreases-add-loop-left l = length l.self.rest.now
+abbrev pub decreases-add-loop-operator : goal.decreases-add-loop-operator
+decreases-add-loop-operator l = length l.self.rest.now
 
-abbrev pub invariant-mul-loop-left : goal.invariant-mul-loop-left
-invariant-mul-loop-left l = record {
+abbrev pub invariant-mul-loop-operator : goal.invariant-mul-loop-operator
+invariant-mul-loop-operator l = record {
   left : length l.self.rest.now ≤ length l.fn.self.rest.now;
   depth : l.fn.self.depth ≤ l.self.depth;
-  read : Continues (rule mul) (many (product_operator ▸ rule un)) (to_left product_operator_of (written_expr l.left)) l.fn.self l.self;
+  read : Continues (rule mul) (many (product_operator ▸ rule un)) (to_left product_operator_of (boxed_expr l.left)) l.fn.self l.self;
 }
 
-abbrev pub decreases-mul-loop-left : goal.decreases-mul-loop-left
-decreases-mul-loop-left l = length l.self.rest.now
+abbrev pub decreases-mul-loop-operator : goal.decreases-mul-loop-operator
+decreases-mul-loop-operator l = length l.self.rest.now
 
 abbrev pub invariant-post-loop-self : goal.invariant-post-loop-self
 invariant-post-loop-self l = record {
   left : length l.self.rest.now ≤ length l.fn.self.rest.now;
   depth : l.fn.self.depth ≤ l.self.depth;
-  read : Continues (rule post) (many (opener (symbol Dot) ▸ token name ▸ optional (bracketed (rule args)))) (dotted (written_expr l.first)) l.fn.self l.self;
+  read : Continues (rule post) (many (opener (symbol Dot) ▸ token name ▸ optional (bracketed (rule args)))) (dotted (boxed_expr l.first)) l.fn.self l.self;
 }
 
 abbrev pub decreases-post-loop-self : goal.decreases-post-loop-self
@@ -111,7 +112,7 @@ invariant-block-loop-self l = record {
   left : length l.self.rest.now ≤ length l.fn.self.rest.now;
   depth : l.self.depth ≡ l.fn.self.depth + 1;
   within : l.self.depth ≤ 200;
-  read : Continues (rule block) block_end (block_says (map written_statement l.statements.items) (written_expr l.value)) l.fn.self l.self;
+  read : Continues (rule block) block_end (block_says (map written_statement l.statements.items) (boxed_expr l.value)) l.fn.self l.self;
 }
 
 abbrev pub decreases-block-loop-self : goal.decreases-block-loop-self

@@ -8,7 +8,7 @@ use Rattle.kk_parser.specs.Kinds.{keyword}
 use Rattle.kk_parser.specs.Methods.{Read}
 use Rattle.kk_parser.specs.Phrases.{PhraseValue, rule, decl, expr, token}
 use Rattle.kk_parser.specs.Reading.{fails_rule, fails_level, fails_front, fails_behind, finds_rule, finds_level, finds_both}
-use Rattle.kk_parser.specs.Views.{declaration_of}
+use Rattle.kk_parser.specs.Views.{declaration_of, head_view, boxed_expr, boxed_declaration}
 use Rattle.kk_parser.proofs.Steps.{gives_up_in}
 use Rattle.kk_parser.proofs.parser.Parser.declaration.Goals as goal
 
@@ -20,23 +20,23 @@ of_head (inr (name, (ps, r))) body = refl
 
 pub returns-in_err-expect_keyword-clause-reads : goal.returns-in_err-expect_keyword-clause-reads
 returns-in_err-expect_keyword-clause-reads c =
-    gives_up_in (rule decl) (token (keyword Fun)) written_declaration c.from_residual.result c.in_err-expect_keyword.field-0.0 c.args.self.now c.args.self.now c.expect_keyword.new.self
+    gives_up_in (rule decl) (token (keyword Fun)) boxed_declaration c.from_residual.result c.in_err-expect_keyword.field-0.0 c.args.self.now c.args.self.now c.expect_keyword.new.self
     (λ f r. fails_rule (fails_level (fails_front r))) c.from_residual.ensures.1 c.in_err-expect_keyword.ensures.reads
 
 pub returns-in_err-head-clause-reads : goal.returns-in_err-head-clause-reads
 returns-in_err-head-clause-reads c =
-    gives_up_in (rule decl) head written_declaration c.from_residual-in_err-head.result c.in_err-head.field-0.0 c.args.self.now c.expect_keyword.new.self c.head.new.self
+    gives_up_in (rule decl) head boxed_declaration c.from_residual-in_err-head.result c.in_err-head.field-0.0 c.args.self.now c.expect_keyword.new.self c.head.new.self
     (λ f r. fails_rule (fails_level (fails_behind c.in_ok-expect_keyword.ensures.reads (fails_front r)))) c.from_residual-in_err-head.ensures.1 c.in_err-head.ensures.reads
 
 pub returns-in_err-body-clause-reads : goal.returns-in_err-body-clause-reads
 returns-in_err-body-clause-reads c =
-    gives_up_in (rule decl) (rule expr) written_declaration c.from_residual-in_err-body.result c.in_err-body.field-0.0 c.args.self.now c.head.new.self c.expr.new.self
+    gives_up_in (rule decl) (rule expr) boxed_declaration c.from_residual-in_err-body.result c.in_err-body.field-0.0 c.args.self.now c.head.new.self c.expr.new.self
     (λ f r. fails_rule (fails_level (fails_behind c.in_ok-expect_keyword.ensures.reads (fails_behind c.in_ok-head.ensures.reads.2 r)))) c.from_residual-in_err-body.ensures.1 c.in_err-body.ensures.reads
 
 pub returns-clause-reads : goal.returns-clause-reads
 returns-clause-reads c =
     let head = c.in_ok-head.ensures.reads in
-    let body = written_expr c.in_ok-body.body in
+    let body = boxed_expr c.in_ok-body.body in
     let new : Parser = record { alloc = c.expr.new.self.alloc; rest = c.expr.new.self.rest; depth = c.args.self.now.depth } in
-    subst (λ d. Read (rule decl) d c.args.self.now new) (of_head head.0 body ∙ ap (λ h. declaration_of h body) head.1 ∙ sym c.function_of.ensures)
+    subst (λ d. Read (rule decl) d c.args.self.now new) (of_head head.0 body ∙ ap (λ h. declaration_of h body) head.1 ∙ ap (λ e. declaration_of (head_view c.in_ok-head.head) (written_expr e)) (sym c.into_inner.ensures) ∙ sym c.function_of-declaration.ensures ∙ ap written_declaration (sym c.in_ok-boxed.ensures))
     (finds_rule (finds_level (finds_both c.in_ok-expect_keyword.ensures.reads (finds_both head.2 c.in_ok-body.ensures.reads))))

@@ -16,7 +16,7 @@ returns-in_err-effect-clause-reads c =
 pub returns-then-is_some-clause-reads : goal.returns-then-is_some-clause-reads
 returns-then-is_some-clause-reads c =
     let h = sym c.next_effect.ensures.next ∙ sym c.is_some.ensures ∙ c.if-is_some.true in
-    let is = c.in-Ok.ensures.items ∙ ap (λ es. es ++ c.in_ok-effect.effect ∷ []) c.new-effects.ensures.items in
+    let is = c.in_ok-put.ensures ∙ ap (λ es. es ++ c.in_ok-effect.effect ∷ []) c.new-effects.ensures.items in
     subst (λ es. Read (rule effect) es c.args.self.now c.eff.new.self) (sym is) (finds_rule (finds_first h c.in_ok-effect.ensures.reads))
 
 pub returns-in_err-expect-clause-reads : goal.returns-in_err-expect-clause-reads

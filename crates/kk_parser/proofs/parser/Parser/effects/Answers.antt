@@ -20,7 +20,7 @@ returns-in_err-first-clause-reads c =
 pub loop-self-init : goal.loop-self-init
 loop-self-init c =
     let h = sym c.next_effect.ensures.next ∙ sym c.is_some.ensures ∙ c.if-not-is_some.false in
-    let is = c.in-Ok.ensures.items ∙ ap (λ es. es ++ c.in_ok-first.first ∷ []) c.new-effects.ensures.items in
+    let is = c.in_ok-put.ensures ∙ ap (λ es. es ++ c.in_ok-first.first ∷ []) c.new-effects.ensures.items in
     record {
       left = omega (arith, c.in_ok-first.ensures.left);
       read = subst (λ es. Lists (rule eff) es c.args.self.now c.eff.new.self) (sym is) (lists_one (rule eff) c.in_ok-first.first c.args.self.now c.eff.new.self h c.in_ok-first.ensures.reads);
@@ -40,7 +40,7 @@ loop-self-preserved c =
     let comma = symbol_read Comma c.loop-self.self c.advance.new.self h c.advance.ensures.rest c.advance.ensures.depth in
     record {
       left = omega (arith, c.in_ok-next.ensures.left);
-      read = subst (λ es. Lists (rule eff) es c.args.self.now c.eff-in-loop-self.new.self) (sym c.in-Ok-push.ensures.items)
+      read = subst (λ es. Lists (rule eff) es c.args.self.now c.eff-in-loop-self.new.self) (sym c.in_ok-put-2.ensures)
           (lists_more (rule eff) c.loop-self.effects.items c.in_ok-next.next c.args.self.now c.loop-self.self c.advance.new.self c.eff-in-loop-self.new.self c.loop-self.invariant.read h comma c.in_ok-next.ensures.reads);
     }
 

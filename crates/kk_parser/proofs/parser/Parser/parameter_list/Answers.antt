@@ -22,7 +22,7 @@ returns-in_err-first-clause-reads c =
 pub loop-self-init : goal.loop-self-init
 loop-self-init c =
     let h = sym c.is_at_name.ensures.value ∙ c.if-not-is_at_name.false in
-    let is = c.in-Ok.ensures.items ∙ ap (λ ps. ps ++ c.in_ok-first.first ∷ []) c.new-parameters.ensures.items in
+    let is = c.in_ok-put.ensures ∙ ap (λ ps. ps ++ c.in_ok-first.first ∷ []) c.new-parameters.ensures.items in
     record {
       left = omega (arith, c.in_ok-first.ensures.left);
       read = subst (λ ps. Lists (rule param) ps c.args.self.now c.parameter.new.self) (sym (ap (map written_parameter) is)) (lists_one (rule param) (written_parameter c.in_ok-first.first) c.args.self.now c.parameter.new.self h c.in_ok-first.ensures.reads);
@@ -43,7 +43,7 @@ loop-self-preserved c =
     let next = c.in_ok-next.next in
     record {
       left = omega (arith, c.in_ok-next.ensures.left);
-      read = subst (λ ps. Lists (rule param) ps c.args.self.now c.parameter-in-loop-self.new.self) (sym (ap (map written_parameter) c.in-Ok-push.ensures.items ∙ map-append written_parameter c.loop-self.parameters.items (next ∷ [])))
+      read = subst (λ ps. Lists (rule param) ps c.args.self.now c.parameter-in-loop-self.new.self) (sym (ap (map written_parameter) c.in_ok-put-2.ensures ∙ map-append written_parameter c.loop-self.parameters.items (next ∷ [])))
           (lists_more (rule param) (map written_parameter c.loop-self.parameters.items) (written_parameter next) c.args.self.now c.loop-self.self c.advance.new.self c.parameter-in-loop-self.new.self c.loop-self.invariant.read h comma c.in_ok-next.ensures.reads);
     }
 

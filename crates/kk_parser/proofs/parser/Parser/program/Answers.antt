@@ -7,6 +7,7 @@ use Rattle.kk_parser.specs.Kinds.{symbol}
 use Rattle.kk_parser.specs.Methods.{Read}
 use Rattle.kk_parser.specs.Phrases.{rule, program, decl, token, optional, ◌▸◌}
 use Rattle.kk_parser.specs.Reading.{fails_rule, fails_front, fails_behind, fails_one, fails_presence, finds_rule, finds_both, finds_absence, finds_presence}
+use Rattle.kk_parser.specs.Views.{boxed_declaration}
 use Rattle.kk_parser.proofs.Steps.{Continues, continues_as, continues_many, ends_many, gives_up_in, symbol_read}
 use Rattle.kk_parser.proofs.parser.Parser.program.Goals as goal
 
@@ -27,8 +28,8 @@ loop-self-init c =
     let old = c.args.self.now in
     let new = c.declaration.new.self in
     let first = c.in_ok-first.first in
-    let is = c.in-Ok.ensures.items ∙ ap (λ ds. ds ++ first ∷ []) c.new-declarations.ensures.items in
-    let starts : Continues (rule program) (and_more (rule decl)) (λ more. written_declaration first ∷ those_given more) old new = record {
+    let is = c.in_ok-put.ensures ∙ ap (λ ds. ds ++ c.into_inner.result ∷ []) c.new-declarations.ensures.items ∙ ap (λ d. d ∷ []) c.into_inner.ensures in
+    let starts : Continues (rule program) (and_more (rule decl)) (λ more. boxed_declaration first ∷ those_given more) old new = record {
       found = λ v m us r. finds_rule (finds_both c.skip_semicolons.ensures.reads.1 (finds_presence h (finds_both c.in_ok-first.ensures.reads r)));
       failed = λ f r. fails_rule (fails_behind c.skip_semicolons.ensures.reads.1 (fails_presence h (fails_behind c.in_ok-first.ensures.reads r)));
     } in
@@ -45,16 +46,16 @@ returns-in_err-next-clause-reads c =
     gives_up_in (rule program) (rule decl) (λ ds. map written_declaration ds.items) c.from_residual-in_err-next.result c.in_err-next.field-0.0 c.args.self.now c.advance.new.self c.declaration-then-is_at_keyword.new.self
     (λ f r. c.loop-self.invariant.read.failed f (fails_one h (fails_behind semi (fails_presence g r)))) c.from_residual-in_err-next.ensures.1 c.in_err-next.ensures.reads
 
-pub loop-self-preserved-in-Ok-push : goal.loop-self-preserved-in-Ok-push
-loop-self-preserved-in-Ok-push c =
+pub loop-self-preserved-in-Continue-branch-4 : goal.loop-self-preserved-in-Continue-branch-4
+loop-self-preserved-in-Continue-branch-4 c =
     let h = sym c.is_at.ensures.value ∙ c.loop-self-test.true in
     let g = sym c.is_at_keyword-in-loop-self.ensures.value ∙ c.if-is_at_keyword.true in
     let semi = symbol_read Semicolon c.loop-self.self c.advance.new.self h c.advance.ensures.rest c.advance.ensures.depth in
     let before = map written_declaration c.loop-self.declarations.items in
     let next = c.in_ok-next.next in
-    let d = written_declaration next in
-    let after = map written_declaration c.push-then-is_at_keyword.new.self.items in
-    let is : after ≡ before ++ d ∷ [] = ap (map written_declaration) c.in-Ok-push.ensures.items ∙ map-append written_declaration c.loop-self.declarations.items (next ∷ []) in
+    let d = boxed_declaration next in
+    let after = map written_declaration c.put-then-is_at_keyword.new.items.items in
+    let is : after ≡ before ++ d ∷ [] = ap (map written_declaration) (c.in_ok-put-2.ensures ∙ ap (λ e. c.loop-self.declarations.items ++ e ∷ []) c.into_inner-then-is_at_keyword.ensures) ∙ map-append written_declaration c.loop-self.declarations.items (next.value ∷ []) in
     record {
       left = omega (arith, c.in_ok-next.ensures.left);
       read = continues_as (rule program) (and_more (rule decl)) (λ more. before ++ d ∷ those_given more) (λ more. after ++ those_given more) c.args.self.now c.declaration-then-is_at_keyword.new.self
