@@ -1,9 +1,11 @@
--- A table of ground types has one for each node.
-use Rattle.std.proofs.Common.{◌≡◌, ℕ, ◌+◌, List, [], ◌∷◌, ◌++◌, length, sym, ◌∙◌, arith}
+-- Tables of ground types: one type for each node, and types that are not equal.
+use Rattle.std.proofs.Common.{◌≡◌, ◌≢◌, ℕ, ◌+◌, Bool, true, false, List, [], ◌∷◌, ◌++◌, length, get_or, AllPairs, refl, arith}
 use Rattle.std.proofs.lemmas.List.{length_push}
 use Rattle.kk_syntax.specs.declared.ground.GroundType.{GroundType}
 use Rattle.kk_syntax.specs.GroundTypes.{ground_type, ground_types_behind, ground_types}
+use Rattle.kk_syntax.specs.OfType.{same_type}
 use Rattle.kk_syntax.specs.Types.{TypeTree}
+use Rattle.kk_syntax.proofs.SameTypes.{same_only}
 
 pub behind_length : (earlier : List TypeTree) (nodes : List GroundType)
     → length (ground_types_behind earlier nodes) ≡ length earlier + length nodes
@@ -15,3 +17,13 @@ behind_length earlier (node ∷ nodes) =
 
 pub types_length : (nodes : List GroundType) → length (ground_types nodes) ≡ length nodes
 types_length nodes = let all = behind_length [] nodes in omega (arith, all)
+
+-- types that are not equal are not the same
+pub all_apart : (ts : List TypeTree) → AllPairs (λ one other. one ≢ other) ts
+    → AllPairs (λ one other. same_type one other ≡ false) ts
+all_apart ts once = λ i j d before less.
+    by_test (get_or ts i d) (get_or ts j d) (once i j d before less) (same_type (get_or ts i d) (get_or ts j d)) refl
+  where
+    by_test : (t u : TypeTree) → t ≢ u → (same : Bool) → same_type t u ≡ same → same_type t u ≡ false
+    by_test t u other true is = absurd (other (same_only t u is))
+    by_test t u other false is = is
