@@ -13,7 +13,7 @@ use kk_syntax::{Binder, Expr, Form, Pat, Position, Row, Statement};
 use std::alloc::Global;
 
 /// When what stands at a place is owned.
-#[derive(Clone, Copy, Debug, PartialEq, Eq)]
+#[derive(Clone, Copy)]
 pub enum Place {
     Never,
     Always,
@@ -22,7 +22,7 @@ pub enum Place {
 }
 
 /// What the rows of a match build.
-#[derive(Clone, Copy, Debug)]
+#[derive(Clone, Copy)]
 struct Built {
     /// Whether a row holds a construction with fields.
     any: bool,
@@ -52,18 +52,18 @@ pub fn read(
         }
         Expr::Apply(form, arguments) => {
             let within = read_arguments(alloc, function, *form, arguments, rules)?;
-            Ok(makes(*form, arguments) || within)
+            Ok(makes(*form, arguments) | within)
         }
         Expr::If(condition, positive, negative) => {
             let first = read(alloc, function, Place::Never, condition, rules)?;
             let second = read(alloc, function, Place::Always, positive, rules)?;
             let third = read(alloc, function, Place::Always, negative, rules)?;
-            Ok(first || second || third)
+            Ok(first | second | third)
         }
         Expr::Match(scrutinee, rows) => {
             let built = read_rows(alloc, function, rows, rules)?;
             let first = read(alloc, function, place_if(built.opened), scrutinee, rules)?;
-            Ok(first || built.any)
+            Ok(first | built.any)
         }
         Expr::Block(statements, value) => {
             let first = read_statements(alloc, function, statements, rules)?;
@@ -74,7 +74,7 @@ pub fn read(
                 value,
                 rules,
             )?;
-            Ok(first || last)
+            Ok(first | last)
         }
     }
 }
@@ -93,7 +93,7 @@ fn read_arguments(
     let mut any = false;
     for (index, argument) in arguments.iter().enumerate() {
         let built = read(alloc, function, place_in(form, index), argument, rules)?;
-        any = any || built;
+        any |= built;
     }
     Ok(any)
 }
@@ -113,8 +113,8 @@ fn read_rows(
     let mut opened = false;
     for row in rows {
         let built = read(alloc, function, Place::Always, &row.body, rules)?;
-        any = any || built;
-        opened = opened || opens(&row.pattern) && built;
+        any |= built;
+        opened |= opens(&row.pattern) & built;
     }
     Ok(Built { any, opened })
 }
@@ -133,7 +133,7 @@ fn read_statements(
     for statement in statements {
         let place = place_if(is_val(statement.binder));
         let built = read(alloc, function, place, &statement.value, rules)?;
-        any = any || built;
+        any |= built;
     }
     Ok(any)
 }

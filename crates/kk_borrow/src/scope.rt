@@ -8,14 +8,14 @@ use kk_syntax::Pat;
 use std::alloc::Global;
 
 /// A variable that is lent as long as a parameter is.
-#[derive(Clone, Copy, Debug, PartialEq, Eq)]
+#[derive(Clone, Copy)]
 pub struct Binding {
     pub variable: usize,
     pub parameter: usize,
 }
 
 /// The variables of a function that hang on its parameters, where an expression stands.
-#[derive(Debug, Drop)]
+#[derive(Drop)]
 pub struct Scope {
     pub bindings: Vec<Binding>,
 }

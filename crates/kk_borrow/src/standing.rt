@@ -12,7 +12,7 @@ use std::alloc::Global;
 use std::mem;
 
 /// How a position stands so far.
-#[derive(Debug, Drop)]
+#[derive(Drop)]
 pub enum Standing {
     Owned,
     /// It is lent, and these rules wait for it to be owned.
@@ -20,7 +20,7 @@ pub enum Standing {
 }
 
 /// How each position of a program stands so far.
-#[derive(Debug, Drop)]
+#[derive(Drop)]
 pub struct Standings {
     /// By the function's number, and the parameter's.
     pub rows: Vec<Vec<Standing>>,

@@ -25,26 +25,25 @@ pub takes_no_cell : (setting : TokenSetting) (x y c first p : ℕ) (arguments ke
     → from.tokens.slots (length from.frames) y ≡ token p
     → (to : TokenConfiguration) × ((token_code_step setting (Tokened.fill x y c first arguments kept others rest) environment joins from ≡ builds (busy from.heap) to)
     × TakesNoCell (length from.frames) y from to)
-takes_no_cell setting x y c first p arguments kept others rest environment joins from are is =
-    (
-      made p,
-      (
-        by_cell setting.cells (goes (token_at_stuck from))
+takes_no_cell setting x y c first p arguments kept others rest environment joins from are is = (
+  made p,
+  (
+    by_cell setting.cells (goes (token_at_stuck from))
         (make_step (request setting.cells others (length from.frames) from.heap (blanked (length from.frames) y spent from.tokens)) c values to from)
         (λ q. make_step (Some (released (length from.frames) y q spent from.tokens)) c (filled setting.leaves kept (fields_held from.heap q) values) to from)
         (length from.frames) y p from.heap from.tokens pooled is,
-        record {
-          cells = omega (
-            arith,
-            released_room setting.cells (length from.frames) y p spent from.heap from.tokens is pooled,
-            unmarked_new setting.cells from.heap (released (length from.frames) y p spent from.tokens)
+    record {
+      cells = omega (
+        arith,
+        released_room setting.cells (length from.frames) y p spent from.heap from.tokens is pooled,
+        unmarked_new setting.cells from.heap (released (length from.frames) y p spent from.tokens)
             (pooled_released setting.cells (length from.frames) y p spent from.heap from.tokens is refl pooled),
-          );
-          slots = λ g z. refl;
-          chain = refl;
-        },
-      ),
-    )
+      );
+      slots = λ g z. refl;
+      chain = refl;
+    },
+  ),
+)
   where
     pooled : ArePooled setting.cells from.heap from.tokens
     pooled = are.1.are.pooled

@@ -282,18 +282,21 @@ module _ (weight : CountedState → ℕ) (setting : TokenSetting) (program_spend
       record {
         is = ap (λ (function : CountedFunction). record { machine = record { control = CountedControl.running function.body [] []; frames = []; heap = [] }; input = input })
             (sym (function_at setting.program.functions setting.program.main));
-        kept = (record { left = []; unspent = []; held = []; older = [] }, record {
-          spends = main_spends setting.program.functions setting.program.main program_spends;
-          waits = refl;
-          slots_are = λ y. refl;
-          apart = tt;
-          waiting = tt;
-          are = record {
-            pooled = record { marks = λ f y p is. absurd (spent_is_none p is); slots = λ f y p is. absurd (plain_is_none f y is); uncounted = λ f y p is. absurd (plain_is_none f y is); there = λ f y p is. absurd (plain_is_none f y is); room = omega arith };
-            chain = refl;
-            beyond = λ f y far. refl;
-          };
-        });
+        kept = (
+          record { left = []; unspent = []; held = []; older = [] },
+          record {
+            spends = main_spends setting.program.functions setting.program.main program_spends;
+            waits = refl;
+            slots_are = λ y. refl;
+            apart = tt;
+            waiting = tt;
+            are = record {
+              pooled = record { marks = λ f y p is. absurd (spent_is_none p is); slots = λ f y p is. absurd (plain_is_none f y is); uncounted = λ f y p is. absurd (plain_is_none f y is); there = λ f y p is. absurd (plain_is_none f y is); room = omega arith };
+              chain = refl;
+              beyond = λ f y far. refl;
+            };
+          },
+        );
         fills = fills;
         never_stuck = never_stuck;
       }

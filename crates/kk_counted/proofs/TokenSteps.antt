@@ -74,15 +74,20 @@ module _ (cells : ℕ) where
       → ((left unspent held : List ℕ) (others : List (List ℕ)) → older ≡ held ∷ others → P (lists_of left unspent held others))
       → AreNow cells [] older (frame ∷ frames) from.heap from.tokens → AreKeptBy cells P (at_code frame.rest environment frame.joins (record from { frames = frames }))
   returned P [] frame frames environment from next now = absurd now.waiting
-  returned P (held ∷ older) frame frames environment from next now =
-      (lists_of waits.left waits.unspent held older, (next waits.left waits.unspent held older refl, record {
+  returned P (held ∷ older) frame frames environment from next now = (
+    lists_of waits.left waits.unspent held older,
+    (
+      next waits.left waits.unspent held older refl,
+      record {
         spends = waits.spends;
         waits = waits.waits;
         slots_are = waits.slots_are;
         apart = waits.apart;
         waiting = now.waiting.1;
         are = record { pooled = now.are.pooled; chain = now.are.chain; beyond = λ f y far. beyond f y far (f == suc (length older)) refl };
-      }))
+      },
+    ),
+  )
     where
       waits : IsHeldFrame (from.tokens.slots (length older)) held frame
       waits = now.waiting.0

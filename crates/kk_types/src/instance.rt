@@ -10,7 +10,7 @@ use kk_syntax::{BinaryOperator, Form, Program, Taken, Ty, TypeNode, UnaryOperato
 use std::alloc::Global;
 
 /// What a use takes and gives, as nodes.
-#[derive(Debug, Drop)]
+#[derive(Drop)]
 pub struct Instance {
     pub parameters: Vec<u32>,
     pub result: u32,

@@ -1,7 +1,7 @@
 ghost use Rattle.std.specs.Prelude.{◌≡◌, ◌==◌, find, reverse};
 
 /// A variable that is bound, and the node of its type.
-#[derive(Clone, Copy, Debug)]
+#[derive(Clone, Copy)]
 pub struct Bound {
     pub variable: u32,
     pub node: u32,

@@ -9,7 +9,7 @@ use kk_unify::Graph;
 use std::alloc::Global;
 
 /// A walk over the body of a function.
-#[derive(Debug, Drop)]
+#[derive(Drop)]
 pub struct Walk {
     pub alloc: Global,
     /// The types of the parts of the body.
