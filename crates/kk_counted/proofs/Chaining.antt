@@ -1,14 +1,14 @@
 -- The chain of held tokens: it depends on the slots of its frames alone, and its first link may be taken.
-use Rattle.std.proofs.Common.{◌≡◌, ◌⊎◌, inl, inr, ℕ, zero, suc, ◌+◌, ◌≤◌, ◌<◌, ◌==◌, ◌&&◌, ◌||◌, Bool, true, false, List, [], ◌∷◌, length, Option, Some, None, arith, refl, sym, ap, ◌∙◌, subst}
+use Rattle.std.proofs.Common.{◌≡◌, ℕ, suc, ◌≤◌, ◌<◌, ◌==◌, ◌&&◌, ◌||◌, Bool, true, false, List, [], ◌∷◌, length, arith, refl, sym, ap, ◌∙◌, subst}
 use Rattle.std.specs.Prelude.{if◌then◌else◌}
 use Rattle.kk_syntax.specs.Shapes.{is_among}
 use Rattle.kk_counted.specs.Spending.{AreApart}
 use Rattle.kk_counted.specs.Tokens.{Slot, spent, null, token, is_unspent, is_token, Link, slots_with}
 use Rattle.kk_counted.specs.TokenStates.{TokenFrame}
-use Rattle.kk_counted.specs.TokenKeeping.{links_of, chain_of, AreUnspent, IsHeldFrame, AreHeldFrames}
+use Rattle.kk_counted.specs.TokenKeeping.{links_of, chain_of, AreHeldFrames}
 use Rattle.kk_counted.proofs.Counting.{same, itself}
 use Rattle.kk_counted.proofs.Variables.{other_variable}
-use Rattle.kk_counted.proofs.Pooling.{Which, this, other, which, slot_here, slot_there, slot_at, no_token}
+use Rattle.kk_counted.proofs.Pooling.{Which, this, other, which, slot_here, slot_there, slot_at}
 
 -- slots are equal below a frame
 abbrev pub EqualBelow : ℕ → (ℕ → ℕ → Slot) → (ℕ → ℕ → Slot) → Type 0

@@ -1,5 +1,5 @@
 -- Changes of a heap that count no cell anew: dups, drops and openings.
-use Rattle.std.proofs.Common.{◌≡◌, ℕ, zero, suc, ◌+◌, ◌≤◌, ◌<◌, ◌==◌, Bool, true, false, List, [], ◌∷◌, ◌++◌, length, Option, Some, None, arith, refl, sym, ap, ◌∙◌}
+use Rattle.std.proofs.Common.{◌≡◌, ℕ, zero, suc, ◌≤◌, ◌==◌, Bool, true, false, List, [], ◌∷◌, ◌++◌, length, Option, Some, None, arith, refl, sym, ap, ◌∙◌}
 use Rattle.kk_source.specs.State.{Value, integer, unit, constant, place}
 use Rattle.kk_source.specs.Matching.{and_then}
 use Rattle.kk_counted.specs.Heaps.{Held, Heap, count_at, set_count, one_if_counted, busy, more, dup_value, dup_all, fields_held, weight, give_up, drop_value, drop_all}

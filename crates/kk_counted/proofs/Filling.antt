@@ -1,17 +1,16 @@
 -- A construction in a token's cell takes no other cell.
-use Rattle.std.proofs.Common.{◌≡◌, ℕ, zero, suc, ◌+◌, ◌≤◌, List, [], ◌∷◌, map, length, Option, Some, None, arith, refl, sym, ap, ◌∙◌, subst}
+use Rattle.std.proofs.Common.{◌≡◌, ℕ, List, ◌∷◌, map, length, Some, arith, refl, ap}
 use Rattle.kk_source.specs.State.{Value, Environment}
 use Rattle.kk_source.specs.Live.{value_of}
-use Rattle.kk_source.specs.Actions.{Action, goes, builds}
+use Rattle.kk_source.specs.Actions.{goes, builds}
 use Rattle.kk_counted.specs.Heaps.{Heap, busy, fields_held}
 use Rattle.kk_counted.specs.TokenedCodes.{Tokened}
-use Rattle.kk_counted.specs.Tokens.{spent, token, plain, token_of, Mark, one_if_token, Tokens, marked, marks_with, blanked, released, request}
+use Rattle.kk_counted.specs.Tokens.{spent, token, plain, token_of, Mark, one_if_token, Tokens, blanked, released, request}
 use Rattle.kk_counted.specs.TokenStates.{TokenSetting, TokenJoin, TokenControl, TokenConfiguration}
 use Rattle.kk_counted.specs.TokenMachine.{bound_to, token_at_stuck, to_made, make_step, filled, token_code_step}
 use Rattle.kk_counted.specs.TokenKeeping.{ArePooled, AreKeptAt}
 use Rattle.kk_counted.specs.TokenRuns.{TakesNoCell}
 use Rattle.kk_counted.proofs.Pooling.{released_room, pooled_released, by_cell}
-use Rattle.kk_counted.proofs.Chaining.{frames_many}
 
 pub unmarked_new : (cells : ℕ) (heap : Heap) (tokens : Tokens) → ArePooled cells heap tokens → one_if_token (tokens.marks (length heap)) ≡ 0
 unmarked_new cells heap tokens pooled = by_mark (tokens.marks (length heap)) refl
@@ -25,26 +24,25 @@ pub takes_no_cell : (setting : TokenSetting) (x y c first p : ℕ) (arguments ke
     → from.tokens.slots (length from.frames) y ≡ token p
     → (to : TokenConfiguration) × ((token_code_step setting (Tokened.fill x y c first arguments kept others rest) environment joins from ≡ builds (busy from.heap) to)
     × TakesNoCell (length from.frames) y from to)
-takes_no_cell setting x y c first p arguments kept others rest environment joins from are is =
-    (
-      made p,
-      (
-        by_cell setting.cells (goes (token_at_stuck from))
+takes_no_cell setting x y c first p arguments kept others rest environment joins from are is = (
+  made p,
+  (
+    by_cell setting.cells (goes (token_at_stuck from))
         (make_step (request setting.cells others (length from.frames) from.heap (blanked (length from.frames) y spent from.tokens)) c values to from)
         (λ q. make_step (Some (released (length from.frames) y q spent from.tokens)) c (filled setting.leaves kept (fields_held from.heap q) values) to from)
         (length from.frames) y p from.heap from.tokens pooled is,
-        record {
-          cells = omega (
-            arith,
-            released_room setting.cells (length from.frames) y p spent from.heap from.tokens is pooled,
-            unmarked_new setting.cells from.heap (released (length from.frames) y p spent from.tokens)
+    record {
+      cells = omega (
+        arith,
+        released_room setting.cells (length from.frames) y p spent from.heap from.tokens is pooled,
+        unmarked_new setting.cells from.heap (released (length from.frames) y p spent from.tokens)
             (pooled_released setting.cells (length from.frames) y p spent from.heap from.tokens is refl pooled),
-          );
-          slots = λ g z. refl;
-          chain = refl;
-        },
-      ),
-    )
+      );
+      slots = λ g z. refl;
+      chain = refl;
+    },
+  ),
+)
   where
     pooled : ArePooled setting.cells from.heap from.tokens
     pooled = are.1.are.pooled

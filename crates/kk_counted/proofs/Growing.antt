@@ -1,5 +1,5 @@
 -- What a step does to the names in use: none is new but that of a new cell, for which there is room.
-use Rattle.std.proofs.Common.{◌≡◌, ℕ, zero, suc, ◌+◌, ◌≤◌, ◌<◌, ◌==◌, Bool, true, false, List, [], ◌∷◌, map, length, Option, Some, None, arith, refl, sym, ap, ◌∙◌, subst}
+use Rattle.std.proofs.Common.{◌≡◌, ℕ, zero, suc, ◌≤◌, ◌==◌, Bool, true, false, List, [], ◌∷◌, map, length, Option, Some, None, arith, refl, sym, ap, ◌∙◌, subst}
 use Rattle.std.specs.Prelude.{if◌then◌else◌, nat_le, slice_get}
 use Rattle.kk_syntax.specs.declared.program.Form.{Form}
 use Rattle.kk_syntax.specs.declared.program.Form.TheVariants.{Number, Unit as Nothing, ReadByte, PrintText, Unary, Binary, Print, Construct, Call}
@@ -9,26 +9,26 @@ use Rattle.std.specs.Fmt.{signed_decimal}
 use Rattle.kk_source.specs.State.{Value, unit, Environment, stack_full}
 use Rattle.kk_source.specs.Live.{value_of}
 use Rattle.kk_source.specs.Matching.{and_then}
-use Rattle.kk_source.specs.Actions.{Action, goes, calls, print_step}
-use Rattle.kk_source.specs.FormEffects.{is_true, integer_of, argument, piece_of}
+use Rattle.kk_source.specs.Actions.{Action, goes, print_step}
+use Rattle.kk_source.specs.FormEffects.{integer_of, argument, piece_of}
 use Rattle.kk_core.specs.CoreMachine.{bind_fields}
 use Rattle.kk_core.specs.Decisions.{chosen}
-use Rattle.kk_counted.specs.Heaps.{Held, Heap, count_at, cell_at, fields_held, busy, dup_value, drop_value}
+use Rattle.kk_counted.specs.Heaps.{Heap, count_at, cell_at, fields_held, dup_value, drop_value}
 use Rattle.kk_counted.specs.CountedMachine.{Named, cell_named, used_values, other_values, opened_heap, unique_heap}
-use Rattle.kk_counted.specs.TokenedCodes.{Tokened, TokenedArms, TokenedFunction}
-use Rattle.kk_counted.specs.Tokens.{Slot, spent, null, token, Mark, plain, token_of, Tokens, marked, marks_with, blanked, released, gained, opened_tokens, by_slot, by_token, freed, moved, held, unheld, tail_of, request, is_of, Link}
+use Rattle.kk_counted.specs.TokenedCodes.{Tokened, TokenedFunction}
+use Rattle.kk_counted.specs.Tokens.{Slot, spent, null, token, Mark, plain, token_of, Tokens, marks_with, blanked, released, gained, opened_tokens, by_slot, by_token, freed, moved, held, unheld, tail_of, request, is_of, Link}
 use Rattle.kk_counted.specs.TokenStates.{TokenSetting, TokenJoin, TokenFrame, TokenControl, TokenConfiguration}
 use Rattle.kk_counted.specs.TokenMachine.{at_code, bound_to, token_at_stuck, to_heap, to_tokens, in_body, tokened_arm_at, token_case_step, token_give_step, token_tail_step, token_read_step, to_opened, token_open_step, make_step, fill_step, filled, token_call_step, token_form_step, token_code_step}
 use Rattle.kk_counted.specs.TokenSpending.{AreSame, AtForm}
-use Rattle.kk_counted.specs.TokenKeeping.{ArePooled, IsJudged, Lists}
+use Rattle.kk_counted.specs.TokenKeeping.{IsJudged, Lists}
 use Rattle.kk_counted.specs.TokenRuns.{AllLead}
 use Rattle.kk_counted.specs.NumberedPool.{is_alive, Growth, stays, grows}
-use Rattle.kk_counted.proofs.Counting.{same, counted_within}
+use Rattle.kk_counted.proofs.Counting.{same}
 use Rattle.kk_counted.proofs.Heaps.{positive}
 use Rattle.kk_counted.proofs.Easing.{Eased, EasedTo, eased_dup, eased_drop, eased_opening, eased_unique}
-use Rattle.kk_counted.proofs.Pooling.{released_room, by_null, by_cell, plain_is_none}
+use Rattle.kk_counted.proofs.Pooling.{released_room, by_null, by_cell}
 use Rattle.kk_counted.proofs.Chaining.{frames_many}
-use Rattle.kk_counted.proofs.Requesting.{IsServed, Asked, full, served, asked, fewer_marks}
+use Rattle.kk_counted.proofs.Requesting.{Asked, full, served, asked, fewer_marks}
 use Rattle.kk_counted.proofs.TokenForms.{AreNow, Has, is_null, has_cell, unspent_has, spent_null_now}
 use Rattle.kk_counted.proofs.TokenSteps.{now_of}
 use Rattle.kk_counted.proofs.SoundSteps.{NamedCell, OnNamed, named_cell}

@@ -1,14 +1,14 @@
 -- In each state of a run the names in use have cells of the pool of their own.
-use Rattle.std.proofs.Common.{◌≡◌, ℕ, zero, suc, Bool, true, false, List, [], ◌∷◌, length, Option, Some, None, refl, sym, ap, ◌∙◌, subst}
+use Rattle.std.proofs.Common.{ℕ, zero, suc, List, [], ◌∷◌, length, Some, None}
 use Rattle.kk_base.specs.Machines.{state}
 use Rattle.kk_source.specs.Actions.{Action, goes, puts, takes, builds, calls, performed}
 use Rattle.kk_counted.specs.Heaps.{Heap}
-use Rattle.kk_counted.specs.Tokens.{Mark, plain, Tokens, no_tokens}
+use Rattle.kk_counted.specs.Tokens.{Tokens, no_tokens}
 use Rattle.kk_counted.specs.TokenStates.{TokenSetting, TokenFrame, TokenControl, TokenConfiguration, TokenState, token_first_state}
 use Rattle.kk_counted.specs.TokenMachine.{token_code_step, token_machine}
 use Rattle.kk_counted.specs.TokenKeeping.{ArePooled, AreKeptAt, AreKept, token_after}
 use Rattle.kk_counted.specs.TokenRuns.{AllLead}
-use Rattle.kk_counted.specs.NumberedPool.{is_alive, IsPlaced, assigned_with, Growth, Placing, same, new}
+use Rattle.kk_counted.specs.NumberedPool.{IsPlaced, assigned_with, Growth, Placing, same, new}
 use Rattle.kk_counted.proofs.Placing.{growth_places}
 use Rattle.kk_counted.proofs.Growing.{step_grows}
 

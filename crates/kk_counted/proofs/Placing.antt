@@ -1,13 +1,12 @@
 -- The pool of numbered cells: what an assignment of names gives, and that steps keep it.
-use Rattle.std.proofs.Common.{◌≡◌, ◌⊎◌, inl, inr, ℕ, zero, suc, ◌+◌, ◌≤◌, ◌<◌, ◌==◌, ◌&&◌, Bool, true, false, List, [], ◌∷◌, length, Option, Some, None, arith, refl, sym, ap, ◌∙◌, subst}
+use Rattle.std.proofs.Common.{◌≡◌, ℕ, zero, suc, ◌+◌, ◌≤◌, ◌<◌, ◌==◌, ◌&&◌, Bool, true, false, [], ◌∷◌, length, Option, Some, None, arith, refl, sym, ap, ◌∙◌, subst}
 use Rattle.std.specs.Prelude.{if◌then◌else◌, nat_le}
-use Rattle.kk_source.specs.State.{Value, Cell}
 use Rattle.kk_source.specs.Live.{counted as number_of}
 use Rattle.kk_counted.specs.Heaps.{Held, Heap, held_at, count_in, count_at, busy}
 use Rattle.kk_counted.specs.Tokens.{Mark, plain, token_of, one_if_token, Tokens, marked}
 use Rattle.kk_counted.specs.TokenKeeping.{ArePooled}
 use Rattle.kk_counted.specs.TokenStates.{TokenConfiguration}
-use Rattle.kk_counted.specs.NumberedPool.{Numbered, free, token, counted, is_used, by_count, by_held, named, is_alive, IsPlaced, numbered_by, numbered, IsPool, assigned_with, Growth, stays, grows, Placing, same as kept_same, new}
+use Rattle.kk_counted.specs.NumberedPool.{is_used, by_count, by_held, named, is_alive, IsPlaced, numbered_by, numbered, IsPool, assigned_with, Growth, stays, grows, Placing, same as kept_same, new}
 use Rattle.kk_counted.proofs.Counting.{same, itself, count_top, count_below, counted_within}
 use Rattle.kk_counted.proofs.Heaps.{positive}
 use Rattle.kk_counted.proofs.Places.{busy_passing}

@@ -1,11 +1,11 @@
 -- Slots and marks: what stays true of them where a slot gains a token, loses it or is blanked, and where a cell is made.
-use Rattle.std.proofs.Common.{◌≡◌, ◌⊎◌, inl, inr, ℕ, zero, suc, ◌+◌, ◌≤◌, ◌<◌, ◌==◌, ◌&&◌, Bool, true, false, List, [], ◌∷◌, length, Option, Some, None, arith, refl, sym, ap, ◌∙◌, subst}
+use Rattle.std.proofs.Common.{◌≡◌, ℕ, zero, suc, ◌+◌, ◌≤◌, ◌<◌, ◌==◌, ◌&&◌, Bool, true, false, ◌∷◌, length, arith, refl, sym, ap, ◌∙◌}
 use Rattle.std.specs.Prelude.{if◌then◌else◌}
 use Rattle.kk_counted.specs.Heaps.{Held, Heap, count_at, busy}
-use Rattle.kk_counted.specs.Tokens.{Slot, spent, null, token, is_unspent, is_token, Mark, plain, token_of, one_if_token, Tokens, marked, slots_with, marks_with, blanked, released, gained, is_of, by_slot, by_token}
+use Rattle.kk_counted.specs.Tokens.{Slot, spent, null, token, is_token, Mark, plain, token_of, one_if_token, Tokens, marked, slots_with, marks_with, blanked, released, gained, is_of, by_slot, by_token}
 use Rattle.kk_counted.specs.TokenKeeping.{ArePooled}
 use Rattle.kk_counted.proofs.Counting.{same, itself, count_below}
-use Rattle.kk_counted.proofs.Easing.{Eased, fewer_busy, freed_busy}
+use Rattle.kk_counted.proofs.Easing.{Eased, fewer_busy}
 
 -- ---- one slot changes
 

@@ -1,15 +1,15 @@
 -- A request for a cell finds none exactly where the counted cells fill the pool.
-use Rattle.std.proofs.Common.{◌≡◌, ◌⊎◌, inl, inr, ℕ, zero, suc, ◌+◌, ◌≤◌, ◌<◌, ◌==◌, ◌&&◌, ◌||◌, Bool, true, false, List, [], ◌∷◌, length, Option, Some, None, arith, refl, sym, ap, ◌∙◌, subst}
+use Rattle.std.proofs.Common.{◌≡◌, ℕ, suc, ◌+◌, ◌≤◌, ◌<◌, ◌==◌, ◌&&◌, ◌||◌, Bool, true, false, List, [], ◌∷◌, length, Option, Some, None, arith, refl, sym, ap, ◌∙◌}
 use Rattle.std.specs.Prelude.{if◌then◌else◌, nat_le}
 use Rattle.kk_syntax.specs.Shapes.{is_among}
-use Rattle.kk_counted.specs.Heaps.{Heap, count_at, busy}
+use Rattle.kk_counted.specs.Heaps.{Heap, busy}
 use Rattle.kk_counted.specs.Tokens.{Slot, spent, null, token, is_unspent, is_token, Mark, plain, token_of, one_if_token, Link, Tokens, marked, slots_with, marks_with, released, first_token, taken, from_chain, from_tokens, request}
 use Rattle.kk_counted.specs.TokenStates.{TokenFrame}
 use Rattle.kk_counted.specs.TokenSpending.{AreSame}
 use Rattle.kk_counted.specs.TokenKeeping.{ArePooled, chain_of, AreTokens, AreUnspent, AreHeldFrames}
-use Rattle.kk_counted.proofs.Counting.{same, itself}
-use Rattle.kk_counted.proofs.Pooling.{plain_is_none, Which, this, other, which, slot_at, slot_there, none_marked, one_marked, released_room, pooled_released}
-use Rattle.kk_counted.proofs.Chaining.{EqualBelow, equal_one, chain_same, IsTop, chain_top, AllApart, frames_apart, none_on_chain, token_is}
+use Rattle.kk_counted.proofs.Counting.{same}
+use Rattle.kk_counted.proofs.Pooling.{plain_is_none, Which, this, other, which, slot_at, slot_there, none_marked, released_room, pooled_released}
+use Rattle.kk_counted.proofs.Chaining.{equal_one, chain_same, chain_top, frames_apart, none_on_chain, token_is}
 
 -- a request has been served: there is room for one cell more, and the same slots are unspent
 pub record IsServed (cells : ℕ) (heap : Heap) (before after : Tokens) (helds : List (List ℕ)) : Type 0 where

@@ -1,16 +1,16 @@
 -- The forms that only tokens have change nothing but the tokens, which are kept.
-use Rattle.std.proofs.Common.{◌≡◌, ℕ, zero, suc, ◌+◌, ◌≤◌, ◌<◌, Bool, true, false, List, [], ◌∷◌, length, Option, Some, None, arith, refl, sym, ap, ◌∙◌, subst}
+use Rattle.std.proofs.Common.{◌≡◌, ℕ, true, false, List, [], ◌∷◌, length, Option, Some, None, arith, refl, sym, ap, ◌∙◌, subst}
 use Rattle.std.specs.Prelude.{if◌then◌else◌}
 use Rattle.kk_syntax.specs.Shapes.{is_among, without}
 use Rattle.kk_source.specs.State.{Environment}
 use Rattle.kk_source.specs.Actions.{Action, goes}
 use Rattle.kk_counted.specs.Spending.{AreApart}
 use Rattle.kk_counted.specs.TokenedCodes.{Tokened}
-use Rattle.kk_counted.specs.Tokens.{Slot, spent, null, token, is_token, plain, Link, Tokens, blanked, released, gained, by_token, freed, moved, held, unheld, tail_of}
+use Rattle.kk_counted.specs.Tokens.{Slot, spent, null, is_token, plain, Link, Tokens, blanked, released, gained, freed, moved, held, unheld, tail_of}
 use Rattle.kk_counted.specs.TokenStates.{TokenSetting, TokenJoin, TokenControl, TokenConfiguration}
 use Rattle.kk_counted.specs.TokenMachine.{at_code, to_tokens, token_code_step}
 use Rattle.kk_counted.specs.TokenSpending.{SpendsTokens}
-use Rattle.kk_counted.specs.TokenKeeping.{links_of, chain_of, AreTokens, WaitTokens, IsJudged, Lists, ListsAfter, AreKeptByAt}
+use Rattle.kk_counted.specs.TokenKeeping.{links_of, chain_of, WaitTokens, IsJudged, Lists, ListsAfter, AreKeptByAt}
 use Rattle.kk_counted.proofs.Pooling.{mark_here, released_room, by_null, by_cell}
 use Rattle.kk_counted.proofs.Chaining.{frames_many}
 use Rattle.kk_counted.proofs.Requesting.{pooled_chain}
@@ -116,15 +116,20 @@ module _ (setting : TokenSetting) (environment : Environment) (joins : List Toke
     rechained : (P : Lists → Type 0) (code rest : Tokened) (links : List Link) (ys : List ℕ) → IsJudged setting.cells left unspent held_slots older code joins from.frames from.heap from.tokens
         → P (lists_of left unspent ys older) → SpendsTokens left unspent ys rest → AreApart ys → links ≡ chain_of from.tokens.slots (ys ∷ older)
         → AreKeptByAt setting.cells P (record from { tokens = record from.tokens { chain = links } }) (TokenControl.running rest environment joins)
-    rechained P code rest links ys judged next spends apart is =
-        (lists_of left unspent ys older, (next, record {
+    rechained P code rest links ys judged next spends apart is = (
+      lists_of left unspent ys older,
+      (
+        next,
+        record {
           spends = spends;
           waits = judged.waits;
           slots_are = judged.slots_are;
           apart = apart;
           waiting = judged.waiting;
           are = record { pooled = pooled_chain setting.cells from.heap from.tokens links judged.are.pooled; chain = is; beyond = judged.are.beyond };
-        }))
+        },
+      ),
+    )
 
     hold_one : (y : ℕ) (rest : Tokened) → IsJudged setting.cells left unspent held_slots older (Tokened.hold y rest) joins from.frames from.heap from.tokens
         → IsStill setting.cells (ListsAfter (Tokened.hold y rest) joins lists) (goes (to_tokens (held (length from.frames) y from.tokens) from (at_code rest environment joins from))) rest environment joins from
@@ -197,14 +202,20 @@ module _ (setting : TokenSetting) (environment : Environment) (joins : List Toke
       record {
         tokens = from.tokens;
         is = ap (λ b. goes (at_code (if b then there else absent) environment joins from)) test;
-        kept = (lists, (refl, record {
-          spends = judged.spends.1.1.0;
-          waits = judged.waits;
-          slots_are = judged.slots_are;
-          apart = judged.apart;
-          waiting = judged.waiting;
-          are = judged.are;
-        }));
+        kept = (
+          lists,
+          (
+            refl,
+            record {
+              spends = judged.spends.1.1.0;
+              waits = judged.waits;
+              slots_are = judged.slots_are;
+              apart = judged.apart;
+              waiting = judged.waiting;
+              are = judged.are;
+            },
+          ),
+        );
       }
 
   pub absent_still : (lists : Lists) (y : ℕ) (there absent : Tokened) → IsJudged setting.cells lists.left lists.unspent lists.held lists.older (Tokened.if_token y there absent) joins from.frames from.heap from.tokens
@@ -214,12 +225,18 @@ module _ (setting : TokenSetting) (environment : Environment) (joins : List Toke
       record {
         tokens = from.tokens;
         is = ap (λ b. goes (at_code (if b then there else absent) environment joins from)) test;
-        kept = (lists, (refl, record {
-          spends = judged.spends.1.1.1;
-          waits = judged.waits;
-          slots_are = judged.slots_are;
-          apart = judged.apart;
-          waiting = judged.waiting;
-          are = judged.are;
-        }));
+        kept = (
+          lists,
+          (
+            refl,
+            record {
+              spends = judged.spends.1.1.1;
+              waits = judged.waits;
+              slots_are = judged.slots_are;
+              apart = judged.apart;
+              waiting = judged.waiting;
+              are = judged.are;
+            },
+          ),
+        );
       }

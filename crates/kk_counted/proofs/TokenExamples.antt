@@ -1,19 +1,17 @@
 -- Runs of small programs with tokens, computed.
-use Rattle.std.proofs.Common.{◌≡◌, ℕ, pos, Bool, true, false, List, [], ◌∷◌, length, Some, None, refl}
+use Rattle.std.proofs.Common.{◌≡◌, ℕ, pos, true, List, [], ◌∷◌, length, Some, refl}
 use Rattle.std.specs.Int.{int_wrap}
 use Rattle.kk_base.specs.Machines.{trace, state, ending_after}
 use Rattle.kk_syntax.specs.declared.operator.BinaryOperator.TheVariants.{Add}
 use Rattle.kk_syntax.specs.declared.program.Form.TheVariants.{Number, Unit as Nothing, Binary, Construct, Call}
 use Rattle.kk_source.specs.State.{heap_full, ended}
 use Rattle.kk_source.specs.Notes.{Note, built, called}
-use Rattle.kk_core.specs.declared.decisions.Answer.TheVariants.{Constructor}
-use Rattle.kk_core.specs.Decisions.{NodeTree, chooses, tests}
 use Rattle.kk_counted.specs.Heaps.{busy}
 use Rattle.kk_counted.specs.TokenedCodes.{Tokened, TokenedArms, TokenedFunction}
 use Rattle.kk_counted.specs.TokenStates.{TokenSetting, TokenControl, TokenState, token_first_state}
 use Rattle.kk_counted.specs.TokenMachine.{token_machine}
 use Rattle.kk_counted.specs.Tokens.{null, marked}
-use Rattle.kk_counted.specs.TokenSpending.{SpendsTokens, AreTokensSpent}
+use Rattle.kk_counted.specs.TokenSpending.{SpendsTokens}
 use Rattle.kk_counted.proofs.Examples.{nil_or_cons}
 
 abbrev function : ℕ → Tokened → TokenedFunction

@@ -1,17 +1,17 @@
 -- What the forms do to the tokens of the function that runs.
-use Rattle.std.proofs.Common.{◌≡◌, ◌⊎◌, inl, inr, ℕ, zero, suc, ◌+◌, ◌≤◌, ◌<◌, ◌==◌, ◌&&◌, ◌||◌, Bool, true, false, not, List, [], ◌∷◌, length, Option, Some, None, arith, refl, sym, ap, ◌∙◌, subst}
-use Rattle.std.specs.Prelude.{if◌then◌else◌, filter}
+use Rattle.std.proofs.Common.{◌≡◌, ℕ, zero, suc, ◌+◌, ◌≤◌, ◌<◌, ◌==◌, ◌&&◌, ◌||◌, Bool, true, false, not, List, [], ◌∷◌, length, arith, refl, sym, ap, ◌∙◌}
+use Rattle.std.specs.Prelude.{if◌then◌else◌}
 use Rattle.kk_syntax.specs.Shapes.{is_among, without}
 use Rattle.kk_counted.specs.Heaps.{Held, Heap, count_at, busy}
-use Rattle.kk_counted.specs.Tokens.{Slot, spent, null, token, is_unspent, is_token, Mark, plain, token_of, Link, Tokens, marked, slots_with, marks_with, blanked, released, gained, opened_tokens, by_token, freed, moved, held, unheld, tail_of}
+use Rattle.kk_counted.specs.Tokens.{Slot, spent, null, token, is_unspent, is_token, Mark, plain, token_of, Tokens, marked, slots_with, marks_with, blanked, released, gained, opened_tokens, held}
 use Rattle.kk_counted.specs.TokenStates.{TokenFrame}
-use Rattle.kk_counted.specs.TokenKeeping.{ArePooled, links_of, chain_of, AreTokens, AreUnspent, AreHeldFrames}
+use Rattle.kk_counted.specs.TokenKeeping.{ArePooled, AreTokens, AreUnspent, AreHeldFrames}
 use Rattle.kk_counted.proofs.Counting.{same, itself, counted_within}
 use Rattle.kk_counted.proofs.Heaps.{positive}
-use Rattle.kk_counted.proofs.Easing.{Eased, fewer_busy, freed_busy}
-use Rattle.kk_counted.proofs.Pooling.{Which, this, other, which, slot_here, slot_at, slot_there, mark_here, no_token, released_room, pooled_eased, pooled_blanked, pooled_released, pooled_gained, pooled_made, by_null, by_cell}
+use Rattle.kk_counted.proofs.Easing.{Eased, freed_busy}
+use Rattle.kk_counted.proofs.Pooling.{slot_at, slot_there, pooled_eased, pooled_blanked, pooled_released, pooled_gained, pooled_made}
 use Rattle.kk_counted.proofs.Chaining.{EqualBelow, equal_one, chain_same, frames_same, equal_unspent}
-use Rattle.kk_counted.proofs.Requesting.{IsServed, pooled_chain}
+use Rattle.kk_counted.proofs.Requesting.{IsServed}
 
 -- ---- members
 

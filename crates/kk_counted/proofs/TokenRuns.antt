@@ -1,5 +1,5 @@
 -- Runs of code that spends its tokens do what the bare form does.
-use Rattle.std.proofs.Common.{◌≡◌, ℕ, zero, suc, ◌+◌, ◌*◌, ◌≤◌, ◌<◌, Bool, true, false, List, [], ◌∷◌, ◌++◌, map, length, Option, Some, None, arith, refl, sym, ap, ◌∙◌, subst}
+use Rattle.std.proofs.Common.{◌≡◌, ℕ, zero, suc, ◌+◌, ◌*◌, ◌<◌, Bool, true, false, List, [], ◌∷◌, ◌++◌, map, length, Some, None, arith, refl, sym, ap, ◌∙◌, subst}
 use Rattle.std.specs.Prelude.{if◌then◌else◌, slice_get, slice_index_or}
 use Rattle.kk_base.specs.Machines.{Machine, state, weight_of, trace}
 use Rattle.kk_base.specs.Agreements.{IsFollowedBy, Agree}
@@ -7,19 +7,19 @@ use Rattle.kk_base.specs.Simulations.{Reaches, Simulates}
 use Rattle.kk_base.proofs.Simulations.{simulates_until_ended, simulates_agree, simulates_passing}
 use Rattle.kk_source.specs.State.{Environment, End}
 use Rattle.kk_source.specs.Notes.{Note}
-use Rattle.kk_source.specs.Actions.{Action, goes, puts, takes, builds, calls, performed, WithInput}
-use Rattle.kk_counted.specs.CountedStates.{CountedSetting, CountedControl, CountedConfiguration, CountedState, no_function, counted_first_state, counted_end_at}
+use Rattle.kk_source.specs.Actions.{Action, goes, puts, takes, builds, calls, performed}
+use Rattle.kk_counted.specs.CountedStates.{CountedControl, CountedState, no_function, counted_first_state, counted_end_at}
 use Rattle.kk_counted.specs.CountedMachine.{counted_code_step, counted_machine, NotStuck}
 use Rattle.kk_counted.specs.CountedCodes.{Counted, CountedFunction}
 use Rattle.kk_counted.specs.Heaps.{Heap}
 use Rattle.kk_counted.specs.TokenedCodes.{Tokened, TokenedFunction}
 use Rattle.kk_counted.specs.BareForms.{bare, bare_function}
-use Rattle.kk_counted.specs.Tokens.{spent, token, is_token, Tokens, no_tokens}
-use Rattle.kk_counted.specs.TokenStates.{TokenSetting, TokenJoin, TokenFrame, TokenControl, TokenConfiguration, TokenState, no_tokened, token_start, token_first_state, token_end_at, bare_join, bare_frame, bare_control, bare_configuration, bare_state, bare_setting}
+use Rattle.kk_counted.specs.Tokens.{spent, token, is_token, Tokens}
+use Rattle.kk_counted.specs.TokenStates.{TokenSetting, TokenJoin, TokenFrame, TokenControl, TokenConfiguration, TokenState, no_tokened, token_first_state, token_end_at, bare_join, bare_frame, bare_control, bare_configuration, bare_state, bare_setting}
 use Rattle.kk_counted.specs.TokenMachine.{at_code, token_code_step, token_machine, TokenNotStuck}
 use Rattle.kk_counted.specs.TokenSpending.{SpendsTokens, AreTokensSpent}
-use Rattle.kk_counted.specs.TokenKeeping.{AreTokens, AreKeptAt, AreKept, IsJudged, Lists, ListsAfter, AreKeptByAt, AreKeptBy, FillsAt, FillsAlways, token_after}
-use Rattle.kk_counted.specs.TokenRuns.{bare_action, AllLead, IsFollowed, is_quiet, is_quiet_at, bare_weight, IsSameRun}
+use Rattle.kk_counted.specs.TokenKeeping.{AreKeptAt, AreKept, Lists, ListsAfter, AreKeptByAt, AreKeptBy, FillsAt, FillsAlways, token_after}
+use Rattle.kk_counted.specs.TokenRuns.{bare_action, AllLead, IsFollowed, is_quiet, bare_weight, IsSameRun}
 use Rattle.kk_counted.proofs.Pooling.{plain_is_none}
 use Rattle.kk_counted.proofs.TokenSteps.{follows}
 use Rattle.kk_counted.proofs.StillForms.{IsStill, free_still, null_still, move_still, hold_still, unhold_still, there_still, absent_still}
@@ -282,18 +282,21 @@ module _ (weight : CountedState → ℕ) (setting : TokenSetting) (program_spend
       record {
         is = ap (λ (function : CountedFunction). record { machine = record { control = CountedControl.running function.body [] []; frames = []; heap = [] }; input = input })
             (sym (function_at setting.program.functions setting.program.main));
-        kept = (record { left = []; unspent = []; held = []; older = [] }, record {
-          spends = main_spends setting.program.functions setting.program.main program_spends;
-          waits = refl;
-          slots_are = λ y. refl;
-          apart = tt;
-          waiting = tt;
-          are = record {
-            pooled = record { marks = λ f y p is. absurd (spent_is_none p is); slots = λ f y p is. absurd (plain_is_none f y is); uncounted = λ f y p is. absurd (plain_is_none f y is); there = λ f y p is. absurd (plain_is_none f y is); room = omega arith };
-            chain = refl;
-            beyond = λ f y far. refl;
-          };
-        });
+        kept = (
+          record { left = []; unspent = []; held = []; older = [] },
+          record {
+            spends = main_spends setting.program.functions setting.program.main program_spends;
+            waits = refl;
+            slots_are = λ y. refl;
+            apart = tt;
+            waiting = tt;
+            are = record {
+              pooled = record { marks = λ f y p is. absurd (spent_is_none p is); slots = λ f y p is. absurd (plain_is_none f y is); uncounted = λ f y p is. absurd (plain_is_none f y is); there = λ f y p is. absurd (plain_is_none f y is); room = omega arith };
+              chain = refl;
+              beyond = λ f y far. refl;
+            };
+          },
+        );
         fills = fills;
         never_stuck = never_stuck;
       }

@@ -1,5 +1,5 @@
 -- Each step of code that spends its tokens does what its bare form does, and keeps the tokens.
-use Rattle.std.proofs.Common.{◌≡◌, ◌⊎◌, inl, inr, ℕ, zero, suc, ◌+◌, ◌≤◌, ◌<◌, ◌==◌, Bool, true, false, not, List, [], ◌∷◌, map, length, Option, Some, None, arith, refl, sym, ap, ◌∙◌, subst}
+use Rattle.std.proofs.Common.{◌≡◌, ℕ, zero, suc, ◌+◌, ◌≤◌, ◌==◌, Bool, true, false, List, [], ◌∷◌, map, length, Option, Some, None, arith, refl, sym, ap, ◌∙◌, subst}
 use Rattle.std.specs.Prelude.{if◌then◌else◌, nat_le, slice_get, option_map}
 use Rattle.std.proofs.lemmas.List.{length-map}
 use Rattle.std.proofs.lemmas.Option.{slice_get-map}
@@ -8,32 +8,31 @@ use Rattle.kk_syntax.specs.declared.program.Form.TheVariants.{Number, Unit as No
 use Rattle.kk_syntax.specs.Shapes.{is_among, without}
 use Rattle.kk_syntax.specs.Programs.{text_at}
 use Rattle.std.specs.Fmt.{signed_decimal}
-use Rattle.kk_source.specs.State.{Value, integer, unit, constant, place, Environment, ended, heap_full, stack_full}
+use Rattle.kk_source.specs.State.{Value, integer, unit, constant, place, Environment, stack_full}
 use Rattle.kk_source.specs.Live.{value_of}
 use Rattle.kk_source.specs.Matching.{and_then}
-use Rattle.kk_source.specs.Actions.{Action, goes, puts, takes, builds, calls, print_step}
+use Rattle.kk_source.specs.Actions.{Action, goes, calls, print_step}
 use Rattle.kk_source.specs.FormEffects.{is_true, integer_of, unary_result, binary_result, argument, piece_of, byte_value}
 use Rattle.kk_source.specs.Step.{bind_parameters}
 use Rattle.kk_core.specs.CoreMachine.{bind_fields}
 use Rattle.kk_core.specs.Decisions.{chosen}
-use Rattle.kk_counted.specs.CountedCodes.{CountedFunction}
 use Rattle.kk_counted.specs.Heaps.{Heap, count_at, cell_at, fields_held, busy, dup_value, drop_value}
-use Rattle.kk_counted.specs.CountedStates.{CountedFrame, CountedConfiguration}
-use Rattle.kk_counted.specs.CountedMachine.{at_counted, bound_then, at_end, at_stuck, in_code, with_heap, arm_at, case_step, give_step, tail_step, Named, cell_named, used_values, other_values, opened_heap, unique_heap, open_step, construct_step, call_step, form_step, counted_code_step}
+use Rattle.kk_counted.specs.CountedStates.{CountedConfiguration}
+use Rattle.kk_counted.specs.CountedMachine.{at_counted, bound_then, at_end, in_code, with_heap, arm_at, case_step, give_step, tail_step, Named, cell_named, used_values, other_values, opened_heap, unique_heap, open_step, construct_step, call_step, form_step, counted_code_step}
 use Rattle.kk_counted.specs.TokenedCodes.{Tokened, TokenedArms, TokenedFunction}
 use Rattle.kk_counted.specs.BareForms.{bare, bare_arms, bare_function}
-use Rattle.kk_counted.specs.Tokens.{Slot, spent, null, token, is_unspent, Tokens, marked, blanked, released, opened_tokens, by_token, freed, moved, held, unheld, request}
+use Rattle.kk_counted.specs.Tokens.{spent, token, is_unspent, Tokens, marked, blanked, released, opened_tokens, by_token, held, request}
 use Rattle.kk_counted.specs.TokenStates.{TokenSetting, TokenJoin, TokenFrame, TokenControl, TokenConfiguration, bare_join, bare_frame, bare_configuration, bare_setting}
-use Rattle.kk_counted.specs.TokenMachine.{at_code, bound_to, token_at_end, token_at_stuck, to_heap, to_tokens, frame_of, tokened_arm_at, token_case_step, token_give_step, in_body, token_tail_step, token_read_step, to_opened, token_open_step, to_made, make_step, filled, fill_step, token_call_step, token_form_step, token_code_step}
+use Rattle.kk_counted.specs.TokenMachine.{at_code, bound_to, token_at_end, token_at_stuck, to_heap, tokened_arm_at, token_case_step, token_give_step, in_body, token_tail_step, token_read_step, to_opened, token_open_step, make_step, filled, fill_step, token_call_step, token_form_step, token_code_step}
 use Rattle.kk_counted.specs.TokenSpending.{AreSame, AtForm, SpendsTokens, SpendAllTokens, AreTokensSpent}
 use Rattle.kk_counted.specs.TokenRuns.{is_quiet, IsFollowed}
-use Rattle.kk_counted.specs.TokenKeeping.{AreTokens, WaitTokens, IsHeldFrame, IsJudged, AreKeptAt, Lists, ListsAfter, ListsAfterForm, AreKeptBy, FillsAt}
+use Rattle.kk_counted.specs.TokenKeeping.{AreTokens, WaitTokens, IsHeldFrame, IsJudged, Lists, ListsAfter, ListsAfterForm, AreKeptBy, FillsAt}
 use Rattle.kk_counted.proofs.Counting.{same}
-use Rattle.kk_counted.proofs.Easing.{Eased, EasedTo, eased_same, eased_dup, eased_drop, eased_opening, eased_unique}
+use Rattle.kk_counted.proofs.Easing.{EasedTo, eased_dup, eased_drop, eased_opening, eased_unique}
 use Rattle.kk_counted.proofs.Pooling.{released_room, by_null, by_cell}
 use Rattle.kk_counted.proofs.Chaining.{frames_many}
-use Rattle.kk_counted.proofs.Requesting.{IsServed, Asked, full, served, asked}
-use Rattle.kk_counted.proofs.TokenForms.{AreNow, Has, is_null, has_cell, unspent_has, not_unspent, nulled_now, spent_null_now, spent_now, gained_now, eased_now, opened_now, made_now, served_now}
+use Rattle.kk_counted.proofs.Requesting.{Asked, full, served, asked}
+use Rattle.kk_counted.proofs.TokenForms.{AreNow, Has, is_null, has_cell, unspent_has, not_unspent, spent_null_now, spent_now, eased_now, opened_now, made_now, served_now}
 use Rattle.kk_counted.proofs.SoundSteps.{with_variable, NamedCell, OnNamed, named_cell}
 
 abbrev pub lists_of : List ℕ → List ℕ → List ℕ → List (List ℕ) → Lists
@@ -74,15 +73,20 @@ module _ (cells : ℕ) where
       → ((left unspent held : List ℕ) (others : List (List ℕ)) → older ≡ held ∷ others → P (lists_of left unspent held others))
       → AreNow cells [] older (frame ∷ frames) from.heap from.tokens → AreKeptBy cells P (at_code frame.rest environment frame.joins (record from { frames = frames }))
   returned P [] frame frames environment from next now = absurd now.waiting
-  returned P (held ∷ older) frame frames environment from next now =
-      (lists_of waits.left waits.unspent held older, (next waits.left waits.unspent held older refl, record {
+  returned P (held ∷ older) frame frames environment from next now = (
+    lists_of waits.left waits.unspent held older,
+    (
+      next waits.left waits.unspent held older refl,
+      record {
         spends = waits.spends;
         waits = waits.waits;
         slots_are = waits.slots_are;
         apart = waits.apart;
         waiting = now.waiting.1;
         are = record { pooled = now.are.pooled; chain = now.are.chain; beyond = λ f y far. beyond f y far (f == suc (length older)) refl };
-      }))
+      },
+    ),
+  )
     where
       waits : IsHeldFrame (from.tokens.slots (length older)) held frame
       waits = now.waiting.0

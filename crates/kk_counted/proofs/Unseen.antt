@@ -1,7 +1,6 @@
 -- The forms that only tokens have are not seen by the counted machine.
-use Rattle.std.proofs.Common.{◌≡◌, Bool, true, false, List, map, length, refl, ap, ◌∙◌}
+use Rattle.std.proofs.Common.{◌≡◌, Bool, true, false, List, map, length, refl, ap}
 use Rattle.kk_source.specs.State.{Environment}
-use Rattle.kk_source.specs.Actions.{Action}
 use Rattle.kk_counted.specs.CountedCodes.{Counted}
 use Rattle.kk_counted.specs.CountedStates.{CountedControl, CountedConfiguration}
 use Rattle.kk_counted.specs.TokenedCodes.{Tokened}

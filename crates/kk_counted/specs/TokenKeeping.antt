@@ -9,7 +9,7 @@ use Rattle.kk_source.specs.Live.{value_of}
 use Rattle.kk_counted.specs.Heaps.{Heap, count_at, fields_held, busy}
 use Rattle.kk_counted.specs.Spending.{AreApart}
 use Rattle.kk_counted.specs.TokenedCodes.{Tokened}
-use Rattle.kk_counted.specs.Tokens.{Slot, spent, token, is_unspent, is_token, plain, token_of, Link, Tokens, marked}
+use Rattle.kk_counted.specs.Tokens.{Slot, spent, token, is_unspent, is_token, token_of, Link, Tokens, marked}
 use Rattle.kk_counted.specs.TokenStates.{TokenSetting, TokenJoin, TokenFrame, TokenControl, TokenConfiguration, TokenState, token_first_state}
 use Rattle.kk_counted.specs.TokenMachine.{filled, token_machine}
 use Rattle.kk_counted.specs.TokenSpending.{SpendsTokens}
