@@ -12,24 +12,29 @@ use Rattle.kk_counted.specs.TokenKeeping.{ArePooled, AreKeptAt}
 use Rattle.kk_counted.specs.TokenRuns.{TakesNoCell}
 use Rattle.kk_counted.proofs.Pooling.{released_room, pooled_released, by_cell}
 
-pub unmarked_new : (cells : ℕ) (heap : Heap) (tokens : Tokens) → ArePooled cells heap tokens → one_if_token (tokens.marks (length heap)) ≡ 0
+pub unmarked_new : (cells : ℕ) (heap : Heap) (tokens : Tokens) → ArePooled cells heap tokens
+    → one_if_token (tokens.marks (length heap)) ≡ 0
 unmarked_new cells heap tokens pooled = by_mark (tokens.marks (length heap)) refl
   where
     by_mark : (mark : Mark) → tokens.marks (length heap) ≡ mark → one_if_token (tokens.marks (length heap)) ≡ 0
     by_mark plain is = ap one_if_token is
     by_mark (token_of f y) is = absurd (omega (arith, pooled.there f y (length heap) is))
 
-pub takes_no_cell : (setting : TokenSetting) (x y c first p : ℕ) (arguments kept others : List ℕ) (rest : Tokened) (environment : Environment) (joins : List TokenJoin) (from : TokenConfiguration)
+pub takes_no_cell : (setting : TokenSetting) (x y c first p : ℕ) (arguments kept others : List ℕ) (rest : Tokened)
+    (environment : Environment) (joins : List TokenJoin) (from : TokenConfiguration)
     → AreKeptAt setting.cells from (TokenControl.running (Tokened.fill x y c first arguments kept others rest) environment joins)
     → from.tokens.slots (length from.frames) y ≡ token p
-    → (to : TokenConfiguration) × ((token_code_step setting (Tokened.fill x y c first arguments kept others rest) environment joins from ≡ builds (busy from.heap) to)
+    → (to : TokenConfiguration) × ((token_code_step setting (Tokened.fill x y c first arguments kept others rest) environment joins
+    from ≡ builds (busy from.heap) to)
     × TakesNoCell (length from.frames) y from to)
 takes_no_cell setting x y c first p arguments kept others rest environment joins from are is = (
   made p,
   (
     by_cell setting.cells (goes (token_at_stuck from))
-        (make_step (request setting.cells others (length from.frames) from.heap (blanked (length from.frames) y spent from.tokens)) c values to from)
-        (λ q. make_step (Some (released (length from.frames) y q spent from.tokens)) c (filled setting.leaves kept (fields_held from.heap q) values) to from)
+        (make_step (request setting.cells others (length from.frames) from.heap (blanked (length from.frames) y spent from.tokens))
+            c values to from)
+        (λ q. make_step (Some (released (length from.frames) y q spent from.tokens)) c
+            (filled setting.leaves kept (fields_held from.heap q) values) to from)
         (length from.frames) y p from.heap from.tokens pooled is,
     record {
       cells = omega (
@@ -54,4 +59,6 @@ takes_no_cell setting x y c first p arguments kept others rest environment joins
     to v = bound_to x v rest environment joins from
 
     made : ℕ → TokenConfiguration
-    made q = to_made (Some (released (length from.frames) y q spent from.tokens)) c (filled setting.leaves kept (fields_held from.heap q) values) to from
+    made q =
+        to_made (Some (released (length from.frames) y q spent from.tokens)) c
+            (filled setting.leaves kept (fields_held from.heap q) values) to from

@@ -67,7 +67,8 @@ AreHeldFrames slots _ _ = ⊥
 
 -- A function that runs, at a code inside of blocks, by its lists: the slots that the block leaves, those that are unspent, those
 -- that are held, and those that older frames hold.
-pub record IsJudged (cells : ℕ) (left unspent held : List ℕ) (older : List (List ℕ)) (code : Tokened) (joins : List TokenJoin) (frames : List TokenFrame) (heap : Heap) (tokens : Tokens) : Type 0 where
+pub record IsJudged (cells : ℕ) (left unspent held : List ℕ) (older : List (List ℕ)) (code : Tokened) (joins : List TokenJoin)
+    (frames : List TokenFrame) (heap : Heap) (tokens : Tokens) : Type 0 where
   pub spends : SpendsTokens left unspent held code
   pub waits : WaitTokens left joins
   pub slots_are : AreUnspent (tokens.slots (length older)) unspent
