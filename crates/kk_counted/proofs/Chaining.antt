@@ -133,7 +133,7 @@ row_top slots (y ∷ ys) helds link links apart older is =
     other_slot : (z : ℕ) → is_among ys z ≡ true → slots (length helds) z ≡ slots_with (length helds) y null slots (length helds) z
     other_slot z among =
         sym (slot_there (length helds) y (length helds) z null slots
-            (rw (itself (length helds)) (turned y z (other_variable y z ys apart.0 among))))
+        (rw (itself (length helds)) (turned y z (other_variable y z ys apart.0 among))))
 
     here : is_token (slots (length helds) y) ≡ true
         → IsRowTop slots (y ∷ ys) helds (record { frame = length helds; slot = y }) after
@@ -147,7 +147,7 @@ row_top slots (y ∷ ys) helds link links apart older is =
               (links_same (slots (length helds)) (slots_with (length helds) y null slots (length helds)) (length helds) ys
               (chain_of slots helds) (chain_of (slots_with (length helds) y null slots) helds) other_slot
               (sym (chain_same slots (slots_with (length helds) y null slots) helds
-                  (equal_one (length helds) (length helds) y null slots (omega arith)))));
+              (equal_one (length helds) (length helds) y null slots (omega arith)))));
         }
 
     passed : (w : Which link.frame link.slot (length helds) y) → is_token (slots (length helds) y) ≡ false
@@ -193,8 +193,8 @@ row_none slots f (x ∷ ys) older none = by_test (is_token (slots x)) refl none 
 
     by_test : (t : Bool) → is_token (slots x) ≡ t → (if t then record { frame = f; slot = x } ∷ links_of slots f ys older else
         links_of slots f ys older) ≡ [] → (links_of slots f ys older ≡ []
-            → ((y : ℕ) → is_among ys y ≡ true → is_token (slots y) ≡ false) × (older ≡ []))
-            → ((y : ℕ) → is_among (x ∷ ys) y ≡ true → is_token (slots y) ≡ false) × (older ≡ [])
+        → ((y : ℕ) → is_among ys y ≡ true → is_token (slots y) ≡ false) × (older ≡ []))
+        → ((y : ℕ) → is_among (x ∷ ys) y ≡ true → is_token (slots y) ≡ false) × (older ≡ [])
     by_test true test equal later = absurd (cc)
     by_test false test equal later =
         let rest = later equal in (λ y is. among_both y test rest.0 (x == y) refl is, rest.1)
@@ -205,7 +205,7 @@ none_on_chain slots [] frames are none f y less = absurd (omega (arith, less))
 none_on_chain slots (held ∷ helds) [] are none f y less = absurd are
 none_on_chain slots (held ∷ helds) (frame ∷ frames) are none f y less =
     by_frame (f == length helds) refl (none_on_chain slots helds frames are.1
-        (row_none (slots (length helds)) (length helds) held (chain_of slots helds) none).1 f y)
+    (row_none (slots (length helds)) (length helds) held (chain_of slots helds) none).1 f y)
   where
     in_row : (y : ℕ) → is_among held y ≡ true → is_token (slots (length helds) y) ≡ false
     in_row = (row_none (slots (length helds)) (length helds) held (chain_of slots helds) none).0

@@ -59,17 +59,22 @@ eased_give_up (suc turns) (constant c ∷ vs) heap = eased_give_up turns vs heap
 eased_give_up (suc turns) (place at ∷ vs) heap = by_count (count_at heap at) refl (eased_give_up turns)
   where
     by_count : (count : ℕ) → count_at heap at ≡ count → ((ws : List Value) (other : Heap) → EasedTo other (give_up turns ws other))
-        → EasedTo heap (elim count [ zero ↦ None | suc count ↦ elim count
-        [ zero ↦ give_up turns (fields_held heap at ++ vs) (set_count at 0 heap) | suc others ↦ give_up turns vs
-            (set_count at (suc others) heap) ] ])
+        → EasedTo heap (elim count [
+          | zero ↦ None
+          | suc count ↦ elim count [
+            | zero ↦ give_up turns (fields_held heap at ++ vs) (set_count at 0 heap)
+            | suc others ↦ give_up turns vs
+                (set_count at (suc others) heap)
+          ]
+        ])
     by_count zero counted later = tt
     by_count (suc zero) counted later =
         eased_then heap (set_count at 0 heap) (give_up turns (fields_held heap at ++ vs) (set_count at 0 heap))
-            (eased_set at 0 0 heap counted)
+        (eased_set at 0 0 heap counted)
         (later (fields_held heap at ++ vs) (set_count at 0 heap))
     by_count (suc (suc others)) counted later =
         eased_then heap (set_count at (suc others) heap) (give_up turns vs (set_count at (suc others) heap))
-            (eased_set at (suc others) (suc others) heap counted)
+        (eased_set at (suc others) (suc others) heap counted)
         (later vs (set_count at (suc others) heap))
 
 pub eased_drop : (v : Value) (heap : Heap) → EasedTo heap (drop_value v heap)
@@ -88,10 +93,10 @@ pub eased_unique : (count at : ℕ) (used others : List Value) (heap : Heap) →
 eased_unique zero at used others heap counted = tt
 eased_unique (suc zero) at used others heap counted =
     eased_then heap (set_count at 0 heap) (drop_all others (set_count at 0 heap)) (eased_set at 0 0 heap counted)
-        (eased_drops others (set_count at 0 heap))
+    (eased_drops others (set_count at 0 heap))
 eased_unique (suc (suc count)) at used others heap counted =
     eased_then heap (set_count at (suc count) heap) (dup_all used (set_count at (suc count) heap))
-        (eased_set at (suc count) (suc count) heap counted)
+    (eased_set at (suc count) (suc count) heap counted)
     (eased_dups used (set_count at (suc count) heap))
 
 -- ---- how many cells are counted

@@ -32,9 +32,9 @@ takes_no_cell setting x y c first p arguments kept others rest environment joins
   (
     by_cell setting.cells (goes (token_at_stuck from))
         (make_step (request setting.cells others (length from.frames) from.heap (blanked (length from.frames) y spent from.tokens))
-            c values to from)
+        c values to from)
         (λ q. make_step (Some (released (length from.frames) y q spent from.tokens)) c
-            (filled setting.leaves kept (fields_held from.heap q) values) to from)
+        (filled setting.leaves kept (fields_held from.heap q) values) to from)
         (length from.frames) y p from.heap from.tokens pooled is,
     record {
       cells = omega (
@@ -61,4 +61,4 @@ takes_no_cell setting x y c first p arguments kept others rest environment joins
     made : ℕ → TokenConfiguration
     made q =
         to_made (Some (released (length from.frames) y q spent from.tokens)) c
-            (filled setting.leaves kept (fields_held from.heap q) values) to from
+        (filled setting.leaves kept (fields_held from.heap q) values) to from

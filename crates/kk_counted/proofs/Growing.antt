@@ -89,7 +89,7 @@ module _ (setting : TokenSetting) (environment : Environment) (joins : List Toke
     where
       by_test : (t : Bool) → Growth setting.cells from
           (if t then record from { control = TokenControl.stopped stack_full } else in_body function values
-              (record from { frames = waiting ∷ from.frames }))
+          (record from { frames = waiting ∷ from.frames }))
       by_test true = stays (λ p alive. alive)
       by_test false = stays (λ p alive. alive)
 
@@ -116,7 +116,7 @@ module _ (setting : TokenSetting) (environment : Environment) (joins : List Toke
           by_test true test = by_references (omega (arith, cell.counted, ap (count_at from.heap) (same p named.at test)))
           by_test false test =
               by_mark f z (sym (ap (λ b. if b then token_of (length from.frames) y else from.tokens.marks p) test) ∙ marked_is)
-                  (omega (arith, there, less.many))
+              (omega (arith, there, less.many))
 
       opened_before : (number : ℕ) (after : Heap) → Eased from.heap after → (p : ℕ)
           → Alive after (opened_tokens number (length from.frames) y named.at from.tokens).marks p
@@ -130,8 +130,8 @@ module _ (setting : TokenSetting) (environment : Environment) (joins : List Toke
       opened None less = stays (λ p alive. alive)
       opened (Some after) less =
           stays (fewer_by from.heap after from.tokens.marks
-              (opened_tokens (count_at after named.at) (length from.frames) y named.at from.tokens).marks
-                  (opened_before (count_at after named.at) after less))
+          (opened_tokens (count_at after named.at) (length from.frames) y named.at from.tokens).marks
+          (opened_before (count_at after named.at) after less))
 
   made_grows : (x c : ℕ) (fields : List Value) (rest : Tokened) (before : Tokens) (older : List (List ℕ)) (result : Option Tokens)
       → ((p f y : ℕ) → before.marks p ≡ token_of f y → from.tokens.marks p ≡ token_of f y)
@@ -142,7 +142,7 @@ module _ (setting : TokenSetting) (environment : Environment) (joins : List Toke
       rw is
       (grows (record { count = 1; cell = record { made_by = c; fields = fields } }) refl
       (fewer_by from.heap from.heap from.tokens.marks after.marks
-          (marks_alive from.heap from.tokens.marks after.marks (λ p f y marked_is. fewer p f y (good.fewer p f y marked_is))))
+      (marks_alive from.heap from.tokens.marks after.marks (λ p f y marked_is. fewer p f y (good.fewer p f y marked_is))))
       good.room)
 
   tokens_grow : (result : Option Tokens) (after : Tokens) (rest : Tokened) → result ≡ Some after
@@ -161,7 +161,7 @@ module _ (setting : TokenSetting) (environment : Environment) (joins : List Toke
         → Alive from.heap from.tokens.marks q
     released_before y p slot =
         marks_alive from.heap from.tokens.marks (marks_with p plain from.tokens.marks)
-            (λ q f z is. fewer_marks p q f z from.tokens.marks is (q == p) refl)
+        (λ q f z is. fewer_marks p q f z from.tokens.marks is (q == p) refl)
 
     fill_grows : (x y c : ℕ) (fields : List Value) (kept others : List ℕ) (rest : Tokened) → is_among lists.unspent y ≡ true
         → AreSame others (without (y ∷ []) lists.unspent)
@@ -175,38 +175,44 @@ module _ (setting : TokenSetting) (environment : Environment) (joins : List Toke
         step : ℕ → Action TokenConfiguration
         step d =
             by_token (goes (token_at_stuck from)) (make (request setting.cells others d from.heap (blanked d y spent from.tokens))
-                fields)
+            fields)
             (λ p. make (Some (released d y p spent from.tokens)) (filled setting.leaves kept (fields_held from.heap p) fields)) d y
-                from.tokens
+            from.tokens
 
         by_has : Has (from.tokens.slots (length lists.older) y) → AllLead (Growth setting.cells from) (step (length from.frames))
         by_has (is_null is) =
             let after = spent_null_now setting.cells lists.unspent lists.older from.frames from.heap from.tokens now y is in
             subst (λ (act : Action TokenConfiguration). AllLead (Growth setting.cells from) act)
             (sym (ap step many ∙ by_null setting.cells (goes (token_at_stuck from))
-                (make (request setting.cells others (length lists.older) from.heap
-                    (blanked (length lists.older) y spent from.tokens)) fields)
+            (make (request setting.cells others (length lists.older) from.heap
+            (blanked (length lists.older) y spent from.tokens)) fields)
             (λ p. make (Some (released (length lists.older) y p spent from.tokens))
-                (filled setting.leaves kept (fields_held from.heap p) fields)) (length lists.older) y from.tokens is))
+            (filled setting.leaves kept (fields_held from.heap p) fields)) (length lists.older) y from.tokens is))
             (made_grows x c fields rest (blanked (length lists.older) y spent from.tokens) lists.older
-                (request setting.cells others (length lists.older) from.heap (blanked (length lists.older) y spent from.tokens))
+            (request setting.cells others (length lists.older) from.heap (blanked (length lists.older) y spent from.tokens))
             (λ p f z marked_is. marked_is)
             (asked setting.cells (without (y ∷ []) lists.unspent) others lists.older from.frames from.heap
-                (blanked (length lists.older) y spent from.tokens) after.are after.waiting after.slots_are all))
+            (blanked (length lists.older) y spent from.tokens) after.are after.waiting after.slots_are all))
         by_has (has_cell p is) =
             subst (λ (act : Action TokenConfiguration). AllLead (Growth setting.cells from) act)
             (sym (ap step many ∙ by_cell setting.cells (goes (token_at_stuck from))
-                (make (request setting.cells others (length lists.older) from.heap
-                    (blanked (length lists.older) y spent from.tokens)) fields)
+            (make (request setting.cells others (length lists.older) from.heap
+            (blanked (length lists.older) y spent from.tokens)) fields)
             (λ q. make (Some (released (length lists.older) y q spent from.tokens))
-                (filled setting.leaves kept (fields_held from.heap q) fields)) (length lists.older) y p from.heap from.tokens
-                    now.are.pooled is))
-            (grows (record { count = 1; cell = record
-                { made_by = c; fields = filled setting.leaves kept (fields_held from.heap p) fields } }) refl
+            (filled setting.leaves kept (fields_held from.heap q) fields)) (length lists.older) y p from.heap from.tokens
+            now.are.pooled is))
+            (grows (record {
+              count = 1;
+              cell = record
+                  { made_by = c; fields = filled setting.leaves kept (fields_held from.heap p) fields };
+            }) refl
             (fewer_by from.heap from.heap from.tokens.marks (released (length lists.older) y p spent from.tokens).marks
-                (released_before y p spent))
-            (omega (arith, released_room setting.cells (length lists.older) y p spent from.heap from.tokens is now.are.pooled,
-                now.are.pooled.room)))
+            (released_before y p spent))
+            (omega (
+              arith,
+              released_room setting.cells (length lists.older) y p spent from.heap from.tokens is now.are.pooled,
+              now.are.pooled.room,
+            )))
 
     free_grows : (y : ℕ) (rest : Tokened) → is_among lists.unspent y ≡ true
         → AllLead (Growth setting.cells from) (goes
@@ -220,14 +226,14 @@ module _ (setting : TokenSetting) (environment : Environment) (joins : List Toke
             tokens_grow (freed (length from.frames) y from.tokens) (blanked (length lists.older) y spent from.tokens) rest
             (ap (λ d. freed d y from.tokens) many
             ∙ by_null setting.cells None (Some (blanked (length lists.older) y spent from.tokens))
-                (λ p. Some (released (length lists.older) y p spent from.tokens)) (length lists.older) y from.tokens is)
+            (λ p. Some (released (length lists.older) y p spent from.tokens)) (length lists.older) y from.tokens is)
             (λ p alive. alive)
         by_has (has_cell p is) =
             tokens_grow (freed (length from.frames) y from.tokens) (released (length lists.older) y p spent from.tokens) rest
             (ap (λ d. freed d y from.tokens) many
             ∙ by_cell setting.cells None (Some (blanked (length lists.older) y spent from.tokens))
-                (λ p. Some (released (length lists.older) y p spent from.tokens)) (length lists.older) y p from.heap from.tokens
-                    now.are.pooled is)
+            (λ p. Some (released (length lists.older) y p spent from.tokens)) (length lists.older) y p from.heap from.tokens
+            now.are.pooled is)
             (released_before y p spent)
 
     move_grows : (to of : ℕ) (rest : Tokened) → is_among lists.unspent of ≡ true
@@ -251,12 +257,12 @@ module _ (setting : TokenSetting) (environment : Environment) (joins : List Toke
             by_test : (t : Bool) → (q == p) ≡ t → Alive from.heap from.tokens.marks q
             by_test true test =
                 by_mark (length lists.older) of (ap from.tokens.marks (same q p test) ∙ now.are.pooled.marks (length lists.older) of
-                    p is) less
+                p is) less
             by_test false test =
                 by_mark f z
                 (fewer_marks p q f z from.tokens.marks
-                    (sym (ap (λ b. if b then token_of (length lists.older) to else marks_with p plain from.tokens.marks q) test)
-                        ∙ marked_is) (q == p) refl)
+                (sym (ap (λ b. if b then token_of (length lists.older) to else marks_with p plain from.tokens.marks q) test)
+                ∙ marked_is) (q == p) refl)
                 less
 
         by_has : Has (from.tokens.slots (length lists.older) of)
@@ -266,14 +272,14 @@ module _ (setting : TokenSetting) (environment : Environment) (joins : List Toke
             tokens_grow (moved (length from.frames) to of from.tokens) (blanked (length lists.older) to null nothing) rest
             (ap (λ d. moved d to of from.tokens) many
             ∙ by_null setting.cells None (Some (blanked (length lists.older) to null nothing))
-                (λ p. Some (gained (length lists.older) to p (from_cell p))) (length lists.older) of from.tokens is)
+            (λ p. Some (gained (length lists.older) to p (from_cell p))) (length lists.older) of from.tokens is)
             (λ p alive. alive)
         by_has (has_cell p is) =
             tokens_grow (moved (length from.frames) to of from.tokens) (gained (length lists.older) to p (from_cell p)) rest
             (ap (λ d. moved d to of from.tokens) many
             ∙ by_cell setting.cells None (Some (blanked (length lists.older) to null nothing))
-                (λ p. Some (gained (length lists.older) to p (from_cell p))) (length lists.older) of p from.heap from.tokens
-                    now.are.pooled is)
+            (λ p. Some (gained (length lists.older) to p (from_cell p))) (length lists.older) of p from.heap from.tokens
+            now.are.pooled is)
             (moved_before p is)
 
   -- a change of the chain alone
@@ -306,26 +312,26 @@ module _ (setting : TokenSetting) (environment : Environment) (joins : List Toke
   form_grows lists ReadByte arguments others x rest code at_form judged = λ byte. stays (λ p alive. alive)
   form_grows lists (PrintText form text) arguments others x rest code at_form judged =
       print_grows (piece_of form (text_at setting.program.texts text)) (bound_to x unit rest environment joins from)
-          (stays (λ p alive. alive))
+      (stays (λ p alive. alive))
   form_grows lists (Unary operator) arguments others x rest code at_form judged = stays (λ p alive. alive)
   form_grows lists (Binary operator) arguments others x rest code at_form judged = stays (λ p alive. alive)
   form_grows lists (Print form) arguments others x rest code at_form judged =
       print_grows (piece_of form (signed_decimal (integer_of (argument 0 (map (value_of environment) arguments)))))
-          (bound_to x unit rest environment joins from) (stays (λ p alive. alive))
+      (bound_to x unit rest environment joins from) (stays (λ p alive. alive))
   form_grows lists (Construct c) [] others x rest code at_form judged = stays (λ p alive. alive)
   form_grows lists (Construct c) (first ∷ arguments) others x rest code at_form judged =
       let now = now_of setting.cells lists.left lists.unspent lists.held lists.older code joins from.frames from.heap from.tokens
-              at_form.0 judged in
+      at_form.0 judged in
       made_grows x c (map (value_of environment) (first ∷ arguments)) rest from.tokens lists.older
-          (request setting.cells others (length from.frames) from.heap from.tokens) (λ p f y is. is)
+      (request setting.cells others (length from.frames) from.heap from.tokens) (λ p f y is. is)
       (subst (λ d. Asked setting.cells from.heap from.tokens ([] ∷ lists.older)
-          (request setting.cells others d from.heap from.tokens))
+      (request setting.cells others d from.heap from.tokens))
       (sym (frames_many from.tokens.slots lists.older from.frames now.waiting))
       (asked setting.cells lists.unspent others lists.older from.frames from.heap from.tokens now.are now.waiting now.slots_are
-          at_form.1.1))
+      at_form.1.1))
   form_grows lists (Call f) arguments others x rest code at_form judged =
       call_grows (slice_get setting.program.functions f) (map (value_of environment) arguments)
-          (record { variable = x; rest = rest; joins = joins; environment = environment })
+      (record { variable = x; rest = rest; joins = joins; environment = environment })
 
   pub step_grows : (lists : Lists) (code : Tokened)
       → IsJudged setting.cells lists.left lists.unspent lists.held lists.older code joins from.frames from.heap from.tokens
@@ -343,14 +349,14 @@ module _ (setting : TokenSetting) (environment : Environment) (joins : List Toke
       open_grows (length fields) (value_of environment x) (cell_named c (length fields) from.heap (value_of environment x))
       (λ named. opened_heap named.at (used_values used fields named.fields) from.heap) fields y rest
       (named_cell c (length fields) from.heap (value_of environment x))
-          (λ named. eased_opening named.at (used_values used fields named.fields) from.heap)
+      (λ named. eased_opening named.at (used_values used fields named.fields) from.heap)
   step_grows lists (Tokened.if_unique x c fields used y rest) judged =
       open_grows (length fields) (value_of environment x) (cell_named c (length fields) from.heap (value_of environment x))
       (λ named. unique_heap (count_at from.heap named.at) named.at (used_values used fields named.fields)
-          (other_values used fields named.fields) from.heap) fields y rest
+      (other_values used fields named.fields) from.heap) fields y rest
       (named_cell c (length fields) from.heap (value_of environment x))
       (λ named. eased_unique (count_at from.heap named.at) named.at (used_values used fields named.fields)
-          (other_values used fields named.fields) from.heap refl)
+      (other_values used fields named.fields) from.heap refl)
   step_grows lists (Tokened.dup x rest) judged =
       heap_grows (dup_value (value_of environment x) from.heap) rest (eased_dup (value_of environment x) from.heap)
   step_grows lists (Tokened.drop x rest) judged =
@@ -359,18 +365,18 @@ module _ (setting : TokenSetting) (environment : Environment) (joins : List Toke
   step_grows lists (Tokened.if_token y there absent) judged = stays (λ p alive. alive)
   step_grows lists (Tokened.fill x y c first arguments kept others rest) judged =
       fill_grows lists (now_of setting.cells lists.left lists.unspent lists.held lists.older
-          (Tokened.fill x y c first arguments kept others rest) joins from.frames from.heap from.tokens judged.spends.0 judged)
+      (Tokened.fill x y c first arguments kept others rest) joins from.frames from.heap from.tokens judged.spends.0 judged)
       x y c (map (value_of environment) (first ∷ arguments)) kept others rest judged.spends.1.0 judged.spends.1.1.1.0
   step_grows lists (Tokened.free y rest) judged =
       free_grows lists (now_of setting.cells lists.left lists.unspent lists.held lists.older (Tokened.free y rest) joins from.frames
-          from.heap from.tokens judged.spends.0 judged) y rest judged.spends.1.0
+      from.heap from.tokens judged.spends.0 judged) y rest judged.spends.1.0
   step_grows lists (Tokened.move to of rest) judged =
       move_grows lists (now_of setting.cells lists.left lists.unspent lists.held lists.older (Tokened.move to of rest) joins
-          from.frames from.heap from.tokens judged.spends.0 judged) to of rest judged.spends.1.0
+      from.frames from.heap from.tokens judged.spends.0 judged) to of rest judged.spends.1.0
   step_grows lists (Tokened.hold y rest) judged =
       chain_grows (held (length from.frames) y from.tokens) rest
       (same_marks (length from.frames) y (from.tokens.slots (length from.frames) y)
-          (record { frame = length from.frames; slot = y } ∷ from.tokens.chain))
+      (record { frame = length from.frames; slot = y } ∷ from.tokens.chain))
   step_grows lists (Tokened.unhold y rest) judged =
       chain_grows (unheld (length from.frames) y from.tokens) rest
       (same_marks (length from.frames) y (from.tokens.slots (length from.frames) y) (tail_of from.tokens.chain))

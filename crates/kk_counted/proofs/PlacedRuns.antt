@@ -39,10 +39,10 @@ module _ (weight : TokenState → ℕ) (setting : TokenSetting) where
       by_placing at.0 from to (growth_places setting.cells at.0 from to (pooled_at setting.cells to to.control kept) at.1 grown)
   performed_at from (takes to) [] at grown kept =
       by_placing at.0 from (to None) (growth_places setting.cells at.0 from (to None)
-          (pooled_at setting.cells (to None) (to None).control kept) at.1 (grown None))
+      (pooled_at setting.cells (to None) (to None).control kept) at.1 (grown None))
   performed_at from (takes to) (byte ∷ input) at grown kept =
       by_placing at.0 from (to (Some byte)) (growth_places setting.cells at.0 from (to (Some byte))
-          (pooled_at setting.cells (to (Some byte)) (to (Some byte)).control kept) at.1 (grown (Some byte)))
+      (pooled_at setting.cells (to (Some byte)) (to (Some byte)).control kept) at.1 (grown (Some byte)))
   performed_at from (builds found to) input at grown kept =
       by_placing at.0 from to (growth_places setting.cells at.0 from to (pooled_at setting.cells to to.control kept) at.1 grown)
   performed_at from (calls found to) input at grown kept =
@@ -60,7 +60,7 @@ module _ (weight : TokenState → ℕ) (setting : TokenSetting) where
   next_at (TokenControl.running code environment joins) frames heap tokens input kept next at =
       let from = (state_of (TokenControl.running code environment joins) frames heap tokens input).machine in
       performed_at from (token_code_step setting code environment joins from) input at
-          (step_grows setting environment joins from kept.0 code kept.1) next
+      (step_grows setting environment joins from kept.0 code kept.1) next
   next_at (TokenControl.stopped by) frames heap tokens input kept next at = at
   next_at TokenControl.stuck frames heap tokens input kept next at = at
 

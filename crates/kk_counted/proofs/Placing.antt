@@ -70,7 +70,7 @@ is_alive_by heap marks p (by_references counted_is) = by_found (held_at heap p) 
 is_alive_by heap marks p (by_token f y marked_is less) =
     let found = held_there heap p less in
     ap (λ o. is_used (by_held o (marks p))) found.1
-        ∙ (ap (λ mark. is_used (by_count found.0.count found.0.cell mark)) marked_is ∙ either found.0.count)
+    ∙ (ap (λ mark. is_used (by_count found.0.count found.0.cell mark)) marked_is ∙ either found.0.count)
   where
     either : (count : ℕ) → is_used (by_count count (held_there heap p less).0.cell (token_of f y)) ≡ true
     either zero = refl
@@ -145,9 +145,17 @@ module _ (cells : ℕ) (assigned : ℕ → ℕ) (heap : Heap) (marks : ℕ → M
           → (is_used (numbered_by assigned heap marks n c) ≡ true
           → (p : ℕ) × ((p < n) × ((is_alive heap marks p ≡ true) × (assigned p ≡ c))))
           → (p : ℕ) × ((p < suc n) × ((is_alive heap marks p ≡ true) × (assigned p ≡ c)))
-      by_test true test used later =
-          (n, (omega arith, (and_first (is_alive heap marks n) (assigned n == c) test, same (assigned n) c
-              (and_second (is_alive heap marks n) (assigned n == c) test))))
+      by_test true test used later = (
+        n,
+        (
+          omega arith,
+          (
+            and_first (is_alive heap marks n) (assigned n == c) test,
+            same (assigned n) c
+                (and_second (is_alive heap marks n) (assigned n == c) test),
+          ),
+        ),
+      )
       by_test false test used later = let rest = later used in (rest.0, (omega (arith, rest.1.0), rest.1.1))
 
   has_name : (n p : ℕ) → p < n → is_alive heap marks p ≡ true → numbered_by assigned heap marks n (assigned p) ≡ named heap marks p
@@ -160,7 +168,7 @@ module _ (cells : ℕ) (assigned : ℕ → ℕ) (heap : Heap) (marks : ℕ → M
       by_test true test later =
           ap (named heap marks)
           (placed.own n p (and_first (is_alive heap marks n) (assigned n == assigned p) test) alive
-              (same (assigned n) (assigned p) (and_second (is_alive heap marks n) (assigned n == assigned p) test)))
+          (same (assigned n) (assigned p) (and_second (is_alive heap marks n) (assigned n == assigned p) test)))
       by_test false test later = by_name (n == p) refl
         where
           below : (n == p) ≡ false → p < n
@@ -169,7 +177,7 @@ module _ (cells : ℕ) (assigned : ℕ → ℕ) (heap : Heap) (marks : ℕ → M
           by_name : (t : Bool) → (n == p) ≡ t → numbered_by assigned heap marks n (assigned p) ≡ named heap marks p
           by_name true here =
               let found : (is_alive heap marks n && (assigned n == assigned p)) ≡ true = ap
-                      (λ q. is_alive heap marks q && (assigned q == assigned p)) (same n p here) ∙ rw alive (itself (assigned p)) in
+              (λ q. is_alive heap marks q && (assigned q == assigned p)) (same n p here) ∙ rw alive (itself (assigned p)) in
               absurd (cc)
           by_name false apart = later (below apart) alive
 
@@ -196,7 +204,7 @@ module _ (cells : ℕ) (assigned : ℕ → ℕ) (heap : Heap) (marks : ℕ → M
             number_same (λ c. is_used (numbered_by assigned heap marks n c))
                 (λ c. is_used (numbered_by assigned heap marks (suc n) c)) cells
                 (λ q less. ap (λ b. is_used (if b && (assigned n == q) then named heap marks n else numbered_by assigned heap marks
-                    n q)) dead),
+                n q)) dead),
             later,
             ap one_if dead,
           )
@@ -207,9 +215,9 @@ module _ (cells : ℕ) (assigned : ℕ → ℕ) (heap : Heap) (marks : ℕ → M
                 (λ c. is_used (numbered_by assigned heap marks (suc n) c)) (assigned n) cells (placed.within n alive)
                 (no_name (is_used (numbered_by assigned heap marks n (assigned n))) refl alive)
                 (ap (λ b. is_used (if b && (assigned n == assigned n) then named heap marks n else numbered_by assigned heap marks n
-                    (assigned n))) alive
+                (assigned n))) alive
                 ∙ (ap (λ b. is_used (if b then named heap marks n else numbered_by assigned heap marks n (assigned n)))
-                    (itself (assigned n)) ∙ alive))
+                (itself (assigned n)) ∙ alive))
                 (λ q apart.
                 ap (λ b. is_used (if b && (assigned n == q) then named heap marks n else numbered_by assigned heap marks n q)) alive
                 ∙ ap (λ b. is_used (if b then named heap marks n else numbered_by assigned heap marks n q)) (turned q apart)),
@@ -328,7 +336,7 @@ grown_placed cells assigned held heap marks c less unused placed =
         → is_alive heap marks p ≡ true
     older p apart alive =
         sym (ap (λ b. is_used (by_held (if b then Some (record held { count = 1 }) else held_at heap p) (marks p))) (turned apart))
-            ∙ alive
+        ∙ alive
       where
         turned : (p == length heap) ≡ false → (length heap == p) ≡ false
         turned apart = grind arith
@@ -343,8 +351,8 @@ grown_placed cells assigned held heap marks c less unused placed =
     not_old : (p : ℕ) → is_alive heap marks p ≡ true → assigned p ≡ c → ⊥
     not_old p alive is =
         let used : is_used (numbered assigned heap marks c) ≡ true = ap (λ d. is_used (numbered assigned heap marks d)) (sym is)
-                ∙ (ap is_used (has_name cells assigned heap marks placed (length heap) p (alive_below heap marks p alive) alive)
-                    ∙ alive) in
+        ∙ (ap is_used (has_name cells assigned heap marks placed (length heap) p (alive_below heap marks p alive) alive)
+        ∙ alive) in
         absurd (cc)
 
     within : (p : ℕ) → is_alive (record held { count = 1 } ∷ heap) marks p ≡ true → (t : Bool) → (p == length heap) ≡ t

@@ -38,7 +38,7 @@ mark_there p q mark marks apart = rw apart refl
 pub slot_at : (f y g z : ℕ) (slot : Slot) (slots : ℕ → ℕ → Slot) → f ≡ g → y ≡ z → slots_with f y slot slots g z ≡ slot
 slot_at f y g z slot slots first second =
     ap (λ h. slots_with f y slot slots h z) (sym first)
-        ∙ (ap (λ x. slots_with f y slot slots f x) (sym second) ∙ slot_here f y slot slots)
+    ∙ (ap (λ x. slots_with f y slot slots f x) (sym second) ∙ slot_here f y slot slots)
 
 pub no_token : (slot : Slot) (p : ℕ) → is_token slot ≡ false → slot ≡ token p → ⊥
 no_token spent p empty is = absurd (cc)
@@ -63,7 +63,7 @@ marked_with p (suc n) mark marks less = by_test (n == p) refl (marked_with p n m
   where
     by_test : (t : Bool) → (n == p) ≡ t → (p < n → marked (marks_with p mark marks) n + one_if_token (marks p) ≡ marked marks n +
         one_if_token mark) → marked (marks_with p mark marks) (suc n) + one_if_token (marks p) ≡ marked marks (suc n) + one_if_token
-            mark
+        mark
     by_test true is later =
         omega (
           arith,
@@ -139,7 +139,7 @@ module _ (cells : ℕ) where
       slots_are : (g z p : ℕ) → Which f y g z → tokens.marks p ≡ token_of g z → slots_with f y slot tokens.slots g z ≡ token p
       slots_are g z p (this first second) is =
           absurd (no_token (tokens.slots f y) p empty
-              (ap (λ h. tokens.slots h y) first ∙ (ap (tokens.slots g) second ∙ pooled.slots g z p is)))
+          (ap (λ h. tokens.slots h y) first ∙ (ap (tokens.slots g) second ∙ pooled.slots g z p is)))
       slots_are g z p (other apart) is = slot_there f y g z slot tokens.slots apart ∙ pooled.slots g z p is
 
   -- the cell of a token that is released makes room
@@ -171,8 +171,8 @@ module _ (cells : ℕ) where
           absurd (no_token slot q new (sym (slot_at f y g z slot tokens.slots first second) ∙ is))
       marks_are g z q (other apart) is true test =
           absurd (apart_marks f y g z apart (sym (pooled.marks f y p has)
-              ∙ (ap tokens.marks (sym (same q p test)) ∙ pooled.marks g z q
-                  (sym (slot_there f y g z slot tokens.slots apart) ∙ is))))
+          ∙ (ap tokens.marks (sym (same q p test)) ∙ pooled.marks g z q
+          (sym (slot_there f y g z slot tokens.slots apart) ∙ is))))
       marks_are g z q (other apart) is false test =
           mark_there p q plain tokens.marks test ∙ pooled.marks g z q (sym (slot_there f y g z slot tokens.slots apart) ∙ is)
 
@@ -180,14 +180,14 @@ module _ (cells : ℕ) where
           → (tokens.marks q ≡ token_of g z) × ((q == p) ≡ false)
       still g z q is true test =
           absurd (plain_is_none g z (sym (mark_here p plain tokens.marks)
-              ∙ (ap (marks_with p plain tokens.marks) (sym (same q p test)) ∙ is)))
+          ∙ (ap (marks_with p plain tokens.marks) (sym (same q p test)) ∙ is)))
       still g z q is false test = (sym (mark_there p q plain tokens.marks test) ∙ is, test)
 
       slots_are : (g z q : ℕ) → (tokens.marks q ≡ token_of g z) × ((q == p) ≡ false) → Which f y g z
           → slots_with f y slot tokens.slots g z ≡ token q
       slots_are g z q was (this first second) =
           absurd (apart_tokens p q was.1 (sym has ∙ (ap (λ h. tokens.slots h y) first
-              ∙ (ap (tokens.slots g) second ∙ pooled.slots g z q was.0))))
+          ∙ (ap (tokens.slots g) second ∙ pooled.slots g z q was.0))))
       slots_are g z q was (other apart) = slot_there f y g z slot tokens.slots apart ∙ pooled.slots g z q was.0
 
   pub pooled_gained : (f y p : ℕ) (heap : Heap) (tokens : Tokens) → is_token (tokens.slots f y) ≡ false → tokens.marks p ≡ plain
@@ -216,7 +216,7 @@ module _ (cells : ℕ) where
           absurd (apart_tokens p q test (sym (slot_at f y g z (token p) tokens.slots first second) ∙ is))
       marks_are g z q (other apart) is true test =
           absurd (plain_is_none g z (sym unmarked ∙ (ap tokens.marks (sym (same q p test)) ∙ pooled.marks g z q
-              (sym (slot_there f y g z (token p) tokens.slots apart) ∙ is))))
+          (sym (slot_there f y g z (token p) tokens.slots apart) ∙ is))))
       marks_are g z q (other apart) is false test =
           old q test ∙ pooled.marks g z q (sym (slot_there f y g z (token p) tokens.slots apart) ∙ is)
 
@@ -226,7 +226,7 @@ module _ (cells : ℕ) where
           slot_at f y g z (token p) tokens.slots first second ∙ ap token (sym (same q p test))
       slots_are g z q is (this first second) false test =
           absurd (no_token (tokens.slots f y) q empty
-              (ap (λ h. tokens.slots h y) first ∙ (ap (tokens.slots g) second ∙ pooled.slots g z q (sym (old q test) ∙ is))))
+          (ap (λ h. tokens.slots h y) first ∙ (ap (tokens.slots g) second ∙ pooled.slots g z q (sym (old q test) ∙ is))))
       slots_are g z q is (other apart) true test = absurd (apart_marks f y g z apart (sym (new q test) ∙ is))
       slots_are g z q is (other apart) false test =
           slot_there f y g z (token p) tokens.slots apart ∙ pooled.slots g z q (sym (old q test) ∙ is)
@@ -250,7 +250,7 @@ module _ (cells : ℕ) where
         slots = pooled.slots;
         uncounted =
             λ f y p is. count_below (record held { count = 1 }) heap p (apart (length heap) p (pooled.there f y p is))
-                ∙ pooled.uncounted f y p is;
+            ∙ pooled.uncounted f y p is;
         there = λ f y p is. omega (arith, pooled.there f y p is);
         room = omega (arith, room, unmarked (tokens.marks (length heap)) refl);
       }

@@ -69,7 +69,7 @@ module _ (cells : ℕ) (heap : Heap) (tokens : Tokens) (helds : List (List ℕ))
         are = record {
           pooled =
               pooled_chain cells heap (released f y p null tokens) links
-                  (pooled_released cells f y p null heap tokens has refl are.pooled);
+              (pooled_released cells f y p null heap tokens has refl are.pooled);
           chain = sym rest;
           beyond = λ g z far. slot_there f y g z null tokens.slots (past g z far) ∙ are.beyond g z far;
         };
@@ -150,7 +150,7 @@ asked cells unspent others older frames heap tokens are waiting slots_are all =
         served (record (released link.frame link.slot top.cell null tokens) { chain = links })
         (ap (λ slot. Some (record (taken link.frame link.slot slot tokens) { chain = links })) top.has)
         (taken_served cells heap tokens ([] ∷ older) link.frame link.slot top.cell links top.has (omega (arith, top.below)) are
-            top.rest)
+        top.rest)
 
     by_first : (found : Option ℕ) → first_token (tokens.slots (length older)) others ≡ found
         → cells ≤ busy heap + marked tokens.marks (length heap)
@@ -162,7 +162,7 @@ asked cells unspent others older frames heap tokens are waiting slots_are all =
         (ap (λ slot. Some (taken (length older) y slot tokens)) cell.1)
         (taken_served cells heap tokens ([] ∷ older) (length older) y cell.0 tokens.chain cell.1 (omega arith) are
         (chain_same tokens.slots (slots_with (length older) y null tokens.slots) older
-            (equal_one (length older) (length older) y null tokens.slots (omega arith)) ∙ sym older_chain))
+        (equal_one (length older) (length older) y null tokens.slots (omega arith)) ∙ sym older_chain))
 
     filled_is : nat_le cells (busy heap + marked tokens.marks (length heap)) ≡ true
         → cells ≤ busy heap + marked tokens.marks (length heap)

@@ -36,9 +36,14 @@ module _ (setting : TokenSetting) (environment : Environment) (joins : List Toke
       → P (lists_of left unspent [] older) → SpendsTokens left unspent [] rest → WaitTokens left joins
       → AreNow setting.cells unspent older from.frames from.heap after
       → AreKeptByAt setting.cells P (record from { tokens = after }) (TokenControl.running rest environment joins)
-  kept_by P left unspent older rest after next spends waits now =
-      (lists_of left unspent [] older, (next, judged_now setting.cells left unspent older rest joins from.frames from.heap after
-          spends waits now))
+  kept_by P left unspent older rest after next spends waits now = (
+    lists_of left unspent [] older,
+    (
+      next,
+      judged_now setting.cells left unspent older rest joins from.frames from.heap after
+          spends waits now,
+    ),
+  )
 
   module _ (left unspent held_slots : List ℕ) (older : List (List ℕ)) where
     abbrev lists : Lists
@@ -56,69 +61,69 @@ module _ (setting : TokenSetting) (environment : Environment) (joins : List Toke
         from.frames from.heap from.tokens
         → IsStill setting.cells (ListsAfter (Tokened.free y rest) joins lists)
         (goes (to_tokens (freed (length from.frames) y from.tokens) from (at_code rest environment joins from))) rest environment
-            joins from
+        joins from
     free_one y rest judged = by_has (has_slot (Tokened.free y rest) y judged judged.spends.1.0)
       where
         now : AreNow setting.cells unspent older from.frames from.heap from.tokens
         now =
             now_of setting.cells left unspent held_slots older (Tokened.free y rest) joins from.frames from.heap from.tokens
-                judged.spends.0 judged
+            judged.spends.0 judged
 
         by_has : Has (from.tokens.slots (length older) y)
             → IsStill setting.cells (ListsAfter (Tokened.free y rest) joins lists)
             (goes (to_tokens (freed (length from.frames) y from.tokens) from (at_code rest environment joins from))) rest
-                environment joins from
+            environment joins from
         by_has (is_null is) =
             still_by (ListsAfter (Tokened.free y rest) joins lists) (freed (length from.frames) y from.tokens)
-                (blanked (length older) y spent from.tokens) rest
+            (blanked (length older) y spent from.tokens) rest
             (ap (λ d. freed d y from.tokens) (many (Tokened.free y rest) judged)
             ∙ by_null setting.cells None (Some (blanked (length older) y spent from.tokens))
-                (λ p. Some (released (length older) y p spent from.tokens)) (length older) y from.tokens is)
+            (λ p. Some (released (length older) y p spent from.tokens)) (length older) y from.tokens is)
             (kept_by (ListsAfter (Tokened.free y rest) joins lists) left (without (y ∷ []) unspent) older rest
-                (blanked (length older) y spent from.tokens)
-                    (ap (λ h. lists_of left (without (y ∷ []) unspent) h older) (sym judged.spends.0)) judged.spends.1.1
-                        judged.waits
+            (blanked (length older) y spent from.tokens)
+            (ap (λ h. lists_of left (without (y ∷ []) unspent) h older) (sym judged.spends.0)) judged.spends.1.1
+            judged.waits
             (spent_null_now setting.cells unspent older from.frames from.heap from.tokens now y is))
         by_has (has_cell p is) =
             still_by (ListsAfter (Tokened.free y rest) joins lists) (freed (length from.frames) y from.tokens)
-                (released (length older) y p spent from.tokens) rest
+            (released (length older) y p spent from.tokens) rest
             (ap (λ d. freed d y from.tokens) (many (Tokened.free y rest) judged)
             ∙ by_cell setting.cells None (Some (blanked (length older) y spent from.tokens))
-                (λ p. Some (released (length older) y p spent from.tokens)) (length older) y p from.heap from.tokens now.are.pooled
-                    is)
+            (λ p. Some (released (length older) y p spent from.tokens)) (length older) y p from.heap from.tokens now.are.pooled
+            is)
             (kept_by (ListsAfter (Tokened.free y rest) joins lists) left (without (y ∷ []) unspent) older rest
-                (released (length older) y p spent from.tokens)
-                    (ap (λ h. lists_of left (without (y ∷ []) unspent) h older) (sym judged.spends.0)) judged.spends.1.1
-                        judged.waits
+            (released (length older) y p spent from.tokens)
+            (ap (λ h. lists_of left (without (y ∷ []) unspent) h older) (sym judged.spends.0)) judged.spends.1.1
+            judged.waits
             (spent_now setting.cells unspent older from.frames from.heap from.tokens now y p is))
 
     null_one : (y : ℕ) (rest : Tokened) → IsJudged setting.cells left unspent held_slots older (Tokened.null y rest) joins
         from.frames from.heap from.tokens
         → IsStill setting.cells (ListsAfter (Tokened.null y rest) joins lists)
         (goes (to_tokens (Some (blanked (length from.frames) y null from.tokens)) from (at_code rest environment joins from))) rest
-            environment joins from
+        environment joins from
     null_one y rest judged =
         still_by (ListsAfter (Tokened.null y rest) joins lists) (Some (blanked (length from.frames) y null from.tokens))
-            (blanked (length older) y null from.tokens) rest
+        (blanked (length older) y null from.tokens) rest
         (ap (λ d. Some (blanked d y null from.tokens)) (many (Tokened.null y rest) judged))
         (kept_by (ListsAfter (Tokened.null y rest) joins lists) left (y ∷ unspent) older rest
-            (blanked (length older) y null from.tokens) (ap (λ h. lists_of left (y ∷ unspent) h older) (sym judged.spends.0))
-                judged.spends.1.1 judged.waits
+        (blanked (length older) y null from.tokens) (ap (λ h. lists_of left (y ∷ unspent) h older) (sym judged.spends.0))
+        judged.spends.1.1 judged.waits
         (nulled_now setting.cells unspent older from.frames from.heap from.tokens
         (now_of setting.cells left unspent held_slots older (Tokened.null y rest) joins from.frames from.heap from.tokens
-            judged.spends.0 judged) y judged.spends.1.0))
+        judged.spends.0 judged) y judged.spends.1.0))
 
     move_one : (to of : ℕ) (rest : Tokened) → IsJudged setting.cells left unspent held_slots older (Tokened.move to of rest) joins
         from.frames from.heap from.tokens
         → IsStill setting.cells (ListsAfter (Tokened.move to of rest) joins lists)
         (goes (to_tokens (moved (length from.frames) to of from.tokens) from (at_code rest environment joins from))) rest
-            environment joins from
+        environment joins from
     move_one to of rest judged = by_has (has_slot (Tokened.move to of rest) of judged judged.spends.1.0)
       where
         now : AreNow setting.cells unspent older from.frames from.heap from.tokens
         now =
             now_of setting.cells left unspent held_slots older (Tokened.move to of rest) joins from.frames from.heap from.tokens
-                judged.spends.0 judged
+            judged.spends.0 judged
 
         nothing : Tokens
         nothing = blanked (length older) of spent from.tokens
@@ -129,42 +134,45 @@ module _ (setting : TokenSetting) (environment : Environment) (joins : List Toke
         by_has : Has (from.tokens.slots (length older) of)
             → IsStill setting.cells (ListsAfter (Tokened.move to of rest) joins lists)
             (goes (to_tokens (moved (length from.frames) to of from.tokens) from (at_code rest environment joins from))) rest
-                environment joins from
+            environment joins from
         by_has (is_null is) =
             still_by (ListsAfter (Tokened.move to of rest) joins lists) (moved (length from.frames) to of from.tokens)
-                (blanked (length older) to null nothing) rest
+            (blanked (length older) to null nothing) rest
             (ap (λ d. moved d to of from.tokens) (many (Tokened.move to of rest) judged)
             ∙ by_null setting.cells None (Some (blanked (length older) to null nothing))
-                (λ p. Some (gained (length older) to p (from_cell p))) (length older) of from.tokens is)
+            (λ p. Some (gained (length older) to p (from_cell p))) (length older) of from.tokens is)
             (kept_by (ListsAfter (Tokened.move to of rest) joins lists) left (to ∷ without (of ∷ []) unspent) older rest
-                (blanked (length older) to null nothing)
-                    (ap (λ h. lists_of left (to ∷ without (of ∷ []) unspent) h older) (sym judged.spends.0)) judged.spends.1.1.1
-                        judged.waits
+            (blanked (length older) to null nothing)
+            (ap (λ h. lists_of left (to ∷ without (of ∷ []) unspent) h older) (sym judged.spends.0)) judged.spends.1.1.1
+            judged.waits
             (nulled_now setting.cells (without (of ∷ []) unspent) older from.frames from.heap nothing
             (spent_null_now setting.cells unspent older from.frames from.heap from.tokens now of is) to judged.spends.1.1.0))
         by_has (has_cell p is) =
             let mark = now.are.pooled.marks (length older) of p is in
             still_by (ListsAfter (Tokened.move to of rest) joins lists) (moved (length from.frames) to of from.tokens)
-                (gained (length older) to p (from_cell p)) rest
+            (gained (length older) to p (from_cell p)) rest
             (ap (λ d. moved d to of from.tokens) (many (Tokened.move to of rest) judged)
             ∙ by_cell setting.cells None (Some (blanked (length older) to null nothing))
-                (λ p. Some (gained (length older) to p (from_cell p))) (length older) of p from.heap from.tokens now.are.pooled is)
+            (λ p. Some (gained (length older) to p (from_cell p))) (length older) of p from.heap from.tokens now.are.pooled is)
             (kept_by (ListsAfter (Tokened.move to of rest) joins lists) left (to ∷ without (of ∷ []) unspent) older rest
-                (gained (length older) to p (from_cell p))
-                    (ap (λ h. lists_of left (to ∷ without (of ∷ []) unspent) h older) (sym judged.spends.0)) judged.spends.1.1.1
-                        judged.waits
+            (gained (length older) to p (from_cell p))
+            (ap (λ h. lists_of left (to ∷ without (of ∷ []) unspent) h older) (sym judged.spends.0)) judged.spends.1.1.1
+            judged.waits
             (gained_now setting.cells (without (of ∷ []) unspent) older from.frames from.heap (from_cell p)
             (spent_now setting.cells unspent older from.frames from.heap from.tokens now of p is) to p judged.spends.1.1.0
             (mark_here p plain from.tokens.marks) (now.are.pooled.uncounted (length older) of p mark)
-                (now.are.pooled.there (length older) of p mark)
-            (omega (arith, released_room setting.cells (length older) of p spent from.heap from.tokens is now.are.pooled,
-                now.are.pooled.room))))
+            (now.are.pooled.there (length older) of p mark)
+            (omega (
+              arith,
+              released_room setting.cells (length older) of p spent from.heap from.tokens is now.are.pooled,
+              now.are.pooled.room,
+            ))))
 
     -- the chain with and without the slot y
     abbrev row : ℕ → List ℕ → Slot → List Link
     row y ys slot =
         if is_token slot then record { frame = length older; slot = y } ∷ links_of (from.tokens.slots (length older)) (length older)
-            ys (chain_of from.tokens.slots older)
+        ys (chain_of from.tokens.slots older)
         else links_of (from.tokens.slots (length older)) (length older) ys (chain_of from.tokens.slots older)
 
     rechained : (P : Lists → Type 0) (code rest : Tokened) (links : List Link) (ys : List ℕ)
@@ -184,8 +192,11 @@ module _ (setting : TokenSetting) (environment : Environment) (joins : List Toke
           apart = apart;
           waiting = judged.waiting;
           are =
-              record { pooled = pooled_chain setting.cells from.heap from.tokens links judged.are.pooled; chain = is;
-                  beyond = judged.are.beyond };
+              record {
+                pooled = pooled_chain setting.cells from.heap from.tokens links judged.are.pooled;
+                chain = is;
+                beyond = judged.are.beyond;
+              };
         },
       ),
     )
@@ -194,40 +205,40 @@ module _ (setting : TokenSetting) (environment : Environment) (joins : List Toke
         from.frames from.heap from.tokens
         → IsStill setting.cells (ListsAfter (Tokened.hold y rest) joins lists)
         (goes (to_tokens (held (length from.frames) y from.tokens) from (at_code rest environment joins from))) rest environment
-            joins from
+        joins from
     hold_one y rest judged = by_has (has_slot (Tokened.hold y rest) y judged judged.spends.0)
       where
         by_has : Has (from.tokens.slots (length older) y)
             → IsStill setting.cells (ListsAfter (Tokened.hold y rest) joins lists)
             (goes (to_tokens (held (length from.frames) y from.tokens) from (at_code rest environment joins from))) rest environment
-                joins from
+            joins from
         by_has (is_null is) =
             still_by (ListsAfter (Tokened.hold y rest) joins lists) (held (length from.frames) y from.tokens)
-                (record from.tokens { chain = from.tokens.chain }) rest
+            (record from.tokens { chain = from.tokens.chain }) rest
             (ap (λ d. held d y from.tokens) (many (Tokened.hold y rest) judged)
             ∙ by_null setting.cells None (Some from.tokens)
-                (λ p. Some (record from.tokens { chain = record { frame = length older; slot = y } ∷ from.tokens.chain }))
-                    (length older) y from.tokens is)
+            (λ p. Some (record from.tokens { chain = record { frame = length older; slot = y } ∷ from.tokens.chain }))
+            (length older) y from.tokens is)
             (rechained (ListsAfter (Tokened.hold y rest) joins lists) (Tokened.hold y rest) rest from.tokens.chain (y ∷ held_slots)
-                judged refl judged.spends.1.1 (judged.spends.1.0, judged.apart)
+            judged refl judged.spends.1.1 (judged.spends.1.0, judged.apart)
             (judged.are.chain ∙ sym (ap (row y held_slots) is)))
         by_has (has_cell p is) =
             still_by (ListsAfter (Tokened.hold y rest) joins lists) (held (length from.frames) y from.tokens)
-                (record from.tokens { chain = record { frame = length older; slot = y } ∷ from.tokens.chain }) rest
+            (record from.tokens { chain = record { frame = length older; slot = y } ∷ from.tokens.chain }) rest
             (ap (λ d. held d y from.tokens) (many (Tokened.hold y rest) judged)
             ∙ by_cell setting.cells None (Some from.tokens)
-                (λ p. Some (record from.tokens { chain = record { frame = length older; slot = y } ∷ from.tokens.chain }))
-                    (length older) y p from.heap from.tokens judged.are.pooled is)
+            (λ p. Some (record from.tokens { chain = record { frame = length older; slot = y } ∷ from.tokens.chain }))
+            (length older) y p from.heap from.tokens judged.are.pooled is)
             (rechained (ListsAfter (Tokened.hold y rest) joins lists) (Tokened.hold y rest) rest
-                (record { frame = length older; slot = y } ∷ from.tokens.chain) (y ∷ held_slots) judged refl judged.spends.1.1
-                    (judged.spends.1.0, judged.apart)
+            (record { frame = length older; slot = y } ∷ from.tokens.chain) (y ∷ held_slots) judged refl judged.spends.1.1
+            (judged.spends.1.0, judged.apart)
             (ap (λ links. record { frame = length older; slot = y } ∷ links) judged.are.chain ∙ sym (ap (row y held_slots) is)))
 
     unhold_one : (y : ℕ) (rest : Tokened) → IsJudged setting.cells left unspent held_slots older (Tokened.unhold y rest) joins
         from.frames from.heap from.tokens
         → IsStill setting.cells (ListsAfter (Tokened.unhold y rest) joins lists)
         (goes (to_tokens (unheld (length from.frames) y from.tokens) from (at_code rest environment joins from))) rest environment
-            joins from
+        joins from
     unhold_one y rest judged = by_has (has_slot (Tokened.unhold y rest) y judged judged.spends.1.1.0)
       where
         others : List ℕ
@@ -242,24 +253,24 @@ module _ (setting : TokenSetting) (environment : Environment) (joins : List Toke
         by_has : Has (from.tokens.slots (length older) y)
             → IsStill setting.cells (ListsAfter (Tokened.unhold y rest) joins lists)
             (goes (to_tokens (unheld (length from.frames) y from.tokens) from (at_code rest environment joins from))) rest
-                environment joins from
+            environment joins from
         by_has (is_null is) =
             still_by (ListsAfter (Tokened.unhold y rest) joins lists) (unheld (length from.frames) y from.tokens)
-                (record from.tokens { chain = from.tokens.chain }) rest
+            (record from.tokens { chain = from.tokens.chain }) rest
             (ap (λ d. unheld d y from.tokens) (many (Tokened.unhold y rest) judged)
             ∙ by_null setting.cells None (Some from.tokens) (λ p. Some (record from.tokens { chain = tail_of from.tokens.chain }))
-                (length older) y from.tokens is)
+            (length older) y from.tokens is)
             (rechained (ListsAfter (Tokened.unhold y rest) joins lists) (Tokened.unhold y rest) rest from.tokens.chain others judged
-                (ap (λ h. lists_of left unspent h older) judged.spends.1.0) judged.spends.1.1.1 apart.1
-                    (chain ∙ ap (row y others) is))
+            (ap (λ h. lists_of left unspent h older) judged.spends.1.0) judged.spends.1.1.1 apart.1
+            (chain ∙ ap (row y others) is))
         by_has (has_cell p is) =
             still_by (ListsAfter (Tokened.unhold y rest) joins lists) (unheld (length from.frames) y from.tokens)
-                (record from.tokens { chain = tail_of from.tokens.chain }) rest
+            (record from.tokens { chain = tail_of from.tokens.chain }) rest
             (ap (λ d. unheld d y from.tokens) (many (Tokened.unhold y rest) judged)
             ∙ by_cell setting.cells None (Some from.tokens) (λ p. Some (record from.tokens { chain = tail_of from.tokens.chain }))
-                (length older) y p from.heap from.tokens judged.are.pooled is)
+            (length older) y p from.heap from.tokens judged.are.pooled is)
             (rechained (ListsAfter (Tokened.unhold y rest) joins lists) (Tokened.unhold y rest) rest (tail_of from.tokens.chain)
-                others judged (ap (λ h. lists_of left unspent h older) judged.spends.1.0) judged.spends.1.1.1 apart.1
+            others judged (ap (λ h. lists_of left unspent h older) judged.spends.1.0) judged.spends.1.1.1 apart.1
             (ap tail_of (chain ∙ ap (row y others) is)))
 
   pub free_still : (lists : Lists) (y : ℕ) (rest : Tokened)

@@ -44,17 +44,32 @@ inc =
     TokenedArms.no_arm)))
 
 inc_spends : SpendsTokens [] [] [] inc.body
-inc_spends =
-    (refl, ((refl, (λ y. refl)), ((refl, (refl, (refl,
-        (refl, (refl, (refl, ((λ y is. is), ([], (refl, (refl, (refl, (refl, (tt, ((λ y. refl), (refl, (λ y. refl)))))))))))))))),
-            tt)))
+inc_spends = (
+  refl,
+  (
+    (refl, (λ y. refl)),
+    (
+      (
+        refl,
+        (
+          refl,
+          (
+            refl,
+            (refl, (refl, (refl, ((λ y is. is), ([], (refl, (refl, (refl, (refl, (tt, ((λ y. refl), (refl, (λ y. refl))))))))))))),
+          ),
+        ),
+      ),
+      tt,
+    ),
+  ),
+)
 
 -- a list of two cells, which variable 4 names
 abbrev two_cells : Tokened → TokenedFunction
 two_cells rest =
     function 0
     (Tokened.compute 0 (Construct 2) [] [] (Tokened.compute 1 (Number (pos 7)) [] []
-        (Tokened.compute 2 (Construct 3) (1 ∷ 0 ∷ []) []
+    (Tokened.compute 2 (Construct 3) (1 ∷ 0 ∷ []) []
     (Tokened.compute 3 (Number (pos 8)) [] [] (Tokened.compute 4 (Construct 3) (3 ∷ 2 ∷ []) [] rest)))))
 
 abbrev unique : Tokened
@@ -63,7 +78,7 @@ unique = Tokened.compute 5 (Call 0) (4 ∷ []) [] (Tokened.drop 5 (Tokened.compu
 abbrev shared : Tokened
 shared =
     Tokened.dup 4 (Tokened.compute 5 (Call 0) (4 ∷ []) []
-        (Tokened.drop 4 (Tokened.drop 5 (Tokened.compute 6 Nothing [] [] (Tokened.give 6)))))
+    (Tokened.drop 4 (Tokened.drop 5 (Tokened.compute 6 Nothing [] [] (Tokened.give 6)))))
 
 abbrev unique_run : ℕ → TokenSetting
 unique_run cells = program (inc ∷ two_cells unique ∷ []) cells
@@ -156,7 +171,7 @@ reopen_run cells =
 abbrev keeping_run : ℕ → TokenSetting
 keeping_run cells =
     program (boxes (Tokened.give 1) ∷ holds (Tokened.drop 4
-        (Tokened.drop 3 (Tokened.compute 5 Nothing [] [] (Tokened.give 5)))) ∷ []) cells
+    (Tokened.drop 3 (Tokened.compute 5 Nothing [] [] (Tokened.give 5)))) ∷ []) cells
 
 reopen_in_one : tells 30 (reopen_run 1) ≡ built 0 ∷ called 1 ∷ built 0 ∷ built 0 ∷ []
 reopen_in_one = refl
@@ -229,7 +244,7 @@ keeps second kept =
     program
     (function 0 (Tokened.give 0) ∷ function 0
     (Tokened.compute 0 (Number (pos 1)) [] [] (Tokened.compute 1 (Number (pos 2)) [] []
-        (Tokened.compute 2 (Construct 5) (0 ∷ 1 ∷ []) []
+    (Tokened.compute 2 (Construct 5) (0 ∷ 1 ∷ []) []
     (Tokened.if_unique 2 5 (3 ∷ 4 ∷ []) (3 ∷ 4 ∷ []) 0 (Tokened.compute 5 (Number (pos 9)) [] []
     (Tokened.fill 6 0 5 5 (second ∷ []) kept [] (Tokened.give 6))))))) ∷ [])
     1

@@ -111,7 +111,7 @@ one_changes cells unspent after older frames heap tokens y slot marks members po
         ∙ sym (members z ∙ ap (λ b. if b then is_unspent slot else is_among unspent z) test)
     unspent_is z false test =
         ap is_unspent (slot_there (length older) y (length older) z slot tokens.slots
-            (rw (itself (length older)) (same_turned z y ∙ test)))
+        (rw (itself (length older)) (same_turned z y ∙ test)))
         ∙ (now.slots_are z ∙ sym (members z ∙ ap (λ b. if b then is_unspent slot else is_among unspent z) test))
 
 -- the slot of an unspent token is null or has a cell
@@ -139,7 +139,7 @@ module _ (cells : ℕ) (unspent : List ℕ) (older : List (List ℕ)) (frames : 
   pub nulled_now : is_among unspent y ≡ false → AreNow cells (y ∷ unspent) older frames heap (blanked (length older) y null tokens)
   nulled_now fresh =
       one_changes cells unspent (y ∷ unspent) older frames heap tokens y null tokens.marks
-          (λ z. or_if (y == z) (is_among unspent z))
+      (λ z. or_if (y == z) (is_among unspent z))
       (pooled_blanked cells (length older) y null heap tokens (ap is_token (free_slot fresh)) refl now.are.pooled) now
 
   pub spent_null_now : tokens.slots (length older) y ≡ null
@@ -161,14 +161,14 @@ module _ (cells : ℕ) (unspent : List ℕ) (older : List (List ℕ)) (frames : 
       → AreNow cells (y ∷ unspent) older frames heap (gained (length older) y p tokens)
   gained_now p fresh unmarked uncounted there room =
       one_changes cells unspent (y ∷ unspent) older frames heap tokens y (token p)
-          (marks_with p (token_of (length older) y) tokens.marks)
+      (marks_with p (token_of (length older) y) tokens.marks)
       (λ z. or_if (y == z) (is_among unspent z))
       (pooled_gained cells (length older) y p heap tokens (ap is_token (free_slot fresh)) unmarked uncounted there room
-          now.are.pooled) now
+      now.are.pooled) now
 
 pub eased_now : (cells : ℕ) (unspent : List ℕ) (older : List (List ℕ)) (frames : List TokenFrame) (before after : Heap)
     (tokens : Tokens) → Eased before after → AreNow cells unspent older frames before tokens
-        → AreNow cells unspent older frames after tokens
+    → AreNow cells unspent older frames after tokens
 eased_now cells unspent older frames before after tokens eased now =
     record {
       slots_are = now.slots_are;
@@ -188,7 +188,7 @@ pub opened_now : (cells : ℕ) (unspent : List ℕ) (older : List (List ℕ)) (f
     → AreNow cells (y ∷ unspent) older frames after (opened_tokens count (length older) y p tokens)
 opened_now cells unspent older frames before after tokens y p zero eased fresh counted is now =
     gained_now cells unspent older frames after tokens (eased_now cells unspent older frames before after tokens eased now) y p
-        fresh
+    fresh
     (unmarked (tokens.marks p) refl) is there
     (rw eased.many (omega (arith, freed_busy before after p eased counted is, now.are.pooled.room)))
   where

@@ -116,7 +116,7 @@ module _ (weight : CountedState → ℕ) (setting : TokenSetting) (program_spend
   abbrev Later : Tokened → Environment → List TokenJoin → TokenConfiguration → List ℕ → ℕ → ℕ → Type 0
   Later rest environment joins from input credit idle =
       (tokens : Tokens) → Stands (bare_state (at rest environment joins (record from { tokens = tokens }) input))
-          (at rest environment joins (record from { tokens = tokens }) input)
+      (at rest environment joins (record from { tokens = tokens }) input)
       → Reached credit idle (bare_state (at rest environment joins (record from { tokens = tokens }) input))
       (at rest environment joins (record from { tokens = tokens }) input)
 
@@ -139,7 +139,7 @@ module _ (weight : CountedState → ℕ) (setting : TokenSetting) (program_spend
         passes = passes;
         related =
             subst (λ (p : List Note × TokenState). Stands (upper.step (bare_state before)).1 (state lower after.steps p.1))
-                (sym step_is) after.related;
+            (sym step_is) after.related;
       }
     where
       before : TokenState
@@ -157,8 +157,15 @@ module _ (weight : CountedState → ℕ) (setting : TokenSetting) (program_spend
 
       bare_at : Counted → CountedState
       bare_at body =
-          record { machine = record { control = CountedControl.running body environment (map bare_join joins); frames = map
-              bare_frame from.frames; heap = from.heap }; input = input }
+          record {
+            machine = record {
+              control = CountedControl.running body environment (map bare_join joins);
+              frames = map
+                  bare_frame from.frames;
+              heap = from.heap;
+            };
+            input = input;
+          }
 
       stands_next : Stands (bare_at (bare rest)) (at rest environment joins (record from { tokens = is.tokens }) input)
       stands_next =
@@ -166,10 +173,10 @@ module _ (weight : CountedState → ℕ) (setting : TokenSetting) (program_spend
             is = refl;
             kept =
                 weaker setting.cells P (record (at_code code environment joins from) { tokens = is.tokens })
-                    (TokenControl.running rest environment joins) is.kept;
+                (TokenControl.running rest environment joins) is.kept;
             fills =
                 λ k. subst (λ (p : List Note × TokenState). FillsAt setting.leaves (state lower k p.1).machine
-                    (state lower k p.1).machine.control) step_is (stands.fills (suc k));
+                (state lower k p.1).machine.control) step_is (stands.fills (suc k));
             never_stuck =
                 λ k. subst (λ body. NotStuck (state upper k (bare_at body)).machine.control) (sym same) (stands.never_stuck k);
           }
@@ -177,7 +184,7 @@ module _ (weight : CountedState → ℕ) (setting : TokenSetting) (program_spend
       after : Reached credit idle (bare_at (bare code)) (at rest environment joins (record from { tokens = is.tokens }) input)
       after =
           subst (λ body. Reached credit idle (bare_at body) (at rest environment joins (record from { tokens = is.tokens }) input))
-              same (later is.tokens stands_next)
+          same (later is.tokens stands_next)
 
       passes : (k : ℕ) → k < suc after.steps → Passing (state lower k (at code environment joins from input))
       passes zero less = record { kept = stands.kept; not_stuck = tt }
@@ -202,7 +209,7 @@ module _ (weight : CountedState → ℕ) (setting : TokenSetting) (program_spend
           is = led_alike action input ∙ ap (λ below. (performed below input).1) followed.does;
           kept =
               weaker setting.cells (ListsAfter code joins stands.kept.0) (performed action input).1.machine
-                  (performed action input).1.machine.control
+              (performed action input).1.machine.control
               (led_kept (AreKeptBy setting.cells (ListsAfter code joins stands.kept.0)) action input followed.keeps);
           fills = λ k. stands.fills (suc k);
           never_stuck = λ k. stands.never_stuck (suc k);
@@ -215,10 +222,10 @@ module _ (weight : CountedState → ℕ) (setting : TokenSetting) (program_spend
       followed : IsFollowed setting.cells (ListsAfter code joins stands.kept.0)
           (token_code_step setting code environment joins (at_code code environment joins from))
           (counted_code_step (bare_setting setting) (bare code) environment (map bare_join joins)
-              (bare_configuration (at_code code environment joins from)))
+          (bare_configuration (at_code code environment joins from)))
       followed =
           follows setting program_spends stands.kept.0 code environment joins (at_code code environment joins from) stands.kept.1
-              (stands.fills zero) quiet
+          (stands.fills zero) quiet
 
   reaches : (code : Tokened) (environment : Environment) (joins : List TokenJoin) (from : TokenConfiguration) (input : List ℕ)
       (credit idle : ℕ)
@@ -226,28 +233,28 @@ module _ (weight : CountedState → ℕ) (setting : TokenSetting) (program_spend
       → Reached credit idle (bare_state (at code environment joins from input)) (at code environment joins from input)
   reaches (Tokened.free y rest) environment joins from input credit idle stands =
       still (ListsAfter (Tokened.free y rest) joins stands.kept.0) (Tokened.free y rest) rest environment joins from input credit
-          idle refl refl (free_still setting environment joins (at_code (Tokened.free y rest) environment joins from) stands.kept.0
-              y rest stands.kept.1) stands
+      idle refl refl (free_still setting environment joins (at_code (Tokened.free y rest) environment joins from) stands.kept.0
+      y rest stands.kept.1) stands
       (λ tokens. reaches rest environment joins (record from { tokens = tokens }) input credit idle)
   reaches (Tokened.null y rest) environment joins from input credit idle stands =
       still (ListsAfter (Tokened.null y rest) joins stands.kept.0) (Tokened.null y rest) rest environment joins from input credit
-          idle refl refl (null_still setting environment joins (at_code (Tokened.null y rest) environment joins from) stands.kept.0
-              y rest stands.kept.1) stands
+      idle refl refl (null_still setting environment joins (at_code (Tokened.null y rest) environment joins from) stands.kept.0
+      y rest stands.kept.1) stands
       (λ tokens. reaches rest environment joins (record from { tokens = tokens }) input credit idle)
   reaches (Tokened.move to of rest) environment joins from input credit idle stands =
       still (ListsAfter (Tokened.move to of rest) joins stands.kept.0) (Tokened.move to of rest) rest environment joins from input
-          credit idle refl refl (move_still setting environment joins (at_code (Tokened.move to of rest) environment joins from)
-              stands.kept.0 to of rest stands.kept.1) stands
+      credit idle refl refl (move_still setting environment joins (at_code (Tokened.move to of rest) environment joins from)
+      stands.kept.0 to of rest stands.kept.1) stands
       (λ tokens. reaches rest environment joins (record from { tokens = tokens }) input credit idle)
   reaches (Tokened.hold y rest) environment joins from input credit idle stands =
       still (ListsAfter (Tokened.hold y rest) joins stands.kept.0) (Tokened.hold y rest) rest environment joins from input credit
-          idle refl refl (hold_still setting environment joins (at_code (Tokened.hold y rest) environment joins from) stands.kept.0
-              y rest stands.kept.1) stands
+      idle refl refl (hold_still setting environment joins (at_code (Tokened.hold y rest) environment joins from) stands.kept.0
+      y rest stands.kept.1) stands
       (λ tokens. reaches rest environment joins (record from { tokens = tokens }) input credit idle)
   reaches (Tokened.unhold y rest) environment joins from input credit idle stands =
       still (ListsAfter (Tokened.unhold y rest) joins stands.kept.0) (Tokened.unhold y rest) rest environment joins from input
-          credit idle refl refl (unhold_still setting environment joins (at_code (Tokened.unhold y rest) environment joins from)
-              stands.kept.0 y rest stands.kept.1) stands
+      credit idle refl refl (unhold_still setting environment joins (at_code (Tokened.unhold y rest) environment joins from)
+      stands.kept.0 y rest stands.kept.1) stands
       (λ tokens. reaches rest environment joins (record from { tokens = tokens }) input credit idle)
   reaches (Tokened.if_token y there absent) environment joins from input credit idle stands =
       by_test (is_token (from.tokens.slots (length from.frames) y)) refl
@@ -260,15 +267,15 @@ module _ (weight : CountedState → ℕ) (setting : TokenSetting) (program_spend
           (at (Tokened.if_token y there absent) environment joins from input)
       by_test true test later other =
           still (ListsAfter (Tokened.if_token y there absent) joins stands.kept.0) (Tokened.if_token y there absent) there
-              environment joins from input credit idle refl refl
+          environment joins from input credit idle refl refl
           (there_still setting environment joins (at_code (Tokened.if_token y there absent) environment joins from) stands.kept.0 y
-              there absent stands.kept.1 test) stands later
+          there absent stands.kept.1 test) stands later
       by_test false test other later =
           still (ListsAfter (Tokened.if_token y there absent) joins stands.kept.0) (Tokened.if_token y there absent) absent
-              environment joins from input credit idle refl
+          environment joins from input credit idle refl
           stands.kept.1.spends.1.0
           (absent_still setting environment joins (at_code (Tokened.if_token y there absent) environment joins from) stands.kept.0 y
-              there absent stands.kept.1 test) stands later
+          there absent stands.kept.1 test) stands later
   reaches (Tokened.give x) environment joins from input credit idle stands =
       steps (Tokened.give x) environment joins from input credit idle refl stands
   reaches (Tokened.tail_call f arguments) environment joins from input credit idle stands =
@@ -298,17 +305,17 @@ module _ (weight : CountedState → ℕ) (setting : TokenSetting) (program_spend
   simulates =
       simulates_until_ended upper lower Related Passing 1 (omega arith)
       (λ credit idle s t stands. end_alike t.machine.control ∙ ap (λ (u : CountedState). counted_end_at u.machine.control)
-          stands.is)
+      stands.is)
       (λ credit idle s t stands. record {
         kept = stands.kept;
         not_stuck =
             unstuck t.machine.control (subst (λ (u : CountedState). NotStuck u.machine.control) (sym stands.is)
-                (stands.never_stuck zero));
+            (stands.never_stuck zero));
       })
       (λ credit idle s t stands goes_on.
       subst (λ u. Reached credit idle u t) stands.is
       (by_control credit idle t.machine.control t.machine.frames t.machine.heap t.machine.tokens t.input
-          (subst (λ u. Stands u t) (sym stands.is) stands)
+      (subst (λ u. Stands u t) (sym stands.is) stands)
       (subst (λ (u : CountedState). upper.ending u ≡ None) (sym stands.is) goes_on)))
     where
       unstuck : (control : TokenControl) → NotStuck (bare_control control) → TokenNotStuck control
@@ -318,18 +325,31 @@ module _ (weight : CountedState → ℕ) (setting : TokenSetting) (program_spend
 
       by_control : (credit idle : ℕ) (control : TokenControl) (frames : List TokenFrame) (heap : Heap) (tokens : Tokens)
           (input : List ℕ)
-          → Stands (bare_state (record { machine = record { control = control; frames = frames; heap = heap; tokens = tokens };
-          input =
-              input })) (record { machine = record { control =
-                  control; frames = frames; heap = heap; tokens = tokens }; input = input })
-          → upper.ending (bare_state (record { machine = record
-          { control = control; frames = frames; heap = heap; tokens = tokens }; input = input })) ≡ None
+          → Stands (bare_state (record {
+            machine = record { control = control; frames = frames; heap = heap; tokens = tokens };
+            input =
+                input;
+          })) (record {
+            machine = record {
+              control =
+                  control;
+              frames = frames;
+              heap = heap;
+              tokens = tokens;
+            };
+            input = input;
+          })
+          → upper.ending (bare_state (record {
+            machine = record
+                { control = control; frames = frames; heap = heap; tokens = tokens };
+            input = input;
+          })) ≡ None
           → Reached credit idle (bare_state (record
           { machine = record { control = control; frames = frames; heap = heap; tokens = tokens }; input = input }))
-              (record { machine = record { control = control; frames = frames; heap = heap; tokens = tokens }; input = input })
+          (record { machine = record { control = control; frames = frames; heap = heap; tokens = tokens }; input = input })
       by_control credit idle (TokenControl.running code environment joins) frames heap tokens input stands goes_on =
           reaches code environment joins (record { control = TokenControl.stuck; frames = frames; heap = heap; tokens = tokens })
-              input credit idle stands
+          input credit idle stands
       by_control credit idle (TokenControl.stopped by) frames heap tokens input stands goes_on = absurd (cc)
       by_control credit idle TokenControl.stuck frames heap tokens input stands goes_on = absurd (stands.never_stuck zero)
 
@@ -339,9 +359,10 @@ module _ (weight : CountedState → ℕ) (setting : TokenSetting) (program_spend
   starts input fills never_stuck =
       record {
         is =
-            ap (λ (function : CountedFunction). record
-                { machine = record { control = CountedControl.running function.body [] []; frames = []; heap = [] };
-                    input = input })
+            ap (λ (function : CountedFunction). record {
+              machine = record { control = CountedControl.running function.body [] []; frames = []; heap = [] };
+              input = input;
+            })
             (sym (function_at setting.program.functions setting.program.main));
         kept = (
           record { left = []; unspent = []; held = []; older = [] },
@@ -353,10 +374,15 @@ module _ (weight : CountedState → ℕ) (setting : TokenSetting) (program_spend
             waiting = tt;
             are = record {
               pooled =
-                  record { marks = λ f y p is. absurd (spent_is_none p is); slots = λ f y p is. absurd (plain_is_none f y is);
-                      uncounted =
-                          λ f y p is. absurd (plain_is_none f y is); there =
-                              λ f y p is. absurd (plain_is_none f y is); room = omega arith };
+                  record {
+                    marks = λ f y p is. absurd (spent_is_none p is);
+                    slots = λ f y p is. absurd (plain_is_none f y is);
+                    uncounted =
+                        λ f y p is. absurd (plain_is_none f y is);
+                    there =
+                        λ f y p is. absurd (plain_is_none f y is);
+                    room = omega arith;
+                  };
               chain = refl;
               beyond = λ f y far. refl;
             };
@@ -372,9 +398,12 @@ module _ (weight : CountedState → ℕ) (setting : TokenSetting) (program_spend
   same_run input fills never_stuck =
       record {
         agrees =
-            record { downwards = agree.downwards; upwards = subst
-                (λ (up : ℕ → ℕ). IsFollowedBy lower upper up (token_first_state setting input)
-                    (counted_first_state (bare_setting setting) input)) within agree.upwards };
+            record {
+              downwards = agree.downwards;
+              upwards = subst
+                  (λ (up : ℕ → ℕ). IsFollowedBy lower upper up (token_first_state setting input)
+                  (counted_first_state (bare_setting setting) input)) within agree.upwards;
+            };
         kept = λ n. (passing n).kept;
         never_stuck = λ n. (passing n).not_stuck;
       }
@@ -386,12 +415,12 @@ module _ (weight : CountedState → ℕ) (setting : TokenSetting) (program_spend
           (token_first_state setting input)
       agree =
           simulates_agree upper lower Related Passing 1 simulates 0 0 (counted_first_state (bare_setting setting) input)
-              (token_first_state setting input) stands
+          (token_first_state setting input) stands
 
       passing : (n : ℕ) → Passing (state lower n (token_first_state setting input))
       passing n =
           simulates_passing upper lower Related Passing 1 simulates 0 0 (counted_first_state (bare_setting setting) input)
-              (token_first_state setting input) stands n
+          (token_first_state setting input) stands n
 
       each : (m : ℕ) → m * 1 + 0 + 1 ≡ m + 1
       each m = omega arith

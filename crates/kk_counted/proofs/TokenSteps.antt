@@ -70,9 +70,14 @@ module _ (cells : ℕ) where
       → P (lists_of left unspent [] older)
       → SpendsTokens left unspent [] code → WaitTokens left joins → AreNow cells unspent older from.frames from.heap from.tokens
       → AreKeptBy cells P (at_code code environment joins from)
-  kept_now P left unspent older code environment joins from next spends waits now =
-      (lists_of left unspent [] older, (next, judged_now left unspent older code joins from.frames from.heap from.tokens spends
-          waits now))
+  kept_now P left unspent older code environment joins from next spends waits now = (
+    lists_of left unspent [] older,
+    (
+      next,
+      judged_now left unspent older code joins from.frames from.heap from.tokens spends
+          waits now,
+    ),
+  )
 
   -- a function gives back: the one that waits goes on
   returned : (P : Lists → Type 0) (older : List (List ℕ)) (frame : TokenFrame) (frames : List TokenFrame)
@@ -92,8 +97,12 @@ module _ (cells : ℕ) where
         apart = waits.apart;
         waiting = now.waiting.1;
         are =
-            record { pooled = now.are.pooled; chain = now.are.chain; beyond = λ f y far. beyond f y far (f == suc (length older))
-                refl };
+            record {
+              pooled = now.are.pooled;
+              chain = now.are.chain;
+              beyond = λ f y far. beyond f y far (f == suc (length older))
+                  refl;
+            };
       },
     ),
   )
@@ -107,7 +116,7 @@ module _ (cells : ℕ) where
       beyond : (f y : ℕ) → suc (length older) ≤ f → (t : Bool) → (f == suc (length older)) ≡ t → from.tokens.slots f y ≡ spent
       beyond f y far true test =
           ap (λ g. from.tokens.slots g y) (same f (suc (length older)) test) ∙ not_unspent
-              (from.tokens.slots (suc (length older)) y) (now.slots_are y)
+          (from.tokens.slots (suc (length older)) y) (now.slots_are y)
       beyond f y far false test = now.are.beyond f y (further f far test)
 
   -- a function calls: it waits, and the called one has no token
@@ -119,12 +128,25 @@ module _ (cells : ℕ) where
   called left unspent held older code frame from spends waits all judged =
       record {
         slots_are = λ y. ap is_unspent (judged.are.beyond (suc (length older)) y (omega arith));
-        waiting =
-            (record { left = left; unspent = unspent; spends = spends; waits = waits; slots_are = judged.slots_are; all_held = all;
-                apart = judged.apart }, judged.waiting);
+        waiting = (
+          record {
+            left = left;
+            unspent = unspent;
+            spends = spends;
+            waits = waits;
+            slots_are = judged.slots_are;
+            all_held = all;
+            apart = judged.apart;
+          },
+          judged.waiting,
+        );
         are =
-            record { pooled = judged.are.pooled; chain = judged.are.chain; beyond = λ f y far. judged.are.beyond f y
-                (omega (arith, far)) };
+            record {
+              pooled = judged.are.pooled;
+              chain = judged.are.chain;
+              beyond = λ f y far. judged.are.beyond f y
+                  (omega (arith, far));
+            };
       }
 
 module _ (setting : TokenSetting) (program_spends : AreTokensSpent setting.program) where
@@ -136,15 +158,21 @@ module _ (setting : TokenSetting) (program_spends : AreTokensSpent setting.progr
       → AreNow setting.cells left older frames from.heap from.tokens
       → IsFollowed setting.cells (ListsAfter (Tokened.give x) joins (lists_of left unspent held older))
       (token_give_step v joins frames environment from)
-          (give_step v (map bare_join joins) (map bare_frame frames) environment (bare_configuration from))
+      (give_step v (map bare_join joins) (map bare_frame frames) environment (bare_configuration from))
   give_followed x v (join ∷ joins) frames environment from left unspent held older waits now these =
-      record { does = refl; keeps = kept_now setting.cells
-          (ListsAfter (Tokened.give x) (join ∷ joins) (lists_of left unspent held older)) waits.0 left older join.rest
-              (with_variable join.variable v environment) joins from (refl, (refl, refl)) waits.1.0 waits.1.1 now }
+      record {
+        does = refl;
+        keeps = kept_now setting.cells
+            (ListsAfter (Tokened.give x) (join ∷ joins) (lists_of left unspent held older)) waits.0 left older join.rest
+            (with_variable join.variable v environment) joins from (refl, (refl, refl)) waits.1.0 waits.1.1 now;
+      }
   give_followed x v [] (frame ∷ frames) environment from left unspent held older waits now these =
-      record { does = refl; keeps = returned setting.cells (ListsAfter (Tokened.give x) [] (lists_of left unspent held older)) older
-          frame frames (with_variable frame.variable v frame.environment) from (λ l u h o is. is)
-              (subst (λ l. AreNow setting.cells l older (frame ∷ frames) from.heap from.tokens) waits these) }
+      record {
+        does = refl;
+        keeps = returned setting.cells (ListsAfter (Tokened.give x) [] (lists_of left unspent held older)) older
+            frame frames (with_variable frame.variable v frame.environment) from (λ l u h o is. is)
+            (subst (λ l. AreNow setting.cells l older (frame ∷ frames) from.heap from.tokens) waits these);
+      }
   give_followed x v [] [] environment from left unspent held older waits now these =
       record { does = refl; keeps = ([] ∷ older, now.are) }
 
@@ -156,7 +184,7 @@ module _ (setting : TokenSetting) (program_spends : AreTokensSpent setting.progr
       → AreKeptBy setting.cells P (in_body function values from)
   entered P f function values older from next there now =
       kept_now setting.cells P [] [] older function.body (bind_parameters 0 values []) [] from next
-          (program_spends f function there) refl now
+      (program_spends f function there) refl now
 
   tail_followed : (P : Lists → Type 0) (f : ℕ) (found : Option TokenedFunction) (values : List Value) (older : List (List ℕ))
       (from : TokenConfiguration)
@@ -176,7 +204,7 @@ module _ (setting : TokenSetting) (program_spends : AreTokensSpent setting.progr
         → SpendsTokens left unspent [] rest → AreNow setting.cells unspent older from.frames from.heap from.tokens
         → IsFollowed setting.cells P (goes (to_heap result from (at_code rest environment joins from)))
         (goes (with_heap result (bare_configuration from)
-            (at_counted (bare rest) environment (map bare_join joins) (bare_configuration from))))
+        (at_counted (bare rest) environment (map bare_join joins) (bare_configuration from))))
     heap_followed P None next eased spends now = record { does = refl; keeps = ([] ∷ older, now.are) }
     heap_followed P (Some heap) next eased spends now =
         record {
@@ -192,7 +220,7 @@ module _ (setting : TokenSetting) (program_spends : AreTokensSpent setting.progr
         → IsFollowed setting.cells P (goes (to_opened result named.at y from
         (at_code rest (bind_fields fields named.fields environment) joins from)))
         (goes (with_heap result (bare_configuration from)
-            (at_counted (bare rest) (bind_fields fields named.fields environment) (map bare_join joins) (bare_configuration from))))
+        (at_counted (bare rest) (bind_fields fields named.fields environment) (map bare_join joins) (bare_configuration from))))
     opened_followed P None named fields y next eased counted fresh spends now =
         record { does = refl; keeps = ([] ∷ older, now.are) }
     opened_followed P (Some heap) named fields y next eased counted fresh spends now =
@@ -200,14 +228,14 @@ module _ (setting : TokenSetting) (program_spends : AreTokensSpent setting.progr
           does = refl;
           keeps =
               subst (λ d. AreKeptBy setting.cells P
-                  (record (at_code rest (bind_fields fields named.fields environment) joins from)
-                      { heap = heap; tokens = opened_tokens (count_at heap named.at) d y named.at from.tokens }))
+              (record (at_code rest (bind_fields fields named.fields environment) joins from)
+              { heap = heap; tokens = opened_tokens (count_at heap named.at) d y named.at from.tokens }))
               (sym (frames_many from.tokens.slots older from.frames now.waiting))
               (kept_now setting.cells P left (y ∷ unspent) older rest (bind_fields fields named.fields environment) joins
               (record from { heap = heap; tokens = opened_tokens (count_at heap named.at) (length older) y named.at from.tokens })
-                  next spends waits
+              next spends waits
               (opened_now setting.cells unspent older from.frames from.heap heap from.tokens y named.at (count_at heap named.at)
-                  eased fresh counted refl now));
+              eased fresh counted refl now));
         }
 
     open_followed : (P : Lists → Type 0) (count : ℕ) (v : Value) (found : Option Named) (heap : Named → Option Heap)
@@ -228,8 +256,11 @@ module _ (setting : TokenSetting) (program_spends : AreTokensSpent setting.progr
         (open_step found (λ named. Some from.heap) fields (bare rest) environment (map bare_join joins) (bare_configuration from))
     read_followed P None fields next spends now = record { does = refl; keeps = ([] ∷ older, now.are) }
     read_followed P (Some named) fields next spends now =
-        record { does = refl; keeps = kept_now setting.cells P left unspent older rest (bind_fields fields named.fields environment)
-            joins from next spends waits now }
+        record {
+          does = refl;
+          keeps = kept_now setting.cells P left unspent older rest (bind_fields fields named.fields environment)
+              joins from next spends waits now;
+        }
 
     -- ---- constructions
 
@@ -240,7 +271,7 @@ module _ (setting : TokenSetting) (program_spends : AreTokensSpent setting.progr
         → Asked setting.cells from.heap before ([] ∷ older) result
         → IsFollowed setting.cells P (make_step result c fields (λ v. bound_to x v rest environment joins from) from)
         (construct_step (bare_setting setting) c fields
-            (λ v. bound_then x v (bare rest) environment (map bare_join joins) (bare_configuration from)) (bare_configuration from))
+        (λ v. bound_then x v (bare rest) environment (map bare_join joins) (bare_configuration from)) (bare_configuration from))
     made_followed P x c fields before helds result next are spends now (full filled is) =
         rw is
         (record {
@@ -255,10 +286,12 @@ module _ (setting : TokenSetting) (program_spends : AreTokensSpent setting.progr
         (record {
           does = rw room_is refl;
           keeps = kept_now setting.cells P left unspent older rest (with_variable x (place (length from.heap)) environment) joins
-              (record from { heap = record { count = 1; cell = record { made_by = c; fields = fields } } ∷ from.heap;
-                  tokens = after }) next spends waits
+              (record from {
+                heap = record { count = 1; cell = record { made_by = c; fields = fields } } ∷ from.heap;
+                tokens = after;
+              }) next spends waits
               (made_now setting.cells unspent older from.frames
-                  (record { count = 1; cell = record { made_by = c; fields = fields } }) from.heap after good.room
+              (record { count = 1; cell = record { made_by = c; fields = fields } }) from.heap after good.room
               (served_now setting.cells unspent older from.frames from.heap before after good now));
         })
       where
@@ -284,8 +317,8 @@ module _ (setting : TokenSetting) (program_spends : AreTokensSpent setting.progr
         → IsFollowed setting.cells P (token_call_step setting found values
         (record { variable = x; rest = rest; joins = joins; environment = environment }) from)
         (call_step (bare_setting setting) (option_map bare_function found) values
-            (record { variable = x; rest = bare rest; joins = map bare_join joins; environment = environment })
-                (bare_configuration from))
+        (record { variable = x; rest = bare rest; joins = map bare_join joins; environment = environment })
+        (bare_configuration from))
     call_followed P f None values x held next there all judged = record { does = refl; keeps = (held ∷ older, judged.are) }
     call_followed P f (Some function) values x held next there all judged =
         rw (length-map from.frames bare_frame) (by_test (nat_le setting.depth (suc (length from.frames))))
@@ -295,24 +328,34 @@ module _ (setting : TokenSetting) (program_spends : AreTokensSpent setting.progr
 
         by_test : (t : Bool) → IsFollowed setting.cells P
             (calls (suc (length from.frames)) (if t then token_at_end stack_full from else in_body function values
-                (record from { frames = record { variable = x; rest = rest; joins = joins;
-                    environment = environment } ∷ from.frames })))
+            (record from {
+              frames = record {
+                variable = x;
+                rest = rest;
+                joins = joins;
+                environment = environment;
+              } ∷ from.frames;
+            })))
             (calls (suc (length from.frames)) (if t then at_end stack_full (bare_configuration from) else in_code
-                (bare_function function) values
-            (record (bare_configuration from) { frames = record
-                { variable = x; rest = bare rest; joins = map bare_join joins; environment = environment } ∷ map bare_frame
-                    from.frames })))
+            (bare_function function) values
+            (record (bare_configuration from) {
+              frames = record
+                  { variable = x; rest = bare rest; joins = map bare_join joins; environment = environment } ∷ map bare_frame
+                  from.frames;
+            })))
         by_test true = record { does = refl; keeps = (held ∷ older, judged.are) }
         by_test false =
             record {
               does = refl;
               keeps =
                   entered P f function values (held ∷ older)
-                      (record from { frames = record
-                          { variable = x; rest = rest; joins = joins; environment = environment } ∷ from.frames }) next there
+                  (record from {
+                    frames = record
+                        { variable = x; rest = rest; joins = joins; environment = environment } ∷ from.frames;
+                  }) next there
                   (called setting.cells left unspent held older rest
-                      (record { variable = x; rest = rest; joins = joins; environment = environment }) from judged.spends waits all
-                          judged);
+                  (record { variable = x; rest = rest; joins = joins; environment = environment }) from judged.spends waits all
+                  judged);
             }
 
     asked_now : (others : List ℕ) (tokens : Tokens) → AreSame others unspent
@@ -328,49 +371,64 @@ module _ (setting : TokenSetting) (program_spends : AreTokensSpent setting.progr
         → IsFollowed setting.cells (ListsAfterForm form (lists_of left unspent held older))
         (token_form_step setting form (map (value_of environment) arguments) x others rest environment joins from)
         (form_step (bare_setting setting) form (map (value_of environment) arguments) x (bare rest) environment
-            (map bare_join joins) (bare_configuration from))
+        (map bare_join joins) (bare_configuration from))
     form_followed (Number n) arguments others held x none judged =
-        record { does = refl; keeps = bound_kept (ListsAfterForm (Number n) (lists_of left unspent held older)) x (integer n) held
-            refl judged }
+        record {
+          does = refl;
+          keeps = bound_kept (ListsAfterForm (Number n) (lists_of left unspent held older)) x (integer n) held
+              refl judged;
+        }
     form_followed Nothing arguments others held x none judged =
-        record { does = refl; keeps = bound_kept (ListsAfterForm Nothing (lists_of left unspent held older)) x unit held refl
-            judged }
+        record {
+          does = refl;
+          keeps = bound_kept (ListsAfterForm Nothing (lists_of left unspent held older)) x unit held refl
+              judged;
+        }
     form_followed ReadByte arguments others held x none judged =
-        record { does = refl; keeps = λ byte. bound_kept (ListsAfterForm ReadByte (lists_of left unspent held older)) x
-            (byte_value byte) held refl judged }
+        record {
+          does = refl;
+          keeps = λ byte. bound_kept (ListsAfterForm ReadByte (lists_of left unspent held older)) x
+              (byte_value byte) held refl judged;
+        }
     form_followed (PrintText form text) arguments others held x none judged =
         printed (ListsAfterForm (PrintText form text) (lists_of left unspent held older))
-            (piece_of form (text_at setting.program.texts text)) x unit held refl judged
+        (piece_of form (text_at setting.program.texts text)) x unit held refl judged
     form_followed (Unary operator) arguments others held x none judged =
-        record { does = refl; keeps = bound_kept (ListsAfterForm (Unary operator) (lists_of left unspent held older)) x
-            (unary_result operator (argument 0 (map (value_of environment) arguments))) held refl judged }
+        record {
+          does = refl;
+          keeps = bound_kept (ListsAfterForm (Unary operator) (lists_of left unspent held older)) x
+              (unary_result operator (argument 0 (map (value_of environment) arguments))) held refl judged;
+        }
     form_followed (Binary operator) arguments others held x none judged =
         record {
           does = refl;
           keeps =
               bound_kept (ListsAfterForm (Binary operator) (lists_of left unspent held older)) x
-                  (binary_result operator (argument 0 (map (value_of environment) arguments))
-                      (argument 1 (map (value_of environment) arguments))) held refl judged;
+              (binary_result operator (argument 0 (map (value_of environment) arguments))
+              (argument 1 (map (value_of environment) arguments))) held refl judged;
         }
     form_followed (Print form) arguments others held x none judged =
         printed (ListsAfterForm (Print form) (lists_of left unspent held older))
-            (piece_of form (signed_decimal (integer_of (argument 0 (map (value_of environment) arguments))))) x unit held refl
-                judged
+        (piece_of form (signed_decimal (integer_of (argument 0 (map (value_of environment) arguments))))) x unit held refl
+        judged
     form_followed (Construct c) [] others held x none judged =
-        record { does = refl; keeps = bound_kept (ListsAfterForm (Construct c) (lists_of left unspent held older)) x (constant c)
-            held refl judged }
+        record {
+          does = refl;
+          keeps = bound_kept (ListsAfterForm (Construct c) (lists_of left unspent held older)) x (constant c)
+              held refl judged;
+        }
     form_followed (Construct c) (first ∷ arguments) others held x at_form judged =
         let now = now_of setting.cells left unspent held older rest joins from.frames from.heap from.tokens at_form.0 judged in
         made_followed (ListsAfterForm (Construct c) (lists_of left unspent held older)) x c
-            (map (value_of environment) (first ∷ arguments)) from.tokens ([] ∷ older)
-                (request setting.cells others (length from.frames) from.heap from.tokens)
+        (map (value_of environment) (first ∷ arguments)) from.tokens ([] ∷ older)
+        (request setting.cells others (length from.frames) from.heap from.tokens)
         (ap (λ h. lists_of left unspent h older) (sym at_form.0))
         now.are (subst (λ h. SpendsTokens left unspent h rest) at_form.0 judged.spends) now
-            (asked_now others from.tokens at_form.1.1 now)
+        (asked_now others from.tokens at_form.1.1 now)
     form_followed (Call f) arguments others held x all judged =
         rw (slice_get-map bare_function setting.program.functions f)
         (call_followed (ListsAfterForm (Call f) (lists_of left unspent held older)) f (slice_get setting.program.functions f)
-            (map (value_of environment) arguments) x held refl refl all judged)
+        (map (value_of environment) arguments) x held refl refl all judged)
 
     fill_followed : (P : Lists → Type 0) (x y c : ℕ) (fields : List Value) (kept others : List ℕ) (full_unspent : List ℕ)
         → P (lists_of left unspent [] older) → is_among full_unspent y ≡ true → AreSame others unspent
@@ -380,7 +438,7 @@ module _ (setting : TokenSetting) (program_spends : AreTokensSpent setting.progr
         → filled setting.leaves kept (fields_held from.heap p) fields ≡ fields)
         → IsFollowed setting.cells P (fill_step setting y c fields kept others (λ v. bound_to x v rest environment joins from) from)
         (construct_step (bare_setting setting) c fields
-            (λ v. bound_then x v (bare rest) environment (map bare_join joins) (bare_configuration from)) (bare_configuration from))
+        (λ v. bound_then x v (bare rest) environment (map bare_join joins) (bare_configuration from)) (bare_configuration from))
     fill_followed P x y c fields kept others full_unspent next among all rest_unspent spends now fills =
         by_has (unspent_has (from.tokens.slots (length older) y) (now.slots_are y ∙ among))
       where
@@ -390,8 +448,8 @@ module _ (setting : TokenSetting) (program_spends : AreTokensSpent setting.progr
         below : Action CountedConfiguration
         below =
             construct_step (bare_setting setting) c fields
-                (λ v. bound_then x v (bare rest) environment (map bare_join joins) (bare_configuration from))
-                    (bare_configuration from)
+            (λ v. bound_then x v (bare rest) environment (map bare_join joins) (bare_configuration from))
+            (bare_configuration from)
 
         make : Option Tokens → List Value → Action TokenConfiguration
         make result values = make_step result c values (λ v. bound_to x v rest environment joins from) from
@@ -399,45 +457,48 @@ module _ (setting : TokenSetting) (program_spends : AreTokensSpent setting.progr
         step : ℕ → Action TokenConfiguration
         step d =
             by_token (goes (token_at_stuck from)) (make (request setting.cells others d from.heap (blanked d y spent from.tokens))
-                fields)
+            fields)
             (λ p. make (Some (released d y p spent from.tokens)) (filled setting.leaves kept (fields_held from.heap p) fields)) d y
-                from.tokens
+            from.tokens
 
         by_has : Has (from.tokens.slots (length older) y) → IsFollowed setting.cells P (step (length from.frames)) below
         by_has (is_null is) =
             let after = now_same setting.cells (without (y ∷ []) full_unspent) unspent older from.frames from.heap
-                    (blanked (length older) y spent from.tokens) (λ z. sym (rest_unspent z))
+            (blanked (length older) y spent from.tokens) (λ z. sym (rest_unspent z))
             (spent_null_now setting.cells full_unspent older from.frames from.heap from.tokens now y is) in
             subst (λ (act : Action TokenConfiguration). IsFollowed setting.cells P act below)
             (sym (ap step many ∙ by_null setting.cells (goes (token_at_stuck from))
-                (make (request setting.cells others (length older) from.heap (blanked (length older) y spent from.tokens)) fields)
+            (make (request setting.cells others (length older) from.heap (blanked (length older) y spent from.tokens)) fields)
             (λ p. make (Some (released (length older) y p spent from.tokens))
-                (filled setting.leaves kept (fields_held from.heap p) fields)) (length older) y from.tokens is))
+            (filled setting.leaves kept (fields_held from.heap p) fields)) (length older) y from.tokens is))
             (made_followed P x c fields (blanked (length older) y spent from.tokens) ([] ∷ older)
-                (request setting.cells others (length older) from.heap (blanked (length older) y spent from.tokens))
+            (request setting.cells others (length older) from.heap (blanked (length older) y spent from.tokens))
             next now.are spends after
             (asked setting.cells unspent others older from.frames from.heap (blanked (length older) y spent from.tokens) after.are
-                after.waiting after.slots_are all))
+            after.waiting after.slots_are all))
         by_has (has_cell p is) =
             let after = now_same setting.cells (without (y ∷ []) full_unspent) unspent older from.frames from.heap
-                    (released (length older) y p spent from.tokens) (λ z. sym (rest_unspent z))
+            (released (length older) y p spent from.tokens) (λ z. sym (rest_unspent z))
             (spent_now setting.cells full_unspent older from.frames from.heap from.tokens now y p is) in
             subst (λ (act : Action TokenConfiguration). IsFollowed setting.cells P act below)
             (sym (ap step many ∙ (by_cell setting.cells (goes (token_at_stuck from))
-                (make (request setting.cells others (length older) from.heap (blanked (length older) y spent from.tokens)) fields)
+            (make (request setting.cells others (length older) from.heap (blanked (length older) y spent from.tokens)) fields)
             (λ p. make (Some (released (length older) y p spent from.tokens))
-                (filled setting.leaves kept (fields_held from.heap p) fields)) (length older) y p from.heap from.tokens
-                    now.are.pooled is
+            (filled setting.leaves kept (fields_held from.heap p) fields)) (length older) y p from.heap from.tokens
+            now.are.pooled is
             ∙ ap (make (Some (released (length older) y p spent from.tokens)))
-                (fills p (ap (λ d. from.tokens.slots d y) many ∙ is)))))
+            (fills p (ap (λ d. from.tokens.slots d y) many ∙ is)))))
             (made_followed P x c fields (released (length older) y p spent from.tokens) ([] ∷ older)
-                (Some (released (length older) y p spent from.tokens))
+            (Some (released (length older) y p spent from.tokens))
             next now.are spends after
             (served (released (length older) y p spent from.tokens) refl (record {
               are = after.are;
               room =
-                  omega (arith, released_room setting.cells (length older) y p spent from.heap from.tokens is now.are.pooled,
-                      now.are.pooled.room);
+                  omega (
+                    arith,
+                    released_room setting.cells (length older) y p spent from.heap from.tokens is now.are.pooled,
+                    now.are.pooled.room,
+                  );
               unspent = λ f z. refl;
               fewer = λ q f z marked_is. marked_is;
             })))
@@ -454,8 +515,11 @@ module _ (setting : TokenSetting) (program_spends : AreTokensSpent setting.progr
             (case_step (arm_at (bare_arms arms) row) environment (map bare_join joins) (bare_configuration from))
         by_row TokenedArms.no_arm row spends = record { does = refl; keeps = ([] ∷ older, now.are) }
         by_row (TokenedArms.arm body others) zero spends =
-            record { does = refl; keeps = kept_now setting.cells P left unspent older body environment joins from next spends.0
-                waits now }
+            record {
+              does = refl;
+              keeps = kept_now setting.cells P left unspent older body environment joins from next spends.0
+                  waits now;
+            }
         by_row (TokenedArms.arm body others) (suc row) spends = by_row others row spends.1
 
   -- ---- one step
@@ -468,19 +532,19 @@ module _ (setting : TokenSetting) (program_spends : AreTokensSpent setting.progr
   follows lists (Tokened.give x) environment joins from judged fills quiet =
       let now = now_same setting.cells lists.unspent lists.left lists.older from.frames from.heap from.tokens judged.spends.1
       (now_of setting.cells lists.left lists.unspent lists.held lists.older (Tokened.give x) joins from.frames from.heap from.tokens
-          judged.spends.0 judged) in
+      judged.spends.0 judged) in
       give_followed x (value_of environment x) joins from.frames environment from lists.left lists.unspent lists.held lists.older
-          judged.waits now now
+      judged.waits now now
   follows lists (Tokened.tail_call f arguments) environment joins from judged fills quiet =
       let now = now_same setting.cells lists.unspent [] lists.older from.frames from.heap from.tokens judged.spends.1
       (now_of setting.cells lists.left lists.unspent lists.held lists.older (Tokened.tail_call f arguments) joins from.frames
-          from.heap from.tokens judged.spends.0 judged) in
+      from.heap from.tokens judged.spends.0 judged) in
       rw (slice_get-map bare_function setting.program.functions f)
       (tail_followed (ListsAfter (Tokened.tail_call f arguments) joins lists) f (slice_get setting.program.functions f)
-          (map (value_of environment) arguments) lists.older from refl refl now)
+      (map (value_of environment) arguments) lists.older from refl refl now)
   follows lists (Tokened.branch x positive negative) environment joins from judged fills quiet =
       let now = now_of setting.cells lists.left lists.unspent lists.held lists.older (Tokened.branch x positive negative) joins
-              from.frames from.heap from.tokens judged.spends.0 judged in
+      from.frames from.heap from.tokens judged.spends.0 judged in
       by_test (is_true (value_of environment x)) judged now
     where
       by_test : (t : Bool) → IsJudged setting.cells lists.left lists.unspent lists.held lists.older
@@ -489,59 +553,65 @@ module _ (setting : TokenSetting) (program_spends : AreTokensSpent setting.progr
           → IsFollowed setting.cells (ListsAfter (Tokened.branch x positive negative) joins lists)
           (goes (at_code (if t then positive else negative) environment joins from))
           (goes (at_counted (if t then bare positive else bare negative) environment (map bare_join joins)
-              (bare_configuration from)))
+          (bare_configuration from)))
       by_test true judged now =
           record {
             does = refl;
             keeps =
                 kept_now setting.cells (ListsAfter (Tokened.branch x positive negative) joins lists) lists.left lists.unspent
-                    lists.older positive environment joins from
+                lists.older positive environment joins from
                 (ap (λ h. lists_of lists.left lists.unspent h lists.older) (sym judged.spends.0)) judged.spends.1.0 judged.waits
-                    now;
+                now;
           }
       by_test false judged now =
           record {
             does = refl;
             keeps =
                 kept_now setting.cells (ListsAfter (Tokened.branch x positive negative) joins lists) lists.left lists.unspent
-                    lists.older negative environment joins from
+                lists.older negative environment joins from
                 (ap (λ h. lists_of lists.left lists.unspent h lists.older) (sym judged.spends.0)) judged.spends.1.1 judged.waits
-                    now;
+                now;
           }
   follows lists (Tokened.case x decisions arms) environment joins from judged fills quiet =
       let now = now_of setting.cells lists.left lists.unspent lists.held lists.older (Tokened.case x decisions arms) joins
-              from.frames from.heap from.tokens judged.spends.0 judged in
+      from.frames from.heap from.tokens judged.spends.0 judged in
       case_followed lists.left lists.unspent lists.older (Tokened.case x decisions arms) environment joins from judged.waits
-          (ListsAfter (Tokened.case x decisions arms) joins lists)
+      (ListsAfter (Tokened.case x decisions arms) joins lists)
       (chosen (cell_at from.heap) (value_of environment x) decisions) arms
-          (ap (λ h. lists_of lists.left lists.unspent h lists.older) (sym judged.spends.0)) judged.spends.1 now
+      (ap (λ h. lists_of lists.left lists.unspent h lists.older) (sym judged.spends.0)) judged.spends.1 now
   follows lists (Tokened.compute x form arguments others rest) environment joins from judged fills quiet =
       form_followed lists.left lists.unspent lists.older rest environment joins from judged.waits form arguments others lists.held x
-          judged.spends.0
-      (record { spends = judged.spends.1; waits = judged.waits; slots_are = judged.slots_are; apart = judged.apart;
-          waiting = judged.waiting; are = judged.are })
+      judged.spends.0
+      (record {
+        spends = judged.spends.1;
+        waits = judged.waits;
+        slots_are = judged.slots_are;
+        apart = judged.apart;
+        waiting = judged.waiting;
+        are = judged.are;
+      })
   follows lists (Tokened.inside x block rest) environment joins from judged fills quiet =
       let now = now_of setting.cells lists.left lists.unspent lists.held lists.older (Tokened.inside x block rest) joins from.frames
-              from.heap from.tokens judged.spends.1.0 judged in
+      from.heap from.tokens judged.spends.1.0 judged in
       record {
         does = refl;
         keeps =
             kept_now setting.cells (ListsAfter (Tokened.inside x block rest) joins lists) judged.spends.0 lists.unspent lists.older
-                block environment (record { variable = x; rest = rest } ∷ joins) from
+            block environment (record { variable = x; rest = rest } ∷ joins) from
             (refl, (refl, refl)) judged.spends.1.1.0 (lists.left, (judged.spends.1.1.1, judged.waits)) now;
       }
   follows lists (Tokened.read x c fields rest) environment joins from judged fills quiet =
       let now = now_of setting.cells lists.left lists.unspent lists.held lists.older (Tokened.read x c fields rest) joins
-              from.frames from.heap from.tokens judged.spends.0 judged in
+      from.frames from.heap from.tokens judged.spends.0 judged in
       read_followed lists.left lists.unspent lists.older rest environment joins from judged.waits
-          (ListsAfter (Tokened.read x c fields rest) joins lists)
+      (ListsAfter (Tokened.read x c fields rest) joins lists)
       (cell_named c (length fields) from.heap (value_of environment x)) fields
-          (ap (λ h. lists_of lists.left lists.unspent h lists.older) (sym judged.spends.0)) judged.spends.1 now
+      (ap (λ h. lists_of lists.left lists.unspent h lists.older) (sym judged.spends.0)) judged.spends.1 now
   follows lists (Tokened.open_cell x c fields used y rest) environment joins from judged fills quiet =
       let now = now_of setting.cells lists.left lists.unspent lists.held lists.older (Tokened.open_cell x c fields used y rest)
-              joins from.frames from.heap from.tokens judged.spends.0 judged in
+      joins from.frames from.heap from.tokens judged.spends.0 judged in
       open_followed lists.left lists.unspent lists.older rest environment joins from judged.waits
-          (ListsAfter (Tokened.open_cell x c fields used y rest) joins lists) (length fields) (value_of environment x)
+      (ListsAfter (Tokened.open_cell x c fields used y rest) joins lists) (length fields) (value_of environment x)
       (cell_named c (length fields) from.heap (value_of environment x))
       (λ named. opened_heap named.at (used_values used fields named.fields) from.heap) fields y
       (ap (λ h. lists_of lists.left (y ∷ lists.unspent) h lists.older) (sym judged.spends.0))
@@ -550,39 +620,39 @@ module _ (setting : TokenSetting) (program_spends : AreTokensSpent setting.progr
       judged.spends.1.0 judged.spends.1.1 now
   follows lists (Tokened.if_unique x c fields used y rest) environment joins from judged fills quiet =
       let now = now_of setting.cells lists.left lists.unspent lists.held lists.older (Tokened.if_unique x c fields used y rest)
-              joins from.frames from.heap from.tokens judged.spends.0 judged in
+      joins from.frames from.heap from.tokens judged.spends.0 judged in
       open_followed lists.left lists.unspent lists.older rest environment joins from judged.waits
-          (ListsAfter (Tokened.if_unique x c fields used y rest) joins lists) (length fields) (value_of environment x)
+      (ListsAfter (Tokened.if_unique x c fields used y rest) joins lists) (length fields) (value_of environment x)
       (cell_named c (length fields) from.heap (value_of environment x))
       (λ named. unique_heap (count_at from.heap named.at) named.at (used_values used fields named.fields)
-          (other_values used fields named.fields) from.heap) fields y
+      (other_values used fields named.fields) from.heap) fields y
       (ap (λ h. lists_of lists.left (y ∷ lists.unspent) h lists.older) (sym judged.spends.0))
       (named_cell c (length fields) from.heap (value_of environment x))
       (λ named. eased_unique (count_at from.heap named.at) named.at (used_values used fields named.fields)
-          (other_values used fields named.fields) from.heap refl)
+      (other_values used fields named.fields) from.heap refl)
       judged.spends.1.0 judged.spends.1.1 now
   follows lists (Tokened.dup x rest) environment joins from judged fills quiet =
       let now = now_of setting.cells lists.left lists.unspent lists.held lists.older (Tokened.dup x rest) joins from.frames
-              from.heap from.tokens judged.spends.0 judged in
+      from.heap from.tokens judged.spends.0 judged in
       heap_followed lists.left lists.unspent lists.older rest environment joins from judged.waits
-          (ListsAfter (Tokened.dup x rest) joins lists) (dup_value (value_of environment x) from.heap)
+      (ListsAfter (Tokened.dup x rest) joins lists) (dup_value (value_of environment x) from.heap)
       (ap (λ h. lists_of lists.left lists.unspent h lists.older) (sym judged.spends.0))
-          (eased_dup (value_of environment x) from.heap) judged.spends.1 now
+      (eased_dup (value_of environment x) from.heap) judged.spends.1 now
   follows lists (Tokened.drop x rest) environment joins from judged fills quiet =
       let now = now_of setting.cells lists.left lists.unspent lists.held lists.older (Tokened.drop x rest) joins from.frames
-              from.heap from.tokens judged.spends.0 judged in
+      from.heap from.tokens judged.spends.0 judged in
       heap_followed lists.left lists.unspent lists.older rest environment joins from judged.waits
-          (ListsAfter (Tokened.drop x rest) joins lists) (drop_value (value_of environment x) from.heap)
+      (ListsAfter (Tokened.drop x rest) joins lists) (drop_value (value_of environment x) from.heap)
       (ap (λ h. lists_of lists.left lists.unspent h lists.older) (sym judged.spends.0))
-          (eased_drop (value_of environment x) from.heap) judged.spends.1 now
+      (eased_drop (value_of environment x) from.heap) judged.spends.1 now
   follows lists (Tokened.fill x y c first arguments left_fields others rest) environment joins from judged fills quiet =
       let now = now_of setting.cells lists.left lists.unspent lists.held lists.older
-              (Tokened.fill x y c first arguments left_fields others rest) joins from.frames from.heap from.tokens judged.spends.0
-                  judged in
+      (Tokened.fill x y c first arguments left_fields others rest) joins from.frames from.heap from.tokens judged.spends.0
+      judged in
       fill_followed lists.left (without (y ∷ []) lists.unspent) lists.older rest environment joins from judged.waits
-          (ListsAfter (Tokened.fill x y c first arguments left_fields others rest) joins lists) x y c
+      (ListsAfter (Tokened.fill x y c first arguments left_fields others rest) joins lists) x y c
       (map (value_of environment) (first ∷ arguments)) left_fields others lists.unspent
-          (ap (λ h. lists_of lists.left (without (y ∷ []) lists.unspent) h lists.older) (sym judged.spends.0))
+      (ap (λ h. lists_of lists.left (without (y ∷ []) lists.unspent) h lists.older) (sym judged.spends.0))
       judged.spends.1.0 judged.spends.1.1.1.0 (λ z. refl) judged.spends.1.1.1.1 now fills
   follows lists (Tokened.free y rest) environment joins from judged fills quiet = absurd (cc)
   follows lists (Tokened.null y rest) environment joins from judged fills quiet = absurd (cc)

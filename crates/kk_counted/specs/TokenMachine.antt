@@ -124,10 +124,10 @@ module _ (setting : TokenSetting) where
   fill_step y c fields kept others to from =
       by_token (goes (token_at_stuck from))
       (make_step (request setting.cells others (frame_of from) from.heap (blanked (frame_of from) y spent from.tokens)) c fields to
-          from)
+      from)
       (λ p.
       make_step (Some (released (frame_of from) y p spent from.tokens)) c
-          (filled setting.leaves kept (fields_held from.heap p) fields)
+      (filled setting.leaves kept (fields_held from.heap p) fields)
       to from)
       (frame_of from) y from.tokens
 

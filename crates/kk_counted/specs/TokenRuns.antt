@@ -56,11 +56,11 @@ pub record IsFollowed (cells : ℕ) (P : Lists → Type 0) (action : Action Toke
 -- An action that the counted machine does not have: it leads to a configuration that is the same without its tokens, which are
 -- kept.
 pub record IsUnseen (cells : ℕ) (P : Lists → Type 0) (action : Action TokenConfiguration) (same : CountedConfiguration) : Type 0
-    where
-  pub to : TokenConfiguration
-  pub is : action ≡ goes to
-  pub alike : bare_configuration to ≡ same
-  pub keeps : AreKeptBy cells P to
+  where
+    pub to : TokenConfiguration
+    pub is : action ≡ goes to
+    pub alike : bare_configuration to ≡ same
+    pub keeps : AreKeptBy cells P to
 
 -- ---- whole runs
 
