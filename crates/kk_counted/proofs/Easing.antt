@@ -1,12 +1,14 @@
 -- Changes of a heap that count no cell anew: dups, drops and openings.
 use Rattle.std.proofs.Common.{◌≡◌, ℕ, zero, suc, ◌≤◌, ◌==◌, Bool, true, false, List, [], ◌∷◌, ◌++◌, length, Option, Some, None, arith, refl, sym, ap, ◌∙◌}
-use Rattle.kk_source.specs.State.{Value, integer, unit, constant, place}
+use Rattle.kk_source.specs.State.{Value, integer, unit, constant, place, Cell}
 use Rattle.kk_source.specs.Matching.{and_then}
 use Rattle.kk_counted.specs.Heaps.{Held, Heap, count_at, set_count, one_if_counted, busy, more, dup_value, dup_all, fields_held, weight, give_up, drop_value, drop_all}
 use Rattle.kk_counted.specs.CountedMachine.{opened_heap, unique_heap}
-use Rattle.kk_counted.proofs.Counting.{same, itself, count_top, count_below, counted_within, set_length, count_other}
+use Rattle.kk_counted.specs.References.{cells_of}
+use Rattle.kk_counted.proofs.Counting.{same, itself, count_top, count_below, counted_within, set_length, set_cells, count_other}
 
 pub record Eased (before after : Heap) : Type 0 where
+  pub cells : cells_of after ≡ cells_of before
   pub many : length after ≡ length before
   pub zeros : (q : ℕ) → count_at before q ≡ 0 → count_at after q ≡ 0
 
@@ -15,13 +17,13 @@ EasedTo before None = Unit {0}
 EasedTo before (Some after) = Eased before after
 
 pub eased_same : (heap : Heap) → Eased heap heap
-eased_same heap = record { many = refl; zeros = λ q is. is }
+eased_same heap = record { cells = refl; many = refl; zeros = λ q is. is }
 
 pub eased_then : (before between : Heap) (result : Option Heap) → Eased before between → EasedTo between result
     → EasedTo before result
 eased_then before between None first rest = tt
 eased_then before between (Some after) first rest =
-    record { many = rest.many ∙ first.many; zeros = λ q is. rest.zeros q (first.zeros q is) }
+    record { cells = rest.cells ∙ first.cells; many = rest.many ∙ first.many; zeros = λ q is. rest.zeros q (first.zeros q is) }
 
 eased_and : (before : Heap) (result : Option Heap) (next : Heap → Option Heap) → EasedTo before result
     → ((between : Heap) → EasedTo between (next between)) → EasedTo before (and_then result next)
@@ -29,7 +31,8 @@ eased_and before None next first rest = tt
 eased_and before (Some between) next first rest = eased_then before between (next between) first (rest between)
 
 eased_set : (at n k : ℕ) (heap : Heap) → count_at heap at ≡ suc k → Eased heap (set_count at n heap)
-eased_set at n k heap counted = record { many = set_length at n heap; zeros = λ q none. by_test q none (at == q) refl }
+eased_set at n k heap counted =
+    record { cells = set_cells at n heap; many = set_length at n heap; zeros = λ q none. by_test q none (at == q) refl }
   where
     by_test : (q : ℕ) → count_at heap q ≡ 0 → (t : Bool) → (at == q) ≡ t → count_at (set_count at n heap) q ≡ 0
     by_test q none true is = absurd (omega (arith, ap (count_at heap) (same at q is), none, counted))
@@ -105,9 +108,17 @@ none_beyond : (heap : Heap) (q : ℕ) → length heap ≤ q → (count : ℕ) �
 none_beyond heap q far zero is = is
 none_beyond heap q far (suc count) is = absurd (omega (arith, counted_within heap q count is, far))
 
+abbrev rest_of : List Cell → List Cell
+rest_of [] = []
+rest_of (cell ∷ cells) = cells
+
 eased_tail : (one other : Held) (before after : Heap) → Eased (one ∷ before) (other ∷ after) → Eased before after
 eased_tail one other before after eased =
-    record { many = omega (arith, eased.many); zeros = λ q none. by_test q none (length before == q) refl }
+    record {
+      cells = ap rest_of eased.cells;
+      many = omega (arith, eased.many);
+      zeros = λ q none. by_test q none (length before == q) refl;
+    }
   where
     many : length after ≡ length before
     many = omega (arith, eased.many)

@@ -59,23 +59,23 @@ marks_alive heap marks others fewer p (by_mark f y marked_is less) = by_mark f y
 module _ (setting : TokenSetting) (environment : Environment) (joins : List TokenJoin) (from : TokenConfiguration) where
   give_grows : (v : Value) (js : List TokenJoin) (frames : List TokenFrame)
       → AllLead (Growth setting.cells from) (token_give_step v js frames environment from)
-  give_grows v (join ∷ js) frames = stays (λ p alive. alive)
-  give_grows v [] (frame ∷ frames) = stays (λ p alive. alive)
-  give_grows v [] [] = stays (λ p alive. alive)
+  give_grows v (join ∷ js) frames = stays refl (λ p alive. alive)
+  give_grows v [] (frame ∷ frames) = stays refl (λ p alive. alive)
+  give_grows v [] [] = stays refl (λ p alive. alive)
 
   tail_grows : (found : Option TokenedFunction) (values : List Value)
       → AllLead (Growth setting.cells from) (token_tail_step found values from)
-  tail_grows None values = stays (λ p alive. alive)
-  tail_grows (Some function) values = stays (λ p alive. alive)
+  tail_grows None values = stays refl (λ p alive. alive)
+  tail_grows (Some function) values = stays refl (λ p alive. alive)
 
   case_grows : (found : Option Tokened) → AllLead (Growth setting.cells from) (token_case_step found environment joins from)
-  case_grows None = stays (λ p alive. alive)
-  case_grows (Some body) = stays (λ p alive. alive)
+  case_grows None = stays refl (λ p alive. alive)
+  case_grows (Some body) = stays refl (λ p alive. alive)
 
   read_grows : (found : Option Named) (fields : List ℕ) (rest : Tokened)
       → AllLead (Growth setting.cells from) (token_read_step found fields rest environment joins from)
-  read_grows None fields rest = stays (λ p alive. alive)
-  read_grows (Some named) fields rest = stays (λ p alive. alive)
+  read_grows None fields rest = stays refl (λ p alive. alive)
+  read_grows (Some named) fields rest = stays refl (λ p alive. alive)
 
   print_grows : (piece : List ℕ) (to : TokenConfiguration) → Growth setting.cells from to
       → AllLead (Growth setting.cells from) (print_step piece to)
@@ -84,26 +84,26 @@ module _ (setting : TokenSetting) (environment : Environment) (joins : List Toke
 
   call_grows : (found : Option TokenedFunction) (values : List Value) (waiting : TokenFrame)
       → AllLead (Growth setting.cells from) (token_call_step setting found values waiting from)
-  call_grows None values waiting = stays (λ p alive. alive)
+  call_grows None values waiting = stays refl (λ p alive. alive)
   call_grows (Some function) values waiting = by_test (nat_le setting.depth (suc (length from.frames)))
     where
       by_test : (t : Bool) → Growth setting.cells from
           (if t then record from { control = TokenControl.stopped stack_full } else in_body function values
           (record from { frames = waiting ∷ from.frames }))
-      by_test true = stays (λ p alive. alive)
-      by_test false = stays (λ p alive. alive)
+      by_test true = stays refl (λ p alive. alive)
+      by_test false = stays refl (λ p alive. alive)
 
   heap_grows : (result : Option Heap) (rest : Tokened) → EasedTo from.heap result
       → AllLead (Growth setting.cells from) (goes (to_heap result from (at_code rest environment joins from)))
-  heap_grows None rest eased = stays (λ p alive. alive)
+  heap_grows None rest eased = stays refl (λ p alive. alive)
   heap_grows (Some heap) rest eased =
-      stays (fewer_by from.heap heap from.tokens.marks from.tokens.marks (eased_alive from.heap heap from.tokens.marks eased))
+      stays eased.cells (fewer_by from.heap heap from.tokens.marks from.tokens.marks (eased_alive from.heap heap from.tokens.marks eased))
 
   open_grows : (count : ℕ) (v : Value) (found : Option Named) (heap : Named → Option Heap) (fields : List ℕ) (y : ℕ)
       (rest : Tokened) → OnNamed (NamedCell from.heap v count) found
       → ((named : Named) → EasedTo from.heap (heap named))
       → AllLead (Growth setting.cells from) (token_open_step found heap fields y rest environment joins from)
-  open_grows count v None heap fields y rest cell eased = stays (λ p alive. alive)
+  open_grows count v None heap fields y rest cell eased = stays refl (λ p alive. alive)
   open_grows count v (Some named) heap fields y rest cell eased = opened (heap named) (eased named)
     where
       gained_before : (after : Heap) → Eased from.heap after → (p : ℕ)
@@ -127,9 +127,9 @@ module _ (setting : TokenSetting) (environment : Environment) (joins : List Toke
       opened : (result : Option Heap) → EasedTo from.heap result
           → Growth setting.cells from (to_opened result named.at y from
           (at_code rest (bind_fields fields named.fields environment) joins from))
-      opened None less = stays (λ p alive. alive)
+      opened None less = stays refl (λ p alive. alive)
       opened (Some after) less =
-          stays (fewer_by from.heap after from.tokens.marks
+          stays less.cells (fewer_by from.heap after from.tokens.marks
           (opened_tokens (count_at after named.at) (length from.frames) y named.at from.tokens).marks
           (opened_before (count_at after named.at) after less))
 
@@ -137,7 +137,7 @@ module _ (setting : TokenSetting) (environment : Environment) (joins : List Toke
       → ((p f y : ℕ) → before.marks p ≡ token_of f y → from.tokens.marks p ≡ token_of f y)
       → Asked setting.cells from.heap before ([] ∷ older) result
       → AllLead (Growth setting.cells from) (make_step result c fields (λ v. bound_to x v rest environment joins from) from)
-  made_grows x c fields rest before older result fewer (full filled is) = rw is (stays (λ p alive. alive))
+  made_grows x c fields rest before older result fewer (full filled is) = rw is (stays refl (λ p alive. alive))
   made_grows x c fields rest before older result fewer (served after is good) =
       rw is
       (grows (record { count = 1; cell = record { made_by = c; fields = fields } }) refl
@@ -148,7 +148,7 @@ module _ (setting : TokenSetting) (environment : Environment) (joins : List Toke
   tokens_grow : (result : Option Tokens) (after : Tokens) (rest : Tokened) → result ≡ Some after
       → ((p : ℕ) → Alive from.heap after.marks p → Alive from.heap from.tokens.marks p)
       → AllLead (Growth setting.cells from) (goes (to_tokens result from (at_code rest environment joins from)))
-  tokens_grow result after rest is fewer = rw is (stays (fewer_by from.heap from.heap from.tokens.marks after.marks fewer))
+  tokens_grow result after rest is fewer = rw is (stays refl (fewer_by from.heap from.heap from.tokens.marks after.marks fewer))
 
   module _ (lists : Lists) (now : AreNow setting.cells lists.unspent lists.older from.frames from.heap from.tokens) where
     many : length from.frames ≡ length lists.older
@@ -286,9 +286,9 @@ module _ (setting : TokenSetting) (environment : Environment) (joins : List Toke
   chain_grows : (result : Option Tokens) (rest : Tokened)
       → ((after : Tokens) → result ≡ Some after → after.marks ≡ from.tokens.marks)
       → AllLead (Growth setting.cells from) (goes (to_tokens result from (at_code rest environment joins from)))
-  chain_grows None rest equal = stays (λ p alive. alive)
+  chain_grows None rest equal = stays refl (λ p alive. alive)
   chain_grows (Some after) rest equal =
-      stays (λ p alive. subst (λ marks. is_alive from.heap marks p ≡ true) (equal after refl) alive)
+      stays refl (λ p alive. subst (λ marks. is_alive from.heap marks p ≡ true) (equal after refl) alive)
 
   same_marks : (d y : ℕ) (slot : Slot) (links : List Link) (after : Tokens)
       → by_slot None (Some from.tokens) (λ p. Some (record from.tokens { chain = links })) d y slot from.tokens.marks ≡ Some after
@@ -307,18 +307,18 @@ module _ (setting : TokenSetting) (environment : Environment) (joins : List Toke
       → IsJudged setting.cells lists.left lists.unspent lists.held lists.older code joins from.frames from.heap from.tokens
       → AllLead (Growth setting.cells from) (token_form_step setting form (map (value_of environment) arguments) x others rest
       environment joins from)
-  form_grows lists (Number n) arguments others x rest code at_form judged = stays (λ p alive. alive)
-  form_grows lists Nothing arguments others x rest code at_form judged = stays (λ p alive. alive)
-  form_grows lists ReadByte arguments others x rest code at_form judged = λ byte. stays (λ p alive. alive)
+  form_grows lists (Number n) arguments others x rest code at_form judged = stays refl (λ p alive. alive)
+  form_grows lists Nothing arguments others x rest code at_form judged = stays refl (λ p alive. alive)
+  form_grows lists ReadByte arguments others x rest code at_form judged = λ byte. stays refl (λ p alive. alive)
   form_grows lists (PrintText form text) arguments others x rest code at_form judged =
       print_grows (piece_of form (text_at setting.program.texts text)) (bound_to x unit rest environment joins from)
-      (stays (λ p alive. alive))
-  form_grows lists (Unary operator) arguments others x rest code at_form judged = stays (λ p alive. alive)
-  form_grows lists (Binary operator) arguments others x rest code at_form judged = stays (λ p alive. alive)
+      (stays refl (λ p alive. alive))
+  form_grows lists (Unary operator) arguments others x rest code at_form judged = stays refl (λ p alive. alive)
+  form_grows lists (Binary operator) arguments others x rest code at_form judged = stays refl (λ p alive. alive)
   form_grows lists (Print form) arguments others x rest code at_form judged =
       print_grows (piece_of form (signed_decimal (integer_of (argument 0 (map (value_of environment) arguments)))))
-      (bound_to x unit rest environment joins from) (stays (λ p alive. alive))
-  form_grows lists (Construct c) [] others x rest code at_form judged = stays (λ p alive. alive)
+      (bound_to x unit rest environment joins from) (stays refl (λ p alive. alive))
+  form_grows lists (Construct c) [] others x rest code at_form judged = stays refl (λ p alive. alive)
   form_grows lists (Construct c) (first ∷ arguments) others x rest code at_form judged =
       let now = now_of setting.cells lists.left lists.unspent lists.held lists.older code joins from.frames from.heap from.tokens
       at_form.0 judged in
@@ -339,10 +339,10 @@ module _ (setting : TokenSetting) (environment : Environment) (joins : List Toke
   step_grows lists (Tokened.give x) judged = give_grows (value_of environment x) joins from.frames
   step_grows lists (Tokened.tail_call f arguments) judged =
       tail_grows (slice_get setting.program.functions f) (map (value_of environment) arguments)
-  step_grows lists (Tokened.branch x positive negative) judged = stays (λ p alive. alive)
+  step_grows lists (Tokened.branch x positive negative) judged = stays refl (λ p alive. alive)
   step_grows lists (Tokened.case x decisions arms) judged =
       case_grows (and_then (chosen (cell_at from.heap) (value_of environment x) decisions) (tokened_arm_at arms))
-  step_grows lists (Tokened.inside x block rest) judged = stays (λ p alive. alive)
+  step_grows lists (Tokened.inside x block rest) judged = stays refl (λ p alive. alive)
   step_grows lists (Tokened.read x c fields rest) judged =
       read_grows (cell_named c (length fields) from.heap (value_of environment x)) fields rest
   step_grows lists (Tokened.open_cell x c fields used y rest) judged =
@@ -361,8 +361,8 @@ module _ (setting : TokenSetting) (environment : Environment) (joins : List Toke
       heap_grows (dup_value (value_of environment x) from.heap) rest (eased_dup (value_of environment x) from.heap)
   step_grows lists (Tokened.drop x rest) judged =
       heap_grows (drop_value (value_of environment x) from.heap) rest (eased_drop (value_of environment x) from.heap)
-  step_grows lists (Tokened.null y rest) judged = stays (λ p alive. alive)
-  step_grows lists (Tokened.if_token y there absent) judged = stays (λ p alive. alive)
+  step_grows lists (Tokened.null y rest) judged = stays refl (λ p alive. alive)
+  step_grows lists (Tokened.if_token y there absent) judged = stays refl (λ p alive. alive)
   step_grows lists (Tokened.fill x y c first arguments kept others rest) judged =
       fill_grows lists (now_of setting.cells lists.left lists.unspent lists.held lists.older
       (Tokened.fill x y c first arguments kept others rest) joins from.frames from.heap from.tokens judged.spends.0 judged)

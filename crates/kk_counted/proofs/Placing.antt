@@ -374,7 +374,7 @@ grown_placed cells assigned held heap marks c less unused placed =
 
 pub growth_places : (cells : ℕ) (assigned : ℕ → ℕ) (from to : TokenConfiguration) → ArePooled cells to.heap to.tokens
     → IsPlaced cells assigned from.heap from.tokens.marks → Growth cells from to → Placing cells assigned from to
-growth_places cells assigned from to pooled placed (stays fewer) =
+growth_places cells assigned from to pooled placed (stays cells_are fewer) =
     kept_same (fewer_placed cells assigned from.heap to.heap from.tokens.marks to.tokens.marks fewer placed)
 growth_places cells assigned from to pooled placed (grows held is fewer room) =
     new
