@@ -1,14 +1,14 @@
 -- The chain of held tokens: it depends on the slots of its frames alone, and its first link may be taken.
-use Rattle.std.proofs.Common.{◌≡◌, ◌⊎◌, inl, inr, ℕ, zero, suc, ◌+◌, ◌≤◌, ◌<◌, ◌==◌, ◌&&◌, ◌||◌, Bool, true, false, List, [], ◌∷◌, length, Option, Some, None, arith, refl, sym, ap, ◌∙◌, subst}
+use Rattle.std.proofs.Common.{◌≡◌, ℕ, suc, ◌≤◌, ◌<◌, ◌==◌, ◌&&◌, ◌||◌, Bool, true, false, List, [], ◌∷◌, length, arith, refl, sym, ap, ◌∙◌, subst}
 use Rattle.std.specs.Prelude.{if◌then◌else◌}
 use Rattle.kk_syntax.specs.Shapes.{is_among}
 use Rattle.kk_counted.specs.Spending.{AreApart}
 use Rattle.kk_counted.specs.Tokens.{Slot, spent, null, token, is_unspent, is_token, Link, slots_with}
 use Rattle.kk_counted.specs.TokenStates.{TokenFrame}
-use Rattle.kk_counted.specs.TokenKeeping.{links_of, chain_of, AreUnspent, IsHeldFrame, AreHeldFrames}
+use Rattle.kk_counted.specs.TokenKeeping.{links_of, chain_of, AreHeldFrames}
 use Rattle.kk_counted.proofs.Counting.{same, itself}
 use Rattle.kk_counted.proofs.Variables.{other_variable}
-use Rattle.kk_counted.proofs.Pooling.{Which, this, other, which, slot_here, slot_there, slot_at, no_token}
+use Rattle.kk_counted.proofs.Pooling.{Which, this, other, which, slot_here, slot_there, slot_at}
 
 -- slots are equal below a frame
 abbrev pub EqualBelow : ℕ → (ℕ → ℕ → Slot) → (ℕ → ℕ → Slot) → Type 0
@@ -33,14 +33,16 @@ among_later y z ys is = rw is (or_true (y == z))
     or_true true = refl
     or_true false = refl
 
-links_same : (slots others : ℕ → Slot) (f : ℕ) (ys : List ℕ) (older newer : List Link) → ((z : ℕ) → is_among ys z ≡ true → slots z ≡ others z) → older ≡ newer → links_of others f ys newer ≡ links_of slots f ys older
+links_same : (slots others : ℕ → Slot) (f : ℕ) (ys : List ℕ) (older newer : List Link)
+    → ((z : ℕ) → is_among ys z ≡ true → slots z ≡ others z) → older ≡ newer → links_of others f ys newer ≡ links_of slots f ys older
 links_same slots others f [] older newer equal rest = sym rest
 links_same slots others f (y ∷ ys) older newer equal rest =
     rw (equal y (among_first y ys))
     (ap (λ links. if is_token (others y) then record { frame = f; slot = y } ∷ links else links)
     (links_same slots others f ys older newer (λ z is. equal z (among_later y z ys is)) rest))
 
-pub chain_same : (slots others : ℕ → ℕ → Slot) (helds : List (List ℕ)) → EqualBelow (length helds) slots others → chain_of others helds ≡ chain_of slots helds
+pub chain_same : (slots others : ℕ → ℕ → Slot) (helds : List (List ℕ)) → EqualBelow (length helds) slots others
+    → chain_of others helds ≡ chain_of slots helds
 chain_same slots others [] equal = refl
 chain_same slots others (held ∷ helds) equal =
     links_same (slots (length helds)) (others (length helds)) (length helds) held (chain_of slots helds) (chain_of others helds)
@@ -52,7 +54,8 @@ chain_same slots others (held ∷ helds) equal =
 abbrev pub EqualUnspent : ℕ → (ℕ → ℕ → Slot) → (ℕ → ℕ → Slot) → Type 0
 EqualUnspent n slots others = (f y : ℕ) → f < n → is_unspent (others f y) ≡ is_unspent (slots f y)
 
-pub frames_same : (slots others : ℕ → ℕ → Slot) (helds : List (List ℕ)) (frames : List TokenFrame) → EqualUnspent (length helds) slots others → AreHeldFrames slots helds frames → AreHeldFrames others helds frames
+pub frames_same : (slots others : ℕ → ℕ → Slot) (helds : List (List ℕ)) (frames : List TokenFrame)
+    → EqualUnspent (length helds) slots others → AreHeldFrames slots helds frames → AreHeldFrames others helds frames
 frames_same slots others [] [] equal are = tt
 frames_same slots others [] (frame ∷ frames) equal are = absurd are
 frames_same slots others (held ∷ helds) [] equal are = absurd are
@@ -69,7 +72,8 @@ frames_same slots others (held ∷ helds) (frame ∷ frames) equal are = (
   frames_same slots others helds frames (λ f y less. equal f y (omega (arith, less))) are.1,
 )
 
-pub frames_many : (slots : ℕ → ℕ → Slot) (helds : List (List ℕ)) (frames : List TokenFrame) → AreHeldFrames slots helds frames → length frames ≡ length helds
+pub frames_many : (slots : ℕ → ℕ → Slot) (helds : List (List ℕ)) (frames : List TokenFrame) → AreHeldFrames slots helds frames
+    → length frames ≡ length helds
 frames_many slots [] [] are = refl
 frames_many slots [] (frame ∷ frames) are = absurd are
 frames_many slots (held ∷ helds) [] are = absurd are
@@ -85,7 +89,8 @@ abbrev pub AllApart : List (List ℕ) → Type 0
 AllApart [] = Unit {0}
 AllApart (held ∷ helds) = AreApart held × AllApart helds
 
-pub frames_apart : (slots : ℕ → ℕ → Slot) (helds : List (List ℕ)) (frames : List TokenFrame) → AreHeldFrames slots helds frames → AllApart helds
+pub frames_apart : (slots : ℕ → ℕ → Slot) (helds : List (List ℕ)) (frames : List TokenFrame) → AreHeldFrames slots helds frames
+    → AllApart helds
 frames_apart slots [] [] are = tt
 frames_apart slots [] (frame ∷ frames) are = absurd are
 frames_apart slots (held ∷ helds) [] are = absurd are
@@ -103,7 +108,8 @@ record IsRowTop (slots : ℕ → ℕ → Slot) (ys : List ℕ) (helds : List (Li
   cell : ℕ
   has : slots link.frame link.slot ≡ token cell
   below : link.frame < suc (length helds)
-  rest : links_of (slots_with link.frame link.slot null slots (length helds)) (length helds) ys (chain_of (slots_with link.frame link.slot null slots) helds) ≡ links
+  rest : links_of (slots_with link.frame link.slot null slots (length helds)) (length helds) ys
+      (chain_of (slots_with link.frame link.slot null slots) helds) ≡ links
 
 pub token_is : (slot : Slot) → is_token slot ≡ true → (p : ℕ) × (slot ≡ token p)
 token_is spent is = absurd (cc)
@@ -126,9 +132,11 @@ row_top slots (y ∷ ys) helds link links apart older is =
 
     other_slot : (z : ℕ) → is_among ys z ≡ true → slots (length helds) z ≡ slots_with (length helds) y null slots (length helds) z
     other_slot z among =
-        sym (slot_there (length helds) y (length helds) z null slots (rw (itself (length helds)) (turned y z (other_variable y z ys apart.0 among))))
+        sym (slot_there (length helds) y (length helds) z null slots
+        (rw (itself (length helds)) (turned y z (other_variable y z ys apart.0 among))))
 
-    here : is_token (slots (length helds) y) ≡ true → IsRowTop slots (y ∷ ys) helds (record { frame = length helds; slot = y }) after
+    here : is_token (slots (length helds) y) ≡ true
+        → IsRowTop slots (y ∷ ys) helds (record { frame = length helds; slot = y }) after
     here token_there =
         let cell = token_is (slots (length helds) y) token_there in
         record {
@@ -138,14 +146,18 @@ row_top slots (y ∷ ys) helds link links apart older is =
           rest = rw (slot_here (length helds) y null slots)
               (links_same (slots (length helds)) (slots_with (length helds) y null slots (length helds)) (length helds) ys
               (chain_of slots helds) (chain_of (slots_with (length helds) y null slots) helds) other_slot
-              (sym (chain_same slots (slots_with (length helds) y null slots) helds (equal_one (length helds) (length helds) y null slots (omega arith)))));
+              (sym (chain_same slots (slots_with (length helds) y null slots) helds
+              (equal_one (length helds) (length helds) y null slots (omega arith)))));
         }
 
-    passed : (w : Which link.frame link.slot (length helds) y) → is_token (slots (length helds) y) ≡ false → is_token (slots_with link.frame link.slot null slots (length helds) y) ≡ false
+    passed : (w : Which link.frame link.slot (length helds) y) → is_token (slots (length helds) y) ≡ false
+        → is_token (slots_with link.frame link.slot null slots (length helds) y) ≡ false
     passed (this first second) none = ap is_token (slot_at link.frame link.slot (length helds) y null slots first second)
     passed (other apart) none = ap is_token (slot_there link.frame link.slot (length helds) y null slots apart) ∙ none
 
-    by_test : (t : Bool) → is_token (slots (length helds) y) ≡ t → (if t then record { frame = length helds; slot = y } ∷ after else after) ≡ link ∷ links → (after ≡ link ∷ links → IsRowTop slots ys helds link links) → IsRowTop slots (y ∷ ys) helds link links
+    by_test : (t : Bool) → is_token (slots (length helds) y) ≡ t
+        → (if t then record { frame = length helds; slot = y } ∷ after else after) ≡ link ∷ links
+        → (after ≡ link ∷ links → IsRowTop slots ys helds link links) → IsRowTop slots (y ∷ ys) helds link links
     by_test true test equal later =
         let first : record { frame = length helds; slot = y } ≡ link = cc in
         let second : after ≡ links = cc in
@@ -160,7 +172,8 @@ row_top slots (y ∷ ys) helds link links apart older is =
           rest = rw (passed (which link.frame link.slot (length helds) y) test) top.rest;
         }
 
-pub chain_top : (slots : ℕ → ℕ → Slot) (helds : List (List ℕ)) (link : Link) (links : List Link) → AllApart helds → chain_of slots helds ≡ link ∷ links → IsTop slots helds link links
+pub chain_top : (slots : ℕ → ℕ → Slot) (helds : List (List ℕ)) (link : Link) (links : List Link) → AllApart helds
+    → chain_of slots helds ≡ link ∷ links → IsTop slots helds link links
 chain_top slots [] link links apart is = absurd (cc)
 chain_top slots (held ∷ helds) link links apart is =
     let top = row_top slots held helds link links apart.0 (chain_top slots helds link links apart.1) is in
@@ -168,24 +181,31 @@ chain_top slots (held ∷ helds) link links apart is =
 
 -- ---- an empty chain: no older frame has a token
 
-row_none : (slots : ℕ → Slot) (f : ℕ) (ys : List ℕ) (older : List Link) → links_of slots f ys older ≡ [] → ((y : ℕ) → is_among ys y ≡ true → is_token (slots y) ≡ false) × (older ≡ [])
+row_none : (slots : ℕ → Slot) (f : ℕ) (ys : List ℕ) (older : List Link) → links_of slots f ys older ≡ []
+    → ((y : ℕ) → is_among ys y ≡ true → is_token (slots y) ≡ false) × (older ≡ [])
 row_none slots f [] older none = (λ y is. absurd (cc), none)
 row_none slots f (x ∷ ys) older none = by_test (is_token (slots x)) refl none (row_none slots f ys older)
   where
-    among_both : (y : ℕ) → is_token (slots x) ≡ false → ((z : ℕ) → is_among ys z ≡ true → is_token (slots z) ≡ false) → (t : Bool) → (x == y) ≡ t → (t || is_among ys y) ≡ true → is_token (slots y) ≡ false
+    among_both : (y : ℕ) → is_token (slots x) ≡ false → ((z : ℕ) → is_among ys z ≡ true → is_token (slots z) ≡ false) → (t : Bool)
+        → (x == y) ≡ t → (t || is_among ys y) ≡ true → is_token (slots y) ≡ false
     among_both y first rest true test is = ap (λ z. is_token (slots z)) (sym (same x y test)) ∙ first
     among_both y first rest false test is = rest y is
 
-    by_test : (t : Bool) → is_token (slots x) ≡ t → (if t then record { frame = f; slot = x } ∷ links_of slots f ys older else links_of slots f ys older) ≡ [] → (links_of slots f ys older ≡ [] → ((y : ℕ) → is_among ys y ≡ true → is_token (slots y) ≡ false) × (older ≡ [])) → ((y : ℕ) → is_among (x ∷ ys) y ≡ true → is_token (slots y) ≡ false) × (older ≡ [])
+    by_test : (t : Bool) → is_token (slots x) ≡ t → (if t then record { frame = f; slot = x } ∷ links_of slots f ys older else
+        links_of slots f ys older) ≡ [] → (links_of slots f ys older ≡ []
+        → ((y : ℕ) → is_among ys y ≡ true → is_token (slots y) ≡ false) × (older ≡ []))
+        → ((y : ℕ) → is_among (x ∷ ys) y ≡ true → is_token (slots y) ≡ false) × (older ≡ [])
     by_test true test equal later = absurd (cc)
     by_test false test equal later =
         let rest = later equal in (λ y is. among_both y test rest.0 (x == y) refl is, rest.1)
 
-pub none_on_chain : (slots : ℕ → ℕ → Slot) (helds : List (List ℕ)) (frames : List TokenFrame) → AreHeldFrames slots helds frames → chain_of slots helds ≡ [] → (f y : ℕ) → f < length helds → is_token (slots f y) ≡ false
+pub none_on_chain : (slots : ℕ → ℕ → Slot) (helds : List (List ℕ)) (frames : List TokenFrame) → AreHeldFrames slots helds frames
+    → chain_of slots helds ≡ [] → (f y : ℕ) → f < length helds → is_token (slots f y) ≡ false
 none_on_chain slots [] frames are none f y less = absurd (omega (arith, less))
 none_on_chain slots (held ∷ helds) [] are none f y less = absurd are
 none_on_chain slots (held ∷ helds) (frame ∷ frames) are none f y less =
-    by_frame (f == length helds) refl (none_on_chain slots helds frames are.1 (row_none (slots (length helds)) (length helds) held (chain_of slots helds) none).1 f y)
+    by_frame (f == length helds) refl (none_on_chain slots helds frames are.1
+    (row_none (slots (length helds)) (length helds) held (chain_of slots helds) none).1 f y)
   where
     in_row : (y : ℕ) → is_among held y ≡ true → is_token (slots (length helds) y) ≡ false
     in_row = (row_none (slots (length helds)) (length helds) held (chain_of slots helds) none).0
@@ -198,6 +218,7 @@ none_on_chain slots (held ∷ helds) (frame ∷ frames) are none f y less =
     less_than : (f == length helds) ≡ false → f < length helds
     less_than apart = grind arith
 
-    by_frame : (t : Bool) → (f == length helds) ≡ t → (f < length helds → is_token (slots f y) ≡ false) → is_token (slots f y) ≡ false
+    by_frame : (t : Bool) → (f == length helds) ≡ t → (f < length helds → is_token (slots f y) ≡ false)
+        → is_token (slots f y) ≡ false
     by_frame true test later = ap (λ g. is_token (slots g y)) (same f (length helds) test) ∙ by_value (slots (length helds) y) refl
     by_frame false test later = later (less_than test)

@@ -1,21 +1,22 @@
 -- In each state of a run the names in use have cells of the pool of their own.
-use Rattle.std.proofs.Common.{◌≡◌, ℕ, zero, suc, Bool, true, false, List, [], ◌∷◌, length, Option, Some, None, refl, sym, ap, ◌∙◌, subst}
+use Rattle.std.proofs.Common.{ℕ, zero, suc, List, [], ◌∷◌, length, Some, None}
 use Rattle.kk_base.specs.Machines.{state}
 use Rattle.kk_source.specs.Actions.{Action, goes, puts, takes, builds, calls, performed}
 use Rattle.kk_counted.specs.Heaps.{Heap}
-use Rattle.kk_counted.specs.Tokens.{Mark, plain, Tokens, no_tokens}
+use Rattle.kk_counted.specs.Tokens.{Tokens, no_tokens}
 use Rattle.kk_counted.specs.TokenStates.{TokenSetting, TokenFrame, TokenControl, TokenConfiguration, TokenState, token_first_state}
 use Rattle.kk_counted.specs.TokenMachine.{token_code_step, token_machine}
 use Rattle.kk_counted.specs.TokenKeeping.{ArePooled, AreKeptAt, AreKept, token_after}
 use Rattle.kk_counted.specs.TokenRuns.{AllLead}
-use Rattle.kk_counted.specs.NumberedPool.{is_alive, IsPlaced, assigned_with, Growth, Placing, same, new}
+use Rattle.kk_counted.specs.NumberedPool.{IsPlaced, assigned_with, Growth, Placing, same, new}
 use Rattle.kk_counted.proofs.Placing.{growth_places}
 use Rattle.kk_counted.proofs.Growing.{step_grows}
 
 pub none_placed : (cells : ℕ) (assigned : ℕ → ℕ) → IsPlaced cells assigned [] no_tokens.marks
 none_placed cells assigned = record { within = λ p alive. absurd (cc); own = λ p q first second equal. absurd (cc) }
 
-pooled_at : (cells : ℕ) (c : TokenConfiguration) (control : TokenControl) → AreKeptAt cells c control → ArePooled cells c.heap c.tokens
+pooled_at : (cells : ℕ) (c : TokenConfiguration) (control : TokenControl) → AreKeptAt cells c control
+    → ArePooled cells c.heap c.tokens
 pooled_at cells c (TokenControl.running code environment joins) kept = kept.1.are.pooled
 pooled_at cells c (TokenControl.stopped by) kept = kept.1.pooled
 pooled_at cells c TokenControl.stuck kept = kept.1.pooled
@@ -26,18 +27,22 @@ module _ (weight : TokenState → ℕ) (setting : TokenSetting) where
 
   by_placing : (assigned : ℕ → ℕ) (from to : TokenConfiguration) → Placing setting.cells assigned from to → At to
   by_placing assigned from to (same placed) = (assigned, placed)
-  by_placing assigned from to (new each found) = (assigned_with (length from.heap) found.0 assigned, each found.0 found.1.0 found.1.1)
+  by_placing assigned from to (new each found) =
+      (assigned_with (length from.heap) found.0 assigned, each found.0 found.1.0 found.1.1)
 
-  performed_at : (from : TokenConfiguration) (action : Action TokenConfiguration) (input : List ℕ) → At from → AllLead (Growth setting.cells from) action
+  performed_at : (from : TokenConfiguration) (action : Action TokenConfiguration) (input : List ℕ) → At from
+      → AllLead (Growth setting.cells from) action
       → AreKept setting.cells (performed action input).1.machine → At (performed action input).1.machine
   performed_at from (goes to) input at grown kept =
       by_placing at.0 from to (growth_places setting.cells at.0 from to (pooled_at setting.cells to to.control kept) at.1 grown)
   performed_at from (puts piece to) input at grown kept =
       by_placing at.0 from to (growth_places setting.cells at.0 from to (pooled_at setting.cells to to.control kept) at.1 grown)
   performed_at from (takes to) [] at grown kept =
-      by_placing at.0 from (to None) (growth_places setting.cells at.0 from (to None) (pooled_at setting.cells (to None) (to None).control kept) at.1 (grown None))
+      by_placing at.0 from (to None) (growth_places setting.cells at.0 from (to None)
+      (pooled_at setting.cells (to None) (to None).control kept) at.1 (grown None))
   performed_at from (takes to) (byte ∷ input) at grown kept =
-      by_placing at.0 from (to (Some byte)) (growth_places setting.cells at.0 from (to (Some byte)) (pooled_at setting.cells (to (Some byte)) (to (Some byte)).control kept) at.1 (grown (Some byte)))
+      by_placing at.0 from (to (Some byte)) (growth_places setting.cells at.0 from (to (Some byte))
+      (pooled_at setting.cells (to (Some byte)) (to (Some byte)).control kept) at.1 (grown (Some byte)))
   performed_at from (builds found to) input at grown kept =
       by_placing at.0 from to (growth_places setting.cells at.0 from to (pooled_at setting.cells to to.control kept) at.1 grown)
   performed_at from (calls found to) input at grown kept =
@@ -47,21 +52,26 @@ module _ (weight : TokenState → ℕ) (setting : TokenSetting) where
   state_of control frames heap tokens input =
       record { machine = record { control = control; frames = frames; heap = heap; tokens = tokens }; input = input }
 
-  next_at : (control : TokenControl) (frames : List TokenFrame) (heap : Heap) (tokens : Tokens) (input : List ℕ) → AreKept setting.cells (state_of control frames heap tokens input).machine
+  next_at : (control : TokenControl) (frames : List TokenFrame) (heap : Heap) (tokens : Tokens) (input : List ℕ)
+      → AreKept setting.cells (state_of control frames heap tokens input).machine
       → AreKept setting.cells ((token_machine weight setting).step (state_of control frames heap tokens input)).1.machine
-      → At (state_of control frames heap tokens input).machine → At ((token_machine weight setting).step (state_of control frames heap tokens input)).1.machine
+      → At (state_of control frames heap tokens input).machine
+      → At ((token_machine weight setting).step (state_of control frames heap tokens input)).1.machine
   next_at (TokenControl.running code environment joins) frames heap tokens input kept next at =
       let from = (state_of (TokenControl.running code environment joins) frames heap tokens input).machine in
-      performed_at from (token_code_step setting code environment joins from) input at (step_grows setting environment joins from kept.0 code kept.1) next
+      performed_at from (token_code_step setting code environment joins from) input at
+      (step_grows setting environment joins from kept.0 code kept.1) next
   next_at (TokenControl.stopped by) frames heap tokens input kept next at = at
   next_at TokenControl.stuck frames heap tokens input kept next at = at
 
-  run_at : (n : ℕ) (s : TokenState) → ((k : ℕ) → AreKept setting.cells (state (token_machine weight setting) k s).machine) → At s.machine → At (state (token_machine weight setting) n s).machine
+  run_at : (n : ℕ) (s : TokenState) → ((k : ℕ) → AreKept setting.cells (state (token_machine weight setting) k s).machine)
+      → At s.machine → At (state (token_machine weight setting) n s).machine
   run_at zero s kept at = at
   run_at (suc n) s kept at =
       run_at n ((token_machine weight setting).step s).1 (λ k. kept (suc k))
       (next_at s.machine.control s.machine.frames s.machine.heap s.machine.tokens s.input (kept zero) (kept (suc zero)) at)
 
   pub runs_placed : (input : List ℕ) → ((k : ℕ) → AreKept setting.cells (token_after weight setting input k))
-      → (n : ℕ) → (assigned : ℕ → ℕ) × IsPlaced setting.cells assigned (token_after weight setting input n).heap (token_after weight setting input n).tokens.marks
+      → (n : ℕ) → (assigned : ℕ → ℕ) × IsPlaced setting.cells assigned (token_after weight setting input n).heap
+      (token_after weight setting input n).tokens.marks
   runs_placed input kept n = run_at n (token_first_state setting input) kept ((λ p. p), none_placed setting.cells (λ p. p))

@@ -1,13 +1,12 @@
 -- The pool of numbered cells: what an assignment of names gives, and that steps keep it.
-use Rattle.std.proofs.Common.{◌≡◌, ◌⊎◌, inl, inr, ℕ, zero, suc, ◌+◌, ◌≤◌, ◌<◌, ◌==◌, ◌&&◌, Bool, true, false, List, [], ◌∷◌, length, Option, Some, None, arith, refl, sym, ap, ◌∙◌, subst}
+use Rattle.std.proofs.Common.{◌≡◌, ℕ, zero, suc, ◌+◌, ◌≤◌, ◌<◌, ◌==◌, ◌&&◌, Bool, true, false, [], ◌∷◌, length, Option, Some, None, arith, refl, sym, ap, ◌∙◌, subst}
 use Rattle.std.specs.Prelude.{if◌then◌else◌, nat_le}
-use Rattle.kk_source.specs.State.{Value, Cell}
 use Rattle.kk_source.specs.Live.{counted as number_of}
 use Rattle.kk_counted.specs.Heaps.{Held, Heap, held_at, count_in, count_at, busy}
 use Rattle.kk_counted.specs.Tokens.{Mark, plain, token_of, one_if_token, Tokens, marked}
 use Rattle.kk_counted.specs.TokenKeeping.{ArePooled}
 use Rattle.kk_counted.specs.TokenStates.{TokenConfiguration}
-use Rattle.kk_counted.specs.NumberedPool.{Numbered, free, token, counted, is_used, by_count, by_held, named, is_alive, IsPlaced, numbered_by, numbered, IsPool, assigned_with, Growth, stays, grows, Placing, same as kept_same, new}
+use Rattle.kk_counted.specs.NumberedPool.{is_used, by_count, by_held, named, is_alive, IsPlaced, numbered_by, numbered, IsPool, assigned_with, Growth, stays, grows, Placing, same as kept_same, new}
 use Rattle.kk_counted.proofs.Counting.{same, itself, count_top, count_below, counted_within}
 use Rattle.kk_counted.proofs.Heaps.{positive}
 use Rattle.kk_counted.proofs.Places.{busy_passing}
@@ -23,7 +22,8 @@ held_within : (heap : Heap) (p : ℕ) (held : Held) → held_at heap p ≡ Some 
 held_within [] p held is = absurd (cc)
 held_within (other ∷ heap) p held is = by_test (length heap == p) refl is (held_within heap p held)
   where
-    by_test : (t : Bool) → (length heap == p) ≡ t → (if t then Some other else held_at heap p) ≡ Some held → (held_at heap p ≡ Some held → p < length heap) → p < suc (length heap)
+    by_test : (t : Bool) → (length heap == p) ≡ t → (if t then Some other else held_at heap p) ≡ Some held
+        → (held_at heap p ≡ Some held → p < length heap) → p < suc (length heap)
     by_test true test equal later = omega (arith, same (length heap) p test)
     by_test false test equal later = omega (arith, later equal)
 
@@ -34,18 +34,21 @@ held_there (other ∷ heap) p less = by_test (length heap == p) refl (held_there
     below : (length heap == p) ≡ false → p < length heap
     below test = grind arith
 
-    by_test : (t : Bool) → (length heap == p) ≡ t → (p < length heap → (held : Held) × (held_at heap p ≡ Some held)) → (held : Held) × ((if t then Some other else held_at heap p) ≡ Some held)
+    by_test : (t : Bool) → (length heap == p) ≡ t → (p < length heap → (held : Held) × (held_at heap p ≡ Some held))
+        → (held : Held) × ((if t then Some other else held_at heap p) ≡ Some held)
     by_test true test later = (other, refl)
     by_test false test later = later (below test)
 
 pub alive_is : (heap : Heap) (marks : ℕ → Mark) (p : ℕ) → is_alive heap marks p ≡ true → Alive heap marks p
 alive_is heap marks p alive = by_found (held_at heap p) refl alive
   where
-    by_mark : (held : Held) (mark : Mark) → held_at heap p ≡ Some held → marks p ≡ mark → is_used (by_count zero held.cell mark) ≡ true → Alive heap marks p
+    by_mark : (held : Held) (mark : Mark) → held_at heap p ≡ Some held → marks p ≡ mark
+        → is_used (by_count zero held.cell mark) ≡ true → Alive heap marks p
     by_mark held plain here marked_is used = absurd (cc)
     by_mark held (token_of f y) here marked_is used = by_token f y marked_is (held_within heap p held here)
 
-    by_number : (held : Held) (count : ℕ) → held_at heap p ≡ Some held → held.count ≡ count → is_used (by_count count held.cell (marks p)) ≡ true → Alive heap marks p
+    by_number : (held : Held) (count : ℕ) → held_at heap p ≡ Some held → held.count ≡ count
+        → is_used (by_count count held.cell (marks p)) ≡ true → Alive heap marks p
     by_number held zero here counted_is used = by_mark held (marks p) here refl used
     by_number held (suc count) here counted_is used = by_references (omega (arith, ap count_in here, counted_is))
 
@@ -56,7 +59,8 @@ alive_is heap marks p alive = by_found (held_at heap p) refl alive
 pub is_alive_by : (heap : Heap) (marks : ℕ → Mark) (p : ℕ) → Alive heap marks p → is_alive heap marks p ≡ true
 is_alive_by heap marks p (by_references counted_is) = by_found (held_at heap p) refl
   where
-    by_number : (held : Held) (count : ℕ) → held_at heap p ≡ Some held → held.count ≡ count → is_used (by_count count held.cell (marks p)) ≡ true
+    by_number : (held : Held) (count : ℕ) → held_at heap p ≡ Some held → held.count ≡ count
+        → is_used (by_count count held.cell (marks p)) ≡ true
     by_number held zero here count_is = absurd (omega (arith, ap count_in here, count_is, counted_is))
     by_number held (suc count) here count_is = refl
 
@@ -65,7 +69,8 @@ is_alive_by heap marks p (by_references counted_is) = by_found (held_at heap p) 
     by_found (Some held) here = by_number held held.count here refl
 is_alive_by heap marks p (by_token f y marked_is less) =
     let found = held_there heap p less in
-    ap (λ o. is_used (by_held o (marks p))) found.1 ∙ (ap (λ mark. is_used (by_count found.0.count found.0.cell mark)) marked_is ∙ either found.0.count)
+    ap (λ o. is_used (by_held o (marks p))) found.1
+    ∙ (ap (λ mark. is_used (by_count found.0.count found.0.cell mark)) marked_is ∙ either found.0.count)
   where
     either : (count : ℕ) → is_used (by_count count (held_there heap p less).0.cell (token_of f y)) ≡ true
     either zero = refl
@@ -89,7 +94,8 @@ number_same f g zero equal = refl
 number_same f g (suc n) equal =
     omega (arith, number_same f g n (λ q less. equal q (omega (arith, less))), ap one_if (equal n (omega arith)))
 
-number_more : (f g : ℕ → Bool) (p n : ℕ) → p < n → f p ≡ false → g p ≡ true → ((q : ℕ) → (q == p) ≡ false → g q ≡ f q) → number_of g n ≡ suc (number_of f n)
+number_more : (f g : ℕ → Bool) (p n : ℕ) → p < n → f p ≡ false → g p ≡ true → ((q : ℕ) → (q == p) ≡ false → g q ≡ f q)
+    → number_of g n ≡ suc (number_of f n)
 number_more f g p zero less was is equal = absurd (omega (arith, less))
 number_more f g p (suc n) less was is equal = by_test (n == p) refl (number_more f g p n)
   where
@@ -99,7 +105,8 @@ number_more f g p (suc n) less was is equal = by_test (n == p) refl (number_more
     below : (n == p) ≡ false → p < n
     below test = grind arith
 
-    by_test : (t : Bool) → (n == p) ≡ t → (p < n → f p ≡ false → g p ≡ true → ((q : ℕ) → (q == p) ≡ false → g q ≡ f q) → number_of g n ≡ suc (number_of f n)) → number_of g (suc n) ≡ suc (number_of f (suc n))
+    by_test : (t : Bool) → (n == p) ≡ t → (p < n → f p ≡ false → g p ≡ true → ((q : ℕ) → (q == p) ≡ false → g q ≡ f q)
+        → number_of g n ≡ suc (number_of f n)) → number_of g (suc n) ≡ suc (number_of f (suc n))
     by_test true test later =
         omega (
           arith,
@@ -118,7 +125,8 @@ one_is_left : (f : ℕ → Bool) (n : ℕ) → number_of f n < n → (c : ℕ) �
 one_is_left f zero fewer = absurd (omega (arith, fewer))
 one_is_left f (suc n) fewer = by_test (f n) refl (one_is_left f n)
   where
-    by_test : (t : Bool) → f n ≡ t → (number_of f n < n → (c : ℕ) × ((c < n) × (f c ≡ false))) → (c : ℕ) × ((c < suc n) × (f c ≡ false))
+    by_test : (t : Bool) → f n ≡ t → (number_of f n < n → (c : ℕ) × ((c < n) × (f c ≡ false)))
+        → (c : ℕ) × ((c < suc n) × (f c ≡ false))
     by_test false test later = (n, (omega arith, test))
     by_test true test later =
         let rest = later (omega (arith, fewer, ap one_if test)) in (rest.0, (omega (arith, rest.1.0), rest.1.1))
@@ -127,26 +135,40 @@ one_is_left f (suc n) fewer = by_test (f n) refl (one_is_left f n)
 
 module _ (cells : ℕ) (assigned : ℕ → ℕ) (heap : Heap) (marks : ℕ → Mark) (placed : IsPlaced cells assigned heap marks) where
   -- by the first names, a used cell is that of one of them
-  of_name : (n c : ℕ) → is_used (numbered_by assigned heap marks n c) ≡ true → (p : ℕ) × ((p < n) × ((is_alive heap marks p ≡ true) × (assigned p ≡ c)))
+  of_name : (n c : ℕ) → is_used (numbered_by assigned heap marks n c) ≡ true
+      → (p : ℕ) × ((p < n) × ((is_alive heap marks p ≡ true) × (assigned p ≡ c)))
   of_name zero c used = absurd (cc)
   of_name (suc n) c used = by_test (is_alive heap marks n && (assigned n == c)) refl used (of_name n c)
     where
-      by_test : (t : Bool) → (is_alive heap marks n && (assigned n == c)) ≡ t → is_used (if t then named heap marks n else numbered_by assigned heap marks n c) ≡ true
-          → (is_used (numbered_by assigned heap marks n c) ≡ true → (p : ℕ) × ((p < n) × ((is_alive heap marks p ≡ true) × (assigned p ≡ c))))
+      by_test : (t : Bool) → (is_alive heap marks n && (assigned n == c)) ≡ t
+          → is_used (if t then named heap marks n else numbered_by assigned heap marks n c) ≡ true
+          → (is_used (numbered_by assigned heap marks n c) ≡ true
+          → (p : ℕ) × ((p < n) × ((is_alive heap marks p ≡ true) × (assigned p ≡ c))))
           → (p : ℕ) × ((p < suc n) × ((is_alive heap marks p ≡ true) × (assigned p ≡ c)))
-      by_test true test used later =
-          (n, (omega arith, (and_first (is_alive heap marks n) (assigned n == c) test, same (assigned n) c (and_second (is_alive heap marks n) (assigned n == c) test))))
+      by_test true test used later = (
+        n,
+        (
+          omega arith,
+          (
+            and_first (is_alive heap marks n) (assigned n == c) test,
+            same (assigned n) c
+                (and_second (is_alive heap marks n) (assigned n == c) test),
+          ),
+        ),
+      )
       by_test false test used later = let rest = later used in (rest.0, (omega (arith, rest.1.0), rest.1.1))
 
   has_name : (n p : ℕ) → p < n → is_alive heap marks p ≡ true → numbered_by assigned heap marks n (assigned p) ≡ named heap marks p
   has_name zero p less alive = absurd (omega (arith, less))
   has_name (suc n) p less alive = by_test (is_alive heap marks n && (assigned n == assigned p)) refl (has_name n p)
     where
-      by_test : (t : Bool) → (is_alive heap marks n && (assigned n == assigned p)) ≡ t → (p < n → is_alive heap marks p ≡ true → numbered_by assigned heap marks n (assigned p) ≡ named heap marks p)
+      by_test : (t : Bool) → (is_alive heap marks n && (assigned n == assigned p)) ≡ t
+          → (p < n → is_alive heap marks p ≡ true → numbered_by assigned heap marks n (assigned p) ≡ named heap marks p)
           → (if t then named heap marks n else numbered_by assigned heap marks n (assigned p)) ≡ named heap marks p
       by_test true test later =
           ap (named heap marks)
-          (placed.own n p (and_first (is_alive heap marks n) (assigned n == assigned p) test) alive (same (assigned n) (assigned p) (and_second (is_alive heap marks n) (assigned n == assigned p) test)))
+          (placed.own n p (and_first (is_alive heap marks n) (assigned n == assigned p) test) alive
+          (same (assigned n) (assigned p) (and_second (is_alive heap marks n) (assigned n == assigned p) test)))
       by_test false test later = by_name (n == p) refl
         where
           below : (n == p) ≡ false → p < n
@@ -154,7 +176,8 @@ module _ (cells : ℕ) (assigned : ℕ → ℕ) (heap : Heap) (marks : ℕ → M
 
           by_name : (t : Bool) → (n == p) ≡ t → numbered_by assigned heap marks n (assigned p) ≡ named heap marks p
           by_name true here =
-              let found : (is_alive heap marks n && (assigned n == assigned p)) ≡ true = ap (λ q. is_alive heap marks q && (assigned q == assigned p)) (same n p here) ∙ rw alive (itself (assigned p)) in
+              let found : (is_alive heap marks n && (assigned n == assigned p)) ≡ true = ap
+              (λ q. is_alive heap marks q && (assigned q == assigned p)) (same n p here) ∙ rw alive (itself (assigned p)) in
               absurd (cc)
           by_name false apart = later (below apart) alive
 
@@ -165,29 +188,36 @@ module _ (cells : ℕ) (assigned : ℕ → ℕ) (heap : Heap) (marks : ℕ → M
       turned : (q : ℕ) → (q == assigned n) ≡ false → (assigned n == q) ≡ false
       turned q apart = grind arith
 
-      no_name : (t : Bool) → is_used (numbered_by assigned heap marks n (assigned n)) ≡ t → is_alive heap marks n ≡ true → is_used (numbered_by assigned heap marks n (assigned n)) ≡ false
+      no_name : (t : Bool) → is_used (numbered_by assigned heap marks n (assigned n)) ≡ t → is_alive heap marks n ≡ true
+          → is_used (numbered_by assigned heap marks n (assigned n)) ≡ false
       no_name true used alive =
           let found = of_name n (assigned n) used in
           absurd (omega (arith, placed.own found.0 n found.1.1.0 alive found.1.1.1, found.1.0))
       no_name false used alive = used
 
-      by_alive : (t : Bool) → is_alive heap marks n ≡ t → number_of (λ c. is_used (numbered_by assigned heap marks n c)) cells ≡ number_of (is_alive heap marks) n
+      by_alive : (t : Bool) → is_alive heap marks n ≡ t
+          → number_of (λ c. is_used (numbered_by assigned heap marks n c)) cells ≡ number_of (is_alive heap marks) n
           → number_of (λ c. is_used (numbered_by assigned heap marks (suc n) c)) cells ≡ number_of (is_alive heap marks) (suc n)
       by_alive false dead later =
           omega (
             arith,
-            number_same (λ c. is_used (numbered_by assigned heap marks n c)) (λ c. is_used (numbered_by assigned heap marks (suc n) c)) cells
-                (λ q less. ap (λ b. is_used (if b && (assigned n == q) then named heap marks n else numbered_by assigned heap marks n q)) dead),
+            number_same (λ c. is_used (numbered_by assigned heap marks n c))
+                (λ c. is_used (numbered_by assigned heap marks (suc n) c)) cells
+                (λ q less. ap (λ b. is_used (if b && (assigned n == q) then named heap marks n else numbered_by assigned heap marks
+                n q)) dead),
             later,
             ap one_if dead,
           )
       by_alive true alive later =
           omega (
             arith,
-            number_more (λ c. is_used (numbered_by assigned heap marks n c)) (λ c. is_used (numbered_by assigned heap marks (suc n) c)) (assigned n) cells (placed.within n alive)
+            number_more (λ c. is_used (numbered_by assigned heap marks n c))
+                (λ c. is_used (numbered_by assigned heap marks (suc n) c)) (assigned n) cells (placed.within n alive)
                 (no_name (is_used (numbered_by assigned heap marks n (assigned n))) refl alive)
-                (ap (λ b. is_used (if b && (assigned n == assigned n) then named heap marks n else numbered_by assigned heap marks n (assigned n))) alive
-                ∙ (ap (λ b. is_used (if b then named heap marks n else numbered_by assigned heap marks n (assigned n))) (itself (assigned n)) ∙ alive))
+                (ap (λ b. is_used (if b && (assigned n == assigned n) then named heap marks n else numbered_by assigned heap marks n
+                (assigned n))) alive
+                ∙ (ap (λ b. is_used (if b then named heap marks n else numbered_by assigned heap marks n (assigned n)))
+                (itself (assigned n)) ∙ alive))
                 (λ q apart.
                 ap (λ b. is_used (if b && (assigned n == q) then named heap marks n else numbered_by assigned heap marks n q)) alive
                 ∙ ap (λ b. is_used (if b then named heap marks n else numbered_by assigned heap marks n q)) (turned q apart)),
@@ -199,7 +229,8 @@ module _ (cells : ℕ) (assigned : ℕ → ℕ) (heap : Heap) (marks : ℕ → M
 abbrev Uncounted : Heap → (ℕ → Mark) → Type 0
 Uncounted heap marks = (f y p : ℕ) → marks p ≡ token_of f y → count_at heap p ≡ 0
 
-alive_parts : (heap : Heap) (marks : ℕ → Mark) (n : ℕ) → Uncounted heap marks → n ≤ length heap → number_of (is_alive heap marks) n ≡ number_of (λ p. nat_le 1 (count_at heap p)) n + marked marks n
+alive_parts : (heap : Heap) (marks : ℕ → Mark) (n : ℕ) → Uncounted heap marks → n ≤ length heap
+    → number_of (is_alive heap marks) n ≡ number_of (λ p. nat_le 1 (count_at heap p)) n + marked marks n
 alive_parts heap marks zero uncounted within = refl
 alive_parts heap marks (suc n) uncounted within =
     omega (arith, alive_parts heap marks n uncounted (omega (arith, within)), one_name (count_at heap n) refl (marks n) refl)
@@ -218,7 +249,8 @@ alive_parts heap marks (suc n) uncounted within =
         by_kind (by_references one) = absurd (omega (arith, one, none))
         by_kind (by_token f y marked_is less) = let clash : plain ≡ token_of f y = sym unmarked ∙ marked_is in absurd (cc)
 
-    one_name : (count : ℕ) → count_at heap n ≡ count → (mark : Mark) → marks n ≡ mark → (if is_alive heap marks n then 1 else 0) ≡ (if nat_le 1 (count_at heap n) then 1 else 0) + one_if_token (marks n)
+    one_name : (count : ℕ) → count_at heap n ≡ count → (mark : Mark) → marks n ≡ mark
+        → (if is_alive heap marks n then 1 else 0) ≡ (if nat_le 1 (count_at heap n) then 1 else 0) + one_if_token (marks n)
     one_name (suc count) is plain marked_is =
         omega (
           arith,
@@ -242,7 +274,8 @@ alive_parts heap marks (suc n) uncounted within =
           ap one_if_token marked_is,
         )
 
-alive_number : (heap : Heap) (marks : ℕ → Mark) → Uncounted heap marks → number_of (is_alive heap marks) (length heap) ≡ busy heap + marked marks (length heap)
+alive_number : (heap : Heap) (marks : ℕ → Mark) → Uncounted heap marks
+    → number_of (is_alive heap marks) (length heap) ≡ busy heap + marked marks (length heap)
 alive_number heap marks uncounted =
     omega (
       arith,
@@ -256,9 +289,11 @@ alive_number heap marks uncounted =
     test : (p : ℕ) → 1 ≤ count_at heap p → nat_le 1 (count_at heap p) ≡ true
     test p is = grind arith
 
-number_is : (cells : ℕ) (assigned : ℕ → ℕ) (heap : Heap) (marks : ℕ → Mark) → Uncounted heap marks → IsPlaced cells assigned heap marks
+number_is : (cells : ℕ) (assigned : ℕ → ℕ) (heap : Heap) (marks : ℕ → Mark) → Uncounted heap marks
+    → IsPlaced cells assigned heap marks
     → number_of (λ c. is_used (numbered assigned heap marks c)) cells ≡ busy heap + marked marks (length heap)
-number_is cells assigned heap marks uncounted placed = number_by cells assigned heap marks placed (length heap) ∙ alive_number heap marks uncounted
+number_is cells assigned heap marks uncounted placed =
+    number_by cells assigned heap marks placed (length heap) ∙ alive_number heap marks uncounted
 
 alive_below : (heap : Heap) (marks : ℕ → Mark) (p : ℕ) → is_alive heap marks p ≡ true → p < length heap
 alive_below heap marks p alive = by_kind (alive_is heap marks p alive)
@@ -267,24 +302,29 @@ alive_below heap marks p alive = by_kind (alive_is heap marks p alive)
     by_kind (by_references one) = let more = positive (count_at heap p) one in counted_within heap p more.0 more.1
     by_kind (by_token f y marked_is less) = less
 
-pub pool_is : (cells : ℕ) (assigned : ℕ → ℕ) (heap : Heap) (tokens : Tokens) → ArePooled cells heap tokens → IsPlaced cells assigned heap tokens.marks → IsPool cells assigned heap tokens.marks
+pub pool_is : (cells : ℕ) (assigned : ℕ → ℕ) (heap : Heap) (tokens : Tokens) → ArePooled cells heap tokens
+    → IsPlaced cells assigned heap tokens.marks → IsPool cells assigned heap tokens.marks
 pool_is cells assigned heap tokens pooled placed =
     record {
-      names = λ p alive. has_name cells assigned heap tokens.marks placed (length heap) p (alive_below heap tokens.marks p alive) alive;
+      names =
+          λ p alive. has_name cells assigned heap tokens.marks placed (length heap) p (alive_below heap tokens.marks p alive) alive;
       others = λ c used. let found = of_name cells assigned heap tokens.marks placed (length heap) c used in (found.0, found.1.1);
       number = number_is cells assigned heap tokens.marks pooled.uncounted placed;
     }
 
 -- ---- steps
 
-fewer_placed : (cells : ℕ) (assigned : ℕ → ℕ) (heap after : Heap) (marks others : ℕ → Mark) → ((p : ℕ) → is_alive after others p ≡ true → is_alive heap marks p ≡ true) → IsPlaced cells assigned heap marks → IsPlaced cells assigned after others
+fewer_placed : (cells : ℕ) (assigned : ℕ → ℕ) (heap after : Heap) (marks others : ℕ → Mark)
+    → ((p : ℕ) → is_alive after others p ≡ true → is_alive heap marks p ≡ true) → IsPlaced cells assigned heap marks
+    → IsPlaced cells assigned after others
 fewer_placed cells assigned heap after marks others fewer placed =
     record {
       within = λ p alive. placed.within p (fewer p alive);
       own = λ p q first second equal. placed.own p q (fewer p first) (fewer q second) equal;
     }
 
-grown_placed : (cells : ℕ) (assigned : ℕ → ℕ) (held : Held) (heap : Heap) (marks : ℕ → Mark) (c : ℕ) → c < cells → is_used (numbered assigned heap marks c) ≡ false → IsPlaced cells assigned heap marks
+grown_placed : (cells : ℕ) (assigned : ℕ → ℕ) (held : Held) (heap : Heap) (marks : ℕ → Mark) (c : ℕ) → c < cells
+    → is_used (numbered assigned heap marks c) ≡ false → IsPlaced cells assigned heap marks
     → IsPlaced cells (assigned_with (length heap) c assigned) (record held { count = 1 } ∷ heap) marks
 grown_placed cells assigned held heap marks c less unused placed =
     record {
@@ -292,8 +332,11 @@ grown_placed cells assigned held heap marks c less unused placed =
       own = λ p q first second equal. own p q first second equal (p == length heap) refl (q == length heap) refl;
     }
   where
-    older : (p : ℕ) → (p == length heap) ≡ false → is_alive (record held { count = 1 } ∷ heap) marks p ≡ true → is_alive heap marks p ≡ true
-    older p apart alive = sym (ap (λ b. is_used (by_held (if b then Some (record held { count = 1 }) else held_at heap p) (marks p))) (turned apart)) ∙ alive
+    older : (p : ℕ) → (p == length heap) ≡ false → is_alive (record held { count = 1 } ∷ heap) marks p ≡ true
+        → is_alive heap marks p ≡ true
+    older p apart alive =
+        sym (ap (λ b. is_used (by_held (if b then Some (record held { count = 1 }) else held_at heap p) (marks p))) (turned apart))
+        ∙ alive
       where
         turned : (p == length heap) ≡ false → (length heap == p) ≡ false
         turned apart = grind arith
@@ -307,14 +350,19 @@ grown_placed cells assigned held heap marks c less unused placed =
     -- no name in use has the free cell
     not_old : (p : ℕ) → is_alive heap marks p ≡ true → assigned p ≡ c → ⊥
     not_old p alive is =
-        let used : is_used (numbered assigned heap marks c) ≡ true = ap (λ d. is_used (numbered assigned heap marks d)) (sym is) ∙ (ap is_used (has_name cells assigned heap marks placed (length heap) p (alive_below heap marks p alive) alive) ∙ alive) in
+        let used : is_used (numbered assigned heap marks c) ≡ true = ap (λ d. is_used (numbered assigned heap marks d)) (sym is)
+        ∙ (ap is_used (has_name cells assigned heap marks placed (length heap) p (alive_below heap marks p alive) alive)
+        ∙ alive) in
         absurd (cc)
 
-    within : (p : ℕ) → is_alive (record held { count = 1 } ∷ heap) marks p ≡ true → (t : Bool) → (p == length heap) ≡ t → assigned_with (length heap) c assigned p < cells
+    within : (p : ℕ) → is_alive (record held { count = 1 } ∷ heap) marks p ≡ true → (t : Bool) → (p == length heap) ≡ t
+        → assigned_with (length heap) c assigned p < cells
     within p alive true test = omega (arith, given_new p test, less)
     within p alive false test = omega (arith, given_old p test, placed.within p (older p test alive))
 
-    own : (p q : ℕ) → is_alive (record held { count = 1 } ∷ heap) marks p ≡ true → is_alive (record held { count = 1 } ∷ heap) marks q ≡ true → assigned_with (length heap) c assigned p ≡ assigned_with (length heap) c assigned q
+    own : (p q : ℕ) → is_alive (record held { count = 1 } ∷ heap) marks p ≡ true
+        → is_alive (record held { count = 1 } ∷ heap) marks q ≡ true
+        → assigned_with (length heap) c assigned p ≡ assigned_with (length heap) c assigned q
         → (t : Bool) → (p == length heap) ≡ t → (u : Bool) → (q == length heap) ≡ u → p ≡ q
     own p q first second equal true one true two = same p (length heap) one ∙ sym (same q (length heap) two)
     own p q first second equal true one false two =
@@ -324,8 +372,9 @@ grown_placed cells assigned held heap marks c less unused placed =
     own p q first second equal false one false two =
         placed.own p q (older p one first) (older q two second) (sym (given_old p one) ∙ (equal ∙ given_old q two))
 
-pub growth_places : (cells : ℕ) (assigned : ℕ → ℕ) (from to : TokenConfiguration) → ArePooled cells to.heap to.tokens → IsPlaced cells assigned from.heap from.tokens.marks → Growth cells from to → Placing cells assigned from to
-growth_places cells assigned from to pooled placed (stays fewer) =
+pub growth_places : (cells : ℕ) (assigned : ℕ → ℕ) (from to : TokenConfiguration) → ArePooled cells to.heap to.tokens
+    → IsPlaced cells assigned from.heap from.tokens.marks → Growth cells from to → Placing cells assigned from to
+growth_places cells assigned from to pooled placed (stays cells_are fewer) =
     kept_same (fewer_placed cells assigned from.heap to.heap from.tokens.marks to.tokens.marks fewer placed)
 growth_places cells assigned from to pooled placed (grows held is fewer room) =
     new

@@ -1,19 +1,17 @@
 -- Runs of small programs with tokens, computed.
-use Rattle.std.proofs.Common.{◌≡◌, ℕ, pos, Bool, true, false, List, [], ◌∷◌, length, Some, None, refl}
+use Rattle.std.proofs.Common.{◌≡◌, ℕ, pos, true, List, [], ◌∷◌, length, Some, refl}
 use Rattle.std.specs.Int.{int_wrap}
 use Rattle.kk_base.specs.Machines.{trace, state, ending_after}
 use Rattle.kk_syntax.specs.declared.operator.BinaryOperator.TheVariants.{Add}
 use Rattle.kk_syntax.specs.declared.program.Form.TheVariants.{Number, Unit as Nothing, Binary, Construct, Call}
 use Rattle.kk_source.specs.State.{heap_full, ended}
 use Rattle.kk_source.specs.Notes.{Note, built, called}
-use Rattle.kk_core.specs.declared.decisions.Answer.TheVariants.{Constructor}
-use Rattle.kk_core.specs.Decisions.{NodeTree, chooses, tests}
 use Rattle.kk_counted.specs.Heaps.{busy}
 use Rattle.kk_counted.specs.TokenedCodes.{Tokened, TokenedArms, TokenedFunction}
 use Rattle.kk_counted.specs.TokenStates.{TokenSetting, TokenControl, TokenState, token_first_state}
 use Rattle.kk_counted.specs.TokenMachine.{token_machine}
 use Rattle.kk_counted.specs.Tokens.{null, marked}
-use Rattle.kk_counted.specs.TokenSpending.{SpendsTokens, AreTokensSpent}
+use Rattle.kk_counted.specs.TokenSpending.{SpendsTokens}
 use Rattle.kk_counted.proofs.Examples.{nil_or_cons}
 
 abbrev function : ℕ → Tokened → TokenedFunction
@@ -30,7 +28,8 @@ after steps setting = state (token_machine (λ s. 1) setting) steps (token_first
 abbrev tells : ℕ → TokenSetting → List Note
 tells steps setting = trace (token_machine (λ s. 1) setting) steps (token_first_state setting [])
 
--- fun inc(xs) { match xs { Nil -> Nil; Cons(x, xx) -> Cons(x + 1, inc(xx)) } }: the token of the cell is held over the call, and the
+-- fun inc(xs) { match xs { Nil -> Nil; Cons(x, xx) -> Cons(x + 1, inc(xx)) } }: the token of the cell is held over the call, and
+-- the
 -- new cell fills it
 abbrev inc : TokenedFunction
 inc =
@@ -45,14 +44,32 @@ inc =
     TokenedArms.no_arm)))
 
 inc_spends : SpendsTokens [] [] [] inc.body
-inc_spends =
-    (refl, ((refl, (λ y. refl)), ((refl, (refl, (refl, (refl, (refl, (refl, ((λ y is. is), ([], (refl, (refl, (refl, (refl, (tt, ((λ y. refl), (refl, (λ y. refl)))))))))))))))), tt)))
+inc_spends = (
+  refl,
+  (
+    (refl, (λ y. refl)),
+    (
+      (
+        refl,
+        (
+          refl,
+          (
+            refl,
+            (refl, (refl, (refl, ((λ y is. is), ([], (refl, (refl, (refl, (refl, (tt, ((λ y. refl), (refl, (λ y. refl))))))))))))),
+          ),
+        ),
+      ),
+      tt,
+    ),
+  ),
+)
 
 -- a list of two cells, which variable 4 names
 abbrev two_cells : Tokened → TokenedFunction
 two_cells rest =
     function 0
-    (Tokened.compute 0 (Construct 2) [] [] (Tokened.compute 1 (Number (pos 7)) [] [] (Tokened.compute 2 (Construct 3) (1 ∷ 0 ∷ []) []
+    (Tokened.compute 0 (Construct 2) [] [] (Tokened.compute 1 (Number (pos 7)) [] []
+    (Tokened.compute 2 (Construct 3) (1 ∷ 0 ∷ []) []
     (Tokened.compute 3 (Number (pos 8)) [] [] (Tokened.compute 4 (Construct 3) (3 ∷ 2 ∷ []) [] rest)))))
 
 abbrev unique : Tokened
@@ -60,7 +77,8 @@ unique = Tokened.compute 5 (Call 0) (4 ∷ []) [] (Tokened.drop 5 (Tokened.compu
 
 abbrev shared : Tokened
 shared =
-    Tokened.dup 4 (Tokened.compute 5 (Call 0) (4 ∷ []) [] (Tokened.drop 4 (Tokened.drop 5 (Tokened.compute 6 Nothing [] [] (Tokened.give 6)))))
+    Tokened.dup 4 (Tokened.compute 5 (Call 0) (4 ∷ []) []
+    (Tokened.drop 4 (Tokened.drop 5 (Tokened.compute 6 Nothing [] [] (Tokened.give 6)))))
 
 abbrev unique_run : ℕ → TokenSetting
 unique_run cells = program (inc ∷ two_cells unique ∷ []) cells
@@ -110,7 +128,8 @@ shared_in_three : tells 50 (shared_run 3) ≡ built 0 ∷ built 1 ∷ called 1 �
 unfolding int_wrap
 shared_in_three = refl
 
-shared_ends_in_three : ending_after (token_machine (λ s. 1) (shared_run 3)) 50 (token_first_state (shared_run 3) []) ≡ Some heap_full
+shared_ends_in_three : ending_after (token_machine (λ s. 1) (shared_run 3)) 50 (token_first_state (shared_run 3) []) ≡ Some
+    heap_full
 unfolding int_wrap
 shared_ends_in_three = refl
 
@@ -151,7 +170,8 @@ reopen_run cells =
 
 abbrev keeping_run : ℕ → TokenSetting
 keeping_run cells =
-    program (boxes (Tokened.give 1) ∷ holds (Tokened.drop 4 (Tokened.drop 3 (Tokened.compute 5 Nothing [] [] (Tokened.give 5)))) ∷ []) cells
+    program (boxes (Tokened.give 1) ∷ holds (Tokened.drop 4
+    (Tokened.drop 3 (Tokened.compute 5 Nothing [] [] (Tokened.give 5)))) ∷ []) cells
 
 reopen_in_one : tells 30 (reopen_run 1) ≡ built 0 ∷ called 1 ∷ built 0 ∷ built 0 ∷ []
 reopen_in_one = refl
@@ -217,12 +237,14 @@ adds_in_one = refl
 
 -- ---- a field that is kept
 
--- type two { P(a: int32, b: int32) } is constructor 5: P(1, 2) is opened, and its cell becomes P(9, 2) by a write of the first field
+-- type two { P(a: int32, b: int32) } is constructor 5: P(1, 2) is opened, and its cell becomes P(9, 2) by a write of the first
+-- field
 abbrev keeps : ℕ → List ℕ → TokenSetting
 keeps second kept =
     program
     (function 0 (Tokened.give 0) ∷ function 0
-    (Tokened.compute 0 (Number (pos 1)) [] [] (Tokened.compute 1 (Number (pos 2)) [] [] (Tokened.compute 2 (Construct 5) (0 ∷ 1 ∷ []) []
+    (Tokened.compute 0 (Number (pos 1)) [] [] (Tokened.compute 1 (Number (pos 2)) [] []
+    (Tokened.compute 2 (Construct 5) (0 ∷ 1 ∷ []) []
     (Tokened.if_unique 2 5 (3 ∷ 4 ∷ []) (3 ∷ 4 ∷ []) 0 (Tokened.compute 5 (Number (pos 9)) [] []
     (Tokened.fill 6 0 5 5 (second ∷ []) kept [] (Tokened.give 6))))))) ∷ [])
     1
@@ -257,5 +279,6 @@ held_twice : (after 6 (once_open (Tokened.hold 0 (Tokened.give 0)))).machine.con
 held_twice = refl
 
 -- a slot that another function's frame has is not seen: the slot of that number is spent in the frame that runs
-spent_in_another : (after 7 (program (function 1 (Tokened.free 0 (Tokened.give 0)) ∷ holds (Tokened.give 4) ∷ []) 2)).machine.control ≡ TokenControl.stuck
+spent_in_another : (after 7 (program (function 1 (Tokened.free 0 (Tokened.give 0)) ∷ holds (Tokened.give 4) ∷ [])
+    2)).machine.control ≡ TokenControl.stuck
 spent_in_another = refl

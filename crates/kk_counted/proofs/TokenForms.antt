@@ -1,17 +1,17 @@
 -- What the forms do to the tokens of the function that runs.
-use Rattle.std.proofs.Common.{◌≡◌, ◌⊎◌, inl, inr, ℕ, zero, suc, ◌+◌, ◌≤◌, ◌<◌, ◌==◌, ◌&&◌, ◌||◌, Bool, true, false, not, List, [], ◌∷◌, length, Option, Some, None, arith, refl, sym, ap, ◌∙◌, subst}
-use Rattle.std.specs.Prelude.{if◌then◌else◌, filter}
+use Rattle.std.proofs.Common.{◌≡◌, ℕ, zero, suc, ◌+◌, ◌≤◌, ◌<◌, ◌==◌, ◌&&◌, ◌||◌, Bool, true, false, not, List, [], ◌∷◌, length, arith, refl, sym, ap, ◌∙◌}
+use Rattle.std.specs.Prelude.{if◌then◌else◌}
 use Rattle.kk_syntax.specs.Shapes.{is_among, without}
 use Rattle.kk_counted.specs.Heaps.{Held, Heap, count_at, busy}
-use Rattle.kk_counted.specs.Tokens.{Slot, spent, null, token, is_unspent, is_token, Mark, plain, token_of, Link, Tokens, marked, slots_with, marks_with, blanked, released, gained, opened_tokens, by_token, freed, moved, held, unheld, tail_of}
+use Rattle.kk_counted.specs.Tokens.{Slot, spent, null, token, is_unspent, is_token, Mark, plain, token_of, Tokens, marked, slots_with, marks_with, blanked, released, gained, opened_tokens, held}
 use Rattle.kk_counted.specs.TokenStates.{TokenFrame}
-use Rattle.kk_counted.specs.TokenKeeping.{ArePooled, links_of, chain_of, AreTokens, AreUnspent, AreHeldFrames}
+use Rattle.kk_counted.specs.TokenKeeping.{ArePooled, AreTokens, AreUnspent, AreHeldFrames}
 use Rattle.kk_counted.proofs.Counting.{same, itself, counted_within}
 use Rattle.kk_counted.proofs.Heaps.{positive}
-use Rattle.kk_counted.proofs.Easing.{Eased, fewer_busy, freed_busy}
-use Rattle.kk_counted.proofs.Pooling.{Which, this, other, which, slot_here, slot_at, slot_there, mark_here, no_token, released_room, pooled_eased, pooled_blanked, pooled_released, pooled_gained, pooled_made, by_null, by_cell}
+use Rattle.kk_counted.proofs.Easing.{Eased, freed_busy}
+use Rattle.kk_counted.proofs.Pooling.{slot_at, slot_there, pooled_eased, pooled_blanked, pooled_released, pooled_gained, pooled_made}
 use Rattle.kk_counted.proofs.Chaining.{EqualBelow, equal_one, chain_same, frames_same, equal_unspent}
-use Rattle.kk_counted.proofs.Requesting.{IsServed, pooled_chain}
+use Rattle.kk_counted.proofs.Requesting.{IsServed}
 
 -- ---- members
 
@@ -41,16 +41,20 @@ pub among_without : (y z : ℕ) (xs : List ℕ) → is_among (without (y ∷ [])
 among_without y z [] = refl
 among_without y z (x ∷ xs) = by_drop (y == x) refl (among_without y z xs)
   where
-    dropped : (s : Bool) → (x == z) ≡ s → y ≡ x → is_among (without (y ∷ []) xs) z ≡ (is_among xs z && not (y == z)) → is_among (without (y ∷ []) xs) z ≡ ((s || is_among xs z) && not (y == z))
+    dropped : (s : Bool) → (x == z) ≡ s → y ≡ x → is_among (without (y ∷ []) xs) z ≡ (is_among xs z && not (y == z))
+        → is_among (without (y ∷ []) xs) z ≡ ((s || is_among xs z) && not (y == z))
     dropped true here equal rest =
         let test : (y == z) ≡ true = ap (λ w. w == z) equal ∙ here in rest ∙ rw test (and_false (is_among xs z))
     dropped false here equal rest = rest
 
-    passed : (s : Bool) → (x == z) ≡ s → (y == x) ≡ false → is_among (without (y ∷ []) xs) z ≡ (is_among xs z && not (y == z)) → (s || is_among (without (y ∷ []) xs) z) ≡ ((s || is_among xs z) && not (y == z))
+    passed : (s : Bool) → (x == z) ≡ s → (y == x) ≡ false → is_among (without (y ∷ []) xs) z ≡ (is_among xs z && not (y == z))
+        → (s || is_among (without (y ∷ []) xs) z) ≡ ((s || is_among xs z) && not (y == z))
     passed true here apart rest = sym (ap not (sym (ap (λ w. y == w) (same x z here)) ∙ apart))
     passed false here apart rest = rest
 
-    by_drop : (t : Bool) → (y == x) ≡ t → is_among (without (y ∷ []) xs) z ≡ (is_among xs z && not (y == z)) → is_among (if not (t || false) then x ∷ without (y ∷ []) xs else without (y ∷ []) xs) z ≡ (is_among (x ∷ xs) z && not (y == z))
+    by_drop : (t : Bool) → (y == x) ≡ t → is_among (without (y ∷ []) xs) z ≡ (is_among xs z && not (y == z))
+        → is_among (if not (t || false) then x ∷ without (y ∷ []) xs else without (y ∷ []) xs) z
+        ≡ (is_among (x ∷ xs) z && not (y == z))
     by_drop true drops rest = dropped (x == z) refl (same y x drops) rest
     by_drop false drops rest = passed (x == z) refl drops rest
 
@@ -64,13 +68,15 @@ and_if false b = and_true b
 
 -- ---- the tokens of the function that runs, where none is held
 
-pub record AreNow (cells : ℕ) (unspent : List ℕ) (older : List (List ℕ)) (frames : List TokenFrame) (heap : Heap) (tokens : Tokens) : Type 0 where
+pub record AreNow (cells : ℕ) (unspent : List ℕ) (older : List (List ℕ)) (frames : List TokenFrame) (heap : Heap)
+    (tokens : Tokens) : Type 0 where
   pub slots_are : AreUnspent (tokens.slots (length older)) unspent
   pub waiting : AreHeldFrames tokens.slots older frames
   pub are : AreTokens cells heap tokens ([] ∷ older)
 
 -- one slot of that function changes
-one_changes : (cells : ℕ) (unspent after : List ℕ) (older : List (List ℕ)) (frames : List TokenFrame) (heap : Heap) (tokens : Tokens) (y : ℕ) (slot : Slot) (marks : ℕ → Mark)
+one_changes : (cells : ℕ) (unspent after : List ℕ) (older : List (List ℕ)) (frames : List TokenFrame) (heap : Heap)
+    (tokens : Tokens) (y : ℕ) (slot : Slot) (marks : ℕ → Mark)
     → ((z : ℕ) → is_among after z ≡ (if y == z then is_unspent slot else is_among unspent z))
     → ArePooled cells heap (record tokens { slots = slots_with (length older) y slot tokens.slots; marks = marks })
     → AreNow cells unspent older frames heap tokens
@@ -98,12 +104,14 @@ one_changes cells unspent after older frames heap tokens y slot marks members po
         first : (f : ℕ) → suc (length older) ≤ f → (f == length older) ≡ false
         first f far = grind arith
 
-    unspent_is : (z : ℕ) → (t : Bool) → (y == z) ≡ t → is_unspent (slots_with (length older) y slot tokens.slots (length older) z) ≡ is_among after z
+    unspent_is : (z : ℕ) → (t : Bool) → (y == z) ≡ t
+        → is_unspent (slots_with (length older) y slot tokens.slots (length older) z) ≡ is_among after z
     unspent_is z true test =
         ap is_unspent (slot_at (length older) y (length older) z slot tokens.slots refl (same y z test))
         ∙ sym (members z ∙ ap (λ b. if b then is_unspent slot else is_among unspent z) test)
     unspent_is z false test =
-        ap is_unspent (slot_there (length older) y (length older) z slot tokens.slots (rw (itself (length older)) (same_turned z y ∙ test)))
+        ap is_unspent (slot_there (length older) y (length older) z slot tokens.slots
+        (rw (itself (length older)) (same_turned z y ∙ test)))
         ∙ (now.slots_are z ∙ sym (members z ∙ ap (λ b. if b then is_unspent slot else is_among unspent z) test))
 
 -- the slot of an unspent token is null or has a cell
@@ -122,36 +130,45 @@ not_unspent spent is = refl
 not_unspent null is = absurd (cc)
 not_unspent (token p) is = absurd (cc)
 
-module _ (cells : ℕ) (unspent : List ℕ) (older : List (List ℕ)) (frames : List TokenFrame) (heap : Heap) (tokens : Tokens) (now : AreNow cells unspent older frames heap tokens) (y : ℕ) where
+module _ (cells : ℕ) (unspent : List ℕ) (older : List (List ℕ)) (frames : List TokenFrame) (heap : Heap) (tokens : Tokens)
+    (now : AreNow cells unspent older frames heap tokens) (y : ℕ) where
   -- the slot of a token that is spent
   free_slot : is_among unspent y ≡ false → tokens.slots (length older) y ≡ spent
   free_slot fresh = not_unspent (tokens.slots (length older) y) (now.slots_are y ∙ fresh)
 
   pub nulled_now : is_among unspent y ≡ false → AreNow cells (y ∷ unspent) older frames heap (blanked (length older) y null tokens)
   nulled_now fresh =
-      one_changes cells unspent (y ∷ unspent) older frames heap tokens y null tokens.marks (λ z. or_if (y == z) (is_among unspent z))
+      one_changes cells unspent (y ∷ unspent) older frames heap tokens y null tokens.marks
+      (λ z. or_if (y == z) (is_among unspent z))
       (pooled_blanked cells (length older) y null heap tokens (ap is_token (free_slot fresh)) refl now.are.pooled) now
 
-  pub spent_null_now : tokens.slots (length older) y ≡ null → AreNow cells (without (y ∷ []) unspent) older frames heap (blanked (length older) y spent tokens)
+  pub spent_null_now : tokens.slots (length older) y ≡ null
+      → AreNow cells (without (y ∷ []) unspent) older frames heap (blanked (length older) y spent tokens)
   spent_null_now is =
       one_changes cells unspent (without (y ∷ []) unspent) older frames heap tokens y spent tokens.marks
       (λ z. among_without y z unspent ∙ and_if (y == z) (is_among unspent z))
       (pooled_blanked cells (length older) y spent heap tokens (ap is_token is) refl now.are.pooled) now
 
-  pub spent_now : (p : ℕ) → tokens.slots (length older) y ≡ token p → AreNow cells (without (y ∷ []) unspent) older frames heap (released (length older) y p spent tokens)
+  pub spent_now : (p : ℕ) → tokens.slots (length older) y ≡ token p
+      → AreNow cells (without (y ∷ []) unspent) older frames heap (released (length older) y p spent tokens)
   spent_now p is =
       one_changes cells unspent (without (y ∷ []) unspent) older frames heap tokens y spent (marks_with p plain tokens.marks)
       (λ z. among_without y z unspent ∙ and_if (y == z) (is_among unspent z))
       (pooled_released cells (length older) y p spent heap tokens is refl now.are.pooled) now
 
   pub gained_now : (p : ℕ) → is_among unspent y ≡ false → tokens.marks p ≡ plain → count_at heap p ≡ 0 → p < length heap
-      → suc (busy heap + marked tokens.marks (length heap)) ≤ cells → AreNow cells (y ∷ unspent) older frames heap (gained (length older) y p tokens)
+      → suc (busy heap + marked tokens.marks (length heap)) ≤ cells
+      → AreNow cells (y ∷ unspent) older frames heap (gained (length older) y p tokens)
   gained_now p fresh unmarked uncounted there room =
-      one_changes cells unspent (y ∷ unspent) older frames heap tokens y (token p) (marks_with p (token_of (length older) y) tokens.marks)
+      one_changes cells unspent (y ∷ unspent) older frames heap tokens y (token p)
+      (marks_with p (token_of (length older) y) tokens.marks)
       (λ z. or_if (y == z) (is_among unspent z))
-      (pooled_gained cells (length older) y p heap tokens (ap is_token (free_slot fresh)) unmarked uncounted there room now.are.pooled) now
+      (pooled_gained cells (length older) y p heap tokens (ap is_token (free_slot fresh)) unmarked uncounted there room
+      now.are.pooled) now
 
-pub eased_now : (cells : ℕ) (unspent : List ℕ) (older : List (List ℕ)) (frames : List TokenFrame) (before after : Heap) (tokens : Tokens) → Eased before after → AreNow cells unspent older frames before tokens → AreNow cells unspent older frames after tokens
+pub eased_now : (cells : ℕ) (unspent : List ℕ) (older : List (List ℕ)) (frames : List TokenFrame) (before after : Heap)
+    (tokens : Tokens) → Eased before after → AreNow cells unspent older frames before tokens
+    → AreNow cells unspent older frames after tokens
 eased_now cells unspent older frames before after tokens eased now =
     record {
       slots_are = now.slots_are;
@@ -164,11 +181,14 @@ eased_now cells unspent older frames before after tokens eased now =
     }
 
 -- an opening: the slot takes the cell where it is counted no more
-pub opened_now : (cells : ℕ) (unspent : List ℕ) (older : List (List ℕ)) (frames : List TokenFrame) (before after : Heap) (tokens : Tokens) (y p count : ℕ)
+pub opened_now : (cells : ℕ) (unspent : List ℕ) (older : List (List ℕ)) (frames : List TokenFrame) (before after : Heap)
+    (tokens : Tokens) (y p count : ℕ)
     → Eased before after → is_among unspent y ≡ false → 1 ≤ count_at before p → count_at after p ≡ count
-    → AreNow cells unspent older frames before tokens → AreNow cells (y ∷ unspent) older frames after (opened_tokens count (length older) y p tokens)
+    → AreNow cells unspent older frames before tokens
+    → AreNow cells (y ∷ unspent) older frames after (opened_tokens count (length older) y p tokens)
 opened_now cells unspent older frames before after tokens y p zero eased fresh counted is now =
-    gained_now cells unspent older frames after tokens (eased_now cells unspent older frames before after tokens eased now) y p fresh
+    gained_now cells unspent older frames after tokens (eased_now cells unspent older frames before after tokens eased now) y p
+    fresh
     (unmarked (tokens.marks p) refl) is there
     (rw eased.many (omega (arith, freed_busy before after p eased counted is, now.are.pooled.room)))
   where
@@ -184,7 +204,8 @@ opened_now cells unspent older frames before after tokens y p (suc count) eased 
     nulled_now cells unspent older frames after tokens (eased_now cells unspent older frames before after tokens eased now) y fresh
 
 -- a new cell
-pub made_now : (cells : ℕ) (unspent : List ℕ) (older : List (List ℕ)) (frames : List TokenFrame) (held : Held) (heap : Heap) (tokens : Tokens) → suc (busy heap + marked tokens.marks (length heap)) ≤ cells
+pub made_now : (cells : ℕ) (unspent : List ℕ) (older : List (List ℕ)) (frames : List TokenFrame) (held : Held) (heap : Heap)
+    (tokens : Tokens) → suc (busy heap + marked tokens.marks (length heap)) ≤ cells
     → AreNow cells unspent older frames heap tokens → AreNow cells unspent older frames (record held { count = 1 } ∷ heap) tokens
 made_now cells unspent older frames held heap tokens room now =
     record {
@@ -198,7 +219,8 @@ made_now cells unspent older frames held heap tokens room now =
     }
 
 -- a request that has been served
-pub served_now : (cells : ℕ) (unspent : List ℕ) (older : List (List ℕ)) (frames : List TokenFrame) (heap : Heap) (before after : Tokens) → IsServed cells heap before after ([] ∷ older)
+pub served_now : (cells : ℕ) (unspent : List ℕ) (older : List (List ℕ)) (frames : List TokenFrame) (heap : Heap)
+    (before after : Tokens) → IsServed cells heap before after ([] ∷ older)
     → AreNow cells unspent older frames heap before → AreNow cells unspent older frames heap after
 served_now cells unspent older frames heap before after served now =
     record {

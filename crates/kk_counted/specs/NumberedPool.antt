@@ -4,6 +4,7 @@ use Rattle.std.specs.Prelude.{◌≡◌, ℕ, zero, suc, ◌+◌, ◌≤◌, ◌
 use Rattle.kk_source.specs.State.{Value, Cell}
 use Rattle.kk_source.specs.Live.{counted as number_of}
 use Rattle.kk_counted.specs.Heaps.{Held, Heap, held_at, busy}
+use Rattle.kk_counted.specs.References.{cells_of}
 use Rattle.kk_counted.specs.Tokens.{Mark, plain, token_of, marked}
 use Rattle.kk_counted.specs.TokenStates.{TokenConfiguration}
 
@@ -52,17 +53,20 @@ numbered assigned heap marks c = numbered_by assigned heap marks (length heap) c
 -- free are as many as are counted or are tokens.
 pub record IsPool (cells : ℕ) (assigned : ℕ → ℕ) (heap : Heap) (marks : ℕ → Mark) : Type 0 where
   pub names : (p : ℕ) → is_alive heap marks p ≡ true → numbered assigned heap marks (assigned p) ≡ named heap marks p
-  pub others : (c : ℕ) → is_used (numbered assigned heap marks c) ≡ true → (p : ℕ) × ((is_alive heap marks p ≡ true) × (assigned p ≡ c))
+  pub others : (c : ℕ) → is_used (numbered assigned heap marks c) ≡ true
+      → (p : ℕ) × ((is_alive heap marks p ≡ true) × (assigned p ≡ c))
   pub number : number_of (λ c. is_used (numbered assigned heap marks c)) cells ≡ busy heap + marked marks (length heap)
 
 -- the assignment of a new name to a cell
 abbrev pub assigned_with : ℕ → ℕ → (ℕ → ℕ) → ℕ → ℕ
 assigned_with n c assigned p = if p == n then c else assigned p
 
--- What a step does to the names. stays: none is new, and those in use were so before. grows: the next name is that of a new cell;
--- of the others those in use were so before, and without it a cell of the pool is free.
+-- What a step does to the names. stays: none is new, all cells have the constructors and the fields that they had, and the names in
+-- use were so before. grows: the next name is that of a new cell; of the others those in use were so before, and without it a cell of
+-- the pool is free.
 pub data Growth (cells : ℕ) (from to : TokenConfiguration) : Type 0 where
-  stays : ((p : ℕ) → is_alive to.heap to.tokens.marks p ≡ true → is_alive from.heap from.tokens.marks p ≡ true) → Growth cells from to
+  stays : cells_of to.heap ≡ cells_of from.heap → ((p : ℕ) → is_alive to.heap to.tokens.marks p ≡ true → is_alive from.heap from.tokens.marks p ≡ true)
+      → Growth cells from to
   grows : (held : Held) → to.heap ≡ record held { count = 1 } ∷ from.heap
       → ((p : ℕ) → is_alive from.heap to.tokens.marks p ≡ true → is_alive from.heap from.tokens.marks p ≡ true)
       → suc (busy from.heap + marked to.tokens.marks (length from.heap)) ≤ cells → Growth cells from to

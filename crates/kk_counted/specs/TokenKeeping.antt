@@ -9,7 +9,7 @@ use Rattle.kk_source.specs.Live.{value_of}
 use Rattle.kk_counted.specs.Heaps.{Heap, count_at, fields_held, busy}
 use Rattle.kk_counted.specs.Spending.{AreApart}
 use Rattle.kk_counted.specs.TokenedCodes.{Tokened}
-use Rattle.kk_counted.specs.Tokens.{Slot, spent, token, is_unspent, is_token, plain, token_of, Link, Tokens, marked}
+use Rattle.kk_counted.specs.Tokens.{Slot, spent, token, is_unspent, is_token, token_of, Link, Tokens, marked}
 use Rattle.kk_counted.specs.TokenStates.{TokenSetting, TokenJoin, TokenFrame, TokenControl, TokenConfiguration, TokenState, token_first_state}
 use Rattle.kk_counted.specs.TokenMachine.{filled, token_machine}
 use Rattle.kk_counted.specs.TokenSpending.{SpendsTokens}
@@ -67,7 +67,8 @@ AreHeldFrames slots _ _ = ⊥
 
 -- A function that runs, at a code inside of blocks, by its lists: the slots that the block leaves, those that are unspent, those
 -- that are held, and those that older frames hold.
-pub record IsJudged (cells : ℕ) (left unspent held : List ℕ) (older : List (List ℕ)) (code : Tokened) (joins : List TokenJoin) (frames : List TokenFrame) (heap : Heap) (tokens : Tokens) : Type 0 where
+pub record IsJudged (cells : ℕ) (left unspent held : List ℕ) (older : List (List ℕ)) (code : Tokened) (joins : List TokenJoin)
+    (frames : List TokenFrame) (heap : Heap) (tokens : Tokens) : Type 0 where
   pub spends : SpendsTokens left unspent held code
   pub waits : WaitTokens left joins
   pub slots_are : AreUnspent (tokens.slots (length older)) unspent

@@ -100,7 +100,8 @@ to_made (Some tokens) c fields to from =
       tokens = tokens;
     }
 
-abbrev pub make_step : Option Tokens → ℕ → List Value → (Value → TokenConfiguration) → TokenConfiguration → Action TokenConfiguration
+abbrev pub make_step : Option Tokens → ℕ → List Value → (Value → TokenConfiguration) → TokenConfiguration
+    → Action TokenConfiguration
 make_step tokens c fields to from = builds (busy from.heap) (to_made tokens c fields to from)
 
 -- the fields of a new cell in a token's cell: those at the kept positions, counted from a first one on, are as the token has them
@@ -112,17 +113,21 @@ abbrev pub filled : Bool → List ℕ → List Value → List Value → List Val
 filled leaves kept olds news = if leaves then left_in 0 kept olds news else news
 
 module _ (setting : TokenSetting) where
-  abbrev pub token_construct_step : ℕ → List Value → List ℕ → (Value → TokenConfiguration) → TokenConfiguration → Action TokenConfiguration
+  abbrev pub token_construct_step : ℕ → List Value → List ℕ → (Value → TokenConfiguration) → TokenConfiguration
+      → Action TokenConfiguration
   token_construct_step c fields others to from =
       make_step (request setting.cells others (frame_of from) from.heap from.tokens) c fields to from
 
   -- The slot is spent. Its token's cell is the new cell; where it is null, a cell is asked for.
-  abbrev pub fill_step : ℕ → ℕ → List Value → List ℕ → List ℕ → (Value → TokenConfiguration) → TokenConfiguration → Action TokenConfiguration
+  abbrev pub fill_step : ℕ → ℕ → List Value → List ℕ → List ℕ → (Value → TokenConfiguration) → TokenConfiguration
+      → Action TokenConfiguration
   fill_step y c fields kept others to from =
       by_token (goes (token_at_stuck from))
-      (make_step (request setting.cells others (frame_of from) from.heap (blanked (frame_of from) y spent from.tokens)) c fields to from)
+      (make_step (request setting.cells others (frame_of from) from.heap (blanked (frame_of from) y spent from.tokens)) c fields to
+      from)
       (λ p.
-      make_step (Some (released (frame_of from) y p spent from.tokens)) c (filled setting.leaves kept (fields_held from.heap p) fields)
+      make_step (Some (released (frame_of from) y p spent from.tokens)) c
+      (filled setting.leaves kept (fields_held from.heap p) fields)
       to from)
       (frame_of from) y from.tokens
 

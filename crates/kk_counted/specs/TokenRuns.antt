@@ -48,17 +48,19 @@ AllLead P (builds found to) = P to
 AllLead P (calls found to) = P to
 
 -- an action does what one of the counted machine does, and leads to tokens that are kept by lists of which something is true
-pub record IsFollowed (cells : ℕ) (P : Lists → Type 0) (action : Action TokenConfiguration) (below : Action CountedConfiguration) : Type 0 where
+pub record IsFollowed (cells : ℕ) (P : Lists → Type 0) (action : Action TokenConfiguration)
+    (below : Action CountedConfiguration) : Type 0 where
   pub does : bare_action action ≡ below
   pub keeps : AllLead (AreKeptBy cells P) action
 
 -- An action that the counted machine does not have: it leads to a configuration that is the same without its tokens, which are
 -- kept.
-pub record IsUnseen (cells : ℕ) (P : Lists → Type 0) (action : Action TokenConfiguration) (same : CountedConfiguration) : Type 0 where
-  pub to : TokenConfiguration
-  pub is : action ≡ goes to
-  pub alike : bare_configuration to ≡ same
-  pub keeps : AreKeptBy cells P to
+pub record IsUnseen (cells : ℕ) (P : Lists → Type 0) (action : Action TokenConfiguration) (same : CountedConfiguration) : Type 0
+  where
+    pub to : TokenConfiguration
+    pub is : action ≡ goes to
+    pub alike : bare_configuration to ≡ same
+    pub keeps : AreKeptBy cells P to
 
 -- ---- whole runs
 

@@ -29,7 +29,8 @@ mutual
     if_unique : (variable : ℕ) → (constructor : ℕ) → (fields : List ℕ) → (used : List ℕ) → (slot : ℕ) → (rest : Tokened) → Tokened
     dup : (variable : ℕ) → (rest : Tokened) → Tokened
     drop : (variable : ℕ) → (rest : Tokened) → Tokened
-    fill : (variable : ℕ) → (slot : ℕ) → (constructor : ℕ) → (first : ℕ) → (arguments : List ℕ) → (kept : List ℕ) → (others : List ℕ) → (rest : Tokened) → Tokened
+    fill : (variable : ℕ) → (slot : ℕ) → (constructor : ℕ) → (first : ℕ) → (arguments : List ℕ) → (kept : List ℕ)
+        → (others : List ℕ) → (rest : Tokened) → Tokened
     free : (slot : ℕ) → (rest : Tokened) → Tokened
     null : (slot : ℕ) → (rest : Tokened) → Tokened
     move : (to : ℕ) → (from : ℕ) → (rest : Tokened) → Tokened
