@@ -21,7 +21,7 @@ pub record Agrees (file : List ℕ) (setting : Setting) : Type 0 where
 -- within how many instructions the image does what the program does in n steps: so many for each step, and those before and behind the code of
 -- `main`
 abbrev pub instructions_within : ℕ → ℕ
-instructions_within n = 3080 * n + 17
+instructions_within n = 2120 * n + 17
 
 -- the image in a file keeps that bound on every input of bytes
 abbrev pub IsBounded : List ℕ → Setting → Type 0

@@ -3,14 +3,16 @@ use Rattle.std.proofs.Common.{◌≡◌, ◌<◌, ℕ, ◌+◌, ◌-◌, ◌*◌
 use Rattle.std.specs.List.{slice_get}
 use Rattle.kk_base.specs.Simulations.{Simulates}
 use Rattle.kk_base.specs.Agreements.{Agree}
-use Rattle.kk_base.proofs.Simulations.{simulates_agree}
+use Rattle.kk_base.specs.Machines.{state}
+use Rattle.kk_base.proofs.Simulations.{simulates_agree, simulates_many}
 use Rattle.elf_image.specs.Program.{text_start, memory_start}
 use Rattle.rv_isa.specs.declared.placed.Placed.{Placed}
 use Rattle.rv_isa.specs.declared.placed.DataSection.{DataSection}
 use Rattle.rv_isa.specs.PlacedCode.{PlacedLines, placed_functions}
 use Rattle.rv_isa.specs.PlacedMachine.{placed_machine, placed_start}
-use Rattle.rv_isa.specs.Processor.{Processor, goes}
-use Rattle.rv_isa.specs.Execution.{rv32im}
+use Rattle.rv_isa.specs.Primitives.{ended}
+use Rattle.rv_isa.specs.Processor.{Processor, Ending, Progress, goes}
+use Rattle.rv_isa.specs.Execution.{rv32im, run}
 use Rattle.rv_isa.specs.ProcessorMachine.{processor_machine}
 use Rattle.rv_isa.proofs.Runs.{Leads-then}
 use Rattle.rv_isa.proofs.Standing.{Stands-leads}
@@ -19,16 +21,18 @@ use Rattle.cell_runtime.specs.Lines.{words_of}
 use Rattle.cell_runtime.specs.Layouts.{layout_of}
 use Rattle.cell_runtime.specs.Starts.{AfterStart, IsStart}
 use Rattle.cell_runtime.specs.Texts.{pool_of}
-use Rattle.cell_heap.specs.Blocks.{unused_cells}
+use Rattle.cell_heap.specs.Blocks.{unused_cells, view_of}
+use Rattle.cell_heap.proofs.FreeCells.{free_list-lists}
+use Rattle.rv_isa.proofs.ProcessorMachines.{state-run}
 use Rattle.cell_heap.specs.Known.{HoldsCells}
 use Rattle.cell_runtime.proofs.Blocks.{start_holds}
-use Rattle.rv_world.specs.World.{first_world, primitives}
+use Rattle.rv_world.specs.World.{World, first_world, primitives}
 use Rattle.rv_place.specs.declared.words.Words.{Words}
 use Rattle.rv_place.specs.Addresses.{frame_size, entries_from}
 use Rattle.rv_place.specs.declared.reach.Reach.{Reach}
 use Rattle.rv_place.specs.Lines.{FunctionAt}
 use Rattle.rv_place.specs.Texts.{text_bytes, memory_of, pool_in, constants_of, map_of, jumps_of}
-use Rattle.rv_place.specs.Images.{first_processor, parts_of, code_in, main_entry, outside_lines, IsPlacedImage}
+use Rattle.rv_place.specs.Images.{first_processor, parts_of, code_in, main_entry, outside_lines, IsPlacedImage, EndsWithCells}
 use Rattle.rv_place.specs.Grounds.{stack_end, constant_bytes, Ground, Rests}
 use Rattle.rv_place.specs.Running.{NeverStuck, Related, Any}
 use Rattle.rv_place.proofs.RunningLines.{function_found}
@@ -122,3 +126,22 @@ module _ {cells depth : ℕ} {runtime program : Placed} {words : Words} {text : 
       pub image-agrees : Agree (placed_machine (primitives (constants_of runtime program) (pool_in cells runtime program)) depth (placed_functions program)) (processor_machine rv32im) outside_lines (λ m. m * pace + length main.code + 1) (placed_start main (first_world (pool_in cells runtime program) input)) (goes (first_processor text runtime.memory.size input))
       image-agrees =
           agree_after_instructions _ 3 13 (λ m. m * pace + length main.code + 1) (placed_start main (first_world (pool_in cells runtime program) input)) (first_processor text runtime.memory.size input) image-begins.after image-begins.leads image-begins.told begins-agree
+
+      -- where the machine ends, so does the image, and its memory has the cells of the world
+      pub image-ends : (steps : ℕ) (how : Ending) (world : World)
+          → state (placed_machine (primitives (constants_of runtime program) (pool_in cells runtime program)) depth (placed_functions program)) steps (placed_start main (first_world (pool_in cells runtime program) input)) ≡ ended how world
+          → (count : ℕ) × EndsWithCells cells how world (run count (first_processor text runtime.memory.size input))
+      image-ends steps how world is =
+          let reaches = simulates_many _ _ _ _ pace simulates steps 3 (length main.code) (placed_start main (first_world (pool_in cells runtime program) input)) (goes image-begins.after)
+          (never, (image-begins.after, refl, omega arith, omega arith, image-begins.running)) in
+          let last : Progress = state (processor_machine rv32im) reaches.steps (goes image-begins.after) in
+          let related : Related (map_of runtime program) (pool_in cells runtime program) (placed_functions program) depth stop_address (code_in words) (parts_of text runtime) reaches.credit_after reaches.idle_after (ended how world) last
+          = subst (λ turn. Related (map_of runtime program) (pool_in cells runtime program) (placed_functions program) depth stop_address (code_in words) (parts_of text runtime) reaches.credit_after reaches.idle_after turn last) is reaches.related in
+          let there : run (13 + reaches.steps) (first_processor text runtime.memory.size input) ≡ last = image-begins.leads.by reaches.steps ∙ sym (state-run rv32im reaches.steps image-begins.after) in (
+            13 + reaches.steps,
+            subst (EndsWithCells cells how world) (sym there) (record {
+              ending = related.1.0;
+              trace = related.1.1;
+              free = free_list-lists (pool_in cells runtime program) (view_of world.cells related.1.2.0) last.processor related.1.2.1.memory;
+            }),
+          )

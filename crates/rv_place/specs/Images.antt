@@ -6,10 +6,15 @@ use Rattle.elf_image.specs.Parts as image
 use Rattle.elf_image.specs.Program.{text_start, program_parts}
 use Rattle.rv_isa.specs.declared.placed.Placed.{Placed}
 use Rattle.rv_isa.specs.PlacedCode.{PlacedLines, placed_functions}
-use Rattle.rv_isa.specs.Processor.{Processor, start, bare}
+use Rattle.rv_isa.specs.Processor.{Processor, Ending, Progress, start, bare}
+use Rattle.rv_isa.specs.ProcessorMachine.{ended}
+use Rattle.rv_isa.specs.FreeCells.{free_list}
 use Rattle.rv_isa.specs.Standing.{Code, code_of}
 use Rattle.cell_runtime.specs.declared.start.TheConstants.{TEXT_WORDS}
+use Rattle.cell_heap.specs.Blocks.{seen_cells}
+use Rattle.cell_heap.specs.FreeCells.{ListsFree}
 use Rattle.cell_runtime.specs.Texts.{IsText}
+use Rattle.rv_world.specs.World.{World}
 use Rattle.rv_place.specs.declared.words.Words.{Words}
 use Rattle.rv_place.specs.Addresses.{frame_size}
 use Rattle.rv_place.specs.Texts.{ArePlaceable, ArePlacedWords}
@@ -34,6 +39,12 @@ code_in words = code_of text_start words.instructions.items
 -- the entry of the first function, which stands behind the runtime
 abbrev pub main_entry : ℕ
 main_entry = text_start + 4 * TEXT_WORDS
+
+-- a run has ended as the machine of the placed form, and the free cells of the image are those of the world, each once
+pub record EndsWithCells (cells : ℕ) (how : Ending) (world : World) (last : Progress) : Type 0 where
+  pub ending : ended last.ending ≡ Some how
+  pub trace : last.processor.trace ≡ world.trace
+  pub free : ListsFree (seen_cells world.cells) (free_list cells last.processor)
 
 -- what a run does beside the lines of the program: 9 instructions of the start, 4 of main's entry, and 3 of the exit
 abbrev pub outside_lines : ℕ

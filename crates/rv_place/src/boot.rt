@@ -1,16 +1,18 @@
 // What the image of a placed text does from its first instruction on.
 
-ghost use Rattle.std.specs.Prelude.{ℕ, ◌<◌, List, All};
+ghost use Rattle.std.specs.Prelude.{◌≡◌, ℕ, ◌<◌, List, All};
+ghost use Rattle.kk_base.specs.Machines.{state};
 ghost use Rattle.kk_base.specs.Agreements.{Agree};
 ghost use Rattle.rv_isa.specs.declared.placed.Placed.{Placed};
-ghost use Rattle.rv_isa.specs.Execution.{rv32im};
+ghost use Rattle.rv_isa.specs.Execution.{rv32im, run};
+ghost use Rattle.rv_isa.specs.Primitives.{ended};
 ghost use Rattle.rv_isa.specs.PlacedCode.{PlacedLines, placed_functions};
 ghost use Rattle.rv_isa.specs.PlacedMachine.{placed_machine, placed_start};
-ghost use Rattle.rv_isa.specs.Processor.{goes};
+ghost use Rattle.rv_isa.specs.Processor.{Ending, goes};
 ghost use Rattle.rv_isa.specs.ProcessorMachine.{processor_machine};
-ghost use Rattle.rv_world.specs.World.{first_world, primitives};
+ghost use Rattle.rv_world.specs.World.{World, first_world, primitives};
 ghost use Rattle.rv_place.specs.declared.words.Words.{Words};
-ghost use Rattle.rv_place.specs.Images.{first_processor, outside_lines, IsPlacedImage};
+ghost use Rattle.rv_place.specs.Images.{first_processor, outside_lines, IsPlacedImage, EndsWithCells};
 ghost use Rattle.rv_place.specs.Running.{NeverStuck};
 ghost use Rattle.rv_place.specs.Texts.{pool_in, constants_of, map_of};
 
@@ -23,4 +25,15 @@ pub fn placed_text_agrees()
         → IsPlacedImage cells depth runtime program words text main → All (λ byte. byte < 256) input
         → NeverStuck (map_of runtime program) (pool_in cells runtime program) (placed_functions program) depth (placed_start main (first_world (pool_in cells runtime program) input))
         → (up : ℕ → ℕ) × Agree (placed_machine (primitives (constants_of runtime program) (pool_in cells runtime program)) depth (placed_functions program)) (processor_machine rv32im) outside_lines up (placed_start main (first_world (pool_in cells runtime program) input)) (goes (first_processor text runtime.memory.size input)) }
+{}
+
+/// Where the machine of the placed form comes to an end, the image exits alike, with the same trace, and its free cells are
+/// exactly those of the machine's world, each once. It is a law, and does nothing.
+pub fn placed_text_ends_with_its_cells()
+    ensures { (cells depth : ℕ) (runtime program : Placed) (words : Words) (text input : List ℕ) (main : PlacedLines)
+        → IsPlacedImage cells depth runtime program words text main → All (λ byte. byte < 256) input
+        → NeverStuck (map_of runtime program) (pool_in cells runtime program) (placed_functions program) depth (placed_start main (first_world (pool_in cells runtime program) input))
+        → (steps : ℕ) (how : Ending) (world : World)
+        → state (placed_machine (primitives (constants_of runtime program) (pool_in cells runtime program)) depth (placed_functions program)) steps (placed_start main (first_world (pool_in cells runtime program) input)) ≡ ended how world
+        → (count : ℕ) × EndsWithCells cells how world (run count (first_processor text runtime.memory.size input)) }
 {}

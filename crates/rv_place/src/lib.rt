@@ -16,7 +16,7 @@ mod symbols;
 mod text;
 mod words;
 
-pub use boot::placed_text_agrees;
+pub use boot::{placed_text_agrees, placed_text_ends_with_its_cells};
 pub use law::placed_code_keeps_meaning;
 pub use sizes::frame_bytes;
 pub use text::place;
