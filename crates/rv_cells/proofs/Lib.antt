@@ -15,3 +15,4 @@ pub mod Rows
 pub mod Openings
 pub mod Constructing
 pub mod Uniques
+pub mod Walking
