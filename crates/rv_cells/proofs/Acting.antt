@@ -1,7 +1,8 @@
 -- What one line does that touches cells.
 use Rattle.std.proofs.Common.{◌≡◌, ◌≢◌, ◌≤◌, ℕ, ◌+◌, ◌*◌, List, [], ◌∷◌, map, Some, None, option_map, true, false, not, nat_eq, cond, refl, sym, ◌∙◌, ap, subst, arith, ne_eqb}
 use Rattle.rv_isa.specs.declared.asm.Action.TheVariants.{Compute, Label, Jump, Branch, Routine as Calls}
-use Rattle.rv_isa.specs.declared.asm.Condition.TheVariants.{NotEqual}
+use Rattle.rv_isa.specs.declared.asm.Condition.{Condition}
+use Rattle.rv_world.specs.Operations.{compares}
 use Rattle.rv_isa.specs.declared.asm.ImmediateOperation.TheVariants.{Addi}
 use Rattle.rv_isa.specs.Arithmetic.{sum_word}
 use Rattle.rv_isa.specs.declared.asm.Operation.{Operation}
@@ -166,24 +167,26 @@ module _ (target : Target) (rest : List Line) (f : Frame Line) (fs : List (Frame
       line_runs target 2 (acts (Jump l) []) rest f fs world [] (turn_of there f fs world) refl (jumps_to l there finds)
       (λ held. omega arith) (silent target world)
 
-  pub falls_runs : (l x y word other : ℕ) → f.cells x ≡ Some word → f.cells y ≡ Some other → nat_eq word other ≡ true
-      → Runs target (target.moves + 3) 1 (turn_of (acts (Branch NotEqual l) (x ∷ y ∷ []) ∷ rest) f fs world)
+  -- a branch whose condition does not hold of two values, and one whose condition does
+  pub falls_runs : (condition : Condition) (l x y word other : ℕ) → f.cells x ≡ Some word → f.cells y ≡ Some other
+      → compares condition word other ≡ false
+      → Runs target (target.moves + 3) 1 (turn_of (acts (Branch condition l) (x ∷ y ∷ []) ∷ rest) f fs world)
       (turn_of rest f fs world)
-  falls_runs l x y word other is also equal =
-      line_runs target 3 (acts (Branch NotEqual l) (x ∷ y ∷ [])) rest f fs world (word ∷ other ∷ []) (turn_of rest f fs world)
+  falls_runs condition l x y word other is also not =
+      line_runs target 3 (acts (Branch condition l) (x ∷ y ∷ [])) rest f fs world (word ∷ other ∷ []) (turn_of rest f fs world)
       (two_words x y word other is also)
-      (ap (λ b. or_stuck (Some (not b))
-      (λ taken. cond taken (asm_jumps {W = Ending} l (left_at rest f) fs world) (asm_goes (left_at rest f) fs world))) equal)
+      (ap (λ b. or_stuck (Some b)
+      (λ taken. cond taken (asm_jumps {W = Ending} l (left_at rest f) fs world) (asm_goes (left_at rest f) fs world))) not)
       (λ held. omega arith) (silent target world)
 
-  pub branch_runs : (l x y word other : ℕ) (there : List Line) → f.cells x ≡ Some word → f.cells y ≡ Some other
-      → nat_eq word other ≡ false → Finds l there
-      → Runs target (target.moves + 3) 1 (turn_of (acts (Branch NotEqual l) (x ∷ y ∷ []) ∷ rest) f fs world)
+  pub branch_runs : (condition : Condition) (l x y word other : ℕ) (there : List Line) → f.cells x ≡ Some word
+      → f.cells y ≡ Some other → compares condition word other ≡ true → Finds l there
+      → Runs target (target.moves + 3) 1 (turn_of (acts (Branch condition l) (x ∷ y ∷ []) ∷ rest) f fs world)
       (turn_of there f fs world)
-  branch_runs l x y word other there is also differ finds =
-      line_runs target 3 (acts (Branch NotEqual l) (x ∷ y ∷ [])) rest f fs world (word ∷ other ∷ []) (turn_of there f fs world)
+  branch_runs condition l x y word other there is also holds finds =
+      line_runs target 3 (acts (Branch condition l) (x ∷ y ∷ [])) rest f fs world (word ∷ other ∷ []) (turn_of there f fs world)
       (two_words x y word other is also)
-      (ap (λ b. or_stuck (Some (not b))
-      (λ taken. cond taken (asm_jumps {W = Ending} l (left_at rest f) fs world) (asm_goes (left_at rest f) fs world))) differ
+      (ap (λ b. or_stuck (Some b)
+      (λ taken. cond taken (asm_jumps {W = Ending} l (left_at rest f) fs world) (asm_goes (left_at rest f) fs world))) holds
       ∙ jumps_to l there finds)
       (λ held. omega arith) (silent target world)

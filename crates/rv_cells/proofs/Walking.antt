@@ -1,22 +1,26 @@
 -- Tests of the values at positions as lines.
-use Rattle.std.proofs.Common.{◌≡◌, ◌≢◌, ◌<◌, ◌≤◌, ℕ, zero, suc, ◌+◌, ◌*◌, ◌^◌, Bool, true, false, List, [], ◌∷◌, ◌++◌, length, Option, Some, None, option_map, refl, sym, ◌∙◌, ap, subst, arith}
+use Rattle.std.proofs.Common.{◌≡◌, ◌≢◌, ◌<◌, ◌≤◌, ℕ, zero, suc, ◌+◌, ◌*◌, ◌^◌, Bool, true, false, List, [], ◌∷◌, ◌++◌, length, Option, Some, None, option_map, nat_eq, refl, sym, ◌∙◌, ap, subst, arith}
 use Rattle.std.specs.Prelude.{slice_get}
 use Rattle.kk_source.specs.State.{Value, integer, unit, constant, place, Cell}
 use Rattle.kk_source.specs.Matching.{and_then}
 use Rattle.kk_core.specs.Decisions.{fields_shown, value_at}
 use Rattle.kk_counted.specs.Heaps.{Held, Heap, held_at, cell_at, count_at, if_counted}
+use Rattle.rv_isa.specs.declared.asm.Action.TheVariants.{Branch}
+use Rattle.rv_isa.specs.declared.asm.Condition.TheVariants.{Equal}
+use Rattle.rv_isa.specs.AsmMachine.{is_label}
+use Rattle.rv_lower.specs.Lines.{sets, acts}
 use Rattle.rv_isa.specs.AsmCode.{Line}
-use Rattle.rv_isa.specs.Frames.{Frame, put}
+use Rattle.rv_isa.specs.Frames.{Frame, put, found}
 use Rattle.rv_world.specs.World.{World}
 use Rattle.rv_cells.specs.Layout.{Layout, word_in, words_in}
 use Rattle.rv_cells.specs.Follows.{AreFrom, Owner, Follows}
-use Rattle.rv_cells.specs.CellLines.{Loads, Walks}
+use Rattle.rv_cells.specs.CellLines.{Loads, Walks, equal_lines}
 use Rattle.rv_cells.proofs.Held.{some-is, held_count}
 use Rattle.rv_cells.proofs.Words.{load_own, cell_named}
 use Rattle.rv_cells.proofs.Values.{put_same, put_other}
 use Rattle.rv_cells.proofs.Drops.{fits_length}
 use Rattle.rv_cells.proofs.Runs.{Target, turn_of, Runs, runs_none, runs_then}
-use Rattle.rv_cells.proofs.Acting.{put_in, load_runs}
+use Rattle.rv_cells.proofs.Acting.{put_in, load_runs, copy_runs, sets_runs, falls_runs, branch_runs}
 use Rattle.rv_cells.proofs.Spots.{Spot, Known}
 use Rattle.rv_cells.proofs.Rows.{row_cost, then_some}
 
@@ -111,3 +115,45 @@ module _ (known : Known) (address : ℕ → ℕ) (owners : ℕ → Owner) (heap 
         later.2,
         λ z differ. later.3 z differ ∙ put_other t word z f.cells differ,
       )
+
+-- ---- tests of words
+
+module _ (target : Target) (rest : List Line) (f : Frame Line) (fs : List (Frame Line)) (world : World) (value word t label v : ℕ)
+    (has : f.cells value ≡ Some v) where
+  -- the frame behind a test
+  abbrev pub tested : Frame Line
+  tested = put_in (t + 1) word (put_in t v f)
+
+  first_has : tested.cells t ≡ Some v
+  first_has = put_other (t + 1) word t (put_in t v f).cells (λ e. omega arith) ∙ put_same t v f.cells
+
+  compared : Runs target ((target.moves + 2) + (target.moves + 2)) (1 + 1) (turn_of (equal_lines value word t label ++ rest) f fs world)
+      (turn_of (acts (Branch Equal label) (t ∷ (t + 1) ∷ []) ∷ rest) tested fs world)
+  compared =
+      let branch = acts (Branch Equal label) (t ∷ (t + 1) ∷ []) ∷ rest in
+      runs_then target (target.moves + 2) (target.moves + 2) 1 1 (turn_of (equal_lines value word t label ++ rest) f fs world)
+      (turn_of (sets word (t + 1) ∷ branch) (put_in t v f) fs world) (turn_of branch tested fs world)
+      (copy_runs target (sets word (t + 1) ∷ branch) f fs world value t v has)
+      (sets_runs target branch (put_in t v f) fs world word (t + 1))
+
+  abbrev test_cost : ℕ
+  test_cost = ((target.moves + 2) + (target.moves + 2)) + (target.moves + 3)
+
+  -- another word: the next line
+  pub test_falls : nat_eq v word ≡ false
+      → Runs target test_cost 3 (turn_of (equal_lines value word t label ++ rest) f fs world) (turn_of rest tested fs world)
+  test_falls differ =
+      let branch = acts (Branch Equal label) (t ∷ (t + 1) ∷ []) ∷ rest in
+      runs_then target ((target.moves + 2) + (target.moves + 2)) (target.moves + 3) (1 + 1) 1
+      (turn_of (equal_lines value word t label ++ rest) f fs world) (turn_of branch tested fs world) (turn_of rest tested fs world)
+      compared (falls_runs target rest tested fs world Equal label t (t + 1) v word first_has (put_same (t + 1) word (put_in t v f).cells) differ)
+
+  -- this word: the label
+  pub test_jumps : (there : List Line) → nat_eq v word ≡ true → found (λ line. is_label label line.action) f.whole ≡ Some there
+      → Runs target test_cost 3 (turn_of (equal_lines value word t label ++ rest) f fs world) (turn_of there tested fs world)
+  test_jumps there same finds =
+      let branch = acts (Branch Equal label) (t ∷ (t + 1) ∷ []) ∷ rest in
+      runs_then target ((target.moves + 2) + (target.moves + 2)) (target.moves + 3) (1 + 1) 1
+      (turn_of (equal_lines value word t label ++ rest) f fs world) (turn_of branch tested fs world) (turn_of there tested fs world)
+      compared (branch_runs target rest tested fs world Equal label t (t + 1) v word there first_has
+      (put_same (t + 1) word (put_in t v f).cells) same finds)
