@@ -19,7 +19,8 @@ use Rattle.rv_cells.specs.Layout.{Layout, IsNarrow, word_in, FitsField}
 use Rattle.rv_cells.specs.Follows.{Owner, nobody, cell_of, in_hand, Follows, still, still_count}
 use Rattle.rv_cells.specs.CellLines.{dup_lines, drop_lines}
 use Rattle.rv_cells.proofs.Held.{some-is}
-use Rattle.rv_cells.proofs.Values.{HasValues, has_temporary, put_same}
+use Rattle.rv_lower.proofs.Performing.{put_same}
+use Rattle.rv_cells.proofs.Values.{HasValues, has_temporary}
 use Rattle.rv_cells.proofs.Cascades.{busy_set}
 use Rattle.rv_cells.proofs.Counts.{dupped}
 use Rattle.rv_cells.proofs.Drops.{drops, drop_paid}

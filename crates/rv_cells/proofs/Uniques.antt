@@ -31,7 +31,8 @@ use Rattle.rv_cells.proofs.Owners.{chosen_by, chosen_same, chosen_other}
 use Rattle.rv_cells.proofs.Words.{load_own, store_own, cell_named, recount, opened_unique}
 use Rattle.rv_cells.proofs.Counts.{released}
 use Rattle.rv_cells.proofs.Cascades.{busy_set}
-use Rattle.rv_cells.proofs.Values.{HasValues, put_same, put_other, has_temporary, MadeBy, named_made}
+use Rattle.rv_lower.proofs.Performing.{put_same, put_other}
+use Rattle.rv_cells.proofs.Values.{HasValues, has_temporary, MadeBy, named_made}
 use Rattle.rv_cells.proofs.Runs.{turn_of, Runs, runs_then}
 use Rattle.rv_cells.proofs.Acting.{put_in, load_runs, sets_runs, store_runs, addi_runs, free_runs, label_runs, jump_runs, falls_runs, branch_runs}
 use Rattle.rv_cells.proofs.Spots.{Spot, Known, Here, Did}
@@ -154,7 +155,7 @@ module _ (known : Known) (rest : List Line) (fs : List (Frame Line)) (s : Spot) 
 
   first_temporary : tests.cells known.base ≡ Some (count_at s.heap named.at)
   first_temporary =
-      put_other (known.base + 1) 1 known.base (put_in known.base (count_at s.heap named.at) s.frame).cells (λ e. omega arith)
+      put_other (known.base + 1) known.base 1 (put_in known.base (count_at s.heap named.at) s.frame).cells (λ e. omega arith)
       ∙ put_same known.base (count_at s.heap named.at) s.frame.cells
 
   second_temporary : tests.cells (known.base + 1) ≡ Some 1
@@ -346,7 +347,7 @@ module _ (known : Known) (rest : List Line) (fs : List (Frame Line)) (s : Spot) 
         let adding : Runs target (moves + 2) 1 t2 t3 = subst
         (λ w. Runs target (moves + 2) 1 t2 (turn_of adds (put_in known.base w f1) fs s.world)) less_one added in
         let x_here : counts.cells x ≡ Some (s.address named.at) =
-        put_other known.base (suc n) x f1.cells (λ e. omega arith) ∙ put_other known.base (suc (suc n)) x one.frame.cells
+        put_other known.base x (suc n) f1.cells (λ e. omega arith) ∙ put_other known.base x (suc (suc n)) one.frame.cells
         (λ e. omega arith) ∙ x_in_one in
         let storing = store_runs target (dups ++ ending) counts fs s.world x 0 known.base (s.address named.at)
         (suc n) uniques.4 stored uniques.9 x_here (put_same known.base (suc n) f1.cells)

@@ -17,7 +17,7 @@ use Rattle.rv_cells.specs.Follows.{AreFrom, Owner, Follows}
 use Rattle.rv_cells.specs.CellLines.{Loads, Walks, equal_lines}
 use Rattle.rv_cells.proofs.Held.{some-is, held_count}
 use Rattle.rv_cells.proofs.Words.{load_own, cell_named}
-use Rattle.rv_cells.proofs.Values.{put_same, put_other}
+use Rattle.rv_lower.proofs.Performing.{put_same, put_other}
 use Rattle.rv_cells.proofs.Drops.{fits_length}
 use Rattle.rv_cells.proofs.Runs.{Target, turn_of, Runs, runs_none, runs_then}
 use Rattle.rv_cells.proofs.Acting.{put_in, load_runs, copy_runs, sets_runs, falls_runs, branch_runs}
@@ -113,7 +113,7 @@ module _ (known : Known) (address : ℕ → ℕ) (owners : ℕ → Owner) (heap 
         (runs_then known.target (moves + 2) (row_cost way (moves + 2)) 1 (length way) t0 (turn_of (walks.1 ++ rest) g fs world) t2
         first later.1)),
         later.2,
-        λ z differ. later.3 z differ ∙ put_other t word z f.cells differ,
+        λ z differ. later.3 z differ ∙ put_other t z word f.cells differ,
       )
 
 -- ---- tests of words
@@ -125,7 +125,7 @@ module _ (target : Target) (rest : List Line) (f : Frame Line) (fs : List (Frame
   tested = put_in (t + 1) word (put_in t v f)
 
   first_has : tested.cells t ≡ Some v
-  first_has = put_other (t + 1) word t (put_in t v f).cells (λ e. omega arith) ∙ put_same t v f.cells
+  first_has = put_other (t + 1) t word (put_in t v f).cells (λ e. omega arith) ∙ put_same t v f.cells
 
   compared : Runs target ((target.moves + 2) + (target.moves + 2)) (1 + 1) (turn_of (equal_lines value word t label ++ rest) f fs world)
       (turn_of (acts (Branch Equal label) (t ∷ (t + 1) ∷ []) ∷ rest) tested fs world)
