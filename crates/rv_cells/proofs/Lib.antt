@@ -16,3 +16,4 @@ pub mod Openings
 pub mod Constructing
 pub mod Uniques
 pub mod Walking
+pub mod Frames

@@ -27,7 +27,7 @@ use Rattle.rv_cells.proofs.Values.{bound_list, put_list, AreBelow, among_none, h
 use Rattle.rv_cells.proofs.Drops.{fits_length}
 use Rattle.rv_cells.proofs.Runs.{Target, turn_of, Runs, runs_none, runs_then}
 use Rattle.rv_cells.proofs.Acting.{put_in, load_runs}
-use Rattle.rv_cells.proofs.Spots.{Spot, Known, Here, Did, did_none, did_then, with_heap, Changed, dup_did, drop_did}
+use Rattle.rv_cells.proofs.Spots.{Spot, Known, Here, Did, did_none, did_then, with_heap, AreSmall, Changed, dup_did, drop_did}
 
 -- so much for each
 abbrev pub row_cost : List ℕ → ℕ → ℕ
@@ -136,10 +136,6 @@ read_did known rest fs s x c fields lines named here reads loads =
     }
 
 -- ---- dups and drops
-
--- counts stay below 2^32 for so many references more
-abbrev pub AreSmall : ℕ → Heap → Type 0
-AreSmall n heap = (name : ℕ) → n + count_at heap name < 2 ^ 32
 
 more_count : (at n : ℕ) (heap next : Heap) (name : ℕ) → count_at heap at ≡ n → more at n heap ≡ Some next → count_at next name ≤ suc
     (count_at heap name)

@@ -35,8 +35,8 @@ use Rattle.rv_lower.proofs.Performing.{put_same, put_other}
 use Rattle.rv_cells.proofs.Values.{HasValues, has_temporary, MadeBy, named_made}
 use Rattle.rv_cells.proofs.Runs.{turn_of, Runs, runs_then}
 use Rattle.rv_cells.proofs.Acting.{put_in, load_runs, sets_runs, store_runs, addi_runs, free_runs, label_runs, jump_runs, falls_runs, branch_runs}
-use Rattle.rv_cells.proofs.Spots.{Spot, Known, Here, Did}
-use Rattle.rv_cells.proofs.Rows.{row_cost, with_fields, IsReading, read_did, AreSmall, dups_did, drops_did}
+use Rattle.rv_cells.proofs.Spots.{AreSmall, Spot, Known, Here, Did}
+use Rattle.rv_cells.proofs.Rows.{row_cost, with_fields, IsReading, read_did, dups_did, drops_did}
 use Rattle.rv_cells.proofs.Openings.{where_values, bound_older, bound_fields, opened_spot}
 
 abbrev pub others_of : List ℕ → List ℕ → List ℕ
