@@ -1,5 +1,5 @@
 -- What one line does that touches cells.
-use Rattle.std.proofs.Common.{◌≡◌, ◌≢◌, ◌≤◌, ℕ, ◌+◌, ◌*◌, List, [], ◌∷◌, map, Some, None, option_map, true, false, not, nat_eq, cond, refl, sym, ◌∙◌, ap, subst, arith, ne_eqb}
+use Rattle.std.proofs.Common.{◌≡◌, ◌≢◌, ◌≤◌, ℕ, ◌+◌, ◌*◌, List, [], ◌∷◌, map, Some, None, option_map, true, false, not, cond, refl, sym, ◌∙◌, ap, subst, arith, ne_eqb}
 use Rattle.rv_isa.specs.declared.asm.Action.TheVariants.{Compute, Label, Jump, Branch, Routine as Calls}
 use Rattle.rv_isa.specs.declared.asm.Condition.{Condition}
 use Rattle.rv_world.specs.Operations.{compares}

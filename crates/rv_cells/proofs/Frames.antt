@@ -1,5 +1,5 @@
 -- The frames that wait have the words of their variables, and keep them while cells are made, counted and dropped.
-use Rattle.std.proofs.Common.{◌≡◌, ◌<◌, ◌≤◌, ℕ, zero, suc, ◌+◌, Bool, true, List, [], ◌∷◌, length, Option, Some, None, refl, sym, ◌∙◌, ap, subst, arith}
+use Rattle.std.proofs.Common.{◌≡◌, ◌<◌, ℕ, suc, Bool, List, [], ◌∷◌, Option, Some, ap}
 use Rattle.kk_source.specs.State.{Value, Environment}
 use Rattle.kk_source.specs.Sound.{Within}
 use Rattle.rv_isa.specs.AsmCode.{Line}
@@ -41,9 +41,8 @@ pub shape_received : (layout : Layout) (address : ℕ → ℕ) (next x : ℕ) (v
     → HasShape layout address next shape f → x < shape.base → FitsField (shape.holds x) v → Within next v → f.into ≡ Some x
     → (values : ℕ → Option ℕ) × (received f.into (Some (word_in layout address v)) f.cells ≡ Some values)
     × HasValues layout address shape.holds shape.base next (x ∷ shape.bound) (record { variable = x; value = v } ∷ shape.environment) values
-shape_received layout address next x v shape f have low fits within into =
-    (
-      put x (Some (word_in layout address v)) f.cells,
-      ap (λ o. received o (Some (word_in layout address v)) f.cells) into,
-      has_bound have x v low fits within,
-    )
+shape_received layout address next x v shape f have low fits within into = (
+  put x (Some (word_in layout address v)) f.cells,
+  ap (λ o. received o (Some (word_in layout address v)) f.cells) into,
+  has_bound have x v low fits within,
+)

@@ -17,3 +17,4 @@ pub mod Constructing
 pub mod Uniques
 pub mod Walking
 pub mod Frames
+pub mod Calling

@@ -1,16 +1,16 @@
 -- Tests of the values at positions as lines.
-use Rattle.std.proofs.Common.{◌≡◌, ◌≢◌, ◌<◌, ◌≤◌, ℕ, zero, suc, ◌+◌, ◌*◌, ◌^◌, Bool, true, false, List, [], ◌∷◌, ◌++◌, length, Option, Some, None, option_map, nat_eq, refl, sym, ◌∙◌, ap, subst, arith}
+use Rattle.std.proofs.Common.{◌≡◌, ◌≢◌, ◌<◌, ◌≤◌, ℕ, zero, suc, ◌+◌, true, false, List, [], ◌∷◌, ◌++◌, length, Option, Some, None, option_map, nat_eq, refl, sym, ◌∙◌, ap, subst, arith}
 use Rattle.std.specs.Prelude.{slice_get}
 use Rattle.kk_source.specs.State.{Value, integer, unit, constant, place, Cell}
 use Rattle.kk_source.specs.Matching.{and_then}
 use Rattle.kk_core.specs.Decisions.{fields_shown, value_at}
-use Rattle.kk_counted.specs.Heaps.{Held, Heap, held_at, cell_at, count_at, if_counted}
+use Rattle.kk_counted.specs.Heaps.{Held, Heap, held_at, cell_at, if_counted}
 use Rattle.rv_isa.specs.declared.asm.Action.TheVariants.{Branch}
 use Rattle.rv_isa.specs.declared.asm.Condition.TheVariants.{Equal}
 use Rattle.rv_isa.specs.AsmMachine.{is_label}
 use Rattle.rv_lower.specs.Lines.{sets, acts}
 use Rattle.rv_isa.specs.AsmCode.{Line}
-use Rattle.rv_isa.specs.Frames.{Frame, put, found}
+use Rattle.rv_isa.specs.Frames.{Frame, found}
 use Rattle.rv_world.specs.World.{World}
 use Rattle.rv_cells.specs.Layout.{Layout, word_in, words_in}
 use Rattle.rv_cells.specs.Follows.{AreFrom, Owner, Follows}
@@ -21,7 +21,7 @@ use Rattle.rv_lower.proofs.Performing.{put_same, put_other}
 use Rattle.rv_cells.proofs.Drops.{fits_length}
 use Rattle.rv_cells.proofs.Runs.{Target, turn_of, Runs, runs_none, runs_then}
 use Rattle.rv_cells.proofs.Acting.{put_in, load_runs, copy_runs, sets_runs, falls_runs, branch_runs}
-use Rattle.rv_cells.proofs.Spots.{Spot, Known}
+use Rattle.rv_cells.proofs.Spots.{Known}
 use Rattle.rv_cells.proofs.Rows.{row_cost, then_some}
 
 -- ---- the field of a counted cell
@@ -70,7 +70,7 @@ module _ (known : Known) (address : ℕ → ℕ) (owners : ℕ → Owner) (heap 
       let stands = cell_named follows name (let positive = some.0 in omega arith) in
       let same : stands.held ≡ held.0 = some-is (sym stands.there ∙ held.1) in
       let vs : stands.held.cell.fields ≡ fields =
-          ap (λ (h : Held). h.cell.fields) same ∙ ap (λ (c : Cell). c.fields) some.1 ∙ cell.2 in
+      ap (λ (h : Held). h.cell.fields) same ∙ ap (λ (c : Cell). c.fields) some.1 ∙ cell.2 in
       let many = fits_length (known.layout.fields stands.held.cell.made_by) stands.held.cell.fields stands.shows.fits in
       let few = known.narrow.few stands.held.cell.made_by in
       let word = from_index known.layout address stands.words 2 field stands.held.cell.fields u stands.shows.fields
@@ -86,14 +86,13 @@ module _ (known : Known) (address : ℕ → ℕ) (owners : ℕ → Owner) (heap 
       × Runs known.target (row_cost way (known.target.moves + 2)) (length way) (turn_of (lines ++ rest) f fs world)
       (turn_of rest (record f { cells = values }) fs world)
       × (values t ≡ Some (word_in known.layout address w)) × ((z : ℕ) → z ≢ t → values z ≡ f.cells z)
-  walk_runs rest t [] v w lines f walks has is =
-      (
-        f.cells,
-        subst (λ ls. Runs known.target 0 0 (turn_of (ls ++ rest) f fs world) (turn_of rest f fs world)) (sym walks)
+  walk_runs rest t [] v w lines f walks has is = (
+    f.cells,
+    subst (λ ls. Runs known.target 0 0 (turn_of (ls ++ rest) f fs world) (turn_of rest f fs world)) (sym walks)
         (runs_none known.target (turn_of rest f fs world)),
-        has ∙ ap (λ u. Some (word_in known.layout address u)) (some-is is),
-        λ z differ. refl,
-      )
+    has ∙ ap (λ u. Some (word_in known.layout address u)) (some-is is),
+    λ z differ. refl,
+  )
   walk_runs rest t (field ∷ way) v w lines f walks has is =
       let moves = known.target.moves in
       let step = then_some (and_then (fields_shown (cell_at heap) v) (λ fields. slice_get fields field)) (value_at (cell_at heap) way) w is in
@@ -104,14 +103,13 @@ module _ (known : Known) (address : ℕ → ℕ) (owners : ℕ → Owner) (heap 
       let later = walk_runs rest t way step.0 w walks.1 g walks.3 (put_same t word f.cells) step.2 in
       let one_more : 1 + length way ≡ suc (length way) = omega arith in
       let t0 = turn_of (walks.0 ∷ (walks.1 ++ rest)) f fs world in
-      let t2 = turn_of rest (record f { cells = later.0 }) fs world in
-      (
+      let t2 = turn_of rest (record f { cells = later.0 }) fs world in (
         later.0,
         subst (λ ls. Runs known.target (row_cost (field ∷ way) (moves + 2)) (suc (length way)) (turn_of (ls ++ rest) f fs world) t2)
-        (sym walks.4)
-        (subst (λ n. Runs known.target (row_cost (field ∷ way) (moves + 2)) n t0 t2) one_more
-        (runs_then known.target (moves + 2) (row_cost way (moves + 2)) 1 (length way) t0 (turn_of (walks.1 ++ rest) g fs world) t2
-        first later.1)),
+            (sym walks.4)
+            (subst (λ n. Runs known.target (row_cost (field ∷ way) (moves + 2)) n t0 t2) one_more
+            (runs_then known.target (moves + 2) (row_cost way (moves + 2)) 1 (length way) t0 (turn_of (walks.1 ++ rest) g fs world) t2
+            first later.1)),
         later.2,
         λ z differ. later.3 z differ ∙ put_other t z word f.cells differ,
       )
