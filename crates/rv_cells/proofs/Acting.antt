@@ -1,7 +1,8 @@
 -- What one line does that touches cells.
-use Rattle.std.proofs.Common.{◌≡◌, ◌≢◌, ◌≤◌, ℕ, ◌+◌, ◌*◌, List, [], ◌∷◌, map, Some, None, option_map, true, false, not, nat_eq, cond, refl, sym, ◌∙◌, ap, subst, arith, ne_eqb}
+use Rattle.std.proofs.Common.{◌≡◌, ◌≢◌, ◌≤◌, ℕ, ◌+◌, ◌*◌, List, [], ◌∷◌, map, Some, None, option_map, true, false, not, cond, refl, sym, ◌∙◌, ap, subst, arith, ne_eqb}
 use Rattle.rv_isa.specs.declared.asm.Action.TheVariants.{Compute, Label, Jump, Branch, Routine as Calls}
-use Rattle.rv_isa.specs.declared.asm.Condition.TheVariants.{NotEqual}
+use Rattle.rv_isa.specs.declared.asm.Condition.{Condition}
+use Rattle.rv_world.specs.Operations.{compares}
 use Rattle.rv_isa.specs.declared.asm.ImmediateOperation.TheVariants.{Addi}
 use Rattle.rv_isa.specs.Arithmetic.{sum_word}
 use Rattle.rv_isa.specs.declared.asm.Operation.{Operation}
@@ -19,6 +20,7 @@ use Rattle.cell_runtime.specs.declared.stop.Ending.TheVariants as OfEnding
 use Rattle.cell_runtime.specs.Stops.{number_of}
 use Rattle.rv_isa.specs.Costs.{operation_instructions}
 use Rattle.rv_world.specs.World.{World, computed_in, with_cells, takes_cell, gives_up, drop_count}
+use Rattle.rv_lower.proofs.Performing.{reads_one, reads_two}
 use Rattle.rv_lower.specs.Lines.{computes, sets, copies_to, acts}
 use Rattle.rv_cells.specs.CellLines.{Loads, Stores}
 use Rattle.rv_cells.proofs.Runs.{Target, left_at, turn_of, Runs, line_runs, silent}
@@ -53,13 +55,6 @@ module _ (target : Target) (rest : List Line) (f : Frame Line) (fs : List (Frame
       (ap (λ o. or_stuck o (λ (r : ℕ × World). asm_goes (record (left_at rest f) { cells = put_into None r.0 f.cells }) fs r.1)) is)
       (λ held. omega (arith, light)) (silent target world)
 
-  pub one_word : (x word : ℕ) → f.cells x ≡ Some word → all_of (map f.cells (x ∷ [])) ≡ Some (word ∷ [])
-  one_word x word is = ap (λ o. all_of (o ∷ [])) is
-
-  pub two_words : (x y word other : ℕ) → f.cells x ≡ Some word → f.cells y ≡ Some other → all_of (map f.cells (x ∷ y ∷ []))
-      ≡ Some (word ∷ other ∷ [])
-  two_words x y word other is also = ap (λ o. all_of (o ∷ f.cells y ∷ [])) is ∙ ap (λ o. all_of (Some word ∷ o ∷ [])) also
-
   -- a constant, and a copy
   pub sets_runs : (word into : ℕ) → Runs target (target.moves + 2) 1 (turn_of (sets word into ∷ rest) f fs world)
       (turn_of rest (put_in into word f) fs world)
@@ -67,7 +62,7 @@ module _ (target : Target) (rest : List Line) (f : Frame Line) (fs : List (Frame
 
   pub copy_runs : (from into word : ℕ) → f.cells from ≡ Some word → Runs target (target.moves + 2) 1
       (turn_of (copies_to from into ∷ rest) f fs world) (turn_of rest (put_in into word f) fs world)
-  copy_runs from into word is = sets_value 2 Op.Mv (from ∷ []) into (word ∷ []) word (one_word from word is) refl (omega arith)
+  copy_runs from into word is = sets_value 2 Op.Mv (from ∷ []) into (word ∷ []) word (reads_one f.cells from word is) refl (omega arith)
 
   -- a load, and a store
   pub load_runs : (cell i into at word : ℕ) (line : Line) → Loads cell i into line → f.cells cell ≡ Some at
@@ -76,7 +71,7 @@ module _ (target : Target) (rest : List Line) (f : Frame Line) (fs : List (Frame
   load_runs cell i into at word line loads is loaded =
       subst (λ l. Runs target (target.moves + 2) 1 (turn_of (l ∷ rest) f fs world) (turn_of rest (put_in into word f) fs world))
       (sym loads.2)
-      (sets_value 2 (Op.Lw loads.0) (cell ∷ []) into (at ∷ []) word (one_word cell at is)
+      (sets_value 2 (Op.Lw loads.0) (cell ∷ []) into (at ∷ []) word (reads_one f.cells cell at is)
       (ap (option_map (λ w. (w, world))) (ap (λ o. load at o world.cells) loads.1 ∙ loaded)) (omega arith))
 
   pub store_runs : (cell i from at word : ℕ) (line : Line) (next : Cells) → Stores cell i from line → f.cells cell ≡ Some at
@@ -85,7 +80,7 @@ module _ (target : Target) (rest : List Line) (f : Frame Line) (fs : List (Frame
   store_runs cell i from at word line next stores is also stored =
       subst (λ l. Runs target (target.moves + 2) 1 (turn_of (l ∷ rest) f fs world) (turn_of rest f fs (with_cells world next)))
       (sym stores.2)
-      (changes_cells 2 (Op.Sw stores.0) (cell ∷ from ∷ []) (at ∷ word ∷ []) next (two_words cell from at word is also)
+      (changes_cells 2 (Op.Sw stores.0) (cell ∷ from ∷ []) (at ∷ word ∷ []) next (reads_two f.cells cell from at word is also)
       (ap (option_map (λ c. (0, with_cells world c))) (ap (λ o. store at o word world.cells) stores.1 ∙ stored)) (omega arith))
 
   -- a reference more, and a cell that is given back
@@ -93,7 +88,7 @@ module _ (target : Target) (rest : List Line) (f : Frame Line) (fs : List (Frame
       → Runs target (target.moves + 5) 1 (turn_of (acts (Compute Op.Dup) (x ∷ []) ∷ rest) f fs world)
       (turn_of rest f fs (with_cells world next))
   dup_runs x word next is dupped =
-      changes_cells 5 Op.Dup (x ∷ []) (word ∷ []) next (one_word x word is) (ap (option_map (λ c. (0, with_cells world c))) dupped)
+      changes_cells 5 Op.Dup (x ∷ []) (word ∷ []) next (reads_one f.cells x word is) (ap (option_map (λ c. (0, with_cells world c))) dupped)
       (omega arith)
 
   pub free_runs : (x word : ℕ) (next : Cells) → f.cells x ≡ Some word → word ≢ 0 → release word world.cells ≡ Some next
@@ -102,7 +97,7 @@ module _ (target : Target) (rest : List Line) (f : Frame Line) (fs : List (Frame
   free_runs x word next is some freed =
       let act : by_token release word world.cells ≡ Some next = ap (λ b. cond b (Some world.cells) (release word world.cells))
       (ne_eqb word 0 some) ∙ freed in
-      changes_cells 5 Op.Free (x ∷ []) (word ∷ []) next (one_word x word is) (ap (option_map (λ c. (0, with_cells world c))) act)
+      changes_cells 5 Op.Free (x ∷ []) (word ∷ []) next (reads_one f.cells x word is) (ap (option_map (λ c. (0, with_cells world c))) act)
       (omega arith)
 
   -- a reference is given up by the runtime
@@ -112,7 +107,7 @@ module _ (target : Target) (rest : List Line) (f : Frame Line) (fs : List (Frame
       (turn_of rest f fs (with_cells world (merged_cells work world.cells)))
   drop_runs x word work is given =
       line_runs target (8 * work.gave + 52 * work.freed + 7) (acts (Calls Drop) (x ∷ [])) rest f fs world (word ∷ [])
-      (turn_of rest f fs (with_cells world (merged_cells work world.cells))) (one_word x word is)
+      (turn_of rest f fs (with_cells world (merged_cells work world.cells))) (reads_one f.cells x word is)
       (ap (λ o. asm_served None (left_at rest f ∷ fs) (gives_up o world)) given)
       (λ held. omega (arith, ap drop_count given)) (silent target world)
 
@@ -143,7 +138,7 @@ module _ (target : Target) (rest : List Line) (f : Frame Line) (fs : List (Frame
       (turn_of rest (put_in into (sum_word word immediate.word) f) fs world)
   addi_runs from into word immediate is =
       sets_value 2 (Op.Immediate Addi immediate) (from ∷ []) into (word ∷ []) (sum_word word immediate.word)
-      (one_word from word is) refl (omega arith)
+      (reads_one f.cells from word is) refl (omega arith)
 
   -- ---- labels and jumps
 
@@ -166,24 +161,26 @@ module _ (target : Target) (rest : List Line) (f : Frame Line) (fs : List (Frame
       line_runs target 2 (acts (Jump l) []) rest f fs world [] (turn_of there f fs world) refl (jumps_to l there finds)
       (λ held. omega arith) (silent target world)
 
-  pub falls_runs : (l x y word other : ℕ) → f.cells x ≡ Some word → f.cells y ≡ Some other → nat_eq word other ≡ true
-      → Runs target (target.moves + 3) 1 (turn_of (acts (Branch NotEqual l) (x ∷ y ∷ []) ∷ rest) f fs world)
+  -- a branch whose condition does not hold of two values, and one whose condition does
+  pub falls_runs : (condition : Condition) (l x y word other : ℕ) → f.cells x ≡ Some word → f.cells y ≡ Some other
+      → compares condition word other ≡ false
+      → Runs target (target.moves + 3) 1 (turn_of (acts (Branch condition l) (x ∷ y ∷ []) ∷ rest) f fs world)
       (turn_of rest f fs world)
-  falls_runs l x y word other is also equal =
-      line_runs target 3 (acts (Branch NotEqual l) (x ∷ y ∷ [])) rest f fs world (word ∷ other ∷ []) (turn_of rest f fs world)
-      (two_words x y word other is also)
-      (ap (λ b. or_stuck (Some (not b))
-      (λ taken. cond taken (asm_jumps {W = Ending} l (left_at rest f) fs world) (asm_goes (left_at rest f) fs world))) equal)
+  falls_runs condition l x y word other is also not =
+      line_runs target 3 (acts (Branch condition l) (x ∷ y ∷ [])) rest f fs world (word ∷ other ∷ []) (turn_of rest f fs world)
+      (reads_two f.cells x y word other is also)
+      (ap (λ b. or_stuck (Some b)
+      (λ taken. cond taken (asm_jumps {W = Ending} l (left_at rest f) fs world) (asm_goes (left_at rest f) fs world))) not)
       (λ held. omega arith) (silent target world)
 
-  pub branch_runs : (l x y word other : ℕ) (there : List Line) → f.cells x ≡ Some word → f.cells y ≡ Some other
-      → nat_eq word other ≡ false → Finds l there
-      → Runs target (target.moves + 3) 1 (turn_of (acts (Branch NotEqual l) (x ∷ y ∷ []) ∷ rest) f fs world)
+  pub branch_runs : (condition : Condition) (l x y word other : ℕ) (there : List Line) → f.cells x ≡ Some word
+      → f.cells y ≡ Some other → compares condition word other ≡ true → Finds l there
+      → Runs target (target.moves + 3) 1 (turn_of (acts (Branch condition l) (x ∷ y ∷ []) ∷ rest) f fs world)
       (turn_of there f fs world)
-  branch_runs l x y word other there is also differ finds =
-      line_runs target 3 (acts (Branch NotEqual l) (x ∷ y ∷ [])) rest f fs world (word ∷ other ∷ []) (turn_of there f fs world)
-      (two_words x y word other is also)
-      (ap (λ b. or_stuck (Some (not b))
-      (λ taken. cond taken (asm_jumps {W = Ending} l (left_at rest f) fs world) (asm_goes (left_at rest f) fs world))) differ
+  branch_runs condition l x y word other there is also holds finds =
+      line_runs target 3 (acts (Branch condition l) (x ∷ y ∷ [])) rest f fs world (word ∷ other ∷ []) (turn_of there f fs world)
+      (reads_two f.cells x y word other is also)
+      (ap (λ b. or_stuck (Some b)
+      (λ taken. cond taken (asm_jumps {W = Ending} l (left_at rest f) fs world) (asm_goes (left_at rest f) fs world))) holds
       ∙ jumps_to l there finds)
       (λ held. omega arith) (silent target world)

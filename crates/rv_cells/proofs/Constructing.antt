@@ -21,6 +21,7 @@ use Rattle.cell_runtime.specs.declared.stop.Ending.TheVariants as OfEnding
 use Rattle.cell_runtime.specs.Stops.{number_of}
 use Rattle.rv_world.specs.World.{World, with_cells}
 use Rattle.rv_lower.specs.Lines.{sets}
+use Rattle.rv_lower.proofs.Calls.{HaveWords}
 use Rattle.rv_cells.specs.Layout.{Layout, words_in, header_of, FitsField, FitFields}
 use Rattle.rv_cells.specs.Follows.{AreFrom, IsBlockOf, Owner, cell_of, in_hand, Follows, with_owner, assign, NoneInHand}
 use Rattle.rv_cells.specs.CellLines.{Stores, AllStores, ConstructLines}
@@ -28,7 +29,8 @@ use Rattle.rv_cells.proofs.Owners.{chosen_by, chosen_same, chosen_other}
 use Rattle.rv_cells.proofs.Requests.{served, is_full}
 use Rattle.rv_cells.proofs.Words.{store_own, from_later, hand_owned, written, built}
 use Rattle.rv_cells.proofs.Drops.{fits_length}
-use Rattle.rv_cells.proofs.Values.{HasValues, among_none, put_same, put_other, has_bound, has_temporary, has_cell}
+use Rattle.rv_lower.proofs.Performing.{put_same, put_other}
+use Rattle.rv_cells.proofs.Values.{HasValues, among_none, has_bound, has_temporary, has_cell}
 use Rattle.rv_cells.proofs.Runs.{Target, left_at, turn_of, Runs, runs_none, runs_then}
 use Rattle.rv_cells.proofs.Acting.{put_in, take_runs, full_runs, sets_runs, store_runs}
 use Rattle.rv_cells.proofs.Spots.{Spot, Known, Here, Did}
@@ -53,13 +55,6 @@ from_words i (w ∷ ws) words = (
   from_words (suc i) ws
       (with_word i w words),
 )
-
--- values have words
-abbrev HaveWords : (ℕ → Option ℕ) → List ℕ → List ℕ → Type 0
-HaveWords values [] [] = Unit {0}
-HaveWords values [] (w ∷ ws) = ⊥
-HaveWords values (x ∷ xs) [] = ⊥
-HaveWords values (x ∷ xs) (w ∷ ws) = (values x ≡ Some w) × HaveWords values xs ws
 
 twice_owner : (at : ℕ) (first second : Owner) (owners : ℕ → Owner) → with_owner at second (with_owner at first owners) ≡ with_owner
     at second owners
@@ -176,7 +171,7 @@ args_words known s here x at word [] bound apart = tt
 args_words known s here x at word (y ∷ ys) bound apart =
     let beside = among_none y ys x apart in
     let low = here.values.below y bound.0 in (
-      put_other known.base word y (put x (Some at) s.frame.cells) (λ e. omega (arith, e, low)) ∙ put_other x at y s.frame.cells
+      put_other known.base y word (put x (Some at) s.frame.cells) (λ e. omega (arith, e, low)) ∙ put_other x y at s.frame.cells
           (λ e. beside.0 (sym e)) ∙ here.values.words y bound.0,
       args_words known s here x at word ys bound.1 beside.1,
     )
@@ -223,11 +218,11 @@ module _ (known : Known) (rest : List Line) (fs : List (Frame Line)) (s : Spot) 
   ended_frame at = put_in known.base 1 (headed at)
 
   names_cell : (at : ℕ) → (headed at).cells x ≡ Some at
-  names_cell at = let low = making.below in put_other known.base header x (put x (Some at) s.frame.cells) (λ e. omega arith)
+  names_cell at = let low = making.below in put_other known.base x header (put x (Some at) s.frame.cells) (λ e. omega arith)
       ∙ put_same x at s.frame.cells
 
   still_names : (at : ℕ) → (ended_frame at).cells x ≡ Some at
-  still_names at = let low = making.below in put_other known.base 1 x (headed at).cells (λ e. omega arith) ∙ names_cell at
+  still_names at = let low = making.below in put_other known.base x 1 (headed at).cells (λ e. omega arith) ∙ names_cell at
 
   abbrev last_words : ℕ → Option ℕ
   last_words = with_word 0 1 (with_words 2 ws (with_word 1 header nothing))

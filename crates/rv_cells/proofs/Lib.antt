@@ -15,3 +15,6 @@ pub mod Rows
 pub mod Openings
 pub mod Constructing
 pub mod Uniques
+pub mod Walking
+pub mod Frames
+pub mod Calling

@@ -1,5 +1,5 @@
 -- Rows of loads, dups and drops; readings and openings.
-use Rattle.std.proofs.Common.{◌≡◌, ◌<◌, ◌≤◌, ℕ, zero, suc, ◌+◌, ◌*◌, ◌^◌, true, false, inl, inr, List, [], ◌∷◌, ◌++◌, length, map, Option, Some, None, refl, sym, ◌∙◌, ap, subst, arith}
+use Rattle.std.proofs.Common.{◌≡◌, ◌≤◌, ℕ, zero, suc, ◌+◌, ◌*◌, true, false, inl, inr, List, [], ◌∷◌, ◌++◌, length, map, Option, Some, None, refl, sym, ◌∙◌, ap, subst, arith}
 use Rattle.std.proofs.lemmas.Bool.{cases_eq}
 use Rattle.std.proofs.lemmas.List.{length-map}
 use Rattle.kk_syntax.specs.Shapes.{is_among}
@@ -22,11 +22,12 @@ use Rattle.rv_cells.specs.Follows.{AreFrom, Owner}
 use Rattle.rv_cells.specs.CellLines.{AllLoads, ReadLines, dup_lines, drop_lines, dups_lines, drops_lines}
 use Rattle.rv_cells.proofs.Held.{some-is, held_within, held_other, held_count, held_fields}
 use Rattle.rv_cells.proofs.Words.{all_within_more, load_own, cell_named as cell_of_name}
-use Rattle.rv_cells.proofs.Values.{put_other, bound_list, put_list, AreBelow, among_none, has_list, named_made}
+use Rattle.rv_lower.proofs.Performing.{put_other}
+use Rattle.rv_cells.proofs.Values.{bound_list, put_list, AreBelow, among_none, has_list, named_made}
 use Rattle.rv_cells.proofs.Drops.{fits_length}
 use Rattle.rv_cells.proofs.Runs.{Target, turn_of, Runs, runs_none, runs_then}
 use Rattle.rv_cells.proofs.Acting.{put_in, load_runs}
-use Rattle.rv_cells.proofs.Spots.{Spot, Known, Here, Did, did_none, did_then, with_heap, Changed, dup_did, drop_did}
+use Rattle.rv_cells.proofs.Spots.{Spot, Known, Here, Did, did_none, did_then, with_heap, AreSmall, Changed, dup_did, drop_did}
 
 -- so much for each
 abbrev pub row_cost : List ℕ → ℕ → ℕ
@@ -55,7 +56,7 @@ module _ (target : Target) (rest : List Line) (fs : List (Frame Line)) (world : 
       let next = put_in x w f in
       let first = load_runs target (loads.1 ++ rest) f fs world cell i x at w loads.0 loads.2 there
       (load_own world.cells at i w words is (omega (arith, few)) known.0) in
-      let later = loads_run xs ws (suc i) loads.1 next loads.3 (put_other x w cell f.cells beside.0 ∙ there) known.1
+      let later = loads_run xs ws (suc i) loads.1 next loads.3 (put_other x cell w f.cells beside.0 ∙ there) known.1
       (omega (arith, many)) (omega (arith, few)) beside.1 in
       let one_more : 1 + length xs ≡ suc (length xs) = omega arith in
       subst (λ ls. Runs target (row_cost (x ∷ xs) (target.moves + 2)) (suc (length xs)) (turn_of (ls ++ rest) f fs world)
@@ -135,10 +136,6 @@ read_did known rest fs s x c fields lines named here reads loads =
     }
 
 -- ---- dups and drops
-
--- counts stay below 2^32 for so many references more
-abbrev pub AreSmall : ℕ → Heap → Type 0
-AreSmall n heap = (name : ℕ) → n + count_at heap name < 2 ^ 32
 
 more_count : (at n : ℕ) (heap next : Heap) (name : ℕ) → count_at heap at ≡ n → more at n heap ≡ Some next → count_at next name ≤ suc
     (count_at heap name)

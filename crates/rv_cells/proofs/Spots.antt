@@ -19,7 +19,8 @@ use Rattle.rv_cells.specs.Layout.{Layout, IsNarrow, word_in, FitsField}
 use Rattle.rv_cells.specs.Follows.{Owner, nobody, cell_of, in_hand, Follows, still, still_count}
 use Rattle.rv_cells.specs.CellLines.{dup_lines, drop_lines}
 use Rattle.rv_cells.proofs.Held.{some-is}
-use Rattle.rv_cells.proofs.Values.{HasValues, has_temporary, put_same}
+use Rattle.rv_lower.proofs.Performing.{put_same}
+use Rattle.rv_cells.proofs.Values.{HasValues, has_temporary}
 use Rattle.rv_cells.proofs.Cascades.{busy_set}
 use Rattle.rv_cells.proofs.Counts.{dupped}
 use Rattle.rv_cells.proofs.Drops.{drops, drop_paid}
@@ -192,9 +193,9 @@ drop_length v heap next is = give_length (suc (weight heap)) (v ∷ []) heap nex
 abbrev pub with_heap : Spot → Heap → (ℕ → Owner) → Cells → Spot
 with_heap s next owners cells = record s { heap = next; owners = owners; world = with_cells s.world cells }
 
--- counts stay below 2^32
-abbrev pub AreSmall : Heap → Type 0
-AreSmall heap = (name : ℕ) → suc (count_at heap name) < 2 ^ 32
+-- counts stay below 2^32 for so many references more
+abbrev pub AreSmall : ℕ → Heap → Type 0
+AreSmall n heap = (name : ℕ) → n + count_at heap name < 2 ^ 32
 
 values_there : (known : Known) (s : Spot) (next : Heap) → length next ≡ length s.heap → Here known s
     → HasValues known.layout s.address known.holds known.base (length next) s.bound s.environment s.frame.cells
@@ -245,12 +246,12 @@ same_did known most rest fs s next here same = (
 module _ (known : Known) (rest : List Line) (fs : List (Frame Line)) (s : Spot) (here : Here known s) (x : ℕ)
     (bound : is_among s.bound x ≡ true) (next : Heap) where
   dup_by : (b : Bool) → FitsField b (value_of s.environment x) → dup_value (value_of s.environment x) s.heap ≡ Some next
-      → AreSmall s.heap
+      → AreSmall 1 s.heap
       → Changed known (known.target.moves + 5) (if b then acts (Compute Op.Dup) (x ∷ []) ∷ [] else []) rest fs s next
   dup_by false fits is small = same_did known (known.target.moves + 5) rest fs s next here
       (dup_plain (value_of s.environment x) s.heap next fits is)
   dup_by true fits is small =
-      let done = dupped here.follows (value_of s.environment x) next fits is small in
+      let done = dupped here.follows (value_of s.environment x) next fits is (λ name. let all = small name in omega arith) in
       let long = dup_length (value_of s.environment x) s.heap next is in
       let cells = dup_busy (value_of s.environment x) s.heap next is in
       let fields = dup_weight (value_of s.environment x) s.heap next is in (
@@ -274,7 +275,7 @@ module _ (known : Known) (rest : List Line) (fs : List (Frame Line)) (s : Spot) 
       )
 
   -- a dup
-  pub dup_did : dup_value (value_of s.environment x) s.heap ≡ Some next → AreSmall s.heap → Changed known (known.target.moves + 5)
+  pub dup_did : dup_value (value_of s.environment x) s.heap ≡ Some next → AreSmall 1 s.heap → Changed known (known.target.moves + 5)
       (dup_lines known.holds x) rest fs s next
   dup_did is small = dup_by (known.holds x) (here.values.fits x bound) is small
 

@@ -31,11 +31,12 @@ use Rattle.rv_cells.proofs.Owners.{chosen_by, chosen_same, chosen_other}
 use Rattle.rv_cells.proofs.Words.{load_own, store_own, cell_named, recount, opened_unique}
 use Rattle.rv_cells.proofs.Counts.{released}
 use Rattle.rv_cells.proofs.Cascades.{busy_set}
-use Rattle.rv_cells.proofs.Values.{HasValues, put_same, put_other, has_temporary, MadeBy, named_made}
+use Rattle.rv_lower.proofs.Performing.{put_same, put_other}
+use Rattle.rv_cells.proofs.Values.{HasValues, has_temporary, MadeBy, named_made}
 use Rattle.rv_cells.proofs.Runs.{turn_of, Runs, runs_then}
 use Rattle.rv_cells.proofs.Acting.{put_in, load_runs, sets_runs, store_runs, addi_runs, free_runs, label_runs, jump_runs, falls_runs, branch_runs}
-use Rattle.rv_cells.proofs.Spots.{Spot, Known, Here, Did}
-use Rattle.rv_cells.proofs.Rows.{row_cost, with_fields, IsReading, read_did, AreSmall, dups_did, drops_did}
+use Rattle.rv_cells.proofs.Spots.{AreSmall, Spot, Known, Here, Did}
+use Rattle.rv_cells.proofs.Rows.{row_cost, with_fields, IsReading, read_did, dups_did, drops_did}
 use Rattle.rv_cells.proofs.Openings.{where_values, bound_older, bound_fields, opened_spot}
 
 abbrev pub others_of : List ℕ → List ℕ → List ℕ
@@ -154,7 +155,7 @@ module _ (known : Known) (rest : List Line) (fs : List (Frame Line)) (s : Spot) 
 
   first_temporary : tests.cells known.base ≡ Some (count_at s.heap named.at)
   first_temporary =
-      put_other (known.base + 1) 1 known.base (put_in known.base (count_at s.heap named.at) s.frame).cells (λ e. omega arith)
+      put_other (known.base + 1) known.base 1 (put_in known.base (count_at s.heap named.at) s.frame).cells (λ e. omega arith)
       ∙ put_same known.base (count_at s.heap named.at) s.frame.cells
 
   second_temporary : tests.cells (known.base + 1) ≡ Some 1
@@ -219,8 +220,8 @@ module _ (known : Known) (rest : List Line) (fs : List (Frame Line)) (s : Spot) 
         (ap (λ w. found (λ line. is_label behind line.action) w) did.whole ∙ finds) in
         let labels = label_runs target rest frame fs last behind in
         let test : nat_eq (count_at s.heap named.at) 1 ≡ true = grind (arith, nat_tests) in
-        let falls = falls_runs target (for_unique ++ (for_shared ++ ending)) tests fs s.world shared known.base (known.base + 1)
-        (count_at s.heap named.at) 1 first_temporary second_temporary test in
+        let falls = falls_runs target (for_unique ++ (for_shared ++ ending)) tests fs s.world NotEqual shared known.base (known.base + 1)
+        (count_at s.heap named.at) 1 first_temporary second_temporary (ap not test) in
         let t0 = turn_of (tested ∷ sets 1 (known.base + 1) ∷ acts (Branch NotEqual shared) (known.base ∷ (known.base + 1) ∷ []) ∷
         (for_unique ++ (for_shared ++ ending))) s.frame fs s.world in
         let t1 = turn_of (acts (Branch NotEqual shared) (known.base ∷ (known.base + 1) ∷ []) ∷
@@ -346,7 +347,7 @@ module _ (known : Known) (rest : List Line) (fs : List (Frame Line)) (s : Spot) 
         let adding : Runs target (moves + 2) 1 t2 t3 = subst
         (λ w. Runs target (moves + 2) 1 t2 (turn_of adds (put_in known.base w f1) fs s.world)) less_one added in
         let x_here : counts.cells x ≡ Some (s.address named.at) =
-        put_other known.base (suc n) x f1.cells (λ e. omega arith) ∙ put_other known.base (suc (suc n)) x one.frame.cells
+        put_other known.base x (suc n) f1.cells (λ e. omega arith) ∙ put_other known.base x (suc (suc n)) one.frame.cells
         (λ e. omega arith) ∙ x_in_one in
         let storing = store_runs target (dups ++ ending) counts fs s.world x 0 known.base (s.address named.at)
         (suc n) uniques.4 stored uniques.9 x_here (put_same known.base (suc n) f1.cells)
@@ -377,8 +378,8 @@ module _ (known : Known) (rest : List Line) (fs : List (Frame Line)) (s : Spot) 
         let did = dupped.2 in
         let world = with_cells s.world dupped.1 in
         let test : nat_eq (count_at s.heap named.at) 1 ≡ false = grind (arith, nat_tests) in
-        let jumps = branch_runs target (for_unique ++ (for_shared ++ ending)) tests fs s.world shared known.base (known.base + 1)
-        (count_at s.heap named.at) 1 (for_shared ++ ending) first_temporary second_temporary test finds in
+        let jumps = branch_runs target (for_unique ++ (for_shared ++ ending)) tests fs s.world NotEqual shared known.base (known.base + 1)
+        (count_at s.heap named.at) 1 (for_shared ++ ending) first_temporary second_temporary (ap not test) finds in
         let enters = label_runs target ((loads ++ lowers) ++ ending) tests fs s.world shared in
         let leaves = label_runs target rest counts fs world behind in
         let t0 = turn_of (tested ∷ sets 1 (known.base + 1) ∷ acts (Branch NotEqual shared) (known.base ∷ (known.base + 1) ∷ []) ∷

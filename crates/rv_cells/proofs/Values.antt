@@ -1,5 +1,5 @@
 -- The values of a frame have the words of its variables.
-use Rattle.std.proofs.Common.{◌≡◌, ◌≢◌, ◌<◌, ◌≤◌, ◌⊎◌, inl, inr, ℕ, zero, suc, ◌==◌, Bool, true, false, cond, List, [], ◌∷◌, length, map, Option, Some, None, refl, sym, ◌∙◌, ap, subst, arith, eqb-true, ne_eqb}
+use Rattle.std.proofs.Common.{◌≡◌, ◌≢◌, ◌<◌, ◌≤◌, ◌⊎◌, inl, inr, ℕ, zero, suc, ◌==◌, Bool, true, false, List, [], ◌∷◌, length, map, Option, Some, None, refl, sym, ◌∙◌, ap, subst, arith, eqb-true, ne_eqb}
 use Rattle.std.specs.Prelude.{◌||◌, ◌&&◌, if◌then◌else◌}
 use Rattle.std.proofs.lemmas.Bool.{cases_eq}
 use Rattle.kk_syntax.specs.Shapes.{is_among}
@@ -11,6 +11,7 @@ use Rattle.kk_core.specs.CoreMachine.{bind_fields}
 use Rattle.kk_counted.specs.Heaps.{Held, Heap, held_at, if_counted}
 use Rattle.kk_counted.specs.CountedMachine.{Named, cell_named, if_made_by}
 use Rattle.rv_isa.specs.Frames.{put}
+use Rattle.rv_lower.proofs.Performing.{put_same, put_other}
 use Rattle.rv_cells.specs.Layout.{Layout, word_in, words_in, FitsField, FitFields}
 use Rattle.rv_cells.specs.Follows.{assign}
 use Rattle.rv_cells.proofs.Words.{value_older, within_more}
@@ -26,16 +27,6 @@ pub record HasValues (layout : Layout) (address : ℕ → ℕ) (holds : ℕ → 
   pub older : (x : ℕ) → is_among bound x ≡ true → Within next (value_of environment x)
 
 -- ---- values that are written
-
-pub put_same : (at word : ℕ) (values : ℕ → Option ℕ) → put at (Some word) values at ≡ Some word
-put_same at word values = by (at == at) refl
-  where
-    by : (b : Bool) → (at == at) ≡ b → cond b (Some word) (values at) ≡ Some word
-    by true is = refl
-    by false is = let itself : (at == at) ≡ true = grind arith in let both = sym is ∙ itself in cc
-
-pub put_other : (at word x : ℕ) (values : ℕ → Option ℕ) → x ≢ at → put at (Some word) values x ≡ values x
-put_other at word x values differ = ap (λ b. cond b (Some word) (values x)) (ne_eqb x at differ)
 
 -- a list of variables more, in their order
 abbrev pub bound_list : List ℕ → List ℕ → List ℕ
@@ -85,7 +76,7 @@ module _ {layout : Layout} {address : ℕ → ℕ} {holds : ℕ → Bool} {base 
     below = λ z is. elim (among_by x bound z is) [ inl e ↦ omega (arith, e, low) | inr among ↦ has.below z among ];
     words = λ z is. by_case z is (λ w. put x (Some (word_in layout address v)) values z ≡ Some (word_in layout address w))
         (λ e. ap (put x (Some (word_in layout address v)) values) (sym e) ∙ put_same x (word_in layout address v) values)
-        (λ differ among. put_other x (word_in layout address v) z values (λ e. differ (sym e)) ∙ has.words z among);
+        (λ differ among. put_other x z (word_in layout address v) values (λ e. differ (sym e)) ∙ has.words z among);
     fits = λ z is. by_case z is (FitsField (holds z)) (λ e. subst (λ y. FitsField (holds y) v) e fit)
         (λ differ among. has.fits z among);
     older = λ z is. by_case z is (Within next) (λ e. within) (λ differ among. has.older z among);
@@ -107,7 +98,7 @@ module _ {layout : Layout} {address : ℕ → ℕ} {holds : ℕ → Bool} {base 
       (put t (Some word) values)
   has_temporary t word high = record {
     below = has.below;
-    words = λ x among. let low = has.below x among in put_other t word x values (λ e. omega (arith, e, low, high))
+    words = λ x among. let low = has.below x among in put_other t x word values (λ e. omega (arith, e, low, high))
         ∙ has.words x among;
     fits = has.fits;
     older = has.older;

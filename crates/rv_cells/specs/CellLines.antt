@@ -4,7 +4,7 @@
 use Rattle.std.specs.Prelude.{◌≡◌, ℕ, suc, ◌+◌, ◌*◌, ◌-◌, ◌^◌, Bool, List, [], ◌∷◌, ◌++◌, filter, Some, not, if◌then◌else◌}
 use Rattle.kk_syntax.specs.Shapes.{is_among}
 use Rattle.rv_isa.specs.declared.asm.Action.TheVariants.{Compute, Label, Jump, Branch, Routine as Calls}
-use Rattle.rv_isa.specs.declared.asm.Condition.TheVariants.{NotEqual}
+use Rattle.rv_isa.specs.declared.asm.Condition.TheVariants.{Equal, NotEqual}
 use Rattle.rv_isa.specs.declared.asm.Operation.TheVariants as Op
 use Rattle.rv_isa.specs.declared.asm.ImmediateOperation.TheVariants.{Addi}
 use Rattle.rv_isa.specs.declared.immediate.Immediate.{Immediate}
@@ -83,3 +83,16 @@ UniqueLines base holds shared behind x fields used lines =
     ++ ((acts (Label shared) [] ∷ (loads ++ (count ∷ computes (Op.Immediate Addi less) (base ∷ []) base ∷ store
     ∷ dups_lines holds (filter (is_among used) fields))))
     ++ (acts (Label behind) [] ∷ []))))
+
+-- ---- tests
+
+-- from a value to the one at a position: a temporary, which has the value, takes one field after the other
+abbrev pub Walks : ℕ → List ℕ → List Line → Type 0
+Walks temporary [] lines = lines ≡ []
+Walks temporary (field ∷ way) lines =
+    (first : Line) × (more : List Line) × Loads temporary (2 + field) temporary first × Walks temporary way more × (lines ≡ first ∷ more)
+
+-- to a label where a value has a word
+abbrev pub equal_lines : ℕ → ℕ → ℕ → ℕ → List Line
+equal_lines value word temporary label =
+    copies_to value temporary ∷ sets word (temporary + 1) ∷ acts (Branch Equal label) (temporary ∷ (temporary + 1) ∷ []) ∷ []
