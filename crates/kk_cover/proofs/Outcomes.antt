@@ -5,7 +5,7 @@ use Rattle.std.proofs.lemmas.Bool.{cases_lt}
 use Rattle.kk_syntax.specs.Covered.{Each, IsMissed}
 use Rattle.kk_syntax.specs.OfType.{values_of}
 use Rattle.kk_syntax.specs.Outlines.{Outline, any, exactly, made, Outlines, no_outline, outline}
-use Rattle.kk_syntax.specs.Programs.{FunctionTree, ProgramTree}
+use Rattle.kk_syntax.specs.Programs.{FunctionTree, ProgramTree, AreDeclared}
 use Rattle.kk_syntax.specs.Types.{TypeTree}
 use Rattle.kk_syntax.specs.Typing.{Choice, IsTypable, TypesAs}
 use Rattle.kk_cover.specs.declared.problem.Asked.{Asked}
@@ -80,7 +80,7 @@ module _ (program : ProgramTree) (p : OpenProblem) where
 
 -- ---- the search, for what is sought at each type: all is closed, or a problem without rows is reached
 
-module _ (program : ProgramTree) (Sought : TypeTree → Outlines → Type 0) where
+module _ (program : ProgramTree) (declared : AreDeclared program.constructors) (Sought : TypeTree → Outlines → Type 0) where
   record Reaches (ps : List OpenProblem) : Type 0 where
     problem : OpenProblem
     none : problem.rows ≡ []
@@ -88,7 +88,7 @@ module _ (program : ProgramTree) (Sought : TypeTree → Outlines → Type 0) whe
 
   next_closed : (p : OpenProblem) (more ps : List OpenProblem) → Settles program p more → Each (Closed (values_of program.constructors)) (more ++ ps) → Each (Closed (values_of program.constructors)) (p ∷ ps)
   next_closed p more ps settles closed = (
-    settles_closed (values_of program.constructors) program (knows program) p more settles (each_front (Closed (values_of program.constructors)) more ps closed),
+    settles_closed (values_of program.constructors) program (knows program declared) p more settles (each_front (Closed (values_of program.constructors)) more ps closed),
     each_back (Closed (values_of program.constructors)) more ps closed,
   )
 
@@ -96,7 +96,7 @@ module _ (program : ProgramTree) (Sought : TypeTree → Outlines → Type 0) whe
   next_reached p more ps settles reaches = record {
     problem = reaches.problem;
     none = reaches.none;
-    reached = λ t leads. reaches.reached t (each-append (Leads (values_of program.constructors) (Sought t)) more ps (settles_leads (values_of program.constructors) program (knows program) p more (Sought t) settles leads.0) leads.1);
+    reached = λ t leads. reaches.reached t (each-append (Leads (values_of program.constructors) (Sought t)) more ps (settles_leads (values_of program.constructors) program (knows program declared) p more (Sought t) settles leads.0) leads.1);
   }
 
   search : (fuel : ℕ) (ps : List OpenProblem) → left program ps < fuel → Each (Closed (values_of program.constructors)) ps ⊎ Reaches ps
@@ -116,12 +116,12 @@ module _ (program : ProgramTree) (Sought : TypeTree → Outlines → Type 0) whe
 
 -- ---- a match, the matches of a function, and the functions of a program
 
-module _ (program : ProgramTree) where
+module _ (program : ProgramTree) (declared : AreDeclared program.constructors) where
   match_decided : (rows : List Outline) → IsMatchCovered program rows ⊎ ((e : Outline) × IsMatchMissed program rows e)
   match_decided rows =
       let Sought : TypeTree → Outlines → Type 0 = λ t es. IsMissed (values_of program.constructors) t rows (top es) in
       let start = first_problem rows in
-      elim (search program Sought (suc (left program (start ∷ []))) (start ∷ []) (omega arith)) [
+      elim (search program declared Sought (suc (left program (start ∷ []))) (start ∷ []) (omega arith)) [
         | inl closed ↦ inl (λ t typed e missed.
             closed.0.covered (t ∷ []) refl (one_typed (values_of program.constructors) t rows typed) _ (one_misses (values_of program.constructors) t rows e missed))
         | inr reaches ↦ inr (
@@ -232,7 +232,7 @@ module _ (program : ProgramTree) where
         one (Err other) h = ap Some (same_function other miss h first)
 
 pub each_typed_program_is_decided : EachTypedProgramIsDecided
-each_typed_program_is_decided program types = elim (functions_decided program program.functions) [
-  | inl covered ↦ only_covered program types covered
-  | inr found ↦ only_missed program types found.0 (record { function = found.1.function; there = found.1.there; earlier = found.1.earlier; missed = found.1.missed })
+each_typed_program_is_decided program declared types = elim (functions_decided program declared program.functions) [
+  | inl covered ↦ only_covered program declared types covered
+  | inr found ↦ only_missed program declared types found.0 (record { function = found.1.function; there = found.1.there; earlier = found.1.earlier; missed = found.1.missed })
 ]

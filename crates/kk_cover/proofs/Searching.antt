@@ -1,7 +1,7 @@
 -- The two searches: whether a problem is covered, and the way to an example of a problem that is not.
 use Rattle.std.proofs.Common.{◌≡◌, true, false, List, [], ◌∷◌, ◌++◌, length, refl, sym, subst}
 use Rattle.kk_syntax.specs.Types.{TypeTree}
-use Rattle.kk_syntax.specs.Programs.{ProgramTree}
+use Rattle.kk_syntax.specs.Programs.{ProgramTree, AreDeclared}
 use Rattle.kk_syntax.specs.Covered.{Each, IsMissed, IsCovered}
 use Rattle.kk_syntax.specs.Outlines.{Outline, Outlines, ClashIn}
 use Rattle.kk_syntax.specs.OfType.{Values, IsPatternOf, ArePatternsOf, values_of}
@@ -42,9 +42,9 @@ begins program p ts wide typed = record {
   covers = λ closed. closed.0.covered ts wide typed;
 }
 
-pub goes_on : (program : ProgramTree) (p q : OpenProblem) (before after : List OpenProblem) → Settled program q before after → Decided program p (before ++ (q ∷ [])) → Decided program p after
-goes_on program p q before after settled decided ts wide typed =
-    decides_next (values_of program.constructors) program (knows program) q settled.more (λ es. Exists program p ts) (IsCoveredIn (values_of program.constructors) ts p.rows) before after settled.settles settled.grown (decided ts wide typed)
+pub goes_on : (program : ProgramTree) → AreDeclared program.constructors → (p q : OpenProblem) (before after : List OpenProblem) → Settled program q before after → Decided program p (before ++ (q ∷ [])) → Decided program p after
+goes_on program declared p q before after settled decided ts wide typed =
+    decides_next (values_of program.constructors) program (knows program declared) q settled.more (λ es. Exists program p ts) (IsCoveredIn (values_of program.constructors) ts p.rows) before after settled.settles settled.grown (decided ts wide typed)
 
 -- an open problem without rows has an example, wildcards
 pub wildcards : {T : Type 0} (values : Values T) (Sought : Outlines → Type 0) (p : OpenProblem) → p.rows ≡ [] → Leads values Sought p → Sought (built p.path (anys p.width))
@@ -91,11 +91,11 @@ pub nothing_left : (program : ProgramTree) (rows : List Outline) → Tells progr
 nothing_left program rows tells t typed e example =
     tells (t ∷ []) refl (one_typed (values_of program.constructors) t rows typed) _ (one_misses (values_of program.constructors) t rows e example)
 
-pub picks_next : (program : ProgramTree) (rows : List Outline) (p q : OpenProblem) (children : List OpenProblem) → Settled program p [] children → Picked program children q → Going program rows p → Going program rows q
-picks_next program rows p q children settled picked going t typed =
+pub picks_next : (program : ProgramTree) → AreDeclared program.constructors → (rows : List Outline) (p q : OpenProblem) (children : List OpenProblem) → Settled program p [] children → Picked program children q → Going program rows p → Going program rows q
+picks_next program declared rows p q children settled picked going t typed =
     let values = values_of program.constructors in
     let Sought : Outlines → Type 0 = λ es. IsMissed values t rows (top es) in
-    let all : Each (Leads values Sought) children = subst (Each (Leads values Sought)) (sym settled.grown) (settles_leads values program (knows program) p settled.more Sought settled.settles (going t typed).leads) in
+    let all : Each (Leads values Sought) children = subst (Each (Leads values Sought)) (sym settled.grown) (settles_leads values program (knows program declared) p settled.more Sought settled.settles (going t typed).leads) in
     let here : Leads values Sought q = (each_back (Leads values Sought) picked.before (q ∷ picked.behind) (subst (Each (Leads values Sought)) picked.place all)).0 in
     record { leads = here; exists = picked.tells here.types here.wide here.typed }
 
@@ -104,10 +104,10 @@ all_closed program [] tells = tt
 all_closed program (p ∷ ps) tells = (record { covered = tells.0 }, all_closed program ps tells.1)
 
 -- one of what a problem on the way comes down to is not covered
-pub picks_none : (program : ProgramTree) (rows : List Outline) (p : OpenProblem) (children : List OpenProblem) → Settled program p [] children → Each (λ q. Tells program q true) children → Going program rows p → (t : TypeTree) → Each (IsPatternOf (values_of program.constructors) t) rows → ⊥
-picks_none program rows p children settled tells going t typed =
+pub picks_none : (program : ProgramTree) → AreDeclared program.constructors → (rows : List Outline) (p : OpenProblem) (children : List OpenProblem) → Settled program p [] children → Each (λ q. Tells program q true) children → Going program rows p → (t : TypeTree) → Each (IsPatternOf (values_of program.constructors) t) rows → ⊥
+picks_none program declared rows p children settled tells going t typed =
     let way = going t typed in
-    let closed = settles_closed (values_of program.constructors) program (knows program) p settled.more settled.settles (subst (Each (Closed (values_of program.constructors))) settled.grown (all_closed program children tells)) in
+    let closed = settles_closed (values_of program.constructors) program (knows program declared) p settled.more settled.settles (subst (Each (Closed (values_of program.constructors))) settled.grown (all_closed program children tells)) in
     closed.covered way.leads.types way.leads.wide way.leads.typed way.exists.0 way.exists.1
 
 pub arrives : (program : ProgramTree) (rows : List Outline) (p : OpenProblem) (e : Outline) → p.rows ≡ [] → e ≡ top (built p.path (anys p.width)) → Going program rows p → (t : TypeTree) → Each (IsPatternOf (values_of program.constructors) t) rows → IsMissed (values_of program.constructors) t rows e

@@ -4,7 +4,7 @@ use Rattle.std.specs.Borrow.{Bor}
 use Rattle.kk_syntax.specs.declared.program.Pat.{Pat}
 use Rattle.kk_syntax.specs.declared.program.Program.{Program}
 use Rattle.kk_syntax.specs.declared.program.Row.{Row}
-use Rattle.kk_syntax.specs.Programs.{FunctionTree, ProgramTree, program_tree}
+use Rattle.kk_syntax.specs.Programs.{FunctionTree, ProgramTree, AreDeclared, program_tree}
 use Rattle.kk_syntax.specs.Matches.{matches, IsMatchCovered, IsFunctionCovered}
 use Rattle.kk_syntax.specs.Typing.{TypesAs}
 use Rattle.kk_cover.specs.declared.covering.CoverError.{CoverError}
@@ -66,6 +66,6 @@ pub record IsDecided (program : ProgramTree) : Type 0 where
   pub holds : CoversAs program outcome
   pub only : (other : Result (Unit {0}) Miss) → CoversAs program other → missed_in other ≡ missed_in outcome
 
--- each typed program is covered, or has exactly one first function that is not
+-- each typed program, whose constructors are declared ones, is covered, or has exactly one first function that is not
 abbrev pub EachTypedProgramIsDecided : Type 0
-EachTypedProgramIsDecided = (program : ProgramTree) → TypesAs program (Ok tt) → IsDecided program
+EachTypedProgramIsDecided = (program : ProgramTree) → AreDeclared program.constructors → TypesAs program (Ok tt) → IsDecided program

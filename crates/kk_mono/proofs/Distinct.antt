@@ -2,6 +2,7 @@
 use Rattle.std.proofs.Common.{◌≡◌, ◌≢◌, suc, ◌+◌, ◌≤◌, List, [], ◌∷◌, ◌++◌, length, take, drop, AllPairs, Contains, refl, sym, ap, ◌∙◌, subst, inl, inr, arith}
 use Rattle.std.proofs.lemmas.List.{length-append, drop_more, take-append-drop, get_or_append_left, get_or_at}
 use Rattle.std.proofs.lemmas.List.Elements.{Contains-get_or, Contains-append_left, Contains-append_right, Contains-append_cases}
+use Rattle.kk_mono.specs.Instances.{FirstSights, none_left, again, new_one}
 use Rattle.kk_mono.proofs.Sights.{only_one}
 
 module _ {X : Type 0} where
@@ -53,3 +54,16 @@ module _ {X : Type 0} where
       let lt = there.1 in
       let long = length-append front (x ∷ back) in
       absurd (once k (length front) x lt (omega (arith, long)) (get_or_append_left front (x ∷ back) x k lt ∙ (there.2 ∙ sym (get_or_at front x back x (length front) refl))))
+
+  -- things of which no two are equal, and none has been seen, are all seen for the first time
+  pub sights_apart : {seen xs new : List X} → AllPairs (λ one other. one ≢ other) xs → ((x : X) → Contains xs x → Contains seen x → ⊥)
+      → FirstSights seen xs new → new ≡ xs
+  sights_apart once fresh none_left = refl
+  sights_apart once fresh (again {x = x} {xs = xs} there rest) =
+      absurd (fresh x (Contains-append_left (x ∷ []) xs x (Contains-get_or (x ∷ []) 0 x (omega arith))) there)
+  sights_apart {seen = seen} once fresh (new_one {x = x} {xs = xs} {new = new} absent rest) =
+      ap (λ ys. x ∷ ys) (sights_apart {seen = seen ++ x ∷ []} {xs = xs} {new = new} (rest_once x xs once)
+      (λ y later there. elim (Contains-append_cases seen (x ∷ []) y there) [
+        | inl earlier ↦ fresh y (Contains-append_right (x ∷ []) xs y later) earlier
+        | inr here ↦ first_once x xs once y later (only_one x y here)
+      ]) rest)

@@ -1,7 +1,8 @@
 -- What the code answers is what the program comes to.
-use Rattle.std.proofs.Common.{◌≡◌, ◌⊎◌, ℕ, ◌+◌, ◌<◌, ◌≤◌, List, [], ◌∷◌, length, map, get_or, drop, All, Option, Some, None, option_map, refl, ap, sym, ◌∙◌, subst, inl, inr, arith}
-use Rattle.std.specs.Prelude.{Ok, Err, slice_get, sum}
-use Rattle.std.proofs.lemmas.List.{length-map, get_or-map}
+use Rattle.std.proofs.Common.{◌≡◌, ◌⊎◌, ℕ, ◌+◌, ◌<◌, ◌≤◌, List, [], ◌∷◌, length, map, get_or, drop, All, Option, Some, None, option_map, refl, ap, sym, ◌∙◌, subst, inl, inr, arith, nat_lt}
+use Rattle.std.specs.Prelude.{max, Ok, Err, slice_get, sum}
+use Rattle.std.proofs.lemmas.Bool.{cases_Bool, ltb-true, cond-false}
+use Rattle.std.proofs.lemmas.List.{drop_more, length-map, get_or-map}
 use Rattle.std.proofs.lemmas.List.Sums.{sum-map, sum_by-drop_more}
 use Rattle.std.proofs.lemmas.Option.{slice_get_within, get_or_from_slice_get}
 use Rattle.kk_base.specs.declared.limit.Limit.{Limit}
@@ -9,7 +10,7 @@ use Rattle.kk_base.specs.declared.limit.LimitKind.TheVariants.{FunctionNodes, In
 use Rattle.kk_syntax.specs.declared.program.Fun.{Fun}
 use Rattle.kk_syntax.specs.declared.program.Program.{Program}
 use Rattle.kk_syntax.specs.Programs.{FunctionTree, ProgramTree, function_tree, program_tree, no_function, body_of}
-use Rattle.kk_syntax.specs.Shapes.{nodes_of}
+use Rattle.kk_syntax.specs.Shapes.{greatest_of as nodes_at_most, nodes_of}
 use Rattle.kk_syntax.specs.Trees.{expr_tree}
 use Rattle.kk_syntax.specs.Types.{TypeTree}
 use Rattle.kk_syntax.specs.Typing.{Choice, ArePrincipal}
@@ -26,20 +27,37 @@ map-map f g [] = refl
 map-map f g (x ∷ xs) = ap (λ ys. g (f x) ∷ ys) (map-map f g xs)
 
 -- the nodes of one more instance
-pub summed_more : (program : Program) (keys : List KeyTree) (i : ℕ) (key : KeyTree) (function : Fun) → slice_get keys i ≡ Some key → All (λ (k : KeyTree). k.function < length program.functions.items) keys → function ≡ get_or program.functions.items key.function function
+pub summed_more : (program : Program) (keys : List KeyTree) (i : ℕ) (key : KeyTree) (function : Fun) → slice_get keys i ≡ Some key → All (λ (k : KeyTree). k.number < length program.functions.items) keys → function ≡ get_or program.functions.items key.number function
     → summed_keys (program_tree program) (drop i keys) ≡ nodes_of (expr_tree function.body) + summed_keys (program_tree program) (drop (i + 1) keys)
 summed_more program keys i key function found within is =
     let lt = slice_get_within keys i key found in
     let here : get_or keys i key ≡ key = get_or_from_slice_get keys i key key found in
-    let below : key.function < length program.functions.items = subst (λ (k : KeyTree). k.function < length program.functions.items) here (within i key lt) in
-    let body : body_of (program_tree program) (get_or keys i key).function ≡ expr_tree function.body =
-    ap (λ (k : KeyTree). body_of (program_tree program) k.function) here
-    ∙ (ap (λ (x : FunctionTree). x.body) (get_or-map function_tree program.functions.items key.function function no_function below) ∙ ap (λ (x : Fun). expr_tree x.body) (sym is)) in
-    let whole = sum-map (λ (k : KeyTree). nodes_of (body_of (program_tree program) k.function)) (drop i keys) in
-    let rest = sum-map (λ (k : KeyTree). nodes_of (body_of (program_tree program) k.function)) (drop (i + 1) keys) in
-    let more = sum_by-drop_more (λ (k : KeyTree). nodes_of (body_of (program_tree program) k.function)) keys i key lt in
+    let below : key.number < length program.functions.items = subst (λ (k : KeyTree). k.number < length program.functions.items) here (within i key lt) in
+    let body : body_of (program_tree program) (get_or keys i key).number ≡ expr_tree function.body =
+    ap (λ (k : KeyTree). body_of (program_tree program) k.number) here
+    ∙ (ap (λ (x : FunctionTree). x.body) (get_or-map function_tree program.functions.items key.number function no_function below) ∙ ap (λ (x : Fun). expr_tree x.body) (sym is)) in
+    let whole = sum-map (λ (k : KeyTree). nodes_of (body_of (program_tree program) k.number)) (drop i keys) in
+    let rest = sum-map (λ (k : KeyTree). nodes_of (body_of (program_tree program) k.number)) (drop (i + 1) keys) in
+    let more = sum_by-drop_more (λ (k : KeyTree). nodes_of (body_of (program_tree program) k.number)) keys i key lt in
     let nodes = ap nodes_of body in
     omega (arith, whole, rest, more, nodes)
+
+-- one function more, that has not too many nodes
+pub few_more : (functions : List Fun) (i : ℕ) (function : Fun) → i < length functions → function ≡ get_or functions i function → nodes_of (expr_tree function.body) ≤ 480
+    → too_many_nodes (map function_tree (drop i functions)) ≡ too_many_nodes (map function_tree (drop (i + 1) functions))
+few_more functions i function lt is few =
+    ap (λ fs. too_many_nodes (map function_tree fs)) (drop_more functions i function lt)
+    ∙ (ap (λ (f : Fun). too_many_nodes (function_tree f ∷ map function_tree (drop (i + 1) functions))) (sym is)
+    ∙ elim (cases_Bool (nat_lt 480 (nodes_of (expr_tree function.body)))) [
+      | inl many ↦ absurd (let lt = ltb-true 480 (nodes_of (expr_tree function.body)) many in omega (arith, lt, few))
+      | inr none ↦ cond-false (nat_lt 480 (nodes_of (expr_tree function.body))) (Some (nodes_of (expr_tree function.body))) (too_many_nodes (map function_tree (drop (i + 1) functions))) none
+    ])
+
+pub greatest_more : (functions : List Fun) (i : ℕ) (function : Fun) → i < length functions → function ≡ get_or functions i function
+    → nodes_at_most (map function_tree (drop i functions)) ≡ max (nodes_of (expr_tree function.body)) (nodes_at_most (map function_tree (drop (i + 1) functions)))
+greatest_more functions i function lt is =
+    ap (λ fs. nodes_at_most (map function_tree fs)) (drop_more functions i function lt)
+    ∙ ap (λ (f : Fun). max (nodes_of (expr_tree f.body)) (nodes_at_most (map function_tree (drop (i + 1) functions)))) (sym is)
 
 -- a function has too many nodes
 pub nodes_told : (program : Program) (slice : List Fun) (limit : Limit) → slice ≡ program.functions.items → Some limit ≡ option_map (told FunctionNodes) (too_many_nodes (map function_tree slice)) → Some limit ≡ option_map (told FunctionNodes) (too_many_nodes (program_tree program).functions)

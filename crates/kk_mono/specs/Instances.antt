@@ -1,6 +1,6 @@
 -- The instances of a program: `main`, and each function that is called in the body of one, at the types that stand for its
 -- type variables there; and their ground constructors, at the types that stand for the variables of the constructors' types.
-use Rattle.std.specs.Prelude.{◌≡◌, ℕ, ◌+◌, List, [], ◌∷◌, ◌++◌, map, flat_map, take, length, All, Contains, Option, Some, is_some, if◌then◌else◌, slice_get, slice_index_or}
+use Rattle.std.specs.Prelude.{◌≡◌, ℕ, ◌+◌, List, [], ◌∷◌, ◌++◌, map, flat_map, take, length, All, Contains, Some, is_some, if◌then◌else◌, slice_get, slice_index_or}
 use Rattle.kk_syntax.specs.declared.program.Form.{Form}
 use Rattle.kk_syntax.specs.declared.program.Form.TheVariants.{Construct, Call}
 use Rattle.kk_syntax.specs.OfType.{fields_of}

@@ -7,7 +7,7 @@ use Rattle.kk_base.specs.declared.limit.LimitKind.TheVariants.{FunctionNodes, In
 use Rattle.kk_syntax.specs.declared.ground.Ground.{Ground}
 use Rattle.kk_syntax.specs.declared.typed.Typed.{Typed}
 use Rattle.kk_syntax.specs.Programs.{ProgramTree, program_tree, body_of}
-use Rattle.kk_syntax.specs.Shapes.{nodes_of}
+use Rattle.kk_syntax.specs.Shapes.{nodes_of, greatest_nodes}
 use Rattle.kk_mono.specs.declared.error.MonoError.{MonoError}
 use Rattle.kk_mono.specs.declared.error.MonoError.TheVariants.{Over, NoMemory}
 use Rattle.kk_mono.specs.declared.search.Found.{Found}
@@ -22,7 +22,7 @@ told kind count = in_u64 (record { kind = kind; count = count })
 
 -- the nodes of instances, summed
 abbrev pub summed_keys : ProgramTree → List KeyTree → ℕ
-summed_keys program keys = sum (map (λ (key : KeyTree). nodes_of (body_of program key.function)) keys)
+summed_keys program keys = sum (map (λ (key : KeyTree). nodes_of (body_of program key.number)) keys)
 
 -- the instances keep their limits
 pub record AreFew (program : ProgramTree) (keys : List KeyTree) : Type 0 where
@@ -42,6 +42,8 @@ pub record HasBuilt (typed : Typed) (given : Ground) : Type 0 where
   pub none : too_many_nodes (program_tree typed.program).functions ≡ None
   pub few : AreFew (program_tree typed.program) (keys_in found.keys)
   pub built : IsBuilt typed.program found given
+  pub greatest : given.greatest_nodes ≡ greatest_nodes (program_tree typed.program)
+  pub summed : given.summed_nodes ≡ summed_keys (program_tree typed.program) (keys_in found.keys)
 
 -- the instances of a search pass a limit
 pub record HasPassed (typed : Typed) (limit : Limit) : Type 0 where

@@ -1,18 +1,19 @@
-ghost use Rattle.std.specs.Prelude.{◌≡◌, map, flat_map, IfOk, OnOk};
+ghost use Rattle.std.specs.Prelude.{◌≡◌, map, IfOk, OnOk};
 ghost use Rattle.kk_syntax.specs.Trees.{expr_tree, row_tree, statement_tree};
-ghost use Rattle.kk_mono.specs.Instances.{calls};
-ghost use Rattle.kk_mono.specs.Labels.{left_in, behind, labelled, labelled_each, row_calls, labelled_row, statement_calls, labelled_statement};
+ghost use Rattle.kk_mono.specs.Labels.{left_in, behind, names, labelled, names_of_each, labelled_each, row_names, labelled_row, statement_names, labelled_statement};
 
 use crate::labels::Labels;
+use crate::pattern::labelled_pattern;
 use kk_base::NoMemory;
-use kk_syntax::{Expr, Row, Statement, copied_pattern};
+use kk_syntax::{Expr, Row, Statement};
 use std::alloc::Global;
 
-/// A copy of an expression whose calls name the instances that they call. The recursion is as deep as the expression.
+/// A copy of an expression whose calls name the instances that they call, and whose constructions and patterns name ground
+/// constructors. The recursion is as deep as the expression.
 #[cycle(labelled)]
 pub fn labelled(alloc: Global, labels: &mut Labels, expr: &Expr) -> Result<Expr, NoMemory>
     ensures tree { IfOk result (λ copy. expr_tree copy ≡ labelled (left_in labels.old) (expr_tree expr.now)) }
-    ensures rest { OnOk result (left_in labels.new ≡ behind (left_in labels.old) (calls (expr_tree expr.now))) }
+    ensures rest { OnOk result (left_in labels.new ≡ behind (left_in labels.old) (names (expr_tree expr.now))) }
 {
     match expr {
         Expr::Variable(of) => Ok(Expr::Variable(*of)),
@@ -43,7 +44,7 @@ pub fn labelled(alloc: Global, labels: &mut Labels, expr: &Expr) -> Result<Expr,
 #[cycle(labelled)]
 fn labelled_part(alloc: Global, labels: &mut Labels, part: &Expr) -> Result<Box<Expr>, NoMemory>
     ensures tree { IfOk result (λ copy. expr_tree copy.value ≡ labelled (left_in labels.old) (expr_tree part.now)) }
-    ensures rest { OnOk result (left_in labels.new ≡ behind (left_in labels.old) (calls (expr_tree part.now))) }
+    ensures rest { OnOk result (left_in labels.new ≡ behind (left_in labels.old) (names (expr_tree part.now))) }
 {
     Ok(Box::new(alloc, labelled(alloc, labels, part)?)?)
 }
@@ -51,8 +52,8 @@ fn labelled_part(alloc: Global, labels: &mut Labels, part: &Expr) -> Result<Box<
 #[cycle(labelled)]
 fn labelled_each(alloc: Global, labels: &mut Labels, exprs: &[Expr]) -> Result<Vec<Expr>, NoMemory>
     ensures trees { IfOk result (λ copies. map expr_tree copies.items
-        ≡ labelled_each calls labelled (left_in labels.old) (map expr_tree exprs.now)) }
-    ensures rest { OnOk result (left_in labels.new ≡ behind (left_in labels.old) (flat_map calls (map expr_tree exprs.now))) }
+        ≡ labelled_each names labelled (left_in labels.old) (map expr_tree exprs.now)) }
+    ensures rest { OnOk result (left_in labels.new ≡ behind (left_in labels.old) (names_of_each names (map expr_tree exprs.now))) }
 {
     let mut copies = Vec::new(alloc);
     for expr in exprs {
@@ -64,15 +65,14 @@ fn labelled_each(alloc: Global, labels: &mut Labels, exprs: &[Expr]) -> Result<V
 #[cycle(labelled)]
 fn labelled_rows(alloc: Global, labels: &mut Labels, rows: &[Row]) -> Result<Vec<Row>, NoMemory>
     ensures trees { IfOk result (λ copies. map row_tree copies.items
-        ≡ labelled_each row_calls labelled_row (left_in labels.old) (map row_tree rows.now)) }
-    ensures rest { OnOk result (left_in labels.new ≡ behind (left_in labels.old) (flat_map row_calls (map row_tree rows.now))) }
+        ≡ labelled_each row_names labelled_row (left_in labels.old) (map row_tree rows.now)) }
+    ensures rest { OnOk result (left_in labels.new ≡ behind (left_in labels.old) (names_of_each row_names (map row_tree rows.now))) }
 {
     let mut copies = Vec::new(alloc);
     for row in rows {
-        copies.push(Row {
-            pattern: copied_pattern(alloc, &row.pattern)?,
-            body: labelled(alloc, labels, &row.body)?,
-        })?;
+        let pattern = labelled_pattern(alloc, labels, &row.pattern)?;
+        let body = labelled(alloc, labels, &row.body)?;
+        copies.push(Row { pattern, body })?;
     }
     Ok(copies)
 }
@@ -84,9 +84,9 @@ fn labelled_statements(
     statements: &[Statement],
 ) -> Result<Vec<Statement>, NoMemory>
     ensures trees { IfOk result (λ copies. map statement_tree copies.items
-        ≡ labelled_each statement_calls labelled_statement (left_in labels.old) (map statement_tree statements.now)) }
+        ≡ labelled_each statement_names labelled_statement (left_in labels.old) (map statement_tree statements.now)) }
     ensures rest { OnOk result (left_in labels.new
-        ≡ behind (left_in labels.old) (flat_map statement_calls (map statement_tree statements.now))) }
+        ≡ behind (left_in labels.old) (names_of_each statement_names (map statement_tree statements.now))) }
 {
     let mut copies = Vec::new(alloc);
     for statement in statements {

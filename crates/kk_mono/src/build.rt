@@ -1,44 +1,146 @@
-ghost use Rattle.std.specs.Prelude.{◌≡◌, ◌<◌, length, All, IfOk};
-ghost use Rattle.kk_syntax.specs.Programs.{function_tree};
-ghost use Rattle.kk_mono.specs.Building.{IsBuiltOf, IsBuilt};
+ghost use Rattle.std.specs.Prelude.{◌≡◌, ◌==◌, ◌<◌, count_by, length, map, All, IfOk};
+ghost use Rattle.std.specs.List.{AllZip};
+ghost use Rattle.kk_syntax.specs.Programs.{function_tree, constructor_tree};
+ghost use Rattle.kk_mono.specs.Building.{ArePlaces, IsBuiltOf, AreBuilt, IsMadeAs, IsMadeOf, IsBuilt};
 ghost use Rattle.kk_mono.specs.KeyTrees.{KeyTree, key_tree, keys_in};
+ghost use Rattle.kk_mono.specs.Tables.{Grows};
+ghost use Rattle.kk_mono.specs.Views.{types_in};
 
 use crate::body::labelled;
-use crate::keys::Key;
+use crate::keys::{Key, Keys};
 use crate::labels::Labels;
+use crate::numbers::numbers_of_written;
 use crate::search::{Found, Looked};
+use crate::types::Types;
 use kk_base::NoMemory;
 use kk_syntax::{
-    Fun, Ground, Instance, Program, copied_declarations, copied_texts,
+    Constructor, Fun, Ground, GroundConstructor, GroundType, Instance, Program,
+    copied_declarations, copied_texts,
 };
 use std::alloc::Global;
 
-/// The instances that have been found, as a program.
-pub fn ground(alloc: Global, program: &Program, found: Found) -> Result<Ground, NoMemory>
-    requires within { All (λ (key : KeyTree). key.function < length program.now.functions.items) (keys_in found.keys) }
+/// The instances that have been found, as a program, with the numbers of nodes that are told of them.
+pub fn ground(
+    alloc: Global,
+    program: &Program,
+    found: Found,
+    greatest_nodes: u64,
+    summed_nodes: u64,
+) -> Result<Ground, NoMemory>
+    requires functions { All (λ (key : KeyTree). key.number < length program.now.functions.items) (keys_in found.keys) }
     requires full { length found.looked.items ≡ length (keys_in found.keys) }
-    ensures { IfOk result (λ given. IsBuilt program.now found given) }
+    requires constructors { All (λ (key : KeyTree). key.number < length program.now.constructors.items) (keys_in found.constructors) }
+    requires types { All (λ (key : KeyTree). All (λ n. n < length (types_in found.types)) key.at) (keys_in found.constructors) }
+    ensures built { IfOk result (λ given. IsBuilt program.now found given) }
+    ensures greatest { IfOk result (λ given. given.greatest_nodes ≡ greatest_nodes) }
+    ensures summed { IfOk result (λ given. given.summed_nodes ≡ summed_nodes) }
 {
     let Found {
-        types,
+        mut types,
         keys,
+        constructors,
         looked,
     } = found;
+    let constructors = ground_constructors(alloc, &mut types, &program.constructors, &constructors)?;
+    let instances = all_instances(alloc, program, &keys, looked)?;
+    Ok(Ground {
+        declarations: copied_declarations(alloc, &program.types)?,
+        texts: copied_texts(alloc, &program.texts)?,
+        types: types.into_nodes(alloc)?,
+        constructors,
+        instances,
+        greatest_nodes,
+        summed_nodes,
+    })
+}
+
+// The instances that have been found, by what has been seen in them.
+fn all_instances(
+    alloc: Global,
+    program: &Program,
+    keys: &Keys,
+    looked: Vec<Looked>,
+) -> Result<Vec<Instance>, NoMemory>
+    requires functions { All (λ (key : KeyTree). key.number < length program.now.functions.items) (keys_in keys.now) }
+    requires full { length looked.items ≡ length (keys_in keys.now) }
+    ensures { IfOk result (λ instances. AreBuilt program.now (keys_in keys.now) looked.items instances.items) }
+{
     let mut instances = Vec::new(alloc);
     for seen in looked {
         let key = keys.get(instances.len());
-        let function = &program.functions[key.function as usize];
+        let function = &program.functions[key.number as usize];
         instances.push(instance(alloc, function, key, seen)?)?;
     }
-    Ok(Ground {
-        declarations: copied_declarations(alloc, &program.types)?,
-        constructors: Vec::new(alloc),
-        greatest_nodes: 0,
-        summed_nodes: 0,
-        texts: copied_texts(alloc, &program.texts)?,
-        types: types.into_nodes(alloc)?,
-        instances,
+    Ok(instances)
+}
+
+// The ground constructors that are known. The types of their values and fields are added.
+fn ground_constructors(
+    alloc: Global,
+    types: &mut Types,
+    constructors: &[Constructor],
+    known: &Keys,
+) -> Result<Vec<GroundConstructor>, NoMemory>
+    requires constructors { All (λ (key : KeyTree). key.number < length constructors.now) (keys_in known.now) }
+    requires types { All (λ (key : KeyTree). All (λ n. n < length (types_in types.old)) key.at) (keys_in known.now) }
+    ensures grows { Grows (types_in types.old) (types_in types.new) }
+    ensures are { IfOk result (λ made. AllZip (IsMadeOf (map constructor_tree constructors.now) (types_in types.new)) (keys_in known.now) made.items) }
+{
+    let places = places_of(alloc, constructors)?;
+    let mut made = Vec::new(alloc);
+    for number in 0..known.len() {
+        let key = known.get(number);
+        let place = key.number as usize;
+        made.push(ground_constructor(alloc, types, &constructors[place], key, places[place])?)?;
+    }
+    Ok(made)
+}
+
+// A ground constructor, where its tag is given.
+fn ground_constructor(
+    alloc: Global,
+    types: &mut Types,
+    constructor: &Constructor,
+    key: &Key,
+    tag: u32,
+) -> Result<GroundConstructor, NoMemory>
+    requires { All (λ n. n < length (types_in types.old)) (key_tree key.now).at }
+    ensures grows { Grows (types_in types.old) (types_in types.new) }
+    ensures is { IfOk result (λ made. IsMadeAs (constructor_tree constructor.now) (types_in types.new) (key_tree key.now) tag made) }
+{
+    let arguments = Vec::from_slice(alloc, &key.arguments)?;
+    let of_type = types.number(GroundType::Named(constructor.of_type, arguments))?;
+    let fields = numbers_of_written(alloc, types, &key.arguments, &constructor.fields)?;
+    Ok(GroundConstructor {
+        constructor: key.number,
+        of_type,
+        tag,
+        fields,
     })
+}
+
+// How many constructors are of a type.
+fn count_of_type(constructors: &[Constructor], of_type: u32) -> usize
+    ensures { result ≡ count_by (λ c. c.of_type == of_type) constructors.now }
+{
+    constructors.iter().filter(|c| c.of_type == of_type).count()
+}
+
+// For each constructor its place among those of its type.
+fn places_of(alloc: Global, constructors: &[Constructor]) -> Result<Vec<u32>, NoMemory>
+    ensures as_many { IfOk result (λ places. length places.items ≡ length constructors.now) }
+    ensures are { IfOk result (λ places. ArePlaces (map constructor_tree constructors.now) places.items) }
+{
+    let mut places = Vec::new(alloc);
+    for number in 0..constructors.len() {
+        let of_type = constructors[number].of_type;
+        let count = count_of_type(&constructors[..number], of_type);
+        let Ok(place) = u32::try_from(count) else {
+            return Err(NoMemory);
+        };
+        places.push(place)?;
+    }
+    Ok(places)
 }
 
 // An instance of a function, by what has been seen in it.
@@ -50,10 +152,11 @@ fn instance(alloc: Global, function: &Fun, key: &Key, seen: Looked) -> Result<In
         result,
         taken,
         called,
+        constructed,
     } = seen;
-    let body = labelled(alloc, &mut Labels::new(called), &function.body)?;
+    let body = labelled(alloc, &mut Labels::new(called, constructed), &function.body)?;
     Ok(Instance {
-        function: key.function,
+        function: key.number,
         arguments: Vec::from_slice(alloc, &key.arguments)?,
         parameters,
         result,

@@ -1,33 +1,42 @@
-ghost use Rattle.std.specs.Prelude.{◌≡◌, ◌<◌, List, length, [], ◌∷◌, ◌++◌, map, Some, slice_get, IfOk, OnOk};
-ghost use Rattle.kk_mono.specs.Instances.{FirstSights};
-ghost use Rattle.kk_mono.specs.KeyTrees.{KeyTree, key_tree, keys_in, keys_called};
+ghost use Rattle.std.specs.Prelude.{◌≡◌, ◌<◌, ◌↔◌, length, [], ◌∷◌, map, Contains, IsTrue, Some, slice_get, IfOk, OnOk};
+ghost use Rattle.kk_mono.specs.KeyTrees.{Sees, key_tree, keys_in, keys_called};
 
 use indexmap::IndexSet;
 use kk_base::NoMemory;
 use kk_syntax::Taken;
 use std::alloc::Global;
 
-/// An instance: a function, and the numbers of the types that stand for its type variables.
+/// An instance or a ground constructor: the number of its function or constructor, and the numbers of the types that stand
+/// for its type variables.
 #[derive(Debug, PartialEq, Eq, Hash, Drop)]
 pub struct Key {
-    pub function: u32,
+    pub number: u32,
     pub arguments: Vec<u32>,
 }
 
-/// The instances that are known, each once, in the order of first sight.
+/// The instances or the ground constructors that are known, each once, in the order of first sight.
 #[derive(Debug, Drop)]
 pub struct Keys {
     keys: IndexSet<Key>,
 }
 
 impl Keys {
+    /// None.
+    pub fn new(alloc: Global) -> Keys
+        ensures { keys_in result ≡ [] }
+    {
+        Keys {
+            keys: IndexSet::new(alloc),
+        }
+    }
+
     /// `main` alone.
-    pub fn new(alloc: Global, main: u32) -> Result<Keys, NoMemory>
-        ensures { IfOk result (λ known. keys_in known ≡ record { function = main; at = [] } ∷ []) }
+    pub fn with_main(alloc: Global, main: u32) -> Result<Keys, NoMemory>
+        ensures { IfOk result (λ known. keys_in known ≡ record { number = main; at = [] } ∷ []) }
     {
         let mut keys = IndexSet::new(alloc);
         keys.insert(Key {
-            function: main,
+            number: main,
             arguments: Vec::new(alloc),
         })?;
         Ok(Keys { keys })
@@ -40,7 +49,7 @@ impl Keys {
         self.keys.len()
     }
 
-    /// An instance by its number.
+    /// A key by its number.
     pub fn get(&self, number: usize) -> &Key
         requires { number < length (keys_in self.now) }
         ensures { slice_get (keys_in self.now) number ≡ Some (key_tree result.now) }
@@ -48,10 +57,16 @@ impl Keys {
         &self.keys[number]
     }
 
-    /// The number of an instance, which is added where it is not there.
+    /// Whether a key is known.
+    pub fn contains(&self, key: &Key) -> bool
+        ensures { IsTrue result ↔ Contains (keys_in self.now) (key_tree key.now) }
+    {
+        self.keys.contains(key)
+    }
+
+    /// The number of a key, which is added where it is not there.
     pub fn number(&mut self, key: Key) -> Result<u32, NoMemory>
-        ensures sights { OnOk result ((new : List KeyTree) × FirstSights (keys_in self.old) (key_tree key ∷ []) new
-            × (keys_in self.new ≡ keys_in self.old ++ new)) }
+        ensures sees { OnOk result (Sees (keys_in self.old) (keys_in self.new) (key_tree key ∷ [])) }
         ensures is { IfOk result (λ n. slice_get (keys_in self.new) n ≡ Some (key_tree key)) }
     {
         let (index, _) = self.keys.insert_full(key)?;
@@ -68,8 +83,7 @@ pub fn numbers_of_called(
     keys: &mut Keys,
     taken: &[Taken],
 ) -> Result<Vec<u32>, NoMemory>
-    ensures sights { OnOk result ((new : List KeyTree) × FirstSights (keys_in keys.old) (keys_called taken.now) new
-        × (keys_in keys.new ≡ keys_in keys.old ++ new)) }
+    ensures sees { OnOk result (Sees (keys_in keys.old) (keys_in keys.new) (keys_called taken.now)) }
     ensures are { IfOk result (λ numbers. map (slice_get (keys_in keys.new)) numbers.items ≡ map Some (keys_called taken.now)) }
 {
     let mut numbers = Vec::new(alloc);
@@ -78,11 +92,8 @@ pub fn numbers_of_called(
             continue;
         };
         let arguments = Vec::from_slice(alloc, at)?;
-        let function = *function;
-        numbers.push(keys.number(Key {
-            function,
-            arguments,
-        })?)?;
+        let number = *function;
+        numbers.push(keys.number(Key { number, arguments })?)?;
     }
     Ok(numbers)
 }

@@ -13,7 +13,8 @@ use kk_syntax::{Ground, Typed};
 use std::alloc::Global;
 
 /// The instances of a program: `main`, and each function that is called in one, at the types that stand for its type
-/// variables there, in the order of first sight. Or the limit that the program passes first: on the nodes of a function,
+/// variables there, in the order of first sight; and their ground constructors: those of `bool`, and those of each type with
+/// whose constructors one builds or matches, in the order of first sight. Or the limit that the program passes first: on the nodes of a function,
 /// on the number of the instances, or on their nodes in all.
 ///
 /// At each instance the time is linear in its function's body and types, however large the types are where they are written
@@ -30,12 +31,13 @@ pub fn instances_as_typed(alloc: Global, typed: &Typed) -> Result<Ground, MonoEr
     requires { IsComplete typed.now }
     ensures { IsFound typed.now result }
 {
-    if let Err(limit) = check_nodes(&typed.program.functions) {
-        return Err(MonoError::Over(limit));
-    }
+    let greatest = match check_nodes(&typed.program.functions) {
+        Ok(greatest) => greatest,
+        Err(limit) => return Err(MonoError::Over(limit)),
+    };
     let found = search(alloc, typed)?;
     match check_instances(&typed.program, &found.keys) {
-        Ok(()) => Ok(ground(alloc, &typed.program, found)?),
+        Ok(summed) => Ok(ground(alloc, &typed.program, found, greatest, summed)?),
         Err(limit) => Err(MonoError::Over(limit)),
     }
 }

@@ -1,14 +1,18 @@
-ghost use Rattle.std.specs.Prelude.{◌≡◌, ◌+◌, ◌<◌, length, All, IfOk, OnOk};
+ghost use Rattle.std.specs.Prelude.{◌≡◌, ◌+◌, ◌<◌, length, map, All, IfOk, OnOk};
+ghost use Rattle.kk_syntax.specs.Programs.{constructor_tree};
+ghost use Rattle.kk_syntax.specs.TypedPrograms.{typing_of};
 ghost use Rattle.kk_mono.specs.KeyTrees.{keys_in};
-ghost use Rattle.kk_mono.specs.Looking.{Looks};
-ghost use Rattle.kk_mono.specs.Searching.{IsComplete, known_in, IsSearching, HasSearched};
+ghost use Rattle.kk_mono.specs.Looking.{Looks, Uses};
+ghost use Rattle.kk_mono.specs.Searching.{AreConstructionsBelow, IsComplete, known_in, IsSearching, HasSearched};
+ghost use Rattle.kk_mono.specs.Siblings.{HaveSiblings};
 ghost use Rattle.kk_mono.specs.Views.{types_in};
 
+use crate::constructors::{constructors_of_bool, numbers_of_constructed};
 use crate::keys::{Keys, numbers_of_called};
 use crate::numbers::{number_of_written, numbers_of_nodes, numbers_of_written, taken_at};
 use crate::types::Types;
 use kk_base::{LimitKind, NoMemory};
-use kk_syntax::{BodyTypes, Fun, Taken, Typed};
+use kk_syntax::{BodyTypes, Constructor, Fun, Taken, Typed};
 use std::alloc::Global;
 
 /// What has been seen in an instance.
@@ -22,13 +26,17 @@ pub struct Looked {
     pub taken: Vec<Taken>,
     /// The numbers of the instances that it calls, in the order of the text.
     pub called: Vec<u32>,
+    /// The numbers of the ground constructors with which it builds and matches, in the order of the text.
+    pub constructed: Vec<u32>,
 }
 
-/// The search for the instances: those that are known, of which the first so many have been looked at.
+/// The search for the instances: those that are known, of which the first so many have been looked at, and their ground
+/// constructors.
 #[derive(Debug, Drop)]
 pub struct Found {
     pub types: Types,
     pub keys: Keys,
+    pub constructors: Keys,
     pub looked: Vec<Looked>,
 }
 
@@ -40,7 +48,8 @@ pub fn search(alloc: Global, typed: &Typed) -> Result<Found, NoMemory>
 {
     let mut found = Found {
         types: Types::new(alloc)?,
-        keys: Keys::new(alloc, typed.program.main)?,
+        keys: Keys::with_main(alloc, typed.program.main)?,
+        constructors: constructors_of_bool(alloc, &typed.program.constructors)?,
         looked: Vec::new(alloc),
     };
     let greatest = LimitKind::Instances.greatest() as usize;
@@ -60,12 +69,14 @@ impl Found {
         ensures more { OnOk result (length self.new.looked.items ≡ length self.old.looked.items + 1) }
     {
         let key = self.keys.get(self.looked.len());
-        let function = key.function as usize;
+        let function = key.number as usize;
         let at = Vec::from_slice(alloc, &key.arguments)?;
         let looked = looked_at(
             alloc,
             &mut self.types,
             &mut self.keys,
+            &mut self.constructors,
+            &typed.program.constructors,
             &typed.program.functions[function],
             &typed.bodies[function],
             &at,
@@ -80,16 +91,23 @@ fn looked_at(
     alloc: Global,
     types: &mut Types,
     keys: &mut Keys,
+    known: &mut Keys,
+    constructors: &[Constructor],
     function: &Fun,
     body: &BodyTypes,
     at: &[u32],
 ) -> Result<Looked, NoMemory>
-    requires { All (λ n. n < length (types_in types.old)) at.now }
-    ensures { IfOk result (λ looked. Looks (types_in types.old) (types_in types.new) at.now (keys_in keys.old) (keys_in keys.new) function.now body.now looked) }
+    requires within { All (λ n. n < length (types_in types.old)) at.now }
+    requires whole { HaveSiblings (map constructor_tree constructors.now) (keys_in known.old) }
+    requires there { AreConstructionsBelow (length constructors.now) (typing_of body.now) }
+    ensures looks { IfOk result (λ looked. Looks (types_in types.old) (types_in types.new) at.now (keys_in keys.old) (keys_in keys.new)
+        function.now body.now looked) }
+    ensures uses { IfOk result (λ looked. Uses (map constructor_tree constructors.now) (keys_in known.old) (keys_in known.new) looked) }
 {
     let numbers = numbers_of_nodes(alloc, types, at, &body.nodes)?;
     let taken = taken_at(alloc, &numbers, &body.taken)?;
     let called = numbers_of_called(alloc, keys, &taken)?;
+    let constructed = numbers_of_constructed(alloc, known, constructors, &taken)?;
     let parameters = numbers_of_written(alloc, types, at, &function.parameters)?;
     let result = number_of_written(alloc, types, at, &function.result)?;
     Ok(Looked {
@@ -97,5 +115,6 @@ fn looked_at(
         result,
         taken,
         called,
+        constructed,
     })
 }

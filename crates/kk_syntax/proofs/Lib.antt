@@ -1,5 +1,6 @@
 pub mod Blocks
 pub mod Closed
+pub mod DeclaredTrees
 pub mod Elements
 pub mod Gathered
 pub mod GroundTypes

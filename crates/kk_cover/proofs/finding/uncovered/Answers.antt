@@ -2,6 +2,7 @@ use Rattle.std.proofs.Common.{◌≡◌, ◌<◌, true, false, List, [], ◌∷�
 use Rattle.std.proofs.lemmas.Bool.{eqb-true}
 use Rattle.std.proofs.lemmas.List.{nil_from_length}
 use Rattle.kk_syntax.specs.Programs.{program_tree}
+use Rattle.kk_syntax.proofs.DeclaredTrees.{trees_declared}
 use Rattle.kk_cover.specs.declared.problem.Problem.{Problem}
 use Rattle.kk_cover.specs.Covered.{row_outlines}
 use Rattle.kk_syntax.specs.Outlines.{pattern_outline}
@@ -37,7 +38,7 @@ search-preserved c =
     let settled = subst (λ (xs : List Problem). Settled program p (map problem_view xs) children) c.new-children.ensures.items c.in_ok-settle.ensures in
     let picked = subst (λ (o : Option Problem). Picks program children (option_map problem_view o)) c.in-Some.is c.in_ok-next.ensures in
     record {
-      going = picks_next program (row_outlines c.args.rows.now) p (problem_view c.in-Some.next) children settled picked c.search.invariant.going;
+      going = picks_next program (trees_declared c.args.program.now.constructors.items) (row_outlines c.args.rows.now) p (problem_view c.in-Some.next) children settled picked c.search.invariant.going;
       few = picked_few program (problem_view c.in-Some.next) children picked (settled_few program p c.search.invariant.few [] children settled tt);
     }
 
@@ -61,7 +62,7 @@ returns-in-None c = λ t typed e example.
     let children = map problem_view c.settle.new.problems.items in
     let settled = subst (λ (xs : List Problem). Settled program p (map problem_view xs) children) c.new-children.ensures.items c.in_ok-settle.ensures in
     let tells = subst (λ (o : Option Problem). Picks program children (option_map problem_view o)) c.in-None.is c.in_ok-next.ensures in
-    picks_none program (row_outlines c.args.rows.now) p children settled tells c.search.invariant.going t typed
+    picks_none program (trees_declared c.args.program.now.constructors.items) (row_outlines c.args.rows.now) p children settled tells c.search.invariant.going t typed
 
 pub returns : goal.returns
 returns c =

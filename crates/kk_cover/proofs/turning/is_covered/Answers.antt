@@ -2,6 +2,7 @@ use Rattle.std.proofs.Common.{◌≡◌, ◌<◌, List, [], ◌∷◌, ◌++◌,
 use Rattle.std.proofs.lemmas.Bool.{eqb-true}
 use Rattle.std.proofs.lemmas.List.{nil_from_length}
 use Rattle.kk_syntax.specs.Programs.{program_tree}
+use Rattle.kk_syntax.proofs.DeclaredTrees.{trees_declared}
 use Rattle.kk_cover.specs.declared.problem.Problem.{Problem}
 use Rattle.kk_cover.specs.Problems.{OpenProblem, problem_view, row_view, IsFew, Settled}
 use Rattle.kk_cover.specs.Turned.{turned}
@@ -37,7 +38,7 @@ search-preserved c =
     let popped = popped_view c.search.problems.items c.pop.new.self.items c.in-Some.current c.in-Some.ensures.items in
     let few : Each IsFew (before ++ (q ∷ [])) = subst (Each IsFew) popped c.search.invariant.few in
     record {
-      decided = goes_on program p (turned q) before after settled (turns program p q before (subst (Decided program p) popped c.search.invariant.decided));
+      decided = goes_on program (trees_declared c.args.program.now.constructors.items) p (turned q) before after settled (turns program p q before (subst (Decided program p) popped c.search.invariant.decided));
       few = settled_few program (turned q) (turned_few q (each_back IsFew before (q ∷ []) few).0) before after settled (each_front IsFew before (q ∷ []) few);
     }
 

@@ -1,6 +1,5 @@
 use Rattle.kk_syntax.specs.Trees.{expr_tree, row_tree, statement_tree}
-use Rattle.kk_mono.specs.Instances.{calls}
-use Rattle.kk_mono.specs.Labels.{left_in, labelled, row_calls, labelled_row, statement_calls, labelled_statement}
+use Rattle.kk_mono.specs.Labels.{left_in, names, labelled, row_names, labelled_row, statement_names, labelled_statement}
 use Rattle.kk_mono.proofs.Labelled.{each_more, apply_labelled, branch_labelled, match_labelled, block_copied, row_copied, statement_copied}
 use Rattle.kk_mono.proofs.body.+labelled.Goals as goal
 
@@ -42,20 +41,21 @@ labelled-returns-in_ok-value-in-Block-clause-rest t c =
 
 pub labelled_each-loop-expr-preserved : goal.labelled_each-loop-expr-preserved
 labelled_each-loop-expr-preserved t c =
-    let more = each_more calls labelled expr_tree (left_in c.args.labels.now) (left_in c.loop-expr.labels) (left_in c.labelled.new.labels) c.args.exprs.now c.loop-expr.copies.items c.push.new.self.items c.expr-item.result c.in_ok-labelled.field-0 c.loop-expr.expr-index
+    let more = each_more names labelled expr_tree (left_in c.args.labels.now) (left_in c.loop-expr.labels) (left_in c.labelled.new.labels) c.args.exprs.now c.loop-expr.copies.items c.push.new.self.items c.expr-item.result c.in_ok-labelled.field-0 c.loop-expr.expr-index
     c.loop-expr-test.true c.expr-item.is c.loop-expr.invariant.trees c.loop-expr.invariant.rest c.in_ok-push.ensures.items c.in_ok-labelled.ensures.tree c.in_ok-labelled.ensures.rest in
     record { trees = more.0; rest = more.1 }
 
 pub labelled_rows-loop-row-preserved : goal.labelled_rows-loop-row-preserved
 labelled_rows-loop-row-preserved t c =
-    let copy = row_copied (left_in c.loop-row.labels) (left_in c.labelled.new.labels) c.row-item.result c.in_ok-copied_pattern.field-0 c.in_ok-labelled.field-0 c.in_ok-copied_pattern.ensures c.in_ok-labelled.ensures.tree c.in_ok-labelled.ensures.rest in
-    let more = each_more row_calls labelled_row row_tree (left_in c.args.labels.now) (left_in c.loop-row.labels) (left_in c.labelled.new.labels) c.args.rows.now c.loop-row.copies.items c.push.new.self.items c.row-item.result (record { pattern = c.in_ok-copied_pattern.field-0; body = c.in_ok-labelled.field-0 }) c.loop-row.row-index
+    let copy = row_copied (left_in c.loop-row.labels) (left_in c.labelled_pattern.new.labels) (left_in c.labelled.new.labels) c.row-item.result c.in_ok-pattern.pattern c.in_ok-body.body
+    c.in_ok-pattern.ensures.tree c.in_ok-pattern.ensures.rest c.in_ok-body.ensures.tree c.in_ok-body.ensures.rest in
+    let more = each_more row_names labelled_row row_tree (left_in c.args.labels.now) (left_in c.loop-row.labels) (left_in c.labelled.new.labels) c.args.rows.now c.loop-row.copies.items c.push.new.self.items c.row-item.result (record { pattern = c.in_ok-pattern.pattern; body = c.in_ok-body.body }) c.loop-row.row-index
     c.loop-row-test.true c.row-item.is c.loop-row.invariant.trees c.loop-row.invariant.rest c.in_ok-push.ensures.items copy.0 copy.1 in
     record { trees = more.0; rest = more.1 }
 
 pub labelled_statements-loop-statement-preserved : goal.labelled_statements-loop-statement-preserved
 labelled_statements-loop-statement-preserved t c =
     let copy = statement_copied (left_in c.loop-statement.labels) (left_in c.labelled.new.labels) c.statement-item.result c.in_ok-labelled.field-0 c.in_ok-labelled.ensures.tree c.in_ok-labelled.ensures.rest in
-    let more = each_more statement_calls labelled_statement statement_tree (left_in c.args.labels.now) (left_in c.loop-statement.labels) (left_in c.labelled.new.labels) c.args.statements.now c.loop-statement.copies.items c.push.new.self.items c.statement-item.result (record { binder = c.statement-item.result.binder; value = c.in_ok-labelled.field-0 }) c.loop-statement.statement-index
+    let more = each_more statement_names labelled_statement statement_tree (left_in c.args.labels.now) (left_in c.loop-statement.labels) (left_in c.labelled.new.labels) c.args.statements.now c.loop-statement.copies.items c.push.new.self.items c.statement-item.result (record { binder = c.statement-item.result.binder; value = c.in_ok-labelled.field-0 }) c.loop-statement.statement-index
     c.loop-statement-test.true c.statement-item.is c.loop-statement.invariant.trees c.loop-statement.invariant.rest c.in_ok-push.ensures.items copy.0 copy.1 in
     record { trees = more.0; rest = more.1 }

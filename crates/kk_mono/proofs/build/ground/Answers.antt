@@ -1,8 +1,20 @@
-use Rattle.kk_mono.specs.KeyTrees.{key_tree, keys_in}
-use Rattle.kk_mono.proofs.Built.{built_more}
+use Rattle.std.proofs.Common.{map, ◌∙◌, subst}
+use Rattle.std.specs.List.{AllZip}
+use Rattle.kk_syntax.specs.Programs.{constructor_tree}
+use Rattle.kk_mono.specs.Building.{IsMadeOf}
+use Rattle.kk_mono.specs.KeyTrees.{keys_in}
+use Rattle.kk_mono.specs.Views.{types_in}
 use Rattle.kk_mono.proofs.build.ground.Goals as goal
 
-pub loop-seen-preserved : goal.loop-seen-preserved
-loop-seen-preserved c =
-    built_more c.args.program.now (keys_in c.args.found.keys) c.loop-seen.yielded c.loop-seen.instances.items c.push.new.self.items (key_tree c.get-key.result.now) c.in-Some.seen c.in_ok-instance.field-0 c.index-function.result.now c.len.result
-    c.loop-seen.instances.ok.0 c.len.ensures c.get-key.ensures c.requires.within c.index-function.ensures c.in_ok-instance.ensures c.in_ok-push.ensures.items c.loop-seen.invariant
+pub returns-clause-built : goal.returns-clause-built
+returns-clause-built c =
+    let table = c.ground_constructors.new.types in
+    record {
+      declarations = c.in_ok-copied_declarations.ensures ∙ c.deref-2.ensures.value;
+      texts = c.in_ok-copied_texts.ensures ∙ c.deref-3.ensures.value;
+      table = table;
+      types = c.in_ok-into_nodes.ensures;
+      grows = c.ground_constructors.ensures.grows;
+      constructors = subst (λ cs. AllZip (IsMadeOf (map constructor_tree cs) (types_in table)) (keys_in c.args.found.constructors) c.in_ok-constructors.constructors.items) c.deref.ensures.value c.in_ok-constructors.ensures.are;
+      instances = c.in_ok-instances.ensures;
+    }

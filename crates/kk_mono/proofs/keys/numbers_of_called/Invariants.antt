@@ -4,4 +4,5 @@ use Rattle.kk_mono.proofs.Keyed.{Calling}
 use Rattle.kk_mono.proofs.keys.numbers_of_called.Given as goal
 
 abbrev pub invariant-loop-choice : goal.invariant-loop-choice
-invariant-loop-choice l = Calling (keys_in l.initial.keys) (keys_in l.keys) l.numbers.items (keys_called (take l.choice-index l.taken))
+invariant-loop-choice l =
+    Calling (keys_in l.initial.keys) (keys_in l.keys) l.numbers.items (keys_called (take l.choice-index l.taken)) (keys_called (take l.choice-index l.taken))

@@ -5,8 +5,8 @@ use Rattle.kk_mono.specs.contracts.keys.KeyPartialEq.TheImpl.{eq-value}
 use Rattle.kk_mono.proofs.Keyed.{key_sighted, key_found}
 use Rattle.kk_mono.proofs.keys.Keys.number.Goals as goal
 
-pub returns-in-Ok-clause-sights : goal.returns-in-Ok-clause-sights
-returns-in-Ok-clause-sights c = key_sighted c.args.self.now.keys.keys c.insert_full.new.self.keys c.args.key c.in_ok-index.ensures.keys
+pub returns-in-Ok-clause-sees : goal.returns-in-Ok-clause-sees
+returns-in-Ok-clause-sees c = key_sighted c.args.self.now.keys.keys c.insert_full.new.self.keys c.args.key c.in_ok-index.ensures.keys
 
 -- the number that the call gave
 numbered : {E : Type 0} (result : Result (ℕ × Bool) E) (after : List Key) (key : Key) (n number : ℕ) (b : Bool) → IfOk result (λ found. (other : Key) × (slice_get after found.0 ≡ Some other) × (eq-value.it key other ≡ true)) → result ≡ Ok (n, b) → number ≡ n

@@ -1,0 +1,28 @@
+-- The constructors of a type, by the numbers of its types.
+use Rattle.std.specs.Prelude.{ℕ, ◌+◌, ◌==◌, List, [], ◌∷◌, map, Contains, if◌then◌else◌, slice_index_or}
+use Rattle.kk_syntax.specs.Programs.{ConstructorTree, no_constructor}
+use Rattle.kk_mono.specs.KeyTrees.{KeyTree}
+
+-- the number of a constructor's type
+abbrev pub type_of : List ConstructorTree → ℕ → ℕ
+type_of constructors c = (slice_index_or constructors c no_constructor).of_type
+
+-- the numbers of the constructors of a declared type, where the first one has this number
+abbrev pub members_from : ℕ → List ConstructorTree → ℕ → List ℕ
+members_from first [] by = []
+members_from first (c ∷ cs) by = if c.of_type == by then first ∷ members_from (first + 1) cs by else members_from (first + 1) cs by
+
+abbrev pub members : List ConstructorTree → ℕ → List ℕ
+members = members_from 0
+
+-- the ground constructors of a declared type at types
+abbrev pub keys_of : List ConstructorTree → ℕ → List ℕ → List KeyTree
+keys_of constructors by at = map (λ n. record { number = n; at = at }) (members constructors by)
+
+-- those of the type of one of them
+abbrev pub siblings : List ConstructorTree → KeyTree → List KeyTree
+siblings constructors key = keys_of constructors (type_of constructors key.number) key.at
+
+-- with each ground constructor all others of its type are there
+abbrev pub HaveSiblings : List ConstructorTree → List KeyTree → Type 0
+HaveSiblings constructors keys = (key other : KeyTree) → Contains keys key → Contains (siblings constructors key) other → Contains keys other
