@@ -241,45 +241,45 @@ constructed_works d e emitter c arguments going writes owns is works =
     (λ sound. leaves_sound d (computed d (OfForm.Construct c) arguments arguments) refl refl (omega arith) (whole_more d.inside d.splits d.steps _ d.ending (tt, tt)) sound
     (λ lent free one. sound_computed lent d (OfForm.Construct c) arguments arguments one (writes going).0 (writes going).1 (owns going).1 (λ functions. refl) (λ functions. tt) (λ functions have. tt) (free d.next (omega arith) (omega arith)))) is works
 
-plain_used : (positions : PositionTable) (functions : List CountedFunction) (form : Form) (arguments : List ℕ) → IsPlain form arguments → used_by positions functions form arguments ≡ arguments
-plain_used positions functions (OfForm.Number n) arguments plain = refl
-plain_used positions functions OfForm.Unit arguments plain = refl
-plain_used positions functions OfForm.ReadByte arguments plain = refl
-plain_used positions functions (OfForm.PrintText form text) arguments plain = refl
-plain_used positions functions (OfForm.Unary operator) arguments plain = refl
-plain_used positions functions (OfForm.Binary operator) arguments plain = refl
-plain_used positions functions (OfForm.Print form) arguments plain = refl
-plain_used positions functions (OfForm.Construct c) arguments plain = refl
-plain_used positions functions (OfForm.Call f) arguments plain = absurd plain
+plain_used : (d : Draft) (functions : List CountedFunction) (form : Form) (arguments : List ℕ) → IsPlain d form arguments → used_by d.positions functions form arguments ≡ arguments
+plain_used d functions (OfForm.Number n) arguments plain = refl
+plain_used d functions OfForm.Unit arguments plain = refl
+plain_used d functions OfForm.ReadByte arguments plain = refl
+plain_used d functions (OfForm.PrintText form text) arguments plain = refl
+plain_used d functions (OfForm.Unary operator) arguments plain = refl
+plain_used d functions (OfForm.Binary operator) arguments plain = refl
+plain_used d functions (OfForm.Print form) arguments plain = refl
+plain_used d functions (OfForm.Construct c) arguments plain = refl
+plain_used d functions (OfForm.Call f) arguments plain = absurd plain
 
-plain_lent : (positions : PositionTable) (functions : List CountedFunction) (form : Form) (arguments others : List ℕ) → IsPlain form arguments → AllAmong (lent_by positions functions form arguments) others
-plain_lent positions functions (OfForm.Number n) arguments others plain = tt
-plain_lent positions functions OfForm.Unit arguments others plain = tt
-plain_lent positions functions OfForm.ReadByte arguments others plain = tt
-plain_lent positions functions (OfForm.PrintText form text) arguments others plain = tt
-plain_lent positions functions (OfForm.Unary operator) arguments others plain = tt
-plain_lent positions functions (OfForm.Binary operator) arguments others plain = tt
-plain_lent positions functions (OfForm.Print form) arguments others plain = tt
-plain_lent positions functions (OfForm.Construct c) arguments others plain = tt
-plain_lent positions functions (OfForm.Call f) arguments others plain = absurd plain
+plain_lent : (d : Draft) (functions : List CountedFunction) (form : Form) (arguments others : List ℕ) → IsPlain d form arguments → AllAmong (lent_by d.positions functions form arguments) others
+plain_lent d functions (OfForm.Number n) arguments others plain = tt
+plain_lent d functions OfForm.Unit arguments others plain = tt
+plain_lent d functions OfForm.ReadByte arguments others plain = tt
+plain_lent d functions (OfForm.PrintText form text) arguments others plain = tt
+plain_lent d functions (OfForm.Unary operator) arguments others plain = tt
+plain_lent d functions (OfForm.Binary operator) arguments others plain = tt
+plain_lent d functions (OfForm.Print form) arguments others plain = tt
+plain_lent d functions (OfForm.Construct c) arguments others plain = tt
+plain_lent d functions (OfForm.Call f) arguments others plain = absurd plain
 
-plain_fits : (positions : PositionTable) (functions : List CountedFunction) (form : Form) (arguments : List ℕ) → IsPlain form arguments → FitsForm positions functions form arguments
-plain_fits positions functions (OfForm.Number n) arguments plain = tt
-plain_fits positions functions OfForm.Unit arguments plain = tt
-plain_fits positions functions OfForm.ReadByte arguments plain = tt
-plain_fits positions functions (OfForm.PrintText form text) arguments plain = tt
-plain_fits positions functions (OfForm.Unary operator) arguments plain = tt
-plain_fits positions functions (OfForm.Binary operator) arguments plain = tt
-plain_fits positions functions (OfForm.Print form) arguments plain = tt
-plain_fits positions functions (OfForm.Construct c) arguments plain = tt
-plain_fits positions functions (OfForm.Call f) arguments plain = absurd plain
+plain_fits : (d : Draft) (functions : List CountedFunction) (form : Form) (arguments : List ℕ) → IsPlain d form arguments → FitsForm d.positions functions form arguments
+plain_fits d functions (OfForm.Number n) arguments plain = tt
+plain_fits d functions OfForm.Unit arguments plain = tt
+plain_fits d functions OfForm.ReadByte arguments plain = tt
+plain_fits d functions (OfForm.PrintText form text) arguments plain = tt
+plain_fits d functions (OfForm.Unary operator) arguments plain = tt
+plain_fits d functions (OfForm.Binary operator) arguments plain = tt
+plain_fits d functions (OfForm.Print form) arguments plain = tt
+plain_fits d functions (OfForm.Construct c) arguments plain = tt
+plain_fits d functions (OfForm.Call f) arguments plain = absurd plain
 
-pub plain_works : (d e : Draft) (form : Form) (arguments : List ℕ) → d.failed ≡ false → Writes d → IsPlain form arguments → HoldsAll d arguments → e ≡ computed d form arguments arguments → Works d → Works e
+pub plain_works : (d e : Draft) (form : Form) (arguments : List ℕ) → d.failed ≡ false → Writes d → IsPlain d form arguments → HoldsAll d arguments → e ≡ computed d form arguments arguments → Works d → Works e
 plain_works d e form arguments going writes plain holds is works =
     works_by d e (computed d form arguments arguments) going
     (λ sound. leaves_sound d (computed d form arguments arguments) refl refl (omega arith) (whole_more d.inside d.splits d.steps _ d.ending (tt, tt)) sound
     (λ lent free one. sound_computed lent d form arguments arguments one (writes going).0 (writes going).1 (holds going)
-    (λ functions. plain_used d.positions functions form arguments plain) (λ functions. plain_lent d.positions functions form arguments (lent ++ (minus_all arguments d.owed ++ outside d.uncalled d.splits)) plain) (λ functions have. plain_fits d.positions functions form arguments plain)
+    (λ functions. plain_used d functions form arguments plain) (λ functions. plain_lent d functions form arguments (lent ++ (minus_all arguments d.owed ++ outside d.uncalled d.splits)) plain) (λ functions have. plain_fits d functions form arguments plain)
     (free d.next (omega arith) (omega arith)))) is works
 
 pub called_works : (d e : Draft) (f : ℕ) (arguments : List ℕ) → d.failed ≡ false → Writes d → Takes d f arguments → HoldsAll d (used_in d f arguments) → LendsAll d f arguments → e ≡ computed d (OfForm.Call f) arguments (used_in d f arguments) → Works d → Works e

@@ -2,7 +2,7 @@
 use Rattle.std.specs.Prelude.{◌≡◌, ℕ, zero, suc, ◌+◌, ◌<◌, ◌/◌, ◌%◌, ◌==◌, ◌||◌, Bool, true, false, not, List, [], ◌∷◌, ◌++◌, map}
 use Rattle.std.specs.Prelude.{length, take, Option, Some, None, if◌then◌else◌, slice_index_or}
 use Rattle.kk_syntax.specs.declared.program.Form.{Form}
-use Rattle.kk_syntax.specs.declared.program.Form.TheVariants.{Construct, Call}
+use Rattle.kk_syntax.specs.declared.program.Form.TheVariants.{Unary, Binary, Print, Construct, Call}
 use Rattle.kk_syntax.specs.Shapes.{is_among}
 use Rattle.kk_syntax.specs.PositionsOf.{PositionTable, is_lent}
 use Rattle.kk_core.specs.Decisions.{NodeTree}
@@ -159,11 +159,14 @@ HasFields d constructor count = (constructor < length d.field_counts) × (slice_
 abbrev pub HasField : Draft → ℕ → ℕ → Type 0
 HasField d constructor at = (constructor < length d.field_counts) × (at < slice_index_or d.field_counts constructor 0)
 
--- a form that is no call, and builds no cell
-abbrev pub IsPlain : Form → List ℕ → Type 0
-IsPlain (Call f) arguments = ⊥
-IsPlain (Construct c) arguments = arguments ≡ []
-IsPlain _ arguments = Unit {0}
+-- a form that is no call and builds no cell, on as many arguments as it takes
+abbrev pub IsPlain : Draft → Form → List ℕ → Type 0
+IsPlain d (Unary operator) arguments = length arguments ≡ 1
+IsPlain d (Binary operator) arguments = length arguments ≡ 2
+IsPlain d (Print form) arguments = length arguments ≡ 1
+IsPlain d (Construct c) arguments = HasFields d c 0 × (arguments ≡ [])
+IsPlain d (Call f) arguments = ⊥
+IsPlain d _ arguments = arguments ≡ []
 
 -- an instance is there, and has as many parameters
 abbrev pub Takes : Draft → ℕ → List ℕ → Type 0

@@ -374,7 +374,7 @@ impl<'a> Emitter<'a> {
     /// fields.
     pub fn plain(&mut self, form: Form, arguments: Vec<u32>) -> Result<Owed, Kept>
         requires writes { Writes (state self.old) }
-        requires plain { IsPlain form arguments.items }
+        requires plain { IsPlain (state self.old) form arguments.items }
         requires owns { HoldsAll (state self.old) arguments.items }
         ensures going { OnOk result ((state self.old).failed ≡ false) }
         ensures ok { OnOk result (state self.new ≡ computed (state self.old) form arguments.items arguments.items) }
