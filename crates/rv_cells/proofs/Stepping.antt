@@ -1,0 +1,133 @@
+-- The lines of a form that touches cells do its step of the counted machine.
+use Rattle.std.proofs.Common.{◌≡◌, ◌<◌, ◌≤◌, ℕ, suc, ◌+◌, ◌*◌, Bool, true, List, [], ◌∷◌, ◌++◌, length, Option, Some, None, refl, sym, ◌∙◌, ap, subst, arith}
+use Rattle.std.specs.Prelude.{filter}
+use Rattle.kk_syntax.specs.Shapes.{is_among}
+use Rattle.kk_source.specs.State.{Value, Environment}
+use Rattle.kk_source.specs.Live.{value_of}
+use Rattle.kk_source.specs.Actions.{Action, goes}
+use Rattle.kk_core.specs.CoreMachine.{bind_fields}
+use Rattle.kk_counted.specs.CountedCodes.{Counted, dup, drop, read, open_cell}
+use Rattle.kk_counted.specs.CountedStates.{CountedSetting, CountedJoin, CountedConfiguration, running, stuck}
+use Rattle.kk_counted.specs.CountedMachine.{at_counted, at_stuck, with_heap, Named, cell_named, used_values, opened_heap, open_step, counted_code_step, NotStuck}
+use Rattle.kk_counted.specs.Heaps.{Heap, dup_value, drop_value}
+use Rattle.kk_counted.specs.Spending.{AreApart}
+use Rattle.rv_isa.specs.AsmCode.{Line}
+use Rattle.rv_isa.specs.Frames.{Frame}
+use Rattle.cell_heap.specs.Blocks.{Cells}
+use Rattle.rv_lower.specs.Lines.{Texts}
+use Rattle.rv_lower.specs.Lowered.{Goal}
+use Rattle.rv_cells.specs.Follows.{Owner}
+use Rattle.rv_cells.specs.CellLines.{dup_lines, drop_lines}
+use Rattle.rv_cells.specs.CountedLines.{Setting, CodeLines}
+use Rattle.rv_cells.proofs.Spots.{with_heap as spot_with_heap, AreSmall, Spot, Known, Here, Did, dup_did, drop_did}
+use Rattle.rv_cells.proofs.Rows.{row_cost, with_fields, IsReading, read_did}
+use Rattle.rv_cells.proofs.Openings.{opened_spot, open_cost, open_did}
+
+-- a program's setting of lines, by what is known of it
+abbrev pub setting_of : Known → Texts → Setting
+setting_of known texts = record { layout = known.layout; holds = known.holds; base = known.base; texts = texts }
+
+-- the counted machine at a code, where a spot is
+abbrev pub at_spot : Counted → List CountedJoin → Spot → CountedConfiguration → CountedConfiguration
+at_spot code joins s c = record (at_counted code s.environment joins c) { heap = s.heap }
+
+-- The machine goes on at the rest of a code, and lines lead to the lines of the rest.
+pub record Steps (known : Known) (setting : CountedSetting) (texts : Texts) (goal : Goal) (high most : ℕ) (code rest : Counted)
+    (joins : List CountedJoin) (c : CountedConfiguration) (lines after : List Line) (fs : List (Frame Line))
+    (s : Spot) : Type 0 where
+  pub own : List Line
+  pub more : List Line
+  pub low : ℕ
+  pub parts : lines ≡ own ++ more
+  pub code_lines : CodeLines (setting_of known texts) goal low rest more high
+  pub to : Spot
+  pub steps : counted_code_step setting code s.environment joins (at_spot code joins s c) ≡ goes (at_spot rest joins to c)
+  pub did : Did known most own (more ++ after) fs s to
+
+there_is : (o : Option Heap) (from to : CountedConfiguration) → NotStuck (with_heap o from to).control → (next : Heap)
+    × (o ≡ Some next)
+there_is None from to going = absurd going
+there_is (Some next) from to going = (next, refl)
+
+module _ (known : Known) (setting : CountedSetting) (texts : Texts) (goal : Goal) (low high x : ℕ) (rest : Counted)
+    (joins : List CountedJoin) (c : CountedConfiguration) (lines after : List Line) (fs : List (Frame Line)) (s : Spot)
+    (here : Here known s) (bound : is_among s.bound x ≡ true) where
+  -- where the machine is not stuck
+  pub dup_steps : CodeLines (setting_of known texts) goal low (dup x rest) lines high → AreSmall 1 s.heap
+      → NotStuck (with_heap (dup_value (value_of s.environment x) s.heap) (at_spot (dup x rest) joins s c)
+      (at_spot rest joins s c)).control
+      → Steps known setting texts goal high (known.target.moves + 5) (dup x rest) rest joins c lines after fs s
+  dup_steps is small going =
+      let next = there_is (dup_value (value_of s.environment x) s.heap) (at_spot (dup x rest) joins s c)
+      (at_spot rest joins s c) going in
+      let done = dup_did known (is.0 ++ after) fs s here x bound next.0 next.1 small in
+      record {
+        own = dup_lines known.holds x;
+        more = is.0;
+        low = low;
+        parts = is.2;
+        code_lines = is.1;
+        to = spot_with_heap s next.0 done.0 done.1;
+        steps = ap (λ o. goes (with_heap o (at_spot (dup x rest) joins s c) (at_spot rest joins s c))) next.1;
+        did = done.2;
+      }
+
+  pub drop_steps : CodeLines (setting_of known texts) goal low (drop x rest) lines high
+      → NotStuck (with_heap (drop_value (value_of s.environment x) s.heap) (at_spot (drop x rest) joins s c)
+      (at_spot rest joins s c)).control
+      → Steps known setting texts goal high (2 * known.target.moves + 17) (drop x rest) rest joins c lines after fs s
+  drop_steps is going =
+      let next = there_is (drop_value (value_of s.environment x) s.heap) (at_spot (drop x rest) joins s c)
+      (at_spot rest joins s c) going in
+      let done = drop_did known (is.0 ++ after) fs s here x bound next.0 next.1 in
+      record {
+        own = drop_lines known.base known.holds x;
+        more = is.0;
+        low = low;
+        parts = is.2;
+        code_lines = is.1;
+        to = record (spot_with_heap s next.0 done.1 done.2) { frame = done.0 };
+        steps = ap (λ o. goes (with_heap o (at_spot (drop x rest) joins s c) (at_spot rest joins s c))) next.1;
+        did = done.3;
+      }
+
+module _ (known : Known) (setting : CountedSetting) (texts : Texts) (goal : Goal) (low high x k : ℕ) (fields : List ℕ)
+    (named : Named) (rest : Counted) (joins : List CountedJoin) (c : CountedConfiguration) (lines after : List Line)
+    (fs : List (Frame Line)) (s : Spot) (here : Here known s) (reads : IsReading known s x k fields named) where
+  pub read_steps : CodeLines (setting_of known texts) goal low (read x k fields rest) lines high
+      → Steps known setting texts goal high (row_cost fields (known.target.moves + 2)) (read x k fields rest) rest joins c lines
+      after fs s
+  read_steps is = record {
+    own = is.0;
+    more = is.1;
+    low = low;
+    parts = is.4;
+    code_lines = is.3;
+    to = with_fields known.layout s fields named.fields;
+    steps = ap (λ o. open_step o (λ n. Some s.heap) fields rest s.environment joins (at_spot (read x k fields rest) joins s c))
+        reads.is;
+    did = read_did known (is.1 ++ after) fs s x k fields is.0 named here reads is.2;
+  }
+
+  pub open_steps : (used : List ℕ) → CodeLines (setting_of known texts) goal low (open_cell x k fields used rest) lines high
+      → AreApart fields → AreSmall (length (filter (is_among used) fields)) s.heap
+      → (next : Heap) → opened_heap named.at (used_values used fields named.fields) s.heap ≡ Some next
+      → Steps known setting texts goal high (open_cost known fields used) (open_cell x k fields used rest) rest joins c lines after
+      fs s
+  open_steps used is apart small next opens =
+      let done = open_did known (is.1 ++ after) fs s x k fields used is.0 named next here reads apart is.2 opens small in
+      let from = at_spot (open_cell x k fields used rest) joins s c in
+      let to : CountedConfiguration = at_counted rest (bind_fields fields named.fields s.environment) joins from in
+      record {
+        own = is.0;
+        more = is.1;
+        low = low;
+        parts = is.4;
+        code_lines = is.3;
+        to = opened_spot known s fields named.fields next done.0 done.1 done.2;
+        steps =
+            ap (λ o. open_step o (λ (n : Named). opened_heap n.at (used_values used fields n.fields) s.heap) fields rest
+            s.environment joins from) reads.is
+            ∙ ap (λ o. goes (with_heap o from to)) opens;
+        did = done.3;
+      }
