@@ -1,15 +1,20 @@
 -- The lines of a form that touches cells do its step of the counted machine.
 use Rattle.std.proofs.Common.{◌≡◌, ◌<◌, ◌≤◌, ℕ, suc, ◌+◌, ◌*◌, Bool, true, List, [], ◌∷◌, ◌++◌, length, Option, Some, None, refl, sym, ◌∙◌, ap, subst, arith}
-use Rattle.std.specs.Prelude.{filter}
+use Rattle.std.specs.Prelude.{filter, nat_le, false, if◌then◌else◌}
+use Rattle.std.proofs.lemmas.Bool.Decides.{nat_tests}
+use Rattle.kk_syntax.specs.declared.program.Form.TheVariants.{Construct}
+use Rattle.kk_source.specs.State.{heap_full}
+use Rattle.kk_counted.specs.Keeping.{values_of}
+use Rattle.rv_cells.proofs.Constructing.{IsMaking, made_spot, construct_cost, construct_did}
 use Rattle.kk_syntax.specs.Shapes.{is_among}
 use Rattle.kk_source.specs.State.{Value, Environment}
 use Rattle.kk_source.specs.Live.{value_of}
-use Rattle.kk_source.specs.Actions.{Action, goes}
+use Rattle.kk_source.specs.Actions.{Action, goes, builds}
 use Rattle.kk_core.specs.CoreMachine.{bind_fields}
-use Rattle.kk_counted.specs.CountedCodes.{Counted, dup, drop, read, open_cell}
+use Rattle.kk_counted.specs.CountedCodes.{Counted, compute, dup, drop, read, open_cell}
 use Rattle.kk_counted.specs.CountedStates.{CountedSetting, CountedJoin, CountedConfiguration, running, stuck}
-use Rattle.kk_counted.specs.CountedMachine.{at_counted, at_stuck, with_heap, Named, cell_named, used_values, opened_heap, open_step, counted_code_step, NotStuck}
-use Rattle.kk_counted.specs.Heaps.{Heap, dup_value, drop_value}
+use Rattle.kk_counted.specs.CountedMachine.{at_counted, at_end, at_stuck, with_heap, Named, cell_named, used_values, opened_heap, open_step, counted_code_step, NotStuck}
+use Rattle.kk_counted.specs.Heaps.{Heap, busy, dup_value, drop_value}
 use Rattle.kk_counted.specs.Spending.{AreApart}
 use Rattle.rv_isa.specs.AsmCode.{Line}
 use Rattle.rv_isa.specs.Frames.{Frame}
@@ -31,17 +36,17 @@ setting_of known texts = record { layout = known.layout; holds = known.holds; ba
 abbrev pub at_spot : Counted → List CountedJoin → Spot → CountedConfiguration → CountedConfiguration
 at_spot code joins s c = record (at_counted code s.environment joins c) { heap = s.heap }
 
--- The machine goes on at the rest of a code, and lines lead to the lines of the rest.
-pub record Steps (known : Known) (setting : CountedSetting) (texts : Texts) (goal : Goal) (high most : ℕ) (code rest : Counted)
-    (joins : List CountedJoin) (c : CountedConfiguration) (lines after : List Line) (fs : List (Frame Line))
-    (s : Spot) : Type 0 where
+-- The machine goes on at the rest of a code, with what it tells of the step, and lines lead to the lines of the rest.
+pub record Steps (known : Known) (setting : CountedSetting) (texts : Texts) (goal : Goal) (high most : ℕ)
+    (tells : CountedConfiguration → Action CountedConfiguration) (code rest : Counted) (joins : List CountedJoin)
+    (c : CountedConfiguration) (lines after : List Line) (fs : List (Frame Line)) (s : Spot) : Type 0 where
   pub own : List Line
   pub more : List Line
   pub low : ℕ
   pub parts : lines ≡ own ++ more
   pub code_lines : CodeLines (setting_of known texts) goal low rest more high
   pub to : Spot
-  pub steps : counted_code_step setting code s.environment joins (at_spot code joins s c) ≡ goes (at_spot rest joins to c)
+  pub steps : counted_code_step setting code s.environment joins (at_spot code joins s c) ≡ tells (at_spot rest joins to c)
   pub did : Did known most own (more ++ after) fs s to
 
 there_is : (o : Option Heap) (from to : CountedConfiguration) → NotStuck (with_heap o from to).control → (next : Heap)
@@ -56,7 +61,7 @@ module _ (known : Known) (setting : CountedSetting) (texts : Texts) (goal : Goal
   pub dup_steps : CodeLines (setting_of known texts) goal low (dup x rest) lines high → AreSmall 1 s.heap
       → NotStuck (with_heap (dup_value (value_of s.environment x) s.heap) (at_spot (dup x rest) joins s c)
       (at_spot rest joins s c)).control
-      → Steps known setting texts goal high (known.target.moves + 5) (dup x rest) rest joins c lines after fs s
+      → Steps known setting texts goal high (known.target.moves + 5) goes (dup x rest) rest joins c lines after fs s
   dup_steps is small going =
       let next = there_is (dup_value (value_of s.environment x) s.heap) (at_spot (dup x rest) joins s c)
       (at_spot rest joins s c) going in
@@ -75,7 +80,7 @@ module _ (known : Known) (setting : CountedSetting) (texts : Texts) (goal : Goal
   pub drop_steps : CodeLines (setting_of known texts) goal low (drop x rest) lines high
       → NotStuck (with_heap (drop_value (value_of s.environment x) s.heap) (at_spot (drop x rest) joins s c)
       (at_spot rest joins s c)).control
-      → Steps known setting texts goal high (2 * known.target.moves + 17) (drop x rest) rest joins c lines after fs s
+      → Steps known setting texts goal high (2 * known.target.moves + 17) goes (drop x rest) rest joins c lines after fs s
   drop_steps is going =
       let next = there_is (drop_value (value_of s.environment x) s.heap) (at_spot (drop x rest) joins s c)
       (at_spot rest joins s c) going in
@@ -95,7 +100,8 @@ module _ (known : Known) (setting : CountedSetting) (texts : Texts) (goal : Goal
     (named : Named) (rest : Counted) (joins : List CountedJoin) (c : CountedConfiguration) (lines after : List Line)
     (fs : List (Frame Line)) (s : Spot) (here : Here known s) (reads : IsReading known s x k fields named) where
   pub read_steps : CodeLines (setting_of known texts) goal low (read x k fields rest) lines high
-      → Steps known setting texts goal high (row_cost fields (known.target.moves + 2)) (read x k fields rest) rest joins c lines
+      → Steps known setting texts goal high (row_cost fields (known.target.moves + 2)) goes
+      (read x k fields rest) rest joins c lines
       after fs s
   read_steps is = record {
     own = is.0;
@@ -112,7 +118,8 @@ module _ (known : Known) (setting : CountedSetting) (texts : Texts) (goal : Goal
   pub open_steps : (used : List ℕ) → CodeLines (setting_of known texts) goal low (open_cell x k fields used rest) lines high
       → AreApart fields → AreSmall (length (filter (is_among used) fields)) s.heap
       → (next : Heap) → opened_heap named.at (used_values used fields named.fields) s.heap ≡ Some next
-      → Steps known setting texts goal high (open_cost known fields used) (open_cell x k fields used rest) rest joins c lines after
+      → Steps known setting texts goal high (open_cost known fields used) goes (open_cell x k fields used rest) rest joins c lines
+      after
       fs s
   open_steps used is apart small next opens =
       let done = open_did known (is.1 ++ after) fs s x k fields used is.0 named next here reads apart is.2 opens small in
@@ -131,3 +138,28 @@ module _ (known : Known) (setting : CountedSetting) (texts : Texts) (goal : Goal
             ∙ ap (λ o. goes (with_heap o from to)) opens;
         did = done.3;
       }
+
+-- a construction, where fewer cells are counted than there are
+pub construct_steps : (known : Known) (setting : CountedSetting) (texts : Texts) (goal : Goal) (low high x k a : ℕ) (more : List ℕ)
+    (rest : Counted) (joins : List CountedJoin) (c : CountedConfiguration) (lines after : List Line) (fs : List (Frame Line))
+    (s : Spot)
+    → Here known s → IsMaking known s x k (a ∷ more)
+    → CodeLines (setting_of known texts) goal low (compute x (Construct k) (a ∷ more) rest) lines high
+    → setting.cells ≡ known.target.pool.cells → nat_le setting.cells (busy s.heap) ≡ false
+    → Steps known setting texts goal high (construct_cost known (a ∷ more)) (builds (busy s.heap))
+    (compute x (Construct k) (a ∷ more) rest) rest joins c lines after fs s
+construct_steps known setting texts goal low high x k a more rest joins c lines after fs s here making is cells test =
+    let room : busy s.heap < known.target.pool.cells = grind (arith, nat_tests) in
+    let done = construct_did known (is.1 ++ after) fs s x k (a ∷ more) is.0 here making is.2 room in
+    let from = at_spot (compute x (Construct k) (a ∷ more) rest) joins s c in
+    let to = made_spot s x k (values_of s.environment (a ∷ more)) done.0 done.1 done.2 in
+    record {
+      own = is.0;
+      more = is.1;
+      low = low;
+      parts = is.4;
+      code_lines = is.3;
+      to = to;
+      steps = ap (λ b. builds (busy s.heap) (if b then at_end heap_full from else at_spot rest joins to c)) test;
+      did = done.3;
+    }
