@@ -1,5 +1,5 @@
 -- The lines of a form that touches cells do its step of the counted machine.
-use Rattle.std.proofs.Common.{◌≡◌, ◌<◌, ◌≤◌, ℕ, suc, ◌+◌, ◌*◌, Bool, true, List, [], ◌∷◌, ◌++◌, length, Option, Some, None, refl, sym, ◌∙◌, ap, subst, arith}
+use Rattle.std.proofs.Common.{◌≡◌, ◌<◌, ℕ, ◌+◌, ◌*◌, true, List, [], ◌∷◌, ◌++◌, length, Option, Some, None, refl, ◌∙◌, ap, arith}
 use Rattle.std.specs.Prelude.{filter, nat_le, false, if◌then◌else◌}
 use Rattle.std.proofs.lemmas.Bool.Decides.{nat_tests}
 use Rattle.kk_syntax.specs.declared.program.Form.TheVariants.{Construct}
@@ -7,21 +7,22 @@ use Rattle.kk_source.specs.State.{heap_full}
 use Rattle.kk_counted.specs.Keeping.{values_of}
 use Rattle.rv_cells.proofs.Constructing.{IsMaking, made_spot, construct_cost, construct_did}
 use Rattle.kk_syntax.specs.Shapes.{is_among}
-use Rattle.kk_source.specs.State.{Value, Environment}
 use Rattle.kk_source.specs.Live.{value_of}
 use Rattle.kk_source.specs.Actions.{Action, goes, builds}
 use Rattle.kk_core.specs.CoreMachine.{bind_fields}
-use Rattle.kk_counted.specs.CountedCodes.{Counted, compute, dup, drop, read, open_cell}
-use Rattle.kk_counted.specs.CountedStates.{CountedSetting, CountedJoin, CountedConfiguration, running, stuck}
-use Rattle.kk_counted.specs.CountedMachine.{at_counted, at_end, at_stuck, with_heap, Named, cell_named, used_values, opened_heap, open_step, counted_code_step, NotStuck}
-use Rattle.kk_counted.specs.Heaps.{Heap, busy, dup_value, drop_value}
+use Rattle.kk_counted.specs.CountedCodes.{Counted, compute, if_unique, dup, drop, read, open_cell}
+use Rattle.kk_counted.specs.CountedStates.{CountedSetting, CountedJoin, CountedConfiguration}
+use Rattle.kk_counted.specs.CountedMachine.{at_counted, at_end, with_heap, Named, used_values, other_values, opened_heap, unique_heap, open_step, counted_code_step, NotStuck}
+use Rattle.kk_counted.specs.Heaps.{Heap, busy, count_at, dup_value, drop_value}
 use Rattle.kk_counted.specs.Spending.{AreApart}
 use Rattle.rv_isa.specs.AsmCode.{Line}
-use Rattle.rv_isa.specs.Frames.{Frame}
-use Rattle.cell_heap.specs.Blocks.{Cells}
+use Rattle.rv_isa.specs.declared.asm.Action.TheVariants.{Label}
+use Rattle.rv_isa.specs.AsmMachine.{is_label}
+use Rattle.rv_isa.specs.Frames.{Frame, found}
+use Rattle.rv_lower.specs.Lines.{acts}
+use Rattle.rv_cells.proofs.Uniques.{for_shared, unique_cost, opens_by_count}
 use Rattle.rv_lower.specs.Lines.{Texts}
 use Rattle.rv_lower.specs.Lowered.{Goal}
-use Rattle.rv_cells.specs.Follows.{Owner}
 use Rattle.rv_cells.specs.CellLines.{dup_lines, drop_lines}
 use Rattle.rv_cells.specs.CountedLines.{Setting, CodeLines}
 use Rattle.rv_cells.proofs.Spots.{with_heap as spot_with_heap, AreSmall, Spot, Known, Here, Did, dup_did, drop_did}
@@ -161,5 +162,44 @@ construct_steps known setting texts goal low high x k a more rest joins c lines 
       code_lines = is.3;
       to = to;
       steps = ap (λ b. builds (busy s.heap) (if b then at_end heap_full from else at_spot rest joins to c)) test;
+      did = done.3;
+    }
+
+-- an opening by the count of the cell; the labels are found, of the way for a cell of several references and of the end of both
+-- ways
+pub unique_steps : (known : Known) (setting : CountedSetting) (texts : Texts) (goal : Goal) (low high x k : ℕ)
+    (fields used : List ℕ)
+    (named : Named) (next : Heap) (rest : Counted) (joins : List CountedJoin) (c : CountedConfiguration) (lines after : List Line)
+    (fs : List (Frame Line)) (s : Spot) (here : Here known s) (reads : IsReading known s x k fields named) (apart : AreApart fields)
+    (is : CodeLines (setting_of known texts) goal low (if_unique x k fields used rest) lines high)
+    → AreSmall (length (filter (is_among used) fields)) s.heap → 0 < known.target.pool.first
+    → unique_heap (count_at s.heap named.at) named.at (used_values used fields named.fields) (other_values used fields named.fields)
+    s.heap
+    ≡ Some next
+    → found (λ line. is_label low line.action) s.frame.whole
+    ≡ Some (for_shared known (is.1 ++ after) fs s x k fields used low (low + 1) is.0 named next here reads apart is.2
+    ++ (acts (Label (low + 1)) [] ∷ (is.1 ++ after)))
+    → found (λ line. is_label (low + 1) line.action) s.frame.whole ≡ Some (acts (Label (low + 1)) [] ∷ (is.1 ++ after))
+    → Steps known setting texts goal high (unique_cost known fields used) goes (if_unique x k fields used rest) rest joins c lines
+    after fs s
+unique_steps known setting texts goal low high x k fields used named next rest joins c lines after fs s here reads apart is small
+    some given shared behind =
+    let done = opens_by_count known (is.1 ++ after) fs s x k fields used low (low + 1) is.0 named next here reads apart is.2 given
+    small some shared behind in
+    let from = at_spot (if_unique x k fields used rest) joins s c in
+    let to : CountedConfiguration = at_counted rest (bind_fields fields named.fields s.environment) joins from in
+    record {
+      own = is.0;
+      more = is.1;
+      low = low + 2;
+      parts = is.4;
+      code_lines = is.3;
+      to = opened_spot known s fields named.fields next done.0 done.1 done.2;
+      steps =
+          ap (λ o. open_step o
+          (λ (n : Named). unique_heap (count_at s.heap n.at) n.at (used_values used fields n.fields)
+          (other_values used fields n.fields) s.heap)
+          fields rest s.environment joins from) reads.is
+          ∙ ap (λ o. goes (with_heap o from to)) given;
       did = done.3;
     }

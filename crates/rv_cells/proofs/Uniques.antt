@@ -72,22 +72,22 @@ module _ (known : Known) (rest : List Line) (fs : List (Frame Line)) (s : Spot) 
   abbrev tested : Line
   tested = uniques.0
 
-  abbrev loads : List Line
+  abbrev pub loads : List Line
   loads = uniques.1
 
   abbrev drops : List Line
   drops = drops_lines known.base known.holds (others_of used fields)
 
-  abbrev dups : List Line
+  abbrev pub dups : List Line
   dups = dups_lines known.holds (filter (is_among used) fields)
 
   abbrev ending : List Line
   ending = acts (Label behind) [] ∷ rest
 
-  abbrev lowers : List Line
+  abbrev pub lowers : List Line
   lowers = uniques.2 ∷ computes (Op.Immediate Addi uniques.3) (known.base ∷ []) known.base ∷ uniques.4 ∷ dups
 
-  abbrev for_shared : List Line
+  abbrev pub for_shared : List Line
   for_shared = acts (Label shared) [] ∷ (loads ++ lowers)
 
   abbrev frees : List Line
