@@ -62,7 +62,8 @@ module _ (target : Target) (rest : List Line) (f : Frame Line) (fs : List (Frame
 
   pub copy_runs : (from into word : ℕ) → f.cells from ≡ Some word → Runs target (target.moves + 2) 1
       (turn_of (copies_to from into ∷ rest) f fs world) (turn_of rest (put_in into word f) fs world)
-  copy_runs from into word is = sets_value 2 Op.Mv (from ∷ []) into (word ∷ []) word (reads_one f.cells from word is) refl (omega arith)
+  copy_runs from into word is = sets_value 2 Op.Mv (from ∷ []) into (word ∷ []) word (reads_one f.cells from word is) refl
+      (omega arith)
 
   -- a load, and a store
   pub load_runs : (cell i into at word : ℕ) (line : Line) → Loads cell i into line → f.cells cell ≡ Some at
@@ -88,7 +89,8 @@ module _ (target : Target) (rest : List Line) (f : Frame Line) (fs : List (Frame
       → Runs target (target.moves + 5) 1 (turn_of (acts (Compute Op.Dup) (x ∷ []) ∷ rest) f fs world)
       (turn_of rest f fs (with_cells world next))
   dup_runs x word next is dupped =
-      changes_cells 5 Op.Dup (x ∷ []) (word ∷ []) next (reads_one f.cells x word is) (ap (option_map (λ c. (0, with_cells world c))) dupped)
+      changes_cells 5 Op.Dup (x ∷ []) (word ∷ []) next (reads_one f.cells x word is)
+      (ap (option_map (λ c. (0, with_cells world c))) dupped)
       (omega arith)
 
   pub free_runs : (x word : ℕ) (next : Cells) → f.cells x ≡ Some word → word ≢ 0 → release word world.cells ≡ Some next
@@ -97,7 +99,8 @@ module _ (target : Target) (rest : List Line) (f : Frame Line) (fs : List (Frame
   free_runs x word next is some freed =
       let act : by_token release word world.cells ≡ Some next = ap (λ b. cond b (Some world.cells) (release word world.cells))
       (ne_eqb word 0 some) ∙ freed in
-      changes_cells 5 Op.Free (x ∷ []) (word ∷ []) next (reads_one f.cells x word is) (ap (option_map (λ c. (0, with_cells world c))) act)
+      changes_cells 5 Op.Free (x ∷ []) (word ∷ []) next (reads_one f.cells x word is)
+      (ap (option_map (λ c. (0, with_cells world c))) act)
       (omega arith)
 
   -- a reference is given up by the runtime

@@ -38,7 +38,8 @@ row_below t z [] values less = refl
 row_below t z (w ∷ ws) values less =
     row_below (t + 1) z ws (put t (Some w) values) (omega (arith, less)) ∙ put_other t z w values (λ e. omega (arith, e, less))
 
-pub row_has : (t : ℕ) (xs ws : List ℕ) (values : ℕ → Option ℕ) → length xs ≡ length ws → HaveWords (put_row t ws values) (temporaries t xs) ws
+pub row_has : (t : ℕ) (xs ws : List ℕ) (values : ℕ → Option ℕ) → length xs ≡ length ws → HaveWords (put_row t ws values)
+    (temporaries t xs) ws
 row_has t [] [] values many = tt
 row_has t [] (w ∷ ws) values many = absurd (omega (arith, many))
 row_has t (x ∷ xs) [] values many = absurd (omega (arith, many))
@@ -47,7 +48,8 @@ row_has t (x ∷ xs) (w ∷ ws) values many = (
   row_has (t + 1) xs ws (put t (Some w) values) (omega (arith, many)),
 )
 
-still_have : (t w : ℕ) (xs ws : List ℕ) (values : ℕ → Option ℕ) → AreLess xs t → HaveWords values xs ws → HaveWords (put t (Some w) values) xs ws
+still_have : (t w : ℕ) (xs ws : List ℕ) (values : ℕ → Option ℕ) → AreLess xs t → HaveWords values xs ws
+    → HaveWords (put t (Some w) values) xs ws
 still_have t w [] [] values less have = tt
 still_have t w [] (v ∷ ws) values less have = absurd have
 still_have t w (x ∷ xs) [] values less have = absurd have
@@ -58,7 +60,8 @@ less_more : (t : ℕ) (xs : List ℕ) → AreLess xs t → AreLess xs (t + 1)
 less_more t [] less = tt
 less_more t (x ∷ xs) less = (let low = less.0 in omega arith, less_more t xs less.1)
 
-pub copies_run : (target : Target) (rest : List Line) (fs : List (Frame Line)) (world : World) (xs ws : List ℕ) (t : ℕ) (f : Frame Line)
+pub copies_run : (target : Target) (rest : List Line) (fs : List (Frame Line)) (world : World) (xs ws : List ℕ) (t : ℕ)
+    (f : Frame Line)
     → AreLess xs t → HaveWords f.cells xs ws
     → Runs target (row_cost xs (target.moves + 2)) (length xs) (turn_of (copies t xs ++ rest) f fs world)
     (turn_of rest (record f { cells = put_row t ws f.cells }) fs world)
@@ -68,12 +71,14 @@ copies_run target rest fs world (x ∷ xs) [] t f less have = absurd have
 copies_run target rest fs world (x ∷ xs) (w ∷ ws) t f less have =
     let g = put_in t w f in
     let first = copy_runs target (copies (t + 1) xs ++ rest) f fs world x t w have.0 in
-    let later = copies_run target rest fs world xs ws (t + 1) g (less_more t xs less.1) (still_have t w xs ws f.cells less.1 have.1) in
+    let later = copies_run target rest fs world xs ws (t + 1) g (less_more t xs less.1)
+    (still_have t w xs ws f.cells less.1 have.1) in
     let t0 = turn_of (copies t (x ∷ xs) ++ rest) f fs world in
     let t2 = turn_of rest (record f { cells = put_row t (w ∷ ws) f.cells }) fs world in
     let one_more : 1 + length xs ≡ suc (length xs) = omega arith in
     subst (λ n. Runs target (row_cost (x ∷ xs) (target.moves + 2)) n t0 t2) one_more
-    (runs_then target (target.moves + 2) (row_cost xs (target.moves + 2)) 1 (length xs) t0 (turn_of (copies (t + 1) xs ++ rest) g fs world) t2
+    (runs_then target (target.moves + 2) (row_cost xs (target.moves + 2)) 1 (length xs) t0
+    (turn_of (copies (t + 1) xs ++ rest) g fs world) t2
     first later)
 
 -- ---- parameters
@@ -91,7 +96,8 @@ among_numbers k (suc n) x is =
       | inr later ↦ (let rest = among_numbers (suc k) n x later in (suc rest.0, omega (arith, rest.1), omega (arith, rest.2)))
     ]
 
-bind_past : (k : ℕ) (vs : List Value) (environment : Environment) (z : ℕ) → z < k → value_of (bind_parameters k vs environment) z ≡ value_of environment z
+bind_past : (k : ℕ) (vs : List Value) (environment : Environment) (z : ℕ) → z < k → value_of (bind_parameters k vs environment) z
+    ≡ value_of environment z
 bind_past k [] environment z less = refl
 bind_past k (v ∷ vs) environment z less =
     bind_past (suc k) vs (record { variable = k; value = v } ∷ environment) z (omega (arith, less))
@@ -103,7 +109,8 @@ bind_value k [] environment i v is = cc
 bind_value k (u ∷ vs) environment zero v is =
     let here : k + 0 ≡ k = omega arith in
     ap (value_of (bind_parameters (suc k) vs (record { variable = k; value = u } ∷ environment))) here
-    ∙ bind_past (suc k) vs (record { variable = k; value = u } ∷ environment) k (omega arith) ∙ value_same k k u environment refl ∙ some-is is
+    ∙ bind_past (suc k) vs (record { variable = k; value = u } ∷ environment) k (omega arith) ∙ value_same k k u environment refl
+    ∙ some-is is
 bind_value k (u ∷ vs) environment (suc i) v is =
     let there : k + suc i ≡ suc k + i = omega arith in
     ap (value_of (bind_parameters (suc k) vs (record { variable = k; value = u } ∷ environment))) there
@@ -133,7 +140,8 @@ entry layout address k (u ∷ vs) =
         ∙ ap (λ w. Some (word_in layout address w)) (some-is is)
     by rest (suc i) v is =
         let there : k + suc i ≡ k + 1 + i = omega arith in
-        put_other k (k + suc i) (word_in layout address u) rest.values (λ e. omega (arith, e)) ∙ ap rest.values there ∙ rest.words i v is
+        put_other k (k + suc i) (word_in layout address u) rest.values (λ e. omega (arith, e)) ∙ ap rest.values there
+        ∙ rest.words i v is
 
 pub has_parameters : (layout : Layout) (address : ℕ → ℕ) (holds : ℕ → Bool) (base next : ℕ) (vs : List Value) → length vs ≤ base
     → ((i : ℕ) (v : Value) → slice_get vs i ≡ Some v → FitsField (holds i) v × Within next v)
@@ -147,7 +155,8 @@ has_parameters layout address holds base next vs few each =
         below = λ x is. let among = among_numbers 0 (length vs) x is in omega (arith, among.1, among.2);
         words = λ x is. by x is (λ v. enters.values x ≡ Some (word_in layout address v))
             (λ i v e there. ap enters.values e ∙ enters.words i v there);
-        fits = λ x is. by x is (FitsField (holds x)) (λ i v e there. subst (λ y. FitsField (holds y) v) (whole i x e) (each i v there).0);
+        fits = λ x is. by x is (FitsField (holds x))
+            (λ i v e there. subst (λ y. FitsField (holds y) v) (whole i x e) (each i v there).0);
         older = λ x is. by x is (Within next) (λ i v e there. (each i v there).1);
       },
     )
@@ -206,17 +215,20 @@ module _ (target : Target) (f : Frame Line) (fs : List (Frame Line)) (world : Wo
 
     -- the callee runs in place of a frame that holds no token
     pub tail_call_runs : f.held ≡ []
-        → Runs target (target.moves + 2) 1 (turn_of (acts (TailCall g) args ∷ rest) f fs world) (turn_of callee.code entered fs world)
+        → Runs target (target.moves + 2) 1 (turn_of (acts (TailCall g) args ∷ rest) f fs world)
+        (turn_of callee.code entered fs world)
     tail_call_runs none =
         line_runs target 2 (acts (TailCall g) args) rest f fs world words (turn_of callee.code entered fs world) reads
         (ap (λ h. unless_held h (or_stuck (slice_get target.functions g) (λ (c : Lines). or_stuck (bound c.params words)
         (λ values. asm_goes (asm_entered c values) fs world)))) none
-        ∙ ap (λ o. or_stuck o (λ (c : Lines). or_stuck (bound c.params words) (λ values. asm_goes (asm_entered c values) fs world))) there
+        ∙ ap (λ o. or_stuck o (λ (c : Lines). or_stuck (bound c.params words) (λ values. asm_goes (asm_entered c values) fs world)))
+        there
         ∙ ap (λ o. or_stuck o (λ values. asm_goes (asm_entered callee values) fs world)) enters)
         (λ held. omega arith) (silent target world)
 
 -- a frame that holds no token gives a value to the one that waits, and the last frame ends the run
-pub return_runs : (target : Target) (f waiting : Frame Line) (fs : List (Frame Line)) (world : World) (rest : List Line) (x word : ℕ)
+pub return_runs : (target : Target) (f waiting : Frame Line) (fs : List (Frame Line)) (world : World) (rest : List Line)
+    (x word : ℕ)
     (values : ℕ → Option ℕ) → f.cells x ≡ Some word → f.held ≡ [] → received waiting.into (Some word) waiting.cells ≡ Some values
     → Runs target (target.moves + 3) 1 (turn_of (acts Return (x ∷ []) ∷ rest) f (waiting ∷ fs) world)
     (turn_of waiting.code (record waiting { cells = values }) fs world)
@@ -227,8 +239,10 @@ return_runs target f waiting fs world rest x word values is none gets =
     ∙ ap (λ o. or_stuck o (λ cells. asm_goes (record waiting { cells = cells }) fs world)) gets)
     (λ held. omega arith) (silent target world)
 
-pub last_return_runs : (target : Target) (f : Frame Line) (world : World) (rest : List Line) (x word : ℕ) → f.cells x ≡ Some word → f.held ≡ []
-    → Runs target (target.moves + 3) 1 (turn_of (acts Return (x ∷ []) ∷ rest) f [] world) (ended (exited (number_of OfEnding.Ended)) world)
+pub last_return_runs : (target : Target) (f : Frame Line) (world : World) (rest : List Line) (x word : ℕ) → f.cells x ≡ Some word
+    → f.held ≡ []
+    → Runs target (target.moves + 3) 1 (turn_of (acts Return (x ∷ []) ∷ rest) f [] world)
+    (ended (exited (number_of OfEnding.Ended)) world)
 last_return_runs target f world rest x word is none =
     line_runs target 3 (acts Return (x ∷ [])) rest f [] world (word ∷ []) (ended (exited (number_of OfEnding.Ended)) world)
     (reads_one f.cells x word is)

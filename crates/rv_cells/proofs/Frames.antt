@@ -8,7 +8,8 @@ use Rattle.rv_cells.specs.Layout.{Layout, word_in, FitsField}
 use Rattle.rv_cells.specs.Follows.{assign}
 use Rattle.rv_cells.proofs.Values.{HasValues, has_bound, has_cell}
 
--- what is known of a frame but for its words: which of its variables are of types with cells, where its temporaries begin, which variables are
+-- what is known of a frame but for its words: which of its variables are of types with cells, where its temporaries begin, which
+-- variables are
 -- bound, and their values
 pub record Shape : Type 0 where
   pub holds : ℕ → Bool
@@ -40,7 +41,8 @@ shapes_grow layout address next at (shape ∷ shapes) (f ∷ fs) have =
 pub shape_received : (layout : Layout) (address : ℕ → ℕ) (next x : ℕ) (v : Value) (shape : Shape) (f : Frame Line)
     → HasShape layout address next shape f → x < shape.base → FitsField (shape.holds x) v → Within next v → f.into ≡ Some x
     → (values : ℕ → Option ℕ) × (received f.into (Some (word_in layout address v)) f.cells ≡ Some values)
-    × HasValues layout address shape.holds shape.base next (x ∷ shape.bound) (record { variable = x; value = v } ∷ shape.environment) values
+    × HasValues layout address shape.holds shape.base next (x ∷ shape.bound)
+    (record { variable = x; value = v } ∷ shape.environment) values
 shape_received layout address next x v shape f have low fits within into = (
   put x (Some (word_in layout address v)) f.cells,
   ap (λ o. received o (Some (word_in layout address v)) f.cells) into,

@@ -18,3 +18,4 @@ pub mod Uniques
 pub mod Walking
 pub mod Frames
 pub mod Calling
+pub mod Stepping

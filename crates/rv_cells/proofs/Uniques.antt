@@ -72,22 +72,22 @@ module _ (known : Known) (rest : List Line) (fs : List (Frame Line)) (s : Spot) 
   abbrev tested : Line
   tested = uniques.0
 
-  abbrev loads : List Line
+  abbrev pub loads : List Line
   loads = uniques.1
 
   abbrev drops : List Line
   drops = drops_lines known.base known.holds (others_of used fields)
 
-  abbrev dups : List Line
+  abbrev pub dups : List Line
   dups = dups_lines known.holds (filter (is_among used) fields)
 
   abbrev ending : List Line
   ending = acts (Label behind) [] ∷ rest
 
-  abbrev lowers : List Line
+  abbrev pub lowers : List Line
   lowers = uniques.2 ∷ computes (Op.Immediate Addi uniques.3) (known.base ∷ []) known.base ∷ uniques.4 ∷ dups
 
-  abbrev for_shared : List Line
+  abbrev pub for_shared : List Line
   for_shared = acts (Label shared) [] ∷ (loads ++ lowers)
 
   abbrev frees : List Line
@@ -220,7 +220,8 @@ module _ (known : Known) (rest : List Line) (fs : List (Frame Line)) (s : Spot) 
         (ap (λ w. found (λ line. is_label behind line.action) w) did.whole ∙ finds) in
         let labels = label_runs target rest frame fs last behind in
         let test : nat_eq (count_at s.heap named.at) 1 ≡ true = grind (arith, nat_tests) in
-        let falls = falls_runs target (for_unique ++ (for_shared ++ ending)) tests fs s.world NotEqual shared known.base (known.base + 1)
+        let falls = falls_runs target (for_unique ++ (for_shared ++ ending)) tests fs s.world NotEqual shared known.base
+        (known.base + 1)
         (count_at s.heap named.at) 1 first_temporary second_temporary (ap not test) in
         let t0 = turn_of (tested ∷ sets 1 (known.base + 1) ∷ acts (Branch NotEqual shared) (known.base ∷ (known.base + 1) ∷ []) ∷
         (for_unique ++ (for_shared ++ ending))) s.frame fs s.world in
@@ -378,7 +379,8 @@ module _ (known : Known) (rest : List Line) (fs : List (Frame Line)) (s : Spot) 
         let did = dupped.2 in
         let world = with_cells s.world dupped.1 in
         let test : nat_eq (count_at s.heap named.at) 1 ≡ false = grind (arith, nat_tests) in
-        let jumps = branch_runs target (for_unique ++ (for_shared ++ ending)) tests fs s.world NotEqual shared known.base (known.base + 1)
+        let jumps = branch_runs target (for_unique ++ (for_shared ++ ending)) tests fs s.world NotEqual shared known.base
+        (known.base + 1)
         (count_at s.heap named.at) 1 (for_shared ++ ending) first_temporary second_temporary (ap not test) finds in
         let enters = label_runs target ((loads ++ lowers) ++ ending) tests fs s.world shared in
         let leaves = label_runs target rest counts fs world behind in

@@ -95,7 +95,8 @@ module _ (known : Known) (address : ℕ → ℕ) (owners : ℕ → Owner) (heap 
   )
   walk_runs rest t (field ∷ way) v w lines f walks has is =
       let moves = known.target.moves in
-      let step = then_some (and_then (fields_shown (cell_at heap) v) (λ fields. slice_get fields field)) (value_at (cell_at heap) way) w is in
+      let step = then_some (and_then (fields_shown (cell_at heap) v) (λ fields. slice_get fields field))
+      (value_at (cell_at heap) way) w is in
       let shown = then_some (fields_shown (cell_at heap) v) (λ fields. slice_get fields field) step.0 step.1 in
       let word = word_in known.layout address step.0 in
       let g = put_in t word f in
@@ -108,7 +109,8 @@ module _ (known : Known) (address : ℕ → ℕ) (owners : ℕ → Owner) (heap 
         subst (λ ls. Runs known.target (row_cost (field ∷ way) (moves + 2)) (suc (length way)) (turn_of (ls ++ rest) f fs world) t2)
             (sym walks.4)
             (subst (λ n. Runs known.target (row_cost (field ∷ way) (moves + 2)) n t0 t2) one_more
-            (runs_then known.target (moves + 2) (row_cost way (moves + 2)) 1 (length way) t0 (turn_of (walks.1 ++ rest) g fs world) t2
+            (runs_then known.target (moves + 2) (row_cost way (moves + 2)) 1 (length way) t0 (turn_of (walks.1 ++ rest) g fs world)
+            t2
             first later.1)),
         later.2,
         λ z differ. later.3 z differ ∙ put_other t z word f.cells differ,
@@ -125,7 +127,8 @@ module _ (target : Target) (rest : List Line) (f : Frame Line) (fs : List (Frame
   first_has : tested.cells t ≡ Some v
   first_has = put_other (t + 1) t word (put_in t v f).cells (λ e. omega arith) ∙ put_same t v f.cells
 
-  compared : Runs target ((target.moves + 2) + (target.moves + 2)) (1 + 1) (turn_of (equal_lines value word t label ++ rest) f fs world)
+  compared : Runs target ((target.moves + 2) + (target.moves + 2)) (1 + 1)
+      (turn_of (equal_lines value word t label ++ rest) f fs world)
       (turn_of (acts (Branch Equal label) (t ∷ (t + 1) ∷ []) ∷ rest) tested fs world)
   compared =
       let branch = acts (Branch Equal label) (t ∷ (t + 1) ∷ []) ∷ rest in
@@ -144,7 +147,8 @@ module _ (target : Target) (rest : List Line) (f : Frame Line) (fs : List (Frame
       let branch = acts (Branch Equal label) (t ∷ (t + 1) ∷ []) ∷ rest in
       runs_then target ((target.moves + 2) + (target.moves + 2)) (target.moves + 3) (1 + 1) 1
       (turn_of (equal_lines value word t label ++ rest) f fs world) (turn_of branch tested fs world) (turn_of rest tested fs world)
-      compared (falls_runs target rest tested fs world Equal label t (t + 1) v word first_has (put_same (t + 1) word (put_in t v f).cells) differ)
+      compared (falls_runs target rest tested fs world Equal label t (t + 1) v word first_has
+      (put_same (t + 1) word (put_in t v f).cells) differ)
 
   -- this word: the label
   pub test_jumps : (there : List Line) → nat_eq v word ≡ true → found (λ line. is_label label line.action) f.whole ≡ Some there

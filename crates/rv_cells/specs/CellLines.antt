@@ -90,7 +90,8 @@ UniqueLines base holds shared behind x fields used lines =
 abbrev pub Walks : ℕ → List ℕ → List Line → Type 0
 Walks temporary [] lines = lines ≡ []
 Walks temporary (field ∷ way) lines =
-    (first : Line) × (more : List Line) × Loads temporary (2 + field) temporary first × Walks temporary way more × (lines ≡ first ∷ more)
+    (first : Line) × (more : List Line) × Loads temporary (2 + field) temporary first × Walks temporary way more
+    × (lines ≡ first ∷ more)
 
 -- to a label where a value has a word
 abbrev pub equal_lines : ℕ → ℕ → ℕ → ℕ → List Line

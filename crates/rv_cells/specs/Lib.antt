@@ -2,3 +2,4 @@ pub mod Layout
 pub mod Follows
 pub mod Steps
 pub mod CellLines
+pub mod CountedLines
