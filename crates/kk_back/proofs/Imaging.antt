@@ -7,23 +7,30 @@ use Rattle.kk_base.proofs.Agreements.{agree_through}
 use Rattle.kk_syntax.specs.PositionsOf.{PositionTable}
 use Rattle.kk_core.specs.Codes.{ProgramCode}
 use Rattle.kk_core.specs.CoreTyping.{IsSmall, all_forms}
-use Rattle.kk_core.specs.CoreStates.{core_first_state}
+use Rattle.kk_core.specs.CoreStates.{stopped, core_first_state}
 use Rattle.rv_isa.specs.declared.asm.Asm.{Asm}
 use Rattle.rv_isa.specs.declared.placed.DataSection.{DataSection}
 use Rattle.rv_isa.specs.declared.placed.Placed.{Placed}
 use Rattle.rv_isa.specs.AsmCode.{Lines, asm_functions, asm_constants}
-use Rattle.rv_isa.specs.AsmMachine.{asm_machine, asm_start}
+use Rattle.rv_isa.specs.AsmMachine.{AsmTurn, asm_machine, asm_start}
 use Rattle.rv_isa.specs.PlacedCode.{PlacedLines, placed_functions, placed_constants}
 use Rattle.rv_isa.specs.PlacedMachine.{PlacedTurn, placed_machine, placed_start}
-use Rattle.rv_isa.specs.Primitives.{stuck}
-use Rattle.rv_isa.specs.Processor.{Ending, start, goes}
-use Rattle.rv_isa.specs.Execution.{rv32im}
+use Rattle.rv_isa.specs.Primitives.{go, ended, stuck}
+use Rattle.rv_isa.specs.Processor.{Processor, Ending, exited, start, goes}
+use Rattle.rv_isa.specs.Execution.{rv32im, run}
 use Rattle.rv_isa.specs.ProcessorMachine.{processor_machine}
 use Rattle.rv_isa.specs.WellFormed.{all_lines}
 use Rattle.elf_image.specs.Parts.{memory_of}
 use Rattle.elf_image.specs.Program.{IsProgramImage, program_parts, text_start}
 use Rattle.elf_image.specs.declared.part.Part.{Part}
 use Rattle.cell_heap.specs.Pool.{Pool}
+use Rattle.cell_heap.specs.Blocks.{unused_cells}
+use Rattle.cell_heap.proofs.Counted.{length-cells_from}
+use Rattle.cell_heap.proofs.FreeCells.{free_list-is}
+use Rattle.kk_base.proofs.Simulations.{simulates_many}
+use Rattle.kk_source.specs.Ends.{exit_of}
+use Rattle.kk_source.specs.State.{End}
+use Rattle.rv_isa.specs.FreeCells.{free_cells}
 use Rattle.cell_runtime.specs.Texts.{IsText}
 use Rattle.rv_world.specs.Operations.{Constants, all_bytes}
 use Rattle.rv_world.specs.World.{World, first_world, primitives}
@@ -31,18 +38,18 @@ use Rattle.rv_lower.specs.Meaning.{IsAsmOf, core_cost, core_outside, setting_of_
 use Rattle.rv_regs.specs.Valid.{IsValid}
 use Rattle.rv_regs.specs.Shape as Shape
 use Rattle.rv_regs.specs.Shape.{IsPlainlyPlaced, most_moves}
-use Rattle.rv_regs.specs.Relation.{NeverStuck as RegsNeverStuck}
-use Rattle.rv_regs.proofs.Simulating.{agrees, never_stuck}
+use Rattle.rv_regs.specs.Relation.{NeverStuck as RegsNeverStuck, StandsFor as RegsStandsFor, Related as RegsRelated, IsNotStuck}
+use Rattle.rv_regs.proofs.Simulating.{agrees, starts, simulates, never_stuck}
 use Rattle.rv_place.specs.Addresses.{frame_size}
 use Rattle.rv_place.specs.Bytes.{IsTextOf}
-use Rattle.rv_place.specs.Images.{IsPlacedImage, first_processor, outside_lines}
-use Rattle.rv_place.specs.Running.{NeverStuck}
+use Rattle.rv_place.specs.Images.{IsPlacedImage, EndsWithCells, first_processor, outside_lines}
+use Rattle.rv_place.specs.Running.{NeverStuck, HasCells}
 use Rattle.rv_place.specs.Texts.{ArePlaceable, ArePlacedWords, map_of, pool_in, constants_of, text_bytes, all_items}
 use Rattle.rv_place.proofs.BootFits.{FitsImage, fits-image}
 use Rattle.rv_place.proofs.BootSizes.{bytes_most, page_multiple}
 use Rattle.cell_runtime.specs.Layouts.{next_page}
 use Rattle.rv_place.specs.declared.words.Words.{Words}
-use Rattle.kk_back.specs.Images.{IsImageOf, step_instructions}
+use Rattle.kk_back.specs.Images.{IsImageOf, LeavesAll, step_instructions}
 use Rattle.kk_back.proofs.Placeable.{frame_most, as_many}
 use Rattle.kk_back.proofs.Plain.{placed_is_plain}
 
@@ -95,6 +102,16 @@ PlacedTextAgrees =
     → NeverStuck (map_of runtime program) (pool_in cells runtime program) (placed_functions program) depth (placed_start main (first_world (pool_in cells runtime program) input))
     → (up : ℕ → ℕ) × Agree (placed_machine (primitives (constants_of runtime program) (pool_in cells runtime program)) depth (placed_functions program)) (processor_machine rv32im) outside_lines up (placed_start main (first_world (pool_in cells runtime program) input)) (goes (first_processor text runtime.memory.size input))
 
+-- and of how it ends
+abbrev pub PlacedTextEnds : Type 0
+PlacedTextEnds =
+    (cells depth : ℕ) (runtime program : Placed) (words : Words) (text input : List ℕ) (main : PlacedLines)
+    → IsPlacedImage cells depth runtime program words text main → All (λ byte. byte < 256) input
+    → NeverStuck (map_of runtime program) (pool_in cells runtime program) (placed_functions program) depth (placed_start main (first_world (pool_in cells runtime program) input))
+    → (steps : ℕ) (how : Ending) (world : World)
+    → state (placed_machine (primitives (constants_of runtime program) (pool_in cells runtime program)) depth (placed_functions program)) steps (placed_start main (first_world (pool_in cells runtime program) input)) ≡ ended how world
+    → (count : ℕ) × EndsWithCells (pool_in cells runtime program) how world (run count (first_processor text runtime.memory.size input))
+
 -- The code of a program, its runtime and the text that is made of both.
 pub record Makes (code : ProgramCode) (cells depth : ℕ) (asm : Asm) (placed runtime : Placed) (words : Words) (text : List ℕ) : Type 0 where
   pub small : IsSmall code
@@ -119,6 +136,16 @@ makes_of {code} {cells} {depth} {frame} {asm} {placed} {runtime} {words} {text} 
   words_are = words_are;
   text_is = text_is;
 }
+
+-- a turn that stands for an end is that end
+ended_alike : (how : Ending) (world : World) (t : PlacedTurn World Ending) → RegsStandsFor (ended how world) t → t ≡ ended how world
+ended_alike how world (go t) stands = absurd stands
+ended_alike how world (ended other shared) stands = cc (stands.0, stands.1)
+ended_alike how world stuck stands = absurd stands
+
+-- where no cell was used all are free
+all_free_cells : (pool : Pool) (s : Processor) → HasCells pool (unused_cells pool) s → free_cells pool.cells s ≡ pool.cells
+all_free_cells pool s (links, holds) = ap length (free_list-is holds.memory) ∙ length-cells_from pool.first _ ∙ omega arith
 
 module _ {code : ProgramCode} {cells depth : ℕ} {asm : Asm} {placed runtime : Placed} {words : Words} {text : List ℕ} (makes : Makes code cells depth asm placed runtime words text) where
   pub can_be_placed : ArePlaceable runtime placed
@@ -198,10 +225,38 @@ module _ {code : ProgramCode} {cells depth : ℕ} {asm : Asm} {placed runtime : 
               0 outside_lines (λ m. core.0 (m * 1 + 0 + 1)) image.0 (core_first_state (setting_of_core code positions cells depth) input) whole (goes (first_processor text runtime.memory.size input)) high low,
         )
 
+    -- where the core machine has ended, so has the placed code, and no cell was used
+    placed_ends : (n : ℕ) (by : End) → (state (core_outside step_instructions (setting_of_core code positions cells depth)) n (core_first_state (setting_of_core code positions cells depth) input)).machine.control ≡ stopped by
+        → (steps : ℕ) × (world : World) × (state (placed_machine (primitives constants pool) depth (placed_functions placed)) steps (placed_start placed_agrees.0 (first_world pool input)) ≡ ended (exited (exit_of by)) world) × (world.cells ≡ unused_cells pool)
+    placed_ends n by stops =
+        let asm_end = makes.made.does.leaves_cells positions pool cells depth first most_moves n input by makes.sizes.some_depth bytes constants_fit stops in
+        let begins = starts (primitives constants pool) depth (asm_functions asm) (placed_functions placed) makes.valid.functions most_moves 0 main (first_world pool input) makes.plain.few_moves makes.made.main_is makes.made.main_params never in
+        let same : begins.0 ≡ placed_agrees.0 = same_some begins.0 placed_agrees.0 (sym begins.1 ∙ placed_agrees.1) in
+        let reaches = simulates_many (asm_machine (primitives constants pool) most_moves depth (asm_functions asm)) (placed_machine (primitives constants pool) depth (placed_functions placed))
+        (RegsRelated (primitives constants pool) most_moves depth (asm_functions asm)) IsNotStuck 1 (simulates (primitives constants pool) depth (asm_functions asm) (placed_functions placed) makes.valid.functions most_moves makes.plain.few_moves)
+        asm_end.0 0 0 (asm_start main (first_world pool input)) (placed_start begins.0 (first_world pool input)) begins.2 in
+        let last = state (placed_machine (primitives constants pool) depth (placed_functions placed)) reaches.steps (placed_start begins.0 (first_world pool input)) in
+        let stands = subst (λ (t : AsmTurn World Ending). RegsStandsFor t last) asm_end.2 reaches.related.1.0 in (
+          reaches.steps,
+          asm_end.1,
+          subst (λ (m : PlacedLines). state (placed_machine (primitives constants pool) depth (placed_functions placed)) reaches.steps (placed_start m (first_world pool input)) ≡ ended (exited (exit_of by)) asm_end.1) same (ended_alike (exited (exit_of by)) asm_end.1 last stands),
+          asm_end.3,
+        )
+
+    pub leaves : PlacedTextEnds → (n : ℕ) (by : End)
+        → (state (core_outside step_instructions (setting_of_core code positions cells depth)) n (core_first_state (setting_of_core code positions cells depth) input)).machine.control ≡ stopped by
+        → (count : ℕ) × LeavesAll cells (exited (exit_of by)) (run count (first_processor text runtime.memory.size input))
+    leaves text_ends n by stops =
+        let there = placed_ends n by stops in
+        let on_constants = subst (λ (c : Constants). state (placed_machine (primitives c pool) depth (placed_functions placed)) there.0 (placed_start placed_agrees.0 (first_world pool input)) ≡ ended (exited (exit_of by)) there.1) (sym same_constants) there.2 in
+        let image = text_ends cells depth runtime placed words text input placed_agrees.0 placed_image bytes placed_never there.0 (exited (exit_of by)) there.1 on_constants in
+        let memory = subst (λ c. HasCells pool c (run image.0 (first_processor text runtime.memory.size input)).processor) there.3 image.1.memory in
+        (image.0, (image.1.ending, all_free_cells pool (run image.0 (first_processor text runtime.memory.size input)).processor memory))
+
 -- The image of the text, with the memory that the runtime asks for, is an image of the program.
-pub image_of : {code : ProgramCode} {cells depth : ℕ} {asm : Asm} {placed runtime : Placed} {words : Words} {text : List ℕ} → Makes code cells depth asm placed runtime words text → PlacedTextAgrees
+pub image_of : {code : ProgramCode} {cells depth : ℕ} {asm : Asm} {placed runtime : Placed} {words : Words} {text : List ℕ} → Makes code cells depth asm placed runtime words text → PlacedTextAgrees → PlacedTextEnds
     → (entry : ℕ) (parts : List Part) → IsProgramImage entry parts → entry ≡ text_start → parts ≡ program_parts text runtime.memory.size → IsImageOf code cells depth entry parts
-image_of {code} {cells} {depth} {asm} {placed} {runtime} {words} {text} makes text_agrees entry parts program entry_is parts_are =
+image_of {code} {cells} {depth} {asm} {placed} {runtime} {words} {text} makes text_agrees text_ends entry parts program entry_is parts_are =
     record {
       program = program;
       does = λ positions input bytes.
@@ -210,5 +265,11 @@ image_of {code} {cells} {depth} {asm} {placed} {runtime} {words} {text} makes te
             subst (λ (parts : List Part). Agree (core_outside step_instructions (setting_of_core code positions cells depth)) (processor_machine rv32im) outside_lines whole.0 (core_first_state (setting_of_core code positions cells depth) input) (goes (start (memory_of parts) entry input))) (sym parts_are)
                 (subst (λ (entry : ℕ). Agree (core_outside step_instructions (setting_of_core code positions cells depth)) (processor_machine rv32im) outside_lines whole.0 (core_first_state (setting_of_core code positions cells depth) input) (goes (start (memory_of (program_parts text runtime.memory.size)) entry input))) (sym entry_is)
                 whole.1),
+          );
+      leaves_cells = λ positions input bytes n by stops.
+          let whole = leaves makes positions input bytes text_ends n by stops in (
+            whole.0,
+            subst (λ (parts : List Part). LeavesAll cells (exited (exit_of by)) (run whole.0 (start (memory_of parts) entry input))) (sym parts_are)
+                (subst (λ (entry : ℕ). LeavesAll cells (exited (exit_of by)) (run whole.0 (start (memory_of (program_parts text runtime.memory.size)) entry input))) (sym entry_is) whole.1),
           );
     }

@@ -26,7 +26,7 @@ use Rattle.rv_lower.specs.Lowered.{AreFunctionsLowered}
 use Rattle.rv_lower.specs.Written.{texts_of}
 use Rattle.rv_lower.specs.Meaning.{core_cost, core_outside, setting_of_core}
 use Rattle.rv_lower.proofs.Labels.{found_label, label_found}
-use Rattle.rv_lower.proofs.Following.{turn_at, lead, lead_of, Stands, Continues, AllWait, follows, StandsFor, Related}
+use Rattle.rv_lower.proofs.Following.{IsWorldOf, turn_at, lead, lead_of, Stands, Continues, AllWait, follows, StandsFor, Related}
 use Rattle.rv_lower.proofs.Calls.{Callable, callable}
 use Rattle.rv_lower.proofs.Operating.{core_at}
 use Rattle.rv_lower.proofs.Orders.{lead_within}
@@ -75,7 +75,7 @@ module _ (program : LoweredProgram) where
   Passing turn = turn ≢ stuck
 
   abbrev pub AreRelated : ℕ → ℕ → CoreState → AsmTurn World Ending → Type 0
-  AreRelated = Related texts program.signatures
+  AreRelated = Related texts program.signatures program.pool
 
   abbrev pub Run : ℕ → List Event → AsmTurn World Ending → AsmTurn World Ending → Type 0
   Run = Runs.Runs target
@@ -100,7 +100,7 @@ module _ (program : LoweredProgram) where
 
   -- by lines
   pub by_lines : (n : ℕ) (events : List Event) (credit idle : ℕ) (s : CoreState) (t u : AsmTurn World Ending) → 1 ≤ n → n ≤ 10 → Run n events t u → lead_of s.machine.control ≤ most_forms
-      → StandsFor texts program.signatures s.machine.control s.machine.frames s.input u → Follow credit idle (events, s) t
+      → StandsFor texts program.signatures program.pool s.machine.control s.machine.frames s.input u → Follow credit idle (events, s) t
   by_lines n events credit idle s t u some few runs short stands =
       record {
         steps = n;
@@ -110,20 +110,20 @@ module _ (program : LoweredProgram) where
         moves = omega (arith, some, short);
         events_are = runs.events_are;
         passes = runs.passes;
-        related = (refl, subst (λ w. StandsFor texts program.signatures s.machine.control s.machine.frames s.input w) (sym runs.arrives) stands);
+        related = (refl, subst (λ w. StandsFor texts program.signatures program.pool s.machine.control s.machine.frames s.input w) (sym runs.arrives) stands);
       }
 
   -- by lines that lead to those of a code
   pub arrives : (n : ℕ) (events : List Event) (credit idle : ℕ) (some : Code) (environment : Environment) (inner : List Join) (frames : List CallFrame) (store : Store) (input : List ℕ) (base low : ℕ) (result : TypeTree) (whole left : List Line) (cells : ℕ → Option ℕ) (into : Option ℕ) (fs : List (Frame Line)) (world : World) (t : AsmTurn World Ending)
-      → 1 ≤ n → n ≤ 10 → Run n events t (turn_at whole left cells into fs world) → AreLinesFormed whole → Here base whole environment cells low result inner some left → Wait frames fs result → world.left ≡ input → All (λ byte. byte < 256) input
+      → 1 ≤ n → n ≤ 10 → Run n events t (turn_at whole left cells into fs world) → AreLinesFormed whole → Here base whole environment cells low result inner some left → Wait frames fs result → IsWorldOf program.pool input world → All (λ byte. byte < 256) input
       → Follow credit idle (events, core_at some environment inner frames store input) t
   arrives n events credit idle some environment inner frames store input base low result whole left cells into fs world t steps few runs formed here waits input_is bytes =
       by_lines n events credit idle (core_at some environment inner frames store input) t (turn_at whole left cells into fs world) steps few runs (omega (arith, lead_within some, here.placed.short))
-      (follows texts program.signatures some environment inner frames input base low result whole left cells into fs world formed here waits input_is bytes)
+      (follows texts program.signatures program.pool some environment inner frames input base low result whole left cells into fs world formed here waits input_is bytes)
 
   -- without a line
   pub stays : (credit idle : ℕ) (some : Code) (environment : Environment) (inner : List Join) (frames : List CallFrame) (store : Store) (input : List ℕ) (base low : ℕ) (result : TypeTree) (whole left : List Line) (cells : ℕ → Option ℕ) (into : Option ℕ) (fs : List (Frame Line)) (world : World)
-      → idle ≡ suc (lead some) → AreLinesFormed whole → Here base whole environment cells low result inner some left → Wait frames fs result → world.left ≡ input → All (λ byte. byte < 256) input
+      → idle ≡ suc (lead some) → AreLinesFormed whole → Here base whole environment cells low result inner some left → Wait frames fs result → IsWorldOf program.pool input world → All (λ byte. byte < 256) input
       → Follow credit idle ([], core_at some environment inner frames store input) (turn_at whole left cells into fs world)
   stays credit idle some environment inner frames store input base low result whole left cells into fs world idle_is formed here waits input_is bytes =
       record {
@@ -134,7 +134,7 @@ module _ (program : LoweredProgram) where
         moves = omega (arith, idle_is);
         events_are = refl;
         passes = λ k less. absurd (omega (arith, less));
-        related = (refl, follows texts program.signatures some environment inner frames input base low result whole left cells into fs world formed here waits input_is bytes);
+        related = (refl, follows texts program.signatures program.pool some environment inner frames input base low result whole left cells into fs world formed here waits input_is bytes);
       }
 
   pub finds : (l : ℕ) (whole start left : List Line) → AreLinesFormed whole → whole ≡ start ++ (acts (Label l) [] ∷ left) → found_label l whole ≡ Some (acts (Label l) [] ∷ left)

@@ -19,7 +19,7 @@ use Rattle.rv_world.specs.World.{World}
 use Rattle.rv_lower.specs.Lines.{acts, copies_to}
 use Rattle.rv_lower.specs.Lowered.{Goal, returns, joins, goal_lines, test_lines}
 use Rattle.rv_lower.proofs.Words.{truth_word}
-use Rattle.rv_lower.proofs.Following.{IsWordOf, SameBelow, one_more, turn_at, lead, Joined, Continues}
+use Rattle.rv_lower.proofs.Following.{IsWorldOf, IsWordOf, SameBelow, one_more, turn_at, lead, Joined, Continues}
 use Rattle.rv_lower.proofs.Environments.{holds_same, stands_at, stands_same, continues_same, receives}
 use Rattle.rv_lower.proofs.Performing.{put_same, put_other}
 use Rattle.rv_lower.proofs.Operating.{core_at, seen_step, is_true_of}
@@ -51,11 +51,11 @@ module _ (program : LoweredProgram) where
 
   -- it goes to the function that waits
   returns_to : (x word : ℕ) (v : Value) (t : TypeTree) (environment : Environment) (store : Store) (input : List ℕ) (credit idle : ℕ) (whole rest : List Line) (cells : ℕ → Option ℕ) (into : Option ℕ) (world : World) (frames : List CallFrame) (fs : List (Frame Line))
-      → value_of environment x ≡ v → cells x ≡ Some word → IsWordOf t v word → Wait program frames fs t → world.left ≡ input → All (λ byte. byte < 256) input
+      → value_of environment x ≡ v → cells x ≡ Some word → IsWordOf t v word → Wait program frames fs t → IsWorldOf program.pool input world → All (λ byte. byte < 256) input
       → Follow program credit idle (seen_step (setting program) (core_at (give x) environment [] frames store input)) (turn_at whole (acts Return (x ∷ []) ∷ rest) cells into fs world)
   returns_to x word v t environment store input credit idle whole rest cells into world [] [] v_is at_x is waits input_is bytes =
       by_lines program 1 [] credit idle (record { machine = record { control = stopped core_ended; frames = []; store = store }; input = input }) (turn_at whole (acts Return (x ∷ []) ∷ rest) cells into [] world) (ended (exited 0) world) (omega arith) (omega arith)
-      (Jumping.last_return_runs (target program) x word whole rest cells into world at_x) (omega arith) (world, refl)
+      (Jumping.last_return_runs (target program) x word whole rest cells into world at_x) (omega arith) (world, refl, input_is.1)
   returns_to x word v t environment store input credit idle whole rest cells into world [] (f ∷ fs) v_is at_x is waits input_is bytes = absurd waits
   returns_to x word v t environment store input credit idle whole rest cells into world (frame ∷ frames) [] v_is at_x is waits input_is bytes = absurd waits
   returns_to x word v t environment store input credit idle whole rest cells into world (frame ∷ frames) (f ∷ fs) v_is at_x is waits input_is bytes =
@@ -73,7 +73,7 @@ module _ (program : LoweredProgram) where
   joins_at : (x y l word : ℕ) (t : TypeTree) (tail : Bool) (low high base : ℕ) (result : TypeTree) (join : Join) (outer : List Join) (environment : Environment) (frames : List CallFrame) (store : Store) (input : List ℕ) (credit idle : ℕ) (whole rest : List Line) (cells : ℕ → Option ℕ) (into : Option ℕ) (fs : List (Frame Line)) (world : World)
       → AreLinesFormed whole → cells x ≡ Some word → IsWordOf t (value_of environment x) word → low ≤ high
       → Joined (texts program) program.signatures base whole environment cells low (Continues (texts program) program.signatures base whole environment cells low result outer) join y l tail high t
-      → Wait program frames fs result → world.left ≡ input → All (λ byte. byte < 256) input
+      → Wait program frames fs result → IsWorldOf program.pool input world → All (λ byte. byte < 256) input
       → Follow program credit idle (seen_step (setting program) (core_at (give x) environment (join ∷ outer) frames store input)) (turn_at whole (copies_to x y ∷ acts (Jump l) [] ∷ rest) cells into fs world)
   joins_at x y l word t tail low high base result join outer environment frames store input credit idle whole rest cells into fs world formed at_x is rises joined waits input_is bytes =
       let given : Value = value_of environment x in
@@ -89,7 +89,7 @@ module _ (program : LoweredProgram) where
   gives_on : (inner : List Join) (goal : Goal) (x word : ℕ) (t : TypeTree) (tail : Bool) (low high base : ℕ) (result : TypeTree) (environment : Environment) (frames : List CallFrame) (store : Store) (input : List ℕ) (credit idle : ℕ) (whole rest : List Line) (cells : ℕ → Option ℕ) (into : Option ℕ) (fs : List (Frame Line)) (world : World)
       → AreLinesFormed whole → cells x ≡ Some word → IsWordOf t (value_of environment x) word → low ≤ high
       → Continues (texts program) program.signatures base whole environment cells low result inner goal tail high t
-      → Wait program frames fs result → world.left ≡ input → All (λ byte. byte < 256) input
+      → Wait program frames fs result → IsWorldOf program.pool input world → All (λ byte. byte < 256) input
       → Follow program credit idle (seen_step (setting program) (core_at (give x) environment inner frames store input)) (turn_at whole (goal_lines goal x ++ rest) cells into fs world)
   gives_on [] returns x word t tail low high base result environment frames store input credit idle whole rest cells into fs world formed at_x is rises goes waits input_is bytes =
       returns_to x word (value_of environment x) t environment store input credit idle whole rest cells into world frames fs refl at_x is (subst (λ u. Wait program frames fs u) (sym goes) waits) input_is bytes
@@ -99,7 +99,7 @@ module _ (program : LoweredProgram) where
       joins_at x y l word t tail low high base result join outer environment frames store input credit idle whole rest cells into fs world formed at_x is rises goes waits input_is bytes
 
   pub at_give : (x : ℕ) (environment : Environment) (inner : List Join) (frames : List CallFrame) (store : Store) (input : List ℕ) (credit idle : ℕ) (base low : ℕ) (result : TypeTree) (whole left : List Line) (cells : ℕ → Option ℕ) (into : Option ℕ) (fs : List (Frame Line)) (world : World)
-      → AreLinesFormed whole → Here program base whole environment cells low result inner (give x) left → Wait program frames fs result → world.left ≡ input → All (λ byte. byte < 256) input
+      → AreLinesFormed whole → Here program base whole environment cells low result inner (give x) left → Wait program frames fs result → IsWorldOf program.pool input world → All (λ byte. byte < 256) input
       → Follow program credit idle (seen_step (setting program) (core_at (give x) environment inner frames store input)) (turn_at whole left cells into fs world)
   at_give x environment inner frames store input credit idle base low result whole left cells into fs world formed here waits input_is bytes =
       let placed = here.placed in
@@ -111,7 +111,7 @@ module _ (program : LoweredProgram) where
   -- ---- forms that take no line
 
   pub at_use : (x : ℕ) (rest : Code) (environment : Environment) (inner : List Join) (frames : List CallFrame) (store : Store) (input : List ℕ) (credit idle : ℕ) (base low : ℕ) (result : TypeTree) (whole left : List Line) (cells : ℕ → Option ℕ) (into : Option ℕ) (fs : List (Frame Line)) (world : World)
-      → idle ≡ suc (lead rest) → AreLinesFormed whole → Here program base whole environment cells low result inner (use_of x rest) left → Wait program frames fs result → world.left ≡ input → All (λ byte. byte < 256) input
+      → idle ≡ suc (lead rest) → AreLinesFormed whole → Here program base whole environment cells low result inner (use_of x rest) left → Wait program frames fs result → IsWorldOf program.pool input world → All (λ byte. byte < 256) input
       → Follow program credit idle ([], core_at rest environment inner frames store input) (turn_at whole left cells into fs world)
   at_use x rest environment inner frames store input credit idle base low result whole left cells into fs world idle_is formed here waits input_is bytes =
       let placed = here.placed in
@@ -146,7 +146,7 @@ module _ (program : LoweredProgram) where
       placed.lines.4 place placed.typed.2 placed.ordered.1 placed.small (omega (arith, placed.short)))
 
   pub at_inside : (x : ℕ) (block rest : Code) (environment : Environment) (inner : List Join) (frames : List CallFrame) (store : Store) (input : List ℕ) (credit idle : ℕ) (base low : ℕ) (result : TypeTree) (whole left : List Line) (cells : ℕ → Option ℕ) (into : Option ℕ) (fs : List (Frame Line)) (world : World)
-      → idle ≡ suc (lead block) → AreLinesFormed whole → Here program base whole environment cells low result inner (inside x block rest) left → Wait program frames fs result → world.left ≡ input → All (λ byte. byte < 256) input
+      → idle ≡ suc (lead block) → AreLinesFormed whole → Here program base whole environment cells low result inner (inside x block rest) left → Wait program frames fs result → IsWorldOf program.pool input world → All (λ byte. byte < 256) input
       → Follow program credit idle ([], core_at block environment (record { variable = x; rest = rest } ∷ inner) frames store input) (turn_at whole left cells into fs world)
   at_inside x block rest environment inner frames store input credit idle base low result whole left cells into fs world idle_is formed here waits input_is bytes =
       let placed = here.placed in
@@ -196,7 +196,7 @@ module _ (program : LoweredProgram) where
 
   -- the code after a test, of which one side is taken
   at_side : (b : Bool) (x : ℕ) (positive negative : Code) (environment : Environment) (inner : List Join) (frames : List CallFrame) (store : Store) (input : List ℕ) (credit idle : ℕ) (base low : ℕ) (result : TypeTree) (whole left : List Line) (cells : ℕ → Option ℕ) (into : Option ℕ) (fs : List (Frame Line)) (world : World)
-      → AreLinesFormed whole → (here : Here program base whole environment cells low result inner (branch x positive negative) left) → Wait program frames fs result → world.left ≡ input → All (λ byte. byte < 256) input
+      → AreLinesFormed whole → (here : Here program base whole environment cells low result inner (branch x positive negative) left) → Wait program frames fs result → IsWorldOf program.pool input world → All (λ byte. byte < 256) input
       → cells x ≡ Some (truth_word b) → Parts base x here.placed.first whole left here.placed.before here.placed.lines.0 here.placed.lines.1 here.placed.after
       → low ≤ here.placed.ordered.0 → here.placed.ordered.0 ≤ here.high → SameBelow low environment environment cells (Jumping.tested (target program) base (truth_word b) cells)
       → Follow program credit idle ([], core_at (if b then positive else negative) environment inner frames store input) (turn_at whole (test_lines base x here.placed.first ++ ((here.placed.lines.0 ++ (acts (Label here.placed.first) [] ∷ here.placed.lines.1)) ++ here.placed.after)) cells into fs world)
@@ -251,7 +251,7 @@ module _ (program : LoweredProgram) where
       waits input_is bytes
 
   pub at_branch : (x : ℕ) (positive negative : Code) (environment : Environment) (inner : List Join) (frames : List CallFrame) (store : Store) (input : List ℕ) (credit idle : ℕ) (base low : ℕ) (result : TypeTree) (whole left : List Line) (cells : ℕ → Option ℕ) (into : Option ℕ) (fs : List (Frame Line)) (world : World)
-      → AreLinesFormed whole → Here program base whole environment cells low result inner (branch x positive negative) left → Wait program frames fs result → world.left ≡ input → All (λ byte. byte < 256) input
+      → AreLinesFormed whole → Here program base whole environment cells low result inner (branch x positive negative) left → Wait program frames fs result → IsWorldOf program.pool input world → All (λ byte. byte < 256) input
       → Follow program credit idle (seen_step (setting program) (core_at (branch x positive negative) environment inner frames store input)) (turn_at whole left cells into fs world)
   at_branch x positive negative environment inner frames store input credit idle base low result whole left cells into fs world formed here waits input_is bytes =
       let placed = here.placed in

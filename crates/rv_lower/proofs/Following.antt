@@ -18,6 +18,8 @@ use Rattle.rv_isa.specs.AsmMachine.{AsmTurn}
 use Rattle.rv_isa.specs.Frames.{Frame}
 use Rattle.rv_isa.specs.Primitives.{go, ended}
 use Rattle.rv_isa.specs.WellFormed.{AreLinesFormed}
+use Rattle.cell_heap.specs.Pool.{Pool}
+use Rattle.cell_heap.specs.Blocks.{unused_cells}
 use Rattle.rv_world.specs.World.{World}
 use Rattle.rv_lower.specs.Lines.{Texts, acts, unit_word}
 use Rattle.rv_lower.specs.Lowered.{Goal, returns, joins, CodeLines}
@@ -57,6 +59,10 @@ one_more x t = record { variable = x; type = t } ∷ []
 -- a frame that holds no tokens
 abbrev pub frame_at : List Line → List Line → (ℕ → Option ℕ) → Option ℕ → Frame Line
 frame_at whole left cells into = record { whole = whole; code = left; cells = cells; held = []; into = into }
+
+-- the world has this input left, and none of its cells was ever used
+abbrev pub IsWorldOf : Pool → List ℕ → World → Type 0
+IsWorldOf pool input world = (world.left ≡ input) × (world.cells ≡ unused_cells pool)
 
 abbrev pub turn_at : List Line → List Line → (ℕ → Option ℕ) → Option ℕ → List (Frame Line) → World → AsmTurn World Ending
 turn_at whole left cells into fs world = go (record { frames = frame_at whole left cells into ∷ fs; shared = world })
@@ -138,7 +144,7 @@ module _ (texts : Texts) (signatures : List Signature) where
   AllWait (waiting ∷ frames) (f ∷ fs) awaited = (result : TypeTree) × Waits waiting f awaited result × AllWait frames fs result
 
   -- a turn at lines that do what a code does
-  pub record Follows (code : Code) (environment : Environment) (inner : List Join) (frames : List CallFrame) (input : List ℕ) (turn : AsmTurn World Ending) : Type 0 where
+  pub record Follows (pool : Pool) (code : Code) (environment : Environment) (inner : List Join) (frames : List CallFrame) (input : List ℕ) (turn : AsmTurn World Ending) : Type 0 where
     pub whole : List Line
     pub left : List Line
     pub cells : ℕ → Option ℕ
@@ -152,14 +158,14 @@ module _ (texts : Texts) (signatures : List Signature) where
     pub formed : AreLinesFormed whole
     pub stands : Stands base whole environment cells low (Continues base whole environment cells low result inner) [] low code left
     pub waits : AllWait frames fs result
-    pub input_is : world.left ≡ input
+    pub input_is : IsWorldOf pool input world
     pub bytes : All (λ byte. byte < 256) input
 
   -- code that stands is followed
-  pub follows : (code : Code) (environment : Environment) (inner : List Join) (frames : List CallFrame) (input : List ℕ) (base low : ℕ) (result : TypeTree) (whole left : List Line) (cells : ℕ → Option ℕ) (into : Option ℕ) (fs : List (Frame Line)) (world : World)
-      → AreLinesFormed whole → Stands base whole environment cells low (Continues base whole environment cells low result inner) [] low code left → AllWait frames fs result → world.left ≡ input → All (λ byte. byte < 256) input
-      → Follows code environment inner frames input (turn_at whole left cells into fs world)
-  follows code environment inner frames input base low result whole left cells into fs world formed stands waits input_is bytes =
+  pub follows : (pool : Pool) (code : Code) (environment : Environment) (inner : List Join) (frames : List CallFrame) (input : List ℕ) (base low : ℕ) (result : TypeTree) (whole left : List Line) (cells : ℕ → Option ℕ) (into : Option ℕ) (fs : List (Frame Line)) (world : World)
+      → AreLinesFormed whole → Stands base whole environment cells low (Continues base whole environment cells low result inner) [] low code left → AllWait frames fs result → IsWorldOf pool input world → All (λ byte. byte < 256) input
+      → Follows pool code environment inner frames input (turn_at whole left cells into fs world)
+  follows pool code environment inner frames input base low result whole left cells into fs world formed stands waits input_is bytes =
       record {
         whole = whole;
         left = left;
@@ -178,9 +184,9 @@ module _ (texts : Texts) (signatures : List Signature) where
         bytes = bytes;
       }
 
-  abbrev pub StandsFor : CoreControl → List CallFrame → List ℕ → AsmTurn World Ending → Type 0
-  StandsFor (running code environment inner) frames input turn = Follows code environment inner frames input turn
-  StandsFor (stopped by) frames input turn = (world : World) × (turn ≡ ended (exited (exit_of by)) world)
+  abbrev pub StandsFor : Pool → CoreControl → List CallFrame → List ℕ → AsmTurn World Ending → Type 0
+  StandsFor pool (running code environment inner) frames input turn = Follows pool code environment inner frames input turn
+  StandsFor pool (stopped by) frames input turn = (world : World) × (turn ≡ ended (exited (exit_of by)) world) × (world.cells ≡ unused_cells pool)
 
-  abbrev pub Related : ℕ → ℕ → CoreState → AsmTurn World Ending → Type 0
-  Related credit idle s turn = (idle ≡ lead_of s.machine.control) × StandsFor s.machine.control s.machine.frames s.input turn
+  abbrev pub Related : Pool → ℕ → ℕ → CoreState → AsmTurn World Ending → Type 0
+  Related pool credit idle s turn = (idle ≡ lead_of s.machine.control) × StandsFor pool s.machine.control s.machine.frames s.input turn

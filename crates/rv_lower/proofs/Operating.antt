@@ -77,6 +77,7 @@ module _ (setting : CoreSetting) (target : Target) (signatures : List Signature)
     pub performs : Performs own x t value cells world after events
     pub step_is : seen_step setting (core_at (compute x form arguments rest) environment inner frames store input) ≡ (events, core_at rest (record { variable = x; value = value } ∷ environment) inner frames store left)
     pub left_is : after.left ≡ left
+    pub cells_are : after.cells ≡ world.cells
     pub bytes : All (λ byte. byte < 256) left
 
   -- one that the world does not see
@@ -85,7 +86,7 @@ module _ (setting : CoreSetting) (target : Target) (signatures : List Signature)
       → seen_step setting (core_at (compute x form arguments rest) environment inner frames store input) ≡ ([], core_at rest (record { variable = x; value = v } ∷ environment) inner frames store input)
       → Done form arguments own x t rest environment inner frames store input cells world
   silent form arguments own x t u v rest environment inner frames store input cells world left_is bytes type_is performs step_is =
-      record { value = v; after = world; events = []; left = input; performs = subst (λ s. Performs own x s v cells world world []) (sym type_is) performs; step_is = step_is; left_is = left_is; bytes = bytes }
+      record { value = v; after = world; events = []; left = input; performs = subst (λ s. Performs own x s v cells world world []) (sym type_is) performs; step_is = step_is; left_is = left_is; cells_are = refl; bytes = bytes }
 
   first_type : (scope : Scope) (a : ℕ) (xs : List ℕ) (ts more : List TypeTree) (t : TypeTree) → HaveTypes scope (a ∷ xs) ts → ts ≡ t ∷ more → (type_in scope a ≡ Some t) × HaveTypes scope xs more
   first_type scope a xs ts more t typed is = subst (λ us. HaveTypes scope (a ∷ xs) us) is typed
@@ -122,6 +123,7 @@ module _ (setting : CoreSetting) (target : Target) (signatures : List Signature)
             (Performing.read_performs target x input own cells world left_is bytes lines);
         step_is = reads x arguments rest environment inner frames store input;
         left_is = refl;
+        cells_are = refl;
         bytes = bytes_behind input bytes;
       }
   form_done (PrintText how text) arguments no_call base own x low t ts scope rest environment inner frames store input cells world typed form lines holds below le above left_is bytes =
@@ -135,6 +137,7 @@ module _ (setting : CoreSetting) (target : Target) (signatures : List Signature)
             (Performing.print_text_performs target base x piece lines.0 own cells world above lines.1 lines.2);
         step_is = print_is piece (core_at rest (record { variable = x; value = unit } ∷ environment) inner frames store input).machine input;
         left_is = left_is;
+        cells_are = refl;
         bytes = bytes;
       }
   form_done (Unary operator) [] no_call base own x low t ts scope rest environment inner frames store input cells world typed form lines holds below le above left_is bytes =
@@ -190,6 +193,7 @@ module _ (setting : CoreSetting) (target : Target) (signatures : List Signature)
             (Performing.print_int_performs target base x a h.0 form own cells world above (omega (arith, below a int32 of.0)) h.1 h.2.1 lines);
         step_is = ap (λ v. seen_performed (print_step (piece_of form (signed_decimal (integer_of v))) to) input) h.2.0 ∙ print_is piece to input ∙ ap (λ es. (es, record { machine = to; input = input })) some;
         left_is = left_is;
+        cells_are = refl;
         bytes = bytes;
       }
   form_done (Construct c) (y ∷ ys) no_call base own x low t ts scope rest environment inner frames store input cells world typed form lines holds below le above left_is bytes =

@@ -25,7 +25,7 @@ use Rattle.rv_isa.specs.Primitives.{ended, stuck, end_of}
 use Rattle.rv_isa.specs.WellFormed.{AreLinesFormed}
 use Rattle.rv_world.specs.World.{World}
 use Rattle.rv_lower.specs.Lines.{acts, copies, temporaries}
-use Rattle.rv_lower.proofs.Following.{SameBelow, one_more, frame_at, turn_at, lead, lead_of, Continues, Waits, StandsFor}
+use Rattle.rv_lower.proofs.Following.{IsWorldOf, SameBelow, one_more, frame_at, turn_at, lead, lead_of, Continues, Waits, StandsFor}
 use Rattle.rv_lower.proofs.Environments.{stands_at, stands_same, continues_same, receives}
 use Rattle.rv_lower.proofs.Calls.{words_read, arguments_have, arguments_less, as_many_arguments, Copied, copied, Callable, Entered, enters}
 use Rattle.rv_lower.proofs.Codes.{order_rises}
@@ -83,7 +83,7 @@ module _ (program : LoweredProgram) where
       omega (arith, order_rises program.signatures here.tail (one_more x here.placed.typed.0 ++ here.scope) rest here.type (x ∷ here.placed.bound) (x + 1) here.high here.placed.typed.4 here.placed.ordered.2, here.placed.small)
 
   at_form : (x : ℕ) (form : Form) (arguments : List ℕ) (rest : Code) → IsNoCall form → (environment : Environment) (inner : List Join) (frames : List CallFrame) (store : Store) (input : List ℕ) (credit idle : ℕ) (base low : ℕ) (result : TypeTree) (whole left : List Line) (cells : ℕ → Option ℕ) (into : Option ℕ) (fs : List (Frame Line)) (world : World)
-      → AreLinesFormed whole → Here program base whole environment cells low result inner (compute x form arguments rest) left → Wait program frames fs result → world.left ≡ input → All (λ byte. byte < 256) input
+      → AreLinesFormed whole → Here program base whole environment cells low result inner (compute x form arguments rest) left → Wait program frames fs result → IsWorldOf program.pool input world → All (λ byte. byte < 256) input
       → Follow program credit idle (seen_step (setting program) (core_at (compute x form arguments rest) environment inner frames store input)) (turn_at whole left cells into fs world)
   at_form x form arguments rest no_call environment inner frames store input credit idle base low result whole left cells into fs world formed here waits input_is bytes =
       let own : List Line = here.placed.lines.0 in
@@ -91,37 +91,37 @@ module _ (program : LoweredProgram) where
       let waiting : Goes program base whole environment cells low result inner (one_more x here.placed.typed.0) (x + 1) rest behind = awaits x form arguments rest environment inner base low result whole left cells here in
       let done : Done (setting program) (target program) program.signatures form arguments own x here.placed.typed.0 rest environment inner frames store input cells world
       = form_done (setting program) (target program) program.signatures form arguments no_call base own x low here.placed.typed.0 here.placed.typed.1 here.scope rest environment inner frames store input cells world here.placed.typed.2 here.placed.typed.3 here.placed.lines.2 here.holds here.below here.placed.ordered.1
-      (under_base x form arguments rest environment inner base low result whole left cells here) input_is bytes in
+      (under_base x form arguments rest environment inner base low result whole left cells here) input_is.0 bytes in
       let environment' : Environment = record { variable = x; value = done.value } ∷ environment in
       subst (λ (next : List Event × CoreState). Follow program credit idle next (turn_at whole left cells into fs world)) (sym done.step_is)
       (subst (λ lines. Follow program credit idle (done.events, core_at rest environment' inner frames store done.left) (turn_at whole lines cells into fs world)) (sym (own_left x form arguments rest environment inner base low result whole left cells here))
       (arrives program done.performs.steps done.events credit idle rest environment' inner frames store done.left base (x + 1) result whole behind done.performs.cells' into fs done.after (turn_at whole (own ++ behind) cells into fs world)
       done.performs.some done.performs.few (done.performs.runs whole behind into fs) formed
       (receives (texts program) program.signatures base whole environment cells done.performs.cells' low result inner x here.placed.typed.0 rest behind done.value done.performs.word here.placed.ordered.1 done.performs.kept done.performs.there done.performs.is waiting)
-      waits done.left_is done.bytes))
+      waits (done.left_is, done.cells_are ∙ input_is.1) done.bytes))
 
   -- ---- calls
 
   -- a function begins
   begins : (n credit idle : ℕ) (function : FunctionCode) (lines : Lines) (signature : Signature) (vs : List Value) (ws : List ℕ) (frames : List CallFrame) (store : Store) (input : List ℕ) (fs : List (Frame Line)) (world : World) (t : AsmTurn World Ending)
       → 1 ≤ n → n ≤ 10 → AreLinesFormed lines.code → (entered : Entered (texts program) program.signatures function lines signature vs ws) → Run program n [] t (turn_at lines.code lines.code entered.cells None fs world)
-      → Wait program frames fs signature.result → world.left ≡ input → All (λ byte. byte < 256) input
+      → Wait program frames fs signature.result → IsWorldOf program.pool input world → All (λ byte. byte < 256) input
       → Follow program credit idle ([], core_at function.body (bind_parameters 0 vs []) [] frames store input) t
   begins n credit idle function lines signature vs ws frames store input fs world t some few formed entered run waits input_is bytes =
       arrives program n [] credit idle function.body (bind_parameters 0 vs []) [] frames store input function.variables function.parameters signature.result lines.code lines.code entered.cells None fs world t some few run formed entered.stands waits input_is bytes
 
   -- by whether the stack is full
   full_or_enters : (full : Bool) (n : ℕ) (function : FunctionCode) (lines : Lines) (signature : Signature) (vs : List Value) (ws : List ℕ) (waiting : CallFrame) (frames : List CallFrame) (store : Store) (input : List ℕ) (credit idle : ℕ) (from : CoreConfiguration) (f : Frame Line) (fs : List (Frame Line)) (world : World) (t : AsmTurn World Ending)
-      → n ≤ 8 → AreLinesFormed lines.code → (entered : Entered (texts program) program.signatures function lines signature vs ws) → Wait program (waiting ∷ frames) (f ∷ fs) signature.result → world.left ≡ input → All (λ byte. byte < 256) input
+      → n ≤ 8 → AreLinesFormed lines.code → (entered : Entered (texts program) program.signatures function lines signature vs ws) → Wait program (waiting ∷ frames) (f ∷ fs) signature.result → IsWorldOf program.pool input world → All (λ byte. byte < 256) input
       → Run program (n + 1) [] t (cond full (ended (exited 102) world) (turn_at lines.code lines.code entered.cells None (f ∷ fs) world))
       → Follow program credit idle ([], record { machine = if full then record from { control = stopped stack_full } else (core_at function.body (bind_parameters 0 vs []) [] (waiting ∷ frames) store input).machine; input = input }) t
   full_or_enters true n function lines signature vs ws waiting frames store input credit idle from f fs world t few formed entered waits input_is bytes run =
-      by_lines program (n + 1) [] credit idle (record { machine = record from { control = stopped stack_full }; input = input }) t (ended (exited 102) world) (omega arith) (omega arith) run (omega arith) (world, refl)
+      by_lines program (n + 1) [] credit idle (record { machine = record from { control = stopped stack_full }; input = input }) t (ended (exited 102) world) (omega arith) (omega arith) run (omega arith) (world, refl, input_is.1)
   full_or_enters false n function lines signature vs ws waiting frames store input credit idle from f fs world t few formed entered waits input_is bytes run =
       begins (n + 1) credit idle function lines signature vs ws (waiting ∷ frames) store input (f ∷ fs) world t (omega arith) (omega (arith, few)) formed entered run waits input_is bytes
 
   at_call : (x f : ℕ) (arguments : List ℕ) (rest : Code) (environment : Environment) (inner : List Join) (frames : List CallFrame) (store : Store) (input : List ℕ) (credit idle : ℕ) (base low : ℕ) (result : TypeTree) (whole left : List Line) (cells : ℕ → Option ℕ) (into : Option ℕ) (fs : List (Frame Line)) (world : World)
-      → AreLinesFormed whole → Here program base whole environment cells low result inner (compute x (Call f) arguments rest) left → Wait program frames fs result → world.left ≡ input → All (λ byte. byte < 256) input
+      → AreLinesFormed whole → Here program base whole environment cells low result inner (compute x (Call f) arguments rest) left → Wait program frames fs result → IsWorldOf program.pool input world → All (λ byte. byte < 256) input
       → Follow program credit idle (seen_step (setting program) (core_at (compute x (Call f) arguments rest) environment inner frames store input)) (turn_at whole left cells into fs world)
   at_call x f arguments rest environment inner frames store input credit idle base low result whole left cells into fs world formed here waits input_is bytes =
       let t : TypeTree = here.placed.typed.0 in
@@ -171,7 +171,7 @@ module _ (program : LoweredProgram) where
       (full_or_enters (full (length fs)) n callee.function callee.lines signature vs ws waiting frames store input credit idle from (frame_at whole behind copy.cells' (Some x)) fs world t0 few callee.formed.lines entered (result, frame_waits, waits) input_is bytes run))
 
   at_tail_call : (f : ℕ) (arguments : List ℕ) (environment : Environment) (inner : List Join) (frames : List CallFrame) (store : Store) (input : List ℕ) (credit idle : ℕ) (base low : ℕ) (result : TypeTree) (whole left : List Line) (cells : ℕ → Option ℕ) (into : Option ℕ) (fs : List (Frame Line)) (world : World)
-      → AreLinesFormed whole → Here program base whole environment cells low result inner (tail_call f arguments) left → Wait program frames fs result → world.left ≡ input → All (λ byte. byte < 256) input
+      → AreLinesFormed whole → Here program base whole environment cells low result inner (tail_call f arguments) left → Wait program frames fs result → IsWorldOf program.pool input world → All (λ byte. byte < 256) input
       → Follow program credit idle (seen_step (setting program) (core_at (tail_call f arguments) environment inner frames store input)) (turn_at whole left cells into fs world)
   at_tail_call f arguments environment inner frames store input credit idle base low result whole left cells into fs world formed here waits input_is bytes =
       let ts : List TypeTree = here.placed.typed.1 in
@@ -205,7 +205,7 @@ module _ (program : LoweredProgram) where
   -- ---- each step
 
   at_compute : (x : ℕ) (form : Form) (arguments : List ℕ) (rest : Code) → IsNoCall form ⊎ IsCall form → (environment : Environment) (inner : List Join) (frames : List CallFrame) (store : Store) (input : List ℕ) (credit idle : ℕ) (base low : ℕ) (result : TypeTree) (whole left : List Line) (cells : ℕ → Option ℕ) (into : Option ℕ) (fs : List (Frame Line)) (world : World)
-      → AreLinesFormed whole → Here program base whole environment cells low result inner (compute x form arguments rest) left → Wait program frames fs result → world.left ≡ input → All (λ byte. byte < 256) input
+      → AreLinesFormed whole → Here program base whole environment cells low result inner (compute x form arguments rest) left → Wait program frames fs result → IsWorldOf program.pool input world → All (λ byte. byte < 256) input
       → Follow program credit idle (seen_step (setting program) (core_at (compute x form arguments rest) environment inner frames store input)) (turn_at whole left cells into fs world)
   at_compute x form arguments rest (inl no_call) environment inner frames store input credit idle base low result whole left cells into fs world formed here waits input_is bytes =
       at_form x form arguments rest no_call environment inner frames store input credit idle base low result whole left cells into fs world formed here waits input_is bytes
@@ -214,7 +214,7 @@ module _ (program : LoweredProgram) where
       (λ there. at_call x call.0 arguments rest environment inner frames store input credit idle base low result whole left cells into fs world formed there waits input_is bytes) here
 
   at_code : (some : Code) (environment : Environment) (inner : List Join) (frames : List CallFrame) (store : Store) (input : List ℕ) (credit idle : ℕ) (base low : ℕ) (result : TypeTree) (whole left : List Line) (cells : ℕ → Option ℕ) (into : Option ℕ) (fs : List (Frame Line)) (world : World)
-      → idle ≡ lead some → AreLinesFormed whole → Here program base whole environment cells low result inner some left → Wait program frames fs result → world.left ≡ input → All (λ byte. byte < 256) input
+      → idle ≡ lead some → AreLinesFormed whole → Here program base whole environment cells low result inner some left → Wait program frames fs result → IsWorldOf program.pool input world → All (λ byte. byte < 256) input
       → Follow program credit idle (seen_step (setting program) (core_at some environment inner frames store input)) (turn_at whole left cells into fs world)
   at_code (give x) environment inner frames store input credit idle base low result whole left cells into fs world idle_is formed here waits input_is bytes =
       at_give program x environment inner frames store input credit idle base low result whole left cells into fs world formed here waits input_is bytes
@@ -232,7 +232,7 @@ module _ (program : LoweredProgram) where
       at_inside program x block rest environment inner frames store input credit idle base low result whole left cells into fs world idle_is formed here waits input_is bytes
 
   steps_by : (control : CoreControl) (frames : List CallFrame) (store : Store) (input : List ℕ) (credit idle : ℕ) (t : AsmTurn World Ending)
-      → ((upper program).ending (record { machine = record { control = control; frames = frames; store = store }; input = input }) ≡ None) → idle ≡ lead_of control → StandsFor (texts program) program.signatures control frames input t
+      → ((upper program).ending (record { machine = record { control = control; frames = frames; store = store }; input = input }) ≡ None) → idle ≡ lead_of control → StandsFor (texts program) program.signatures program.pool control frames input t
       → Reaches (lower program) (AreRelated program) (Passing program) (pace program) ((upper program).weight (record { machine = record { control = control; frames = frames; store = store }; input = input }) + credit) 1 idle
       ((upper program).step (record { machine = record { control = control; frames = frames; store = store }; input = input })).0 ((upper program).step (record { machine = record { control = control; frames = frames; store = store }; input = input })).1 t
   steps_by (running some environment inner) frames store input credit idle t goes idle_is follows =
@@ -246,12 +246,12 @@ module _ (program : LoweredProgram) where
   ends_not : (t : AsmTurn World Ending) (how : Ending) (world : World) → t ≡ stuck → t ≡ ended how world → ⊥
   ends_not t how world is_stuck is = cc (is_stuck, is)
 
-  ends_alike : (control : CoreControl) (frames : List CallFrame) (store : Store) (input : List ℕ) (t : AsmTurn World Ending) → StandsFor (texts program) program.signatures control frames input t
+  ends_alike : (control : CoreControl) (frames : List CallFrame) (store : Store) (input : List ℕ) (t : AsmTurn World Ending) → StandsFor (texts program) program.signatures program.pool control frames input t
       → (lower program).ending t ≡ (upper program).ending (record { machine = record { control = control; frames = frames; store = store }; input = input })
   ends_alike (running some environment inner) frames store input t follows = ap end_of follows.turn_is
   ends_alike (stopped by) frames store input t follows = ap end_of follows.1
 
-  never_stuck : (control : CoreControl) (frames : List CallFrame) (input : List ℕ) (t : AsmTurn World Ending) → StandsFor (texts program) program.signatures control frames input t → Passing program t
+  never_stuck : (control : CoreControl) (frames : List CallFrame) (input : List ℕ) (t : AsmTurn World Ending) → StandsFor (texts program) program.signatures program.pool control frames input t → Passing program t
   never_stuck (running some environment inner) frames input t follows = λ is. goes_not t follows.whole follows.left follows.cells follows.into follows.fs follows.world is follows.turn_is
   never_stuck (stopped by) frames input t follows = λ is. ends_not t (exited (exit_of by)) follows.0 is follows.1
 

@@ -130,7 +130,7 @@ module _ {cells depth : ℕ} {runtime program : Placed} {words : Words} {text : 
       -- where the machine ends, so does the image, and its memory has the cells of the world
       pub image-ends : (steps : ℕ) (how : Ending) (world : World)
           → state (placed_machine (primitives (constants_of runtime program) (pool_in cells runtime program)) depth (placed_functions program)) steps (placed_start main (first_world (pool_in cells runtime program) input)) ≡ ended how world
-          → (count : ℕ) × EndsWithCells cells how world (run count (first_processor text runtime.memory.size input))
+          → (count : ℕ) × EndsWithCells (pool_in cells runtime program) how world (run count (first_processor text runtime.memory.size input))
       image-ends steps how world is =
           let reaches = simulates_many _ _ _ _ pace simulates steps 3 (length main.code) (placed_start main (first_world (pool_in cells runtime program) input)) (goes image-begins.after)
           (never, (image-begins.after, refl, omega arith, omega arith, image-begins.running)) in
@@ -139,9 +139,10 @@ module _ {cells depth : ℕ} {runtime program : Placed} {words : Words} {text : 
           = subst (λ turn. Related (map_of runtime program) (pool_in cells runtime program) (placed_functions program) depth stop_address (code_in words) (parts_of text runtime) reaches.credit_after reaches.idle_after turn last) is reaches.related in
           let there : run (13 + reaches.steps) (first_processor text runtime.memory.size input) ≡ last = image-begins.leads.by reaches.steps ∙ sym (state-run rv32im reaches.steps image-begins.after) in (
             13 + reaches.steps,
-            subst (EndsWithCells cells how world) (sym there) (record {
+            subst (EndsWithCells (pool_in cells runtime program) how world) (sym there) (record {
               ending = related.1.0;
               trace = related.1.1;
+              memory = related.1.2;
               free = free_list-lists (pool_in cells runtime program) (view_of world.cells related.1.2.0) last.processor related.1.2.1.memory;
             }),
           )

@@ -11,6 +11,7 @@ use Rattle.rv_isa.specs.ProcessorMachine.{ended}
 use Rattle.rv_isa.specs.FreeCells.{free_list}
 use Rattle.rv_isa.specs.Standing.{Code, code_of}
 use Rattle.cell_runtime.specs.declared.start.TheConstants.{TEXT_WORDS}
+use Rattle.cell_heap.specs.Pool.{Pool}
 use Rattle.cell_heap.specs.Blocks.{seen_cells}
 use Rattle.cell_heap.specs.FreeCells.{ListsFree}
 use Rattle.cell_runtime.specs.Texts.{IsText}
@@ -19,7 +20,7 @@ use Rattle.rv_place.specs.declared.words.Words.{Words}
 use Rattle.rv_place.specs.Addresses.{frame_size}
 use Rattle.rv_place.specs.Texts.{ArePlaceable, ArePlacedWords}
 use Rattle.rv_place.specs.Bytes.{IsTextOf}
-use Rattle.rv_place.specs.Running.{AllPlain}
+use Rattle.rv_place.specs.Running.{AllPlain, HasCells}
 
 -- the memory that a text is loaded to, with so many bytes behind it
 abbrev pub loaded_image : List ℕ → ℕ → List Part
@@ -40,11 +41,13 @@ code_in words = code_of text_start words.instructions.items
 abbrev pub main_entry : ℕ
 main_entry = text_start + 4 * TEXT_WORDS
 
--- a run has ended as the machine of the placed form, and the free cells of the image are those of the world, each once
-pub record EndsWithCells (cells : ℕ) (how : Ending) (world : World) (last : Progress) : Type 0 where
+-- a run has ended as the machine of the placed form, memory has the cells of the world, and the free cells of the image are those of the world,
+-- each once
+pub record EndsWithCells (pool : Pool) (how : Ending) (world : World) (last : Progress) : Type 0 where
   pub ending : ended last.ending ≡ Some how
   pub trace : last.processor.trace ≡ world.trace
-  pub free : ListsFree (seen_cells world.cells) (free_list cells last.processor)
+  pub memory : HasCells pool world.cells last.processor
+  pub free : ListsFree (seen_cells world.cells) (free_list pool.cells last.processor)
 
 -- what a run does beside the lines of the program: 9 instructions of the start, 4 of main's entry, and 3 of the exit
 abbrev pub outside_lines : ℕ

@@ -35,5 +35,5 @@ pub fn placed_text_ends_with_its_cells()
         → NeverStuck (map_of runtime program) (pool_in cells runtime program) (placed_functions program) depth (placed_start main (first_world (pool_in cells runtime program) input))
         → (steps : ℕ) (how : Ending) (world : World)
         → state (placed_machine (primitives (constants_of runtime program) (pool_in cells runtime program)) depth (placed_functions program)) steps (placed_start main (first_world (pool_in cells runtime program) input)) ≡ ended how world
-        → (count : ℕ) × EndsWithCells cells how world (run count (first_processor text runtime.memory.size input)) }
+        → (count : ℕ) × EndsWithCells (pool_in cells runtime program) how world (run count (first_processor text runtime.memory.size input)) }
 {}

@@ -37,6 +37,6 @@ program-requires-clause-memory_fits c =
 
 pub returns : goal.returns
 returns c =
-    image_of (makes_of {frame = c.frame_bytes.result} c.requires.small c.requires.sizes c.in_ok-asm.ensures c.in_ok-program.ensures.valid c.in_ok-program.ensures.shape c.frame_bytes.ensures c.in_ok-runtime.ensures c.in_ok-words.ensures c.in_ok-bytes.ensures) c.placed_text_agrees.ensures
+    image_of (makes_of {frame = c.frame_bytes.result} c.requires.small c.requires.sizes c.in_ok-asm.ensures c.in_ok-program.ensures.valid c.in_ok-program.ensures.shape c.frame_bytes.ensures c.in_ok-runtime.ensures c.in_ok-words.ensures c.in_ok-bytes.ensures) c.placed_text_agrees.ensures c.placed_text_ends_with_its_cells.ensures
     c.in_ok-image.image.entry c.in_ok-image.image.parts c.in_ok-image.ensures.is_program c.in_ok-image.ensures.entry
     (c.in_ok-image.ensures.parts ∙ ap (λ (text : List ℕ). program_parts text c.in_ok-runtime.runtime.memory.size) c.from_vec.ensures)
