@@ -24,7 +24,8 @@ special_state s = record { machine = special_configuration s.machine; input = s.
 abbrev special_pair : List Note × CountedState → List Note × CountedState
 special_pair told = (told.0, special_state told.1)
 
-performed_same : (action : Action CountedConfiguration) (input : List ℕ) → performed (special_action action) input ≡ special_pair (performed action input)
+performed_same : (action : Action CountedConfiguration) (input : List ℕ)
+    → performed (special_action action) input ≡ special_pair (performed action input)
 performed_same (goes to) input = refl
 performed_same (puts piece to) input = refl
 performed_same (takes to) [] = refl
@@ -37,14 +38,17 @@ end_same (running code environment joins) = refl
 end_same (stopped by) = refl
 end_same stuck = refl
 
-function_at : (functions : List CountedFunction) (n : ℕ) → slice_index_or (map special_function functions) n no_function ≡ special_function (slice_index_or functions n no_function)
+function_at : (functions : List CountedFunction) (n : ℕ)
+    → slice_index_or (map special_function functions) n no_function ≡ special_function (slice_index_or functions n no_function)
 function_at [] n = refl
 function_at (function ∷ functions) zero = refl
 function_at (function ∷ functions) (suc n) = function_at functions n
 
-first_same : (setting : CountedSetting) (input : List ℕ) → counted_first_state (special_setting setting) input ≡ special_state (counted_first_state setting input)
+first_same : (setting : CountedSetting) (input : List ℕ)
+    → counted_first_state (special_setting setting) input ≡ special_state (counted_first_state setting input)
 first_same setting input =
-    ap (λ (function : CountedFunction). record { machine = record { control = running function.body [] []; frames = []; heap = [] }; input = input })
+    ap (λ (function : CountedFunction). record { machine = record { control = running function.body [] []; frames = []; heap = [] };
+        input = input })
     (function_at setting.program.functions setting.program.main)
 
 module _ (positions : PositionTable) (setting : CountedSetting) (weight other : CountedState → ℕ) where
@@ -52,9 +56,11 @@ module _ (positions : PositionTable) (setting : CountedSetting) (weight other : 
   Kept c = IsKept positions setting.program.functions c
 
   abbrev state_of : CountedControl → List CountedFrame → Heap → List ℕ → CountedState
-  state_of control frames heap input = record { machine = record { control = control; frames = frames; heap = heap }; input = input }
+  state_of control frames heap input =
+      record { machine = record { control = control; frames = frames; heap = heap }; input = input }
 
-  next_same : (control : CountedControl) (frames : List CountedFrame) (heap : Heap) (input : List ℕ) → Kept (state_of control frames heap input).machine
+  next_same : (control : CountedControl) (frames : List CountedFrame) (heap : Heap) (input : List ℕ)
+      → Kept (state_of control frames heap input).machine
       → (counted_machine other (special_setting setting)).step (special_state (state_of control frames heap input))
       ≡ special_pair ((counted_machine weight setting).step (state_of control frames heap input))
   next_same (running code environment joins) frames heap input kept =
@@ -65,7 +71,8 @@ module _ (positions : PositionTable) (setting : CountedSetting) (weight other : 
   next_same stuck frames heap input kept = refl
 
   run_same : (n : ℕ) (s : CountedState) → ((k : ℕ) → Kept (state (counted_machine weight setting) k s).machine)
-      → (state (counted_machine other (special_setting setting)) n (special_state s) ≡ special_state (state (counted_machine weight setting) n s))
+      → (state (counted_machine other (special_setting setting)) n (special_state s) ≡ special_state
+      (state (counted_machine weight setting) n s))
       × (trace (counted_machine other (special_setting setting)) n (special_state s) ≡ trace (counted_machine weight setting) n s)
   run_same zero s kept = (refl, refl)
   run_same (suc n) s kept =
@@ -76,18 +83,26 @@ module _ (positions : PositionTable) (setting : CountedSetting) (weight other : 
             ∙ ap (λ notes. ((counted_machine weight setting).step s).0 ++ notes) rest.1,
       )
 
-pub runs_same : (positions : PositionTable) (setting : CountedSetting) (weight other : CountedState → ℕ) (input : List ℕ) → IsSpent positions setting.program
+pub runs_same : (positions : PositionTable) (setting : CountedSetting) (weight other : CountedState → ℕ) (input : List ℕ)
+    → IsSpent positions setting.program
     → FitsAlways weight setting input → (n : ℕ) → AreSameAfter n weight other setting input
 runs_same positions setting weight other input spent fits n =
     record {
       states = ap (λ (s : CountedState). s.machine) states;
       notes = ap (trace (counted_machine other (special_setting setting)) n) (first_same setting input) ∙ same.1;
-      ends = ap (λ (s : CountedState). counted_end_at s.machine.control) states ∙ end_same (state (counted_machine weight setting) n (counted_first_state setting input)).machine.control;
+      ends =
+          ap (λ (s : CountedState). counted_end_at s.machine.control) states ∙ end_same
+              (state (counted_machine weight setting) n (counted_first_state setting input)).machine.control;
     }
   where
-    same : (state (counted_machine other (special_setting setting)) n (special_state (counted_first_state setting input)) ≡ special_state (state (counted_machine weight setting) n (counted_first_state setting input)))
-        × (trace (counted_machine other (special_setting setting)) n (special_state (counted_first_state setting input)) ≡ trace (counted_machine weight setting) n (counted_first_state setting input))
-    same = run_same positions setting weight other n (counted_first_state setting input) (keeps_sound positions setting weight input spent fits)
+    same : (state (counted_machine other (special_setting setting)) n (special_state (counted_first_state setting input))
+        ≡ special_state (state (counted_machine weight setting) n (counted_first_state setting input)))
+        × (trace (counted_machine other (special_setting setting)) n (special_state (counted_first_state setting input)) ≡ trace
+            (counted_machine weight setting) n (counted_first_state setting input))
+    same =
+        run_same positions setting weight other n (counted_first_state setting input)
+            (keeps_sound positions setting weight input spent fits)
 
-    states : state (counted_machine other (special_setting setting)) n (counted_first_state (special_setting setting) input) ≡ special_state (state (counted_machine weight setting) n (counted_first_state setting input))
+    states : state (counted_machine other (special_setting setting)) n (counted_first_state (special_setting setting) input)
+        ≡ special_state (state (counted_machine weight setting) n (counted_first_state setting input))
     states = ap (state (counted_machine other (special_setting setting)) n) (first_same setting input) ∙ same.0

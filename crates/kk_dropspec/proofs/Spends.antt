@@ -10,7 +10,8 @@ use Rattle.kk_counted.specs.Spending.{HasAsMany, FitsForm, Spends, SpendsAll, Sp
 use Rattle.kk_dropspec.specs.Specialised.{special, special_arms, special_function, special_program}
 
 module _ (positions : PositionTable) (functions : List CountedFunction) where
-  found : (f : ℕ) (other : CountedFunction) (here : Option CountedFunction) → slice_get functions f ≡ here → option_map special_function here ≡ Some other
+  found : (f : ℕ) (other : CountedFunction) (here : Option CountedFunction) → slice_get functions f ≡ here
+      → option_map special_function here ≡ Some other
       → (function : CountedFunction) × ((slice_get functions f ≡ Some function) × (special_function function ≡ other))
   found f other None here is = absurd (cc)
   found f other (Some function) here is = let same : special_function function ≡ other = cc in (function, (here, same))
@@ -19,11 +20,14 @@ module _ (positions : PositionTable) (functions : List CountedFunction) where
       → (function : CountedFunction) × ((slice_get functions f ≡ Some function) × (special_function function ≡ other))
   found_before f other is = found f other (slice_get functions f) refl (sym (slice_get-map special_function functions f) ∙ is)
 
-  as_many : (f : ℕ) (arguments : List ℕ) → HasAsMany positions functions f arguments → HasAsMany positions (map special_function functions) f arguments
+  as_many : (f : ℕ) (arguments : List ℕ) → HasAsMany positions functions f arguments
+      → HasAsMany positions (map special_function functions) f arguments
   as_many f arguments many other is =
-      let before = found_before f other is in sym (ap (λ (function : CountedFunction). function.parameters) before.1.1) ∙ many before.0 before.1.0
+      let before = found_before f other is in sym (ap (λ (function : CountedFunction). function.parameters) before.1.1) ∙ many
+              before.0 before.1.0
 
-  fits : (form : Form) (arguments : List ℕ) → FitsForm positions functions form arguments → FitsForm positions (map special_function functions) form arguments
+  fits : (form : Form) (arguments : List ℕ) → FitsForm positions functions form arguments
+      → FitsForm positions (map special_function functions) form arguments
   fits (Call f) arguments fit = as_many f arguments fit
   fits (Number n) arguments fit = tt
   fits Nothing arguments fit = tt
@@ -35,7 +39,8 @@ module _ (positions : PositionTable) (functions : List CountedFunction) where
   fits (Construct c) arguments fit = tt
 
   mutual
-    pub spends : (code : Counted) (lent readable : List ℕ) (left : Option (List ℕ)) (owned : List ℕ) → Spends positions functions lent readable left owned code
+    pub spends : (code : Counted) (lent readable : List ℕ) (left : Option (List ℕ)) (owned : List ℕ)
+        → Spends positions functions lent readable left owned code
         → Spends positions (map special_function functions) lent readable left owned (special code)
     spends (give x) lent readable left owned s = s
     spends (tail_call f arguments) lent readable left owned s = (s.0, (as_many f arguments s.1.0, s.1.1))
@@ -43,9 +48,11 @@ module _ (positions : PositionTable) (functions : List CountedFunction) where
         (s.0, (s.1.0, (s.1.1.0, (spends positive lent [] left s.0 s.1.1.1.0, spends negative lent [] left s.0 s.1.1.1.1))))
     spends (case x decisions arms) lent readable left owned s = (s.0, (s.1.0, (s.1.1.0, spend_all arms lent left s.0 s.1.1.1)))
     spends (compute x form arguments rest) lent readable left owned s =
-        (s.0, (s.1.0, (s.1.1.0, (fits form arguments s.1.1.1.0, (s.1.1.1.1.0, (s.1.1.1.1.1.0, spends rest lent [] left (x ∷ s.0) s.1.1.1.1.1.1))))))
+        (s.0, (s.1.0, (s.1.1.0, (fits form arguments s.1.1.1.0,
+            (s.1.1.1.1.0, (s.1.1.1.1.1.0, spends rest lent [] left (x ∷ s.0) s.1.1.1.1.1.1))))))
     spends (inside x block rest) lent readable left owned s =
-        (s.0, (s.1.0, (s.1.1.0, (s.1.1.1.0, (s.1.1.1.1.0, (spends block lent [] (Some s.1.0) s.0 s.1.1.1.1.1.0, spends rest lent [] left (x ∷ s.1.0) s.1.1.1.1.1.1))))))
+        (s.0, (s.1.0, (s.1.1.0, (s.1.1.1.0, (s.1.1.1.1.0,
+            (spends block lent [] (Some s.1.0) s.0 s.1.1.1.1.1.0, spends rest lent [] left (x ∷ s.1.0) s.1.1.1.1.1.1))))))
     spends (read x c fields rest) lent readable left owned s =
         (s.0, (s.1.0, (s.1.1.0, (s.1.1.1.0, spends rest lent fields left s.0 s.1.1.1.1))))
     spends (open_cell x c fields used rest) lent readable left owned s =
@@ -55,7 +62,8 @@ module _ (positions : PositionTable) (functions : List CountedFunction) where
     spends (dup x rest) lent readable left owned s = (s.0, (s.1.0, (s.1.1.0, spends rest lent readable left (x ∷ s.0) s.1.1.1)))
     spends (drop x rest) lent readable left owned s = (s.0, (s.1.0, spends rest lent [] left s.0 s.1.1))
 
-    spend_all : (arms : CountedArms) (lent : List ℕ) (left : Option (List ℕ)) (owned : List ℕ) → SpendsAll positions functions lent left owned arms
+    spend_all : (arms : CountedArms) (lent : List ℕ) (left : Option (List ℕ)) (owned : List ℕ)
+        → SpendsAll positions functions lent left owned arms
         → SpendsAll positions (map special_function functions) lent left owned (special_arms arms)
     spend_all no_arm lent left owned s = tt
     spend_all (arm body rest) lent left owned s = (spends body lent [] left owned s.0, spend_all rest lent left owned s.1)
@@ -64,7 +72,8 @@ module _ (positions : PositionTable) (functions : List CountedFunction) where
       → SpendsParameters positions (map special_function functions) f (special_function function)
   spends_parameters f function s = (s.0, (s.1.0, spends function.body s.0 [] None _ s.1.1))
 
-pub is_spent : (positions : PositionTable) (program : CountedProgram) → IsSpent positions program → IsSpent positions (special_program program)
+pub is_spent : (positions : PositionTable) (program : CountedProgram) → IsSpent positions program
+    → IsSpent positions (special_program program)
 is_spent positions program spent =
     record {
       each = λ f other is.
@@ -73,6 +82,7 @@ is_spent positions program spent =
           (spends_parameters positions program.functions f before.0 (spent.each f before.0 before.1.0));
       main = (
         special_function spent.main.0,
-        (slice_get-map special_function program.functions program.main ∙ ap (option_map special_function) spent.main.1.0, spent.main.1.1),
+        (slice_get-map special_function program.functions program.main ∙ ap (option_map special_function) spent.main.1.0,
+            spent.main.1.1),
       );
     }

@@ -38,7 +38,8 @@ special_join join = record { variable = join.variable; rest = special join.rest 
 
 abbrev pub special_frame : CountedFrame → CountedFrame
 special_frame frame =
-    record { variable = frame.variable; rest = special frame.rest; joins = map special_join frame.joins; environment = frame.environment }
+    record { variable = frame.variable; rest = special frame.rest; joins = map special_join frame.joins;
+        environment = frame.environment }
 
 abbrev pub special_control : CountedControl → CountedControl
 special_control (running code environment joins) = running (special code) environment (map special_join joins)
