@@ -1,9 +1,8 @@
 -- Runs of specialised code come to the same states.
-use Rattle.std.proofs.Common.{◌≡◌, ℕ, zero, suc, List, [], ◌∷◌, ◌++◌, map, Option, Some, None, refl, sym, ap, ◌∙◌, subst}
+use Rattle.std.proofs.Common.{◌≡◌, ℕ, zero, suc, List, [], ◌∷◌, ◌++◌, map, refl, sym, ap, ◌∙◌}
 use Rattle.std.specs.Prelude.{slice_index_or}
 use Rattle.kk_base.specs.Machines.{state, trace}
 use Rattle.kk_syntax.specs.PositionsOf.{PositionTable}
-use Rattle.kk_source.specs.State.{End}
 use Rattle.kk_source.specs.Notes.{Note}
 use Rattle.kk_source.specs.Actions.{Action, goes, puts, takes, builds, calls, performed}
 use Rattle.kk_counted.specs.CountedCodes.{CountedFunction}
@@ -47,8 +46,10 @@ function_at (function ∷ functions) (suc n) = function_at functions n
 first_same : (setting : CountedSetting) (input : List ℕ)
     → counted_first_state (special_setting setting) input ≡ special_state (counted_first_state setting input)
 first_same setting input =
-    ap (λ (function : CountedFunction). record { machine = record { control = running function.body [] []; frames = []; heap = [] };
-        input = input })
+    ap (λ (function : CountedFunction). record {
+      machine = record { control = running function.body [] []; frames = []; heap = [] };
+      input = input;
+    })
     (function_at setting.program.functions setting.program.main)
 
 module _ (positions : PositionTable) (setting : CountedSetting) (weight other : CountedState → ℕ) where
@@ -92,16 +93,16 @@ runs_same positions setting weight other input spent fits n =
       notes = ap (trace (counted_machine other (special_setting setting)) n) (first_same setting input) ∙ same.1;
       ends =
           ap (λ (s : CountedState). counted_end_at s.machine.control) states ∙ end_same
-              (state (counted_machine weight setting) n (counted_first_state setting input)).machine.control;
+          (state (counted_machine weight setting) n (counted_first_state setting input)).machine.control;
     }
   where
     same : (state (counted_machine other (special_setting setting)) n (special_state (counted_first_state setting input))
         ≡ special_state (state (counted_machine weight setting) n (counted_first_state setting input)))
         × (trace (counted_machine other (special_setting setting)) n (special_state (counted_first_state setting input)) ≡ trace
-            (counted_machine weight setting) n (counted_first_state setting input))
+        (counted_machine weight setting) n (counted_first_state setting input))
     same =
         run_same positions setting weight other n (counted_first_state setting input)
-            (keeps_sound positions setting weight input spent fits)
+        (keeps_sound positions setting weight input spent fits)
 
     states : state (counted_machine other (special_setting setting)) n (counted_first_state (special_setting setting) input)
         ≡ special_state (state (counted_machine weight setting) n (counted_first_state setting input))

@@ -1,5 +1,5 @@
 -- Specialised code spends what the code spends that it is made of.
-use Rattle.std.proofs.Common.{◌≡◌, ◌⊎◌, ℕ, true, false, List, [], ◌∷◌, map, length, Option, Some, None, refl, sym, ap, ◌∙◌, subst}
+use Rattle.std.proofs.Common.{◌≡◌, ℕ, List, [], ◌∷◌, map, Option, Some, None, refl, sym, ap, ◌∙◌, subst}
 use Rattle.std.specs.Prelude.{slice_get, option_map}
 use Rattle.std.proofs.lemmas.Option.{slice_get-map}
 use Rattle.kk_syntax.specs.declared.program.Form.{Form}
@@ -24,7 +24,7 @@ module _ (positions : PositionTable) (functions : List CountedFunction) where
       → HasAsMany positions (map special_function functions) f arguments
   as_many f arguments many other is =
       let before = found_before f other is in sym (ap (λ (function : CountedFunction). function.parameters) before.1.1) ∙ many
-              before.0 before.1.0
+      before.0 before.1.0
 
   fits : (form : Form) (arguments : List ℕ) → FitsForm positions functions form arguments
       → FitsForm positions (map special_function functions) form arguments
@@ -47,12 +47,35 @@ module _ (positions : PositionTable) (functions : List CountedFunction) where
     spends (branch x positive negative) lent readable left owned s =
         (s.0, (s.1.0, (s.1.1.0, (spends positive lent [] left s.0 s.1.1.1.0, spends negative lent [] left s.0 s.1.1.1.1))))
     spends (case x decisions arms) lent readable left owned s = (s.0, (s.1.0, (s.1.1.0, spend_all arms lent left s.0 s.1.1.1)))
-    spends (compute x form arguments rest) lent readable left owned s =
-        (s.0, (s.1.0, (s.1.1.0, (fits form arguments s.1.1.1.0,
-            (s.1.1.1.1.0, (s.1.1.1.1.1.0, spends rest lent [] left (x ∷ s.0) s.1.1.1.1.1.1))))))
-    spends (inside x block rest) lent readable left owned s =
-        (s.0, (s.1.0, (s.1.1.0, (s.1.1.1.0, (s.1.1.1.1.0,
-            (spends block lent [] (Some s.1.0) s.0 s.1.1.1.1.1.0, spends rest lent [] left (x ∷ s.1.0) s.1.1.1.1.1.1))))))
+    spends (compute x form arguments rest) lent readable left owned s = (
+      s.0,
+      (
+        s.1.0,
+        (
+          s.1.1.0,
+          (
+            fits form arguments s.1.1.1.0,
+            (s.1.1.1.1.0, (s.1.1.1.1.1.0, spends rest lent [] left (x ∷ s.0) s.1.1.1.1.1.1)),
+          ),
+        ),
+      ),
+    )
+    spends (inside x block rest) lent readable left owned s = (
+      s.0,
+      (
+        s.1.0,
+        (
+          s.1.1.0,
+          (
+            s.1.1.1.0,
+            (
+              s.1.1.1.1.0,
+              (spends block lent [] (Some s.1.0) s.0 s.1.1.1.1.1.0, spends rest lent [] left (x ∷ s.1.0) s.1.1.1.1.1.1),
+            ),
+          ),
+        ),
+      ),
+    )
     spends (read x c fields rest) lent readable left owned s =
         (s.0, (s.1.0, (s.1.1.0, (s.1.1.1.0, spends rest lent fields left s.0 s.1.1.1.1))))
     spends (open_cell x c fields used rest) lent readable left owned s =
@@ -82,7 +105,9 @@ is_spent positions program spent =
           (spends_parameters positions program.functions f before.0 (spent.each f before.0 before.1.0));
       main = (
         special_function spent.main.0,
-        (slice_get-map special_function program.functions program.main ∙ ap (option_map special_function) spent.main.1.0,
-            spent.main.1.1),
+        (
+          slice_get-map special_function program.functions program.main ∙ ap (option_map special_function) spent.main.1.0,
+          spent.main.1.1,
+        ),
       );
     }

@@ -1,5 +1,5 @@
 -- Drop specialisation: each opening of a cell goes by the cell's count.
-use Rattle.std.specs.Prelude.{ℕ, List, [], ◌∷◌, map}
+use Rattle.std.specs.Prelude.{map}
 use Rattle.kk_counted.specs.CountedCodes.{Counted, give, tail_call, branch, case, compute, inside, read, open_cell, if_unique, dup, drop, CountedArms, no_arm, arm, CountedFunction, CountedProgram}
 use Rattle.kk_counted.specs.CountedStates.{CountedSetting, CountedJoin, CountedFrame, CountedControl, running, stopped, stuck, CountedConfiguration}
 
@@ -38,8 +38,12 @@ special_join join = record { variable = join.variable; rest = special join.rest 
 
 abbrev pub special_frame : CountedFrame → CountedFrame
 special_frame frame =
-    record { variable = frame.variable; rest = special frame.rest; joins = map special_join frame.joins;
-        environment = frame.environment }
+    record {
+      variable = frame.variable;
+      rest = special frame.rest;
+      joins = map special_join frame.joins;
+      environment = frame.environment;
+    }
 
 abbrev pub special_control : CountedControl → CountedControl
 special_control (running code environment joins) = running (special code) environment (map special_join joins)
