@@ -97,7 +97,8 @@ module _ (setting : TokenSetting) (environment : Environment) (joins : List Toke
       → AllLead (Growth setting.cells from) (goes (to_heap result from (at_code rest environment joins from)))
   heap_grows None rest eased = stays refl (λ p alive. alive)
   heap_grows (Some heap) rest eased =
-      stays eased.cells (fewer_by from.heap heap from.tokens.marks from.tokens.marks (eased_alive from.heap heap from.tokens.marks eased))
+      stays eased.cells (fewer_by from.heap heap from.tokens.marks from.tokens.marks
+      (eased_alive from.heap heap from.tokens.marks eased))
 
   open_grows : (count : ℕ) (v : Value) (found : Option Named) (heap : Named → Option Heap) (fields : List ℕ) (y : ℕ)
       (rest : Tokened) → OnNamed (NamedCell from.heap v count) found

@@ -1,0 +1,3 @@
+pub mod Spends
+pub mod Steps
+pub mod Runs

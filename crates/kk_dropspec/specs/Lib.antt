@@ -1,0 +1,2 @@
+pub mod Specialised
+pub mod SameRuns

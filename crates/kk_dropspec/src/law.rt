@@ -1,0 +1,24 @@
+ghost use Rattle.std.specs.Prelude.{ℕ, List};
+ghost use Rattle.kk_syntax.specs.PositionsOf.{PositionTable};
+ghost use Rattle.kk_counted.specs.CountedCodes.{CountedProgram};
+ghost use Rattle.kk_counted.specs.CountedStates.{CountedSetting, CountedState};
+ghost use Rattle.kk_counted.specs.Keeping.{FitsAlways};
+ghost use Rattle.kk_counted.specs.Spending.{IsSpent};
+ghost use Rattle.kk_dropspec.specs.Specialised.{special_program};
+ghost use Rattle.kk_dropspec.specs.SameRuns.{AreSameAfter};
+
+/// Specialised code spends what the code spends that it is made of. It is a law, and does nothing.
+pub fn specialised_code_is_spent()
+    ensures { (positions : PositionTable) (program : CountedProgram) → IsSpent positions program
+        → IsSpent positions (special_program program) }
+{}
+
+/// After each number of steps specialised code is in the state of the code that it is made of, its heap and its environments the
+/// same, and has told the same notes; and it has ended where that has, and alike. The code must spend each reference that it owns,
+/// and operators and prints must take values without cells. It is a law, and does nothing.
+pub fn specialised_code_runs_the_same()
+    ensures { (positions : PositionTable) (setting : CountedSetting) (weight other : CountedState → ℕ) (input : List ℕ)
+        → IsSpent positions setting.program
+        → FitsAlways weight setting input
+        → (n : ℕ) → AreSameAfter n weight other setting input }
+{}
