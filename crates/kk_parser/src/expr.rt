@@ -23,7 +23,6 @@ impl<'a> Parser<'a> {
     #[cycle(expr)]
     pub fn expr(&mut self) -> Result<Box<SurfaceExpr>, Fault>
         ensures reads { ReadsPhrase (rule OfExpr) boxed_expr result self.old self.new }
-        ensures depth { OnOk result (self.new.depth ≡ self.old.depth) }
         ensures left { length self.new.rest.now ≤ length self.old.rest.now }
     {
         let depth = self.depth;
@@ -46,7 +45,6 @@ impl<'a> Parser<'a> {
     #[cycle(expr)]
     fn if_(&mut self) -> Result<Box<SurfaceExpr>, Fault>
         ensures reads { ReadsPhrase (rule OfIf) boxed_expr result self.old self.new }
-        ensures depth { OnOk result (self.old.depth ≤ self.new.depth) }
         ensures left { length self.new.rest.now ≤ length self.old.rest.now }
     {
         self.open_keyword(Keyword::If)?;
@@ -57,7 +55,6 @@ impl<'a> Parser<'a> {
     #[cycle(expr)]
     fn branches(&mut self) -> Result<Box<SurfaceExpr>, Fault>
         ensures reads { ReadsAs branches branches_of boxed_expr result self.old self.new }
-        ensures depth { OnOk result (self.old.depth ≤ self.new.depth) }
         ensures left { length self.new.rest.now ≤ length self.old.rest.now }
     {
         let condition = self.or()?;
@@ -80,7 +77,6 @@ impl<'a> Parser<'a> {
     #[cycle(expr)]
     fn or(&mut self) -> Result<Box<SurfaceExpr>, Fault>
         ensures reads { ReadsPhrase (rule OfOr) boxed_expr result self.old self.new }
-        ensures depth { OnOk result (self.old.depth ≤ self.new.depth) }
         ensures left { length self.new.rest.now ≤ length self.old.rest.now }
     {
         let left = self.and()?;
@@ -96,7 +92,6 @@ impl<'a> Parser<'a> {
     #[cycle(expr)]
     fn and(&mut self) -> Result<Box<SurfaceExpr>, Fault>
         ensures reads { ReadsPhrase (rule OfAnd) boxed_expr result self.old self.new }
-        ensures depth { OnOk result (self.old.depth ≤ self.new.depth) }
         ensures left { length self.new.rest.now ≤ length self.old.rest.now }
     {
         let left = self.cmp()?;
@@ -112,7 +107,6 @@ impl<'a> Parser<'a> {
     #[cycle(expr)]
     fn cmp(&mut self) -> Result<Box<SurfaceExpr>, Fault>
         ensures reads { ReadsPhrase (rule OfCmp) boxed_expr result self.old self.new }
-        ensures depth { OnOk result (self.old.depth ≤ self.new.depth) }
         ensures left { length self.new.rest.now ≤ length self.old.rest.now }
     {
         let left = self.add()?;
@@ -127,7 +121,6 @@ impl<'a> Parser<'a> {
     #[cycle(expr)]
     fn add(&mut self) -> Result<Box<SurfaceExpr>, Fault>
         ensures reads { ReadsPhrase (rule OfAdd) boxed_expr result self.old self.new }
-        ensures depth { OnOk result (self.old.depth ≤ self.new.depth) }
         ensures left { length self.new.rest.now ≤ length self.old.rest.now }
     {
         let mut left = self.mul()?;
@@ -142,7 +135,6 @@ impl<'a> Parser<'a> {
     #[cycle(expr)]
     fn mul(&mut self) -> Result<Box<SurfaceExpr>, Fault>
         ensures reads { ReadsPhrase (rule OfMul) boxed_expr result self.old self.new }
-        ensures depth { OnOk result (self.old.depth ≤ self.new.depth) }
         ensures left { length self.new.rest.now ≤ length self.old.rest.now }
     {
         let mut left = self.un()?;
@@ -157,7 +149,6 @@ impl<'a> Parser<'a> {
     #[cycle(expr)]
     fn un(&mut self) -> Result<Box<SurfaceExpr>, Fault>
         ensures reads { ReadsPhrase (rule OfUn) boxed_expr result self.old self.new }
-        ensures depth { OnOk result (self.old.depth ≤ self.new.depth) }
         ensures left { length self.new.rest.now ≤ length self.old.rest.now }
     {
         let Some(operator) = self.unary_operator()? else {
@@ -171,7 +162,6 @@ impl<'a> Parser<'a> {
     #[cycle(expr)]
     fn post(&mut self) -> Result<Box<SurfaceExpr>, Fault>
         ensures reads { ReadsPhrase (rule OfPost) boxed_expr result self.old self.new }
-        ensures depth { OnOk result (self.old.depth ≤ self.new.depth) }
         ensures left { length self.new.rest.now ≤ length self.old.rest.now }
     {
         let mut first = self.atom()?;
@@ -192,7 +182,6 @@ impl<'a> Parser<'a> {
     #[cycle(expr)]
     fn atom(&mut self) -> Result<Box<SurfaceExpr>, Fault>
         ensures reads { ReadsPhrase (rule OfAtom) boxed_expr result self.old self.new }
-        ensures depth { OnOk result (self.old.depth ≤ self.new.depth) }
         ensures left { length self.new.rest.now ≤ length self.old.rest.now }
     {
         if let Some(value) = self.number() {
@@ -218,7 +207,6 @@ impl<'a> Parser<'a> {
     #[cycle(expr)]
     fn in_brackets(&mut self) -> Result<Box<SurfaceExpr>, Fault>
         ensures reads { ReadsAs (in_brackets (rule OfExpr)) (inside OfUnit (λ e. e)) boxed_expr result self.old self.new }
-        ensures depth { OnOk result (self.old.depth ≤ self.new.depth) }
         ensures left { length self.new.rest.now ≤ length self.old.rest.now }
     {
         self.open(Symbol::OpenParenthesis)?;
@@ -234,7 +222,6 @@ impl<'a> Parser<'a> {
     // `string "." ( "print" | "println" ) [ "(" ")" ]`
     fn spoken(&mut self) -> Result<Box<SurfaceExpr>, Fault>
         ensures reads { ReadsAs OfSpoken spoken_of boxed_expr result self.old self.new }
-        ensures depth { OnOk result (self.old.depth ≤ self.new.depth) }
         ensures left { length self.new.rest.now ≤ length self.old.rest.now }
     {
         let text = self.string()?;
@@ -247,7 +234,6 @@ impl<'a> Parser<'a> {
     // `[ "(" ")" ]`
     fn no_arguments(&mut self) -> Result<(), Fault>
         ensures reads { ReadsFor (optional no_arguments) (λ _. tt) result self.old self.new }
-        ensures depth { OnOk result (self.old.depth ≤ self.new.depth) }
         ensures left { length self.new.rest.now ≤ length self.old.rest.now }
     {
         if !self.is_at(Symbol::OpenParenthesis) {
@@ -262,7 +248,6 @@ impl<'a> Parser<'a> {
     #[cycle(expr)]
     fn printed(&mut self) -> Result<Box<SurfaceExpr>, Fault>
         ensures reads { ReadsAs OfPrinted printed_of boxed_expr result self.old self.new }
-        ensures depth { OnOk result (self.old.depth ≤ self.new.depth) }
         ensures left { length self.new.rest.now ≤ length self.old.rest.now }
     {
         let (form, name) = self.print_word()?;
@@ -305,7 +290,6 @@ impl<'a> Parser<'a> {
     #[cycle(expr)]
     fn named(&mut self) -> Result<Box<SurfaceExpr>, Fault>
         ensures reads { ReadsAs (token name_but_print ▸ optional (bracketed (rule OfArgs))) (λ v. named_of v.0 v.1) boxed_expr result self.old self.new }
-        ensures depth { OnOk result (self.old.depth ≤ self.new.depth) }
         ensures left { length self.new.rest.now ≤ length self.old.rest.now }
     {
         let name = self.identifier(Names::ButPrints)?;
@@ -319,7 +303,6 @@ impl<'a> Parser<'a> {
     #[cycle(expr)]
     fn arguments(&mut self) -> Result<Option<Vec<SurfaceExpr>>, Fault>
         ensures reads { ReadsAs (optional (bracketed (rule OfArgs))) arguments_given arguments_view result self.old self.new }
-        ensures depth { OnOk result (self.old.depth ≤ self.new.depth) }
         ensures left { length self.new.rest.now ≤ length self.old.rest.now }
     {
         if !self.is_at(Symbol::OpenParenthesis) {
@@ -335,7 +318,6 @@ impl<'a> Parser<'a> {
     #[cycle(expr)]
     fn args(&mut self) -> Result<Vec<SurfaceExpr>, Fault>
         ensures reads { ReadsPhrase (rule OfArgs) (λ es. map written_expr es.items) result self.old self.new }
-        ensures depth { OnOk result (self.new.depth ≡ self.old.depth) }
         ensures left { length self.new.rest.now ≤ length self.old.rest.now }
     {
         let mut arguments = Vec::new(self.alloc);

@@ -219,7 +219,6 @@ pub add-loop-operator-init : goal.add-loop-operator-init
 add-loop-operator-init t c =
     record {
       left = omega (arith, c.in_ok-left.ensures.left);
-      depth = omega (arith, c.in_ok-left.ensures.depth);
       read = front_read c.mul.new.self (continues_rule add c.args.self.now) c.in_ok-left.ensures.reads;
     }
 
@@ -238,7 +237,6 @@ add-loop-operator-preserved t c =
     let o = rw c.in-Some.is at c.in_ok-operator.ensures.reads in
     record {
       left = omega (arith, c.in_ok-right.ensures.left, c.in_ok-operator.ensures.left);
-      depth = omega (arith, c.in_ok-right.ensures.depth, c.in_ok-operator.ensures.depth);
       read = continues_left (to_left sum_operator_of) (boxed_expr c.loop-operator.left) (boxed_expr c.in_ok-left-2.left) c.args.self.now c.loop-operator.self c.sum_operator.new.self c.mul-in-Some.new.self c.loop-operator.invariant.read o.0 o.3 c.in_ok-right.ensures.reads
           (λ vs. ap (λ left. to_left sum_operator_of left vs) (ap (λ operator. binary operator (boxed_expr c.loop-operator.left) (boxed_expr c.in_ok-right.right)) o.2 ∙ sym c.in_ok-left-2.ensures));
     }
@@ -256,7 +254,6 @@ pub mul-loop-operator-init : goal.mul-loop-operator-init
 mul-loop-operator-init t c =
     record {
       left = omega (arith, c.in_ok-left.ensures.left);
-      depth = omega (arith, c.in_ok-left.ensures.depth);
       read = front_read c.un.new.self (continues_rule mul c.args.self.now) c.in_ok-left.ensures.reads;
     }
 
@@ -275,7 +272,6 @@ mul-loop-operator-preserved t c =
     let o = rw c.in-Some.is at c.in_ok-operator.ensures.reads in
     record {
       left = omega (arith, c.in_ok-right.ensures.left, c.in_ok-operator.ensures.left);
-      depth = omega (arith, c.in_ok-right.ensures.depth, c.in_ok-operator.ensures.depth);
       read = continues_left (to_left product_operator_of) (boxed_expr c.loop-operator.left) (boxed_expr c.in_ok-left-2.left) c.args.self.now c.loop-operator.self c.product_operator.new.self c.un-in-Some.new.self c.loop-operator.invariant.read o.0 o.3 c.in_ok-right.ensures.reads
           (λ vs. ap (λ left. to_left product_operator_of left vs) (ap (λ operator. binary operator (boxed_expr c.loop-operator.left) (boxed_expr c.in_ok-right.right)) o.2 ∙ sym c.in_ok-left-2.ensures));
     }
@@ -316,7 +312,6 @@ pub post-loop-self-init : goal.post-loop-self-init
 post-loop-self-init t c =
     record {
       left = omega (arith, c.in_ok-first.ensures.left);
-      depth = omega (arith, c.in_ok-first.ensures.depth);
       read = front_read c.atom.new.self (continues_rule post c.args.self.now) c.in_ok-first.ensures.reads;
     }
 
@@ -348,7 +343,6 @@ post-loop-self-preserved t c =
     ] in
     record {
       left = omega (arith, c.in_ok-given.ensures.left, c.in_ok-name.ensures.left, c.in_ok-open.ensures.left);
-      depth = omega (arith, c.in_ok-given.ensures.depth, c.in_ok-name.ensures.depth, c.in_ok-open.ensures.depth);
       read = continues_dot (boxed_expr c.loop-self.first) c.in_ok-name.name a.0 (map written_expr others.items) (boxed_expr c.in_ok-first-2.first) c.args.self.now c.loop-self.self c.open.new.self c.identifier.new.self c.arguments.new.self
           c.loop-self.invariant.read h c.in_ok-open.ensures.reads c.in_ok-name.ensures.reads a.2 is c.in_ok-first-2.ensures;
     }
@@ -543,7 +537,6 @@ args-loop-self-init t c =
     let is : c.put.new.items.items ≡ first.value ∷ [] = c.in_ok-put.ensures ∙ ap (λ es. es ++ c.into_inner.result ∷ []) c.new-arguments.ensures.items ∙ ap (λ e. e ∷ []) c.into_inner.ensures in
     record {
       left = omega (arith, c.in_ok-first.ensures.left);
-      depth = omega (arith, c.in_ok-first.ensures.depth);
       read = continues_as (rule args) more_args (λ vs. boxed_expr first ∷ map (λ m. m.1) vs) (λ vs. map written_expr c.put.new.items.items ++ map (λ m. m.1) vs) old c.expr.new.self
           (λ vs. one_more [] c.put.new.items.items first.value (map (λ m. m.1) vs) is)
           (record { found = λ v m us s. finds_rule (finds_presence h (finds_both r s)); failed = λ f s. fails_rule (fails_presence h (fails_behind r s)) });
@@ -565,7 +558,6 @@ args-loop-self-preserved t c =
     let new = c.expr-in-loop-self.new.self in
     record {
       left = omega (arith, c.in_ok-next.ensures.left);
-      depth = omega (arith, c.in_ok-next.ensures.depth);
       read = continues_as (rule args) more_args (λ vs. map written_expr before ++ (boxed_expr next ∷ map (λ m. m.1) vs)) (λ vs. map written_expr after ++ map (λ m. m.1) vs) c.args.self.now new
           (λ vs. one_more before after next.value (map (λ m. m.1) vs) (c.in_ok-put-2.ensures ∙ ap (λ e. before ++ e ∷ []) c.into_inner-in-loop-self.ensures))
           (continues_many (rule args) (token (symbol Comma) ▸ rule expr) (λ vs. map written_expr before ++ map (λ m. m.1) vs) (tt, boxed_expr next) c.args.self.now c.loop-self.self new c.loop-self.invariant.read h (finds_both comma c.in_ok-next.ensures.reads));
@@ -629,7 +621,6 @@ items-loop-self-preserved t c =
     let e = c.in_ok-some_semicolons.ensures.reads in
     record {
       left = omega (arith, c.in_ok-binder.ensures.left, c.in_ok-some_semicolons.ensures.left);
-      depth = omega (arith, c.in_ok-binder.ensures.depth, c.in_ok-some_semicolons.ensures.depth);
       read = (
         read.0 ++ (s.0, e.0) ∷ [],
         bound (map written_statement c.args.statements.now.items) c.loop-self.statements.items c.put.new.items.items c.in_ok-binder.binder c.in_ok-binder.value c.into_inner-value.result read.0 s.0 e.0 read.1 c.into_inner-value.ensures c.in_ok-put.ensures s.1,
@@ -658,8 +649,6 @@ block-loop-self-init t c =
     let semis = c.skip_semicolons.ensures.reads in
     record {
       left = omega (arith, c.in_ok-value.ensures.left);
-      depth = omega (arith, c.in_ok-value.ensures.depth, c.in_ok-open.ensures.depth);
-      within = omega (arith, c.in_ok-value.ensures.depth, c.in_ok-open.ensures.within, c.in_ok-open.ensures.depth);
       read = block_begins semis.0 v.0 _ (boxed_expr c.in_ok-value.value) c.args.self.now c.open.new.self c.skip_semicolons.new.self c.items.new.self c.in_ok-open.ensures.reads semis.1 v.3
           (v.1 ∙ ap (λ ss. map written_statement ss ++ bindings_of v.0.0) c.new-statements.ensures.items) v.2;
     }
@@ -680,8 +669,6 @@ block-loop-self-preserved-then-is_at_item t c =
     let v = c.in_ok-value-2.ensures.reads in
     record {
       left = omega (arith, c.in_ok-value-2.ensures.left);
-      depth = omega (arith, c.in_ok-value-2.ensures.depth);
-      within = omega (arith, c.in_ok-value-2.ensures.depth);
       read = block_goes_on (map written_statement c.loop-self.statements.items) _ (boxed_expr c.loop-self.value) (boxed_expr c.in_ok-value-2.value) v.0 c.args.self.now c.loop-self.self c.advance.new.self c.items-then-is_at_item.new.self c.loop-self.invariant.read h semi hs v.3
           (v.1 ∙ ap (λ ss. ss ++ bindings_of v.0.0) (stated c.loop-self.statements.items c.put.new.items.items c.loop-self.value c.into_inner.result c.into_inner.ensures c.in_ok-put.ensures)) v.2;
     }
@@ -693,8 +680,6 @@ block-loop-self-preserved t c =
     let semi = symbol_read Semicolon c.loop-self.self c.advance.new.self h c.advance.ensures.rest c.advance.ensures.depth in
     record {
       left = omega arith;
-      depth = omega arith;
-      within = omega arith;
       read = block_passes (map written_statement c.loop-self.statements.items) (boxed_expr c.loop-self.value) c.args.self.now c.loop-self.self c.advance.new.self c.loop-self.invariant.read h semi hs;
     }
 
