@@ -37,7 +37,7 @@ impl<'a> Parser<'a> {
             }
         }
         self.expect(Symbol::CloseBrace)?;
-        Ok(block_of(self.alloc, statements, value)?)
+        block_of(self.alloc, statements, value)
     }
 
     // `{ binding ;+ } expr`: puts the statements behind others, and gives the expression.

@@ -63,14 +63,14 @@ impl<'a> Parser<'a> {
         if self.is_at_keyword(Keyword::Elif) {
             self.deepen()?;
             let negative = self.branches()?;
-            return Ok(branch(self.alloc, condition, positive, negative)?);
+            return branch(self.alloc, condition, positive, negative);
         }
         if self.is_at_keyword(Keyword::Else) {
             self.advance();
             let negative = self.expr()?;
-            return Ok(branch(self.alloc, condition, positive, negative)?);
+            return branch(self.alloc, condition, positive, negative);
         }
-        Ok(branch_alone(self.alloc, condition, positive)?)
+        branch_alone(self.alloc, condition, positive)
     }
 
     /// `or = and [ "||" or ]`
@@ -85,7 +85,7 @@ impl<'a> Parser<'a> {
         }
         self.open(Symbol::OrOr)?;
         let right = self.or()?;
-        Ok(either(self.alloc, left, right)?)
+        either(self.alloc, left, right)
     }
 
     /// `and = cmp [ "&&" and ]`
@@ -100,7 +100,7 @@ impl<'a> Parser<'a> {
         }
         self.open(Symbol::AndAnd)?;
         let right = self.and()?;
-        Ok(both(self.alloc, left, right)?)
+        both(self.alloc, left, right)
     }
 
     /// `cmp = add [ ( "==" | "!=" | "<" | "<=" | ">" | ">=" ) add ]`
@@ -114,7 +114,7 @@ impl<'a> Parser<'a> {
             return Ok(left);
         };
         let right = self.add()?;
-        Ok(binary(self.alloc, operator, left, right)?)
+        binary(self.alloc, operator, left, right)
     }
 
     /// `add = mul { ( "+" | "-" ) mul }`, to the left.
@@ -155,7 +155,7 @@ impl<'a> Parser<'a> {
             return self.post();
         };
         let operand = self.un()?;
-        Ok(unary(self.alloc, operator, operand)?)
+        unary(self.alloc, operator, operand)
     }
 
     /// `post = atom { "." name [ "(" args ")" ] }`, to the left.
@@ -185,11 +185,11 @@ impl<'a> Parser<'a> {
         ensures left { length self.new.rest.now ≤ length self.old.rest.now }
     {
         if let Some(value) = self.number() {
-            return Ok(number(self.alloc, value)?);
+            return number(self.alloc, value);
         }
         if self.is_at_constructor() {
             let name = self.constructor()?;
-            return Ok(construct(self.alloc, name)?);
+            return construct(self.alloc, name);
         }
         if self.is_at(Symbol::OpenParenthesis) {
             return self.in_brackets();
@@ -212,7 +212,7 @@ impl<'a> Parser<'a> {
         self.open(Symbol::OpenParenthesis)?;
         if self.is_at(Symbol::CloseParenthesis) {
             self.advance();
-            return Ok(unit(self.alloc)?);
+            return unit(self.alloc);
         }
         let inner = self.expr()?;
         self.expect(Symbol::CloseParenthesis)?;
@@ -228,7 +228,7 @@ impl<'a> Parser<'a> {
         self.open(Symbol::Dot)?;
         let (form, _) = self.print_word()?;
         self.no_arguments()?;
-        Ok(print_text(self.alloc, form, text)?)
+        print_text(self.alloc, form, text)
     }
 
     // `[ "(" ")" ]`
@@ -252,17 +252,17 @@ impl<'a> Parser<'a> {
     {
         let (form, name) = self.print_word()?;
         if !self.is_at(Symbol::OpenParenthesis) {
-            return Ok(variable(self.alloc, name)?);
+            return variable(self.alloc, name);
         }
         self.open(Symbol::OpenParenthesis)?;
         if self.is_at_quoted() {
             let text = self.string()?;
             self.expect(Symbol::CloseParenthesis)?;
-            return Ok(print_text(self.alloc, form, text)?);
+            return print_text(self.alloc, form, text);
         }
         let arguments = self.args()?;
         self.expect(Symbol::CloseParenthesis)?;
-        Ok(call(self.alloc, name, arguments)?)
+        call(self.alloc, name, arguments)
     }
 
     // Whether a string is next, and no dot behind it.
@@ -294,8 +294,8 @@ impl<'a> Parser<'a> {
     {
         let name = self.identifier(Names::ButPrints)?;
         match self.arguments()? {
-            Some(arguments) => Ok(call(self.alloc, name, arguments)?),
-            None => Ok(variable(self.alloc, name)?),
+            Some(arguments) => call(self.alloc, name, arguments),
+            None => variable(self.alloc, name),
         }
     }
 

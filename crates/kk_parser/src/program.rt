@@ -127,7 +127,7 @@ impl<'a> Parser<'a> {
         let body = self.expr()?;
         self.depth = depth;
         let declaration = function_of(head, Box::into_inner(body));
-        Ok(boxed(self.alloc, declaration)?)
+        boxed(self.alloc, declaration)
     }
 
     // What stands between `fun` and the body.
