@@ -3,7 +3,7 @@ use Rattle.std.proofs.lemmas.List.{append-nil}
 use Rattle.std.proofs.lemmas.Int.{to_z-of_z}
 use mir.Syntax.{w32}
 use mir.Val.{SFits}
-use Rattle.kk_syntax.specs.Surface.{written_expr, written_statement, construct, unary, binary, branch, variable, call, print_text, unit, writtens_of, number as OfNumber}
+use Rattle.kk_syntax.specs.Surface.{written_expr, written_statement, unary, binary, branch, variable, call, print_text, unit, writtens_of, number as OfNumber}
 use Rattle.kk_syntax.specs.declared.token.Keyword.TheVariants.{If, Then, Elif, Else, Val}
 use Rattle.kk_syntax.specs.declared.token.Symbol.TheVariants.{OpenParenthesis, CloseParenthesis, OpenBrace, CloseBrace, Semicolon, Comma, Dot, Equals, OrOr, AndAnd}
 use Rattle.kk_parser.specs.Forms.{branches, branches_of, inside, spoken_of, printed, printed_of, binding, binding_of, bindings_of, items}

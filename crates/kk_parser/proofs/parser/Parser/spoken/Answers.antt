@@ -1,4 +1,4 @@
-use Rattle.std.proofs.Common.{sym, ◌∙◌, ap}
+use Rattle.std.proofs.Common.{ap}
 use Rattle.kk_syntax.specs.declared.token.Symbol.TheVariants.{Dot}
 use Rattle.kk_syntax.specs.Surface.{print_text}
 use Rattle.kk_parser.specs.Forms.{spoken, spoken_of}
