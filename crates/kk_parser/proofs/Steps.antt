@@ -19,7 +19,7 @@ use Rattle.kk_parser.specs.Phrases.{Nonterminal, Phrase, token, opener, ◌▸�
 use Rattle.kk_parser.specs.Forms.{form, form_meaning, items}
 use Rattle.kk_parser.specs.Reading.{first, Finds, finds_token, finds_opener, Failure, unexpected, too_deep, ReadingFails, fails_deep, finds_first, finds_second, finds_none, finds_more, finds_both, finds_rule, fails_rule, fails_front, fails_behind, fails_first, fails_second, fails_more}
 use Rattle.kk_parser.proofs.Apart.{next_says_class}
-use Rattle.kk_parser.specs.Methods.{behind, Read, FailedBy, ReadsPhrase, ReadsFor, ReadsAs, ReadsItems, ReadsIfNext, Deepens}
+use Rattle.kk_parser.specs.Methods.{behind, Read, FailedBy, ReadsPhrase, ReadsFor, ReadsAs, ReadsItems, ReadsIfNext, Deepens, Makes}
 
 finds_next : (k : Kind) (n : ℕ) (ts : List LocatedToken) (v : Said k) → next_says k ts ≡ Some v → Finds 200 (token k) n ts v n (behind ts)
 finds_next k n [] v e = absurd (cc e)
@@ -74,6 +74,15 @@ pub passed_on : (p q : Phrase) (old mid new : Parser) → ((f : Failure) → Rea
 passed_on p q old mid new t Unexpected h = t (unexpected new.rest.now) h
 passed_on p q old mid new t TooDeep h = t (too_deep new.rest.now) h
 passed_on p q old mid new t NoMemory h = tt
+
+-- what was read is made
+pub reads_made : {A : Type 0} (p : Phrase) (view : A → PhraseValue p) (v : PhraseValue p) (r : Result A Fault) (old new : Parser) → Makes view v r → Read p v old new → ReadsPhrase p view r old new
+reads_made p view v (Ok x) old new m h = subst (λ w. Read p w old new) (sym m) h
+reads_made p view v (Err y) old new m h = subst (λ x. FailedBy x p old new) (sym m) tt
+
+pub reads_made_as : {A B : Type 0} (p : Phrase) (means : PhraseValue p → B) (view : A → B) (v : PhraseValue p) (w : B) (r : Result A Fault) (old new : Parser) → Makes view w r → means v ≡ w → Read p v old new → ReadsAs p means view r old new
+reads_made_as p means view v w (Ok x) old new m e h = (v, e ∙ sym m, h)
+reads_made_as p means view v w (Err y) old new m e h = subst (λ x. FailedBy x p old new) (sym m) tt
 
 -- where a method gives up by `?`, it fails as what it called
 pub gives_up : {A : Type 0} (p : Phrase) (view : A → PhraseValue p) (r : Result A Fault) (e : Fault) (old new : Parser) → IsErrAnd r (λ y. y ≡ e) → FailedBy e p old new → ReadsPhrase p view r old new

@@ -1,7 +1,6 @@
 -- What the trees that are made stand for.
-use Rattle.std.proofs.Common.{◌≡◌, ℕ, ℤ, List, Some, None, Result, Ok, Err, IfOk, map, ap, sym, ◌∙◌}
+use Rattle.std.proofs.Common.{◌≡◌, ℕ, ℤ, List, Some, None, Result, Ok, Err, map, ap, sym, ◌∙◌}
 use Rattle.std.specs.Global.{Box}
-use Rattle.kk_base.specs.declared.error.NoMemory.{NoMemory}
 use Rattle.kk_syntax.specs.declared.operator.PrintForm.{PrintForm}
 use Rattle.kk_syntax.specs.declared.tree.Identifier.{Identifier}
 use Rattle.kk_syntax.specs.declared.tree.SurfaceExpr.{SurfaceExpr}
@@ -9,6 +8,8 @@ use Rattle.kk_syntax.specs.declared.tree.SurfaceExpr.TheVariants.{Number, rolls-
 use Rattle.kk_syntax.specs.declared.tree.SurfaceExpr.TheFolds.{fold-roll-SurfaceExpr, fold_out-SurfaceStatement}
 use Rattle.kk_syntax.specs.declared.tree.SurfaceStatement.{SurfaceStatement}
 use Rattle.kk_syntax.specs.Surface.{Written, WrittenRow, WrittenStatement, expr_step, row_step, statement_step, written_expr, written_statement, number, unit, variable, print_text, call, dot_call, construct, branch, branch_alone, writtens_of, block_of, unary, binary, both, either}
+use Rattle.kk_parser.specs.declared.fault.Fault.{Fault}
+use Rattle.kk_parser.specs.Methods.{Makes}
 use Rattle.kk_parser.specs.Views.{boxed_expr}
 
 pub written-Number : (value : ℤ) → written_expr (Number value) ≡ number value
@@ -57,6 +58,6 @@ pub written-Or : (left right : _) → written_expr (Or left right) ≡ either (w
 written-Or left right = ap written_expr (sym (rolls-Or left right)) ∙ fold-roll-SurfaceExpr Written WrittenRow WrittenStatement expr_step row_step statement_step _
 
 -- an expression was put in a box
-pub in_box : (r : Result (Box SurfaceExpr) NoMemory) (e : SurfaceExpr) (w : Written) → IfOk r (λ b. b.value ≡ e) → written_expr e ≡ w → IfOk r (λ b. boxed_expr b ≡ w)
+pub in_box : (r : Result (Box SurfaceExpr) Fault) (e : SurfaceExpr) (w : Written) → Makes (λ b. b.value) e r → written_expr e ≡ w → Makes boxed_expr w r
 in_box (Ok b) e w h d = ap written_expr h ∙ d
-in_box (Err y) e w h d = tt
+in_box (Err y) e w h d = h

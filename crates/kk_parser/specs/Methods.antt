@@ -32,6 +32,11 @@ abbrev pub ReadsPhrase : {A : Type 0} (p : Phrase) → (A → PhraseValue p) →
 ReadsPhrase p view (Ok x) old new = Read p (view x) old new
 ReadsPhrase p view (Err fault) old new = FailedBy fault p old new
 
+-- a function makes what stands for this, or there is no memory
+abbrev pub Makes : {A W : Type 0} → (A → W) → W → Result A Fault → Type 0
+Makes view w (Ok x) = view x ≡ w
+Makes view w (Err fault) = fault ≡ NoMemory
+
 -- a method read a phrase, and gives what is meant by what the phrase says
 abbrev pub ReadsFor : {A : Type 0} (p : Phrase) → (PhraseValue p → A) → Result A Fault → Parser → Parser → Type 0
 ReadsFor p means (Ok x) old new = (v : PhraseValue p) × (means v ≡ x) × Read p v old new

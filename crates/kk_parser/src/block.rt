@@ -19,7 +19,6 @@ impl<'a> Parser<'a> {
     #[cycle(expr)]
     pub fn block(&mut self) -> Result<Box<SurfaceExpr>, Fault>
         ensures reads { ReadsPhrase (rule OfBlock) boxed_expr result self.old self.new }
-        ensures depth { OnOk result (self.old.depth ≤ self.new.depth) }
         ensures left { length self.new.rest.now ≤ length self.old.rest.now }
     {
         self.open(Symbol::OpenBrace)?;
@@ -38,14 +37,13 @@ impl<'a> Parser<'a> {
             }
         }
         self.expect(Symbol::CloseBrace)?;
-        Ok(block_of(self.alloc, statements, value)?)
+        block_of(self.alloc, statements, value)
     }
 
     // `{ binding ;+ } expr`: puts the statements behind others, and gives the expression.
     #[cycle(expr)]
     fn items(&mut self, statements: &mut Vec<SurfaceStatement>) -> Result<Box<SurfaceExpr>, Fault>
         ensures reads { ReadsItems (map written_statement statements.old.items) (map written_statement statements.new.items) result self.old self.new }
-        ensures depth { OnOk result (self.new.depth ≡ self.old.depth) }
         ensures left { length self.new.rest.now ≤ length self.old.rest.now }
     {
         while self.is_at_keyword(Keyword::Val) {
@@ -68,7 +66,6 @@ impl<'a> Parser<'a> {
     #[cycle(expr)]
     fn binding(&mut self) -> Result<(SurfaceBinder, Box<SurfaceExpr>), Fault>
         ensures reads { ReadsAs OfBinding binding_of binding_view result self.old self.new }
-        ensures depth { OnOk result (self.new.depth ≡ self.old.depth) }
         ensures left { length self.new.rest.now ≤ length self.old.rest.now }
         ensures passed { OnOk result (length self.new.rest.now + 1 ≤ length self.old.rest.now) }
     {
@@ -82,7 +79,6 @@ impl<'a> Parser<'a> {
     // `name | wildcard`
     fn binder(&mut self) -> Result<SurfaceBinder, Fault>
         ensures reads { ReadsFor OfBinder binder_of result self.old self.new }
-        ensures depth { OnOk result (self.new.depth ≡ self.old.depth) }
         ensures left { length self.new.rest.now ≤ length self.old.rest.now }
     {
         if self.is_at_name(Names::All) {

@@ -23,7 +23,6 @@ impl<'a> Parser<'a> {
     #[cycle(expr)]
     pub fn expr(&mut self) -> Result<Box<SurfaceExpr>, Fault>
         ensures reads { ReadsPhrase (rule OfExpr) boxed_expr result self.old self.new }
-        ensures depth { OnOk result (self.new.depth ≡ self.old.depth) }
         ensures left { length self.new.rest.now ≤ length self.old.rest.now }
     {
         let depth = self.depth;
@@ -46,7 +45,6 @@ impl<'a> Parser<'a> {
     #[cycle(expr)]
     fn if_(&mut self) -> Result<Box<SurfaceExpr>, Fault>
         ensures reads { ReadsPhrase (rule OfIf) boxed_expr result self.old self.new }
-        ensures depth { OnOk result (self.old.depth ≤ self.new.depth) }
         ensures left { length self.new.rest.now ≤ length self.old.rest.now }
     {
         self.open_keyword(Keyword::If)?;
@@ -57,7 +55,6 @@ impl<'a> Parser<'a> {
     #[cycle(expr)]
     fn branches(&mut self) -> Result<Box<SurfaceExpr>, Fault>
         ensures reads { ReadsAs branches branches_of boxed_expr result self.old self.new }
-        ensures depth { OnOk result (self.old.depth ≤ self.new.depth) }
         ensures left { length self.new.rest.now ≤ length self.old.rest.now }
     {
         let condition = self.or()?;
@@ -66,21 +63,20 @@ impl<'a> Parser<'a> {
         if self.is_at_keyword(Keyword::Elif) {
             self.deepen()?;
             let negative = self.branches()?;
-            return Ok(branch(self.alloc, condition, positive, negative)?);
+            return branch(self.alloc, condition, positive, negative);
         }
         if self.is_at_keyword(Keyword::Else) {
             self.advance();
             let negative = self.expr()?;
-            return Ok(branch(self.alloc, condition, positive, negative)?);
+            return branch(self.alloc, condition, positive, negative);
         }
-        Ok(branch_alone(self.alloc, condition, positive)?)
+        branch_alone(self.alloc, condition, positive)
     }
 
     /// `or = and [ "||" or ]`
     #[cycle(expr)]
     fn or(&mut self) -> Result<Box<SurfaceExpr>, Fault>
         ensures reads { ReadsPhrase (rule OfOr) boxed_expr result self.old self.new }
-        ensures depth { OnOk result (self.old.depth ≤ self.new.depth) }
         ensures left { length self.new.rest.now ≤ length self.old.rest.now }
     {
         let left = self.and()?;
@@ -89,14 +85,13 @@ impl<'a> Parser<'a> {
         }
         self.open(Symbol::OrOr)?;
         let right = self.or()?;
-        Ok(either(self.alloc, left, right)?)
+        either(self.alloc, left, right)
     }
 
     /// `and = cmp [ "&&" and ]`
     #[cycle(expr)]
     fn and(&mut self) -> Result<Box<SurfaceExpr>, Fault>
         ensures reads { ReadsPhrase (rule OfAnd) boxed_expr result self.old self.new }
-        ensures depth { OnOk result (self.old.depth ≤ self.new.depth) }
         ensures left { length self.new.rest.now ≤ length self.old.rest.now }
     {
         let left = self.cmp()?;
@@ -105,14 +100,13 @@ impl<'a> Parser<'a> {
         }
         self.open(Symbol::AndAnd)?;
         let right = self.and()?;
-        Ok(both(self.alloc, left, right)?)
+        both(self.alloc, left, right)
     }
 
     /// `cmp = add [ ( "==" | "!=" | "<" | "<=" | ">" | ">=" ) add ]`
     #[cycle(expr)]
     fn cmp(&mut self) -> Result<Box<SurfaceExpr>, Fault>
         ensures reads { ReadsPhrase (rule OfCmp) boxed_expr result self.old self.new }
-        ensures depth { OnOk result (self.old.depth ≤ self.new.depth) }
         ensures left { length self.new.rest.now ≤ length self.old.rest.now }
     {
         let left = self.add()?;
@@ -120,14 +114,13 @@ impl<'a> Parser<'a> {
             return Ok(left);
         };
         let right = self.add()?;
-        Ok(binary(self.alloc, operator, left, right)?)
+        binary(self.alloc, operator, left, right)
     }
 
     /// `add = mul { ( "+" | "-" ) mul }`, to the left.
     #[cycle(expr)]
     fn add(&mut self) -> Result<Box<SurfaceExpr>, Fault>
         ensures reads { ReadsPhrase (rule OfAdd) boxed_expr result self.old self.new }
-        ensures depth { OnOk result (self.old.depth ≤ self.new.depth) }
         ensures left { length self.new.rest.now ≤ length self.old.rest.now }
     {
         let mut left = self.mul()?;
@@ -142,7 +135,6 @@ impl<'a> Parser<'a> {
     #[cycle(expr)]
     fn mul(&mut self) -> Result<Box<SurfaceExpr>, Fault>
         ensures reads { ReadsPhrase (rule OfMul) boxed_expr result self.old self.new }
-        ensures depth { OnOk result (self.old.depth ≤ self.new.depth) }
         ensures left { length self.new.rest.now ≤ length self.old.rest.now }
     {
         let mut left = self.un()?;
@@ -157,21 +149,19 @@ impl<'a> Parser<'a> {
     #[cycle(expr)]
     fn un(&mut self) -> Result<Box<SurfaceExpr>, Fault>
         ensures reads { ReadsPhrase (rule OfUn) boxed_expr result self.old self.new }
-        ensures depth { OnOk result (self.old.depth ≤ self.new.depth) }
         ensures left { length self.new.rest.now ≤ length self.old.rest.now }
     {
         let Some(operator) = self.unary_operator()? else {
             return self.post();
         };
         let operand = self.un()?;
-        Ok(unary(self.alloc, operator, operand)?)
+        unary(self.alloc, operator, operand)
     }
 
     /// `post = atom { "." name [ "(" args ")" ] }`, to the left.
     #[cycle(expr)]
     fn post(&mut self) -> Result<Box<SurfaceExpr>, Fault>
         ensures reads { ReadsPhrase (rule OfPost) boxed_expr result self.old self.new }
-        ensures depth { OnOk result (self.old.depth ≤ self.new.depth) }
         ensures left { length self.new.rest.now ≤ length self.old.rest.now }
     {
         let mut first = self.atom()?;
@@ -192,15 +182,14 @@ impl<'a> Parser<'a> {
     #[cycle(expr)]
     fn atom(&mut self) -> Result<Box<SurfaceExpr>, Fault>
         ensures reads { ReadsPhrase (rule OfAtom) boxed_expr result self.old self.new }
-        ensures depth { OnOk result (self.old.depth ≤ self.new.depth) }
         ensures left { length self.new.rest.now ≤ length self.old.rest.now }
     {
         if let Some(value) = self.number() {
-            return Ok(number(self.alloc, value)?);
+            return number(self.alloc, value);
         }
         if self.is_at_constructor() {
             let name = self.constructor()?;
-            return Ok(construct(self.alloc, name)?);
+            return construct(self.alloc, name);
         }
         if self.is_at(Symbol::OpenParenthesis) {
             return self.in_brackets();
@@ -218,13 +207,12 @@ impl<'a> Parser<'a> {
     #[cycle(expr)]
     fn in_brackets(&mut self) -> Result<Box<SurfaceExpr>, Fault>
         ensures reads { ReadsAs (in_brackets (rule OfExpr)) (inside OfUnit (λ e. e)) boxed_expr result self.old self.new }
-        ensures depth { OnOk result (self.old.depth ≤ self.new.depth) }
         ensures left { length self.new.rest.now ≤ length self.old.rest.now }
     {
         self.open(Symbol::OpenParenthesis)?;
         if self.is_at(Symbol::CloseParenthesis) {
             self.advance();
-            return Ok(unit(self.alloc)?);
+            return unit(self.alloc);
         }
         let inner = self.expr()?;
         self.expect(Symbol::CloseParenthesis)?;
@@ -234,20 +222,18 @@ impl<'a> Parser<'a> {
     // `string "." ( "print" | "println" ) [ "(" ")" ]`
     fn spoken(&mut self) -> Result<Box<SurfaceExpr>, Fault>
         ensures reads { ReadsAs OfSpoken spoken_of boxed_expr result self.old self.new }
-        ensures depth { OnOk result (self.old.depth ≤ self.new.depth) }
         ensures left { length self.new.rest.now ≤ length self.old.rest.now }
     {
         let text = self.string()?;
         self.open(Symbol::Dot)?;
         let (form, _) = self.print_word()?;
         self.no_arguments()?;
-        Ok(print_text(self.alloc, form, text)?)
+        print_text(self.alloc, form, text)
     }
 
     // `[ "(" ")" ]`
     fn no_arguments(&mut self) -> Result<(), Fault>
         ensures reads { ReadsFor (optional no_arguments) (λ _. tt) result self.old self.new }
-        ensures depth { OnOk result (self.old.depth ≤ self.new.depth) }
         ensures left { length self.new.rest.now ≤ length self.old.rest.now }
     {
         if !self.is_at(Symbol::OpenParenthesis) {
@@ -262,22 +248,21 @@ impl<'a> Parser<'a> {
     #[cycle(expr)]
     fn printed(&mut self) -> Result<Box<SurfaceExpr>, Fault>
         ensures reads { ReadsAs OfPrinted printed_of boxed_expr result self.old self.new }
-        ensures depth { OnOk result (self.old.depth ≤ self.new.depth) }
         ensures left { length self.new.rest.now ≤ length self.old.rest.now }
     {
         let (form, name) = self.print_word()?;
         if !self.is_at(Symbol::OpenParenthesis) {
-            return Ok(variable(self.alloc, name)?);
+            return variable(self.alloc, name);
         }
         self.open(Symbol::OpenParenthesis)?;
         if self.is_at_quoted() {
             let text = self.string()?;
             self.expect(Symbol::CloseParenthesis)?;
-            return Ok(print_text(self.alloc, form, text)?);
+            return print_text(self.alloc, form, text);
         }
         let arguments = self.args()?;
         self.expect(Symbol::CloseParenthesis)?;
-        Ok(call(self.alloc, name, arguments)?)
+        call(self.alloc, name, arguments)
     }
 
     // Whether a string is next, and no dot behind it.
@@ -305,13 +290,12 @@ impl<'a> Parser<'a> {
     #[cycle(expr)]
     fn named(&mut self) -> Result<Box<SurfaceExpr>, Fault>
         ensures reads { ReadsAs (token name_but_print ▸ optional (bracketed (rule OfArgs))) (λ v. named_of v.0 v.1) boxed_expr result self.old self.new }
-        ensures depth { OnOk result (self.old.depth ≤ self.new.depth) }
         ensures left { length self.new.rest.now ≤ length self.old.rest.now }
     {
         let name = self.identifier(Names::ButPrints)?;
         match self.arguments()? {
-            Some(arguments) => Ok(call(self.alloc, name, arguments)?),
-            None => Ok(variable(self.alloc, name)?),
+            Some(arguments) => call(self.alloc, name, arguments),
+            None => variable(self.alloc, name),
         }
     }
 
@@ -319,7 +303,6 @@ impl<'a> Parser<'a> {
     #[cycle(expr)]
     fn arguments(&mut self) -> Result<Option<Vec<SurfaceExpr>>, Fault>
         ensures reads { ReadsAs (optional (bracketed (rule OfArgs))) arguments_given arguments_view result self.old self.new }
-        ensures depth { OnOk result (self.old.depth ≤ self.new.depth) }
         ensures left { length self.new.rest.now ≤ length self.old.rest.now }
     {
         if !self.is_at(Symbol::OpenParenthesis) {
@@ -335,7 +318,6 @@ impl<'a> Parser<'a> {
     #[cycle(expr)]
     fn args(&mut self) -> Result<Vec<SurfaceExpr>, Fault>
         ensures reads { ReadsPhrase (rule OfArgs) (λ es. map written_expr es.items) result self.old self.new }
-        ensures depth { OnOk result (self.new.depth ≡ self.old.depth) }
         ensures left { length self.new.rest.now ≤ length self.old.rest.now }
     {
         let mut arguments = Vec::new(self.alloc);

@@ -1,9 +1,11 @@
 //! Expressions made of their parts. They stand in boxes: so a method that gives one up frees it by one call.
 
-ghost use Rattle.std.specs.Prelude.{◌≡◌, ◌++◌, ◌∷◌, [], map, IfOk, OnOk};
+ghost use Rattle.std.specs.Prelude.{◌≡◌, ◌++◌, ◌∷◌, [], map, OnOk};
 ghost use Rattle.kk_syntax.specs.Surface.{number, unit, variable, call, construct, print_text, unary as OfUnary, binary as OfBinary, both, either, branch, branch_alone, dot_call, writtens_of, block_of, written_expr, written_statement};
+ghost use Rattle.kk_parser.specs.Methods.{Makes};
 ghost use Rattle.kk_parser.specs.Views.{boxed_expr};
 
+use crate::fault::Fault;
 use kk_base::NoMemory;
 use kk_syntax::{
     BinaryOperator, Identifier, PrintForm, StringLiteral, SurfaceExpr, SurfaceStatement,
@@ -12,10 +14,13 @@ use kk_syntax::{
 use std::alloc::Global;
 
 /// A value in a box.
-pub fn boxed<T: Drop>(alloc: Global, value: T) -> Result<Box<T>, NoMemory>
-    ensures { IfOk result (λ b. b.value ≡ value) }
+pub fn boxed<T: Drop>(alloc: Global, value: T) -> Result<Box<T>, Fault>
+    ensures { Makes (λ b. b.value) value result }
 {
-    Ok(Box::new(alloc, value)?)
+    match Box::new(alloc, value) {
+        Ok(value) => Ok(value),
+        Err(_) => Err(Fault::NoMemory),
+    }
 }
 
 /// Puts an item behind others.
@@ -26,29 +31,29 @@ pub fn put<T: Drop>(items: &mut Vec<T>, item: T) -> Result<(), NoMemory>
 }
 
 /// A number.
-pub fn number(alloc: Global, value: i32) -> Result<Box<SurfaceExpr>, NoMemory>
-    ensures { IfOk result (λ e. boxed_expr e ≡ number value) }
+pub fn number(alloc: Global, value: i32) -> Result<Box<SurfaceExpr>, Fault>
+    ensures { Makes boxed_expr (number value) result }
 {
     boxed(alloc, SurfaceExpr::Number(value))
 }
 
 /// `()`
-pub fn unit(alloc: Global) -> Result<Box<SurfaceExpr>, NoMemory>
-    ensures { IfOk result (λ e. boxed_expr e ≡ unit) }
+pub fn unit(alloc: Global) -> Result<Box<SurfaceExpr>, Fault>
+    ensures { Makes boxed_expr unit result }
 {
     boxed(alloc, SurfaceExpr::Unit)
 }
 
 /// A variable.
-pub fn variable(alloc: Global, name: Identifier) -> Result<Box<SurfaceExpr>, NoMemory>
-    ensures { IfOk result (λ e. boxed_expr e ≡ variable name) }
+pub fn variable(alloc: Global, name: Identifier) -> Result<Box<SurfaceExpr>, Fault>
+    ensures { Makes boxed_expr (variable name) result }
 {
     boxed(alloc, SurfaceExpr::Variable(name))
 }
 
 /// A construction without arguments.
-pub fn construct(alloc: Global, name: Identifier) -> Result<Box<SurfaceExpr>, NoMemory>
-    ensures { IfOk result (λ e. boxed_expr e ≡ construct name (writtens_of [])) }
+pub fn construct(alloc: Global, name: Identifier) -> Result<Box<SurfaceExpr>, Fault>
+    ensures { Makes boxed_expr (construct name (writtens_of [])) result }
 {
     boxed(alloc, SurfaceExpr::Construct(name, Vec::new(alloc)))
 }
@@ -58,8 +63,8 @@ pub fn call(
     alloc: Global,
     name: Identifier,
     arguments: Vec<SurfaceExpr>,
-) -> Result<Box<SurfaceExpr>, NoMemory>
-    ensures { IfOk result (λ e. boxed_expr e ≡ call name (writtens_of (map written_expr arguments.items))) }
+) -> Result<Box<SurfaceExpr>, Fault>
+    ensures { Makes boxed_expr (call name (writtens_of (map written_expr arguments.items))) result }
 {
     boxed(alloc, SurfaceExpr::Call(name, arguments))
 }
@@ -69,8 +74,8 @@ pub fn print_text(
     alloc: Global,
     form: PrintForm,
     text: StringLiteral,
-) -> Result<Box<SurfaceExpr>, NoMemory>
-    ensures { IfOk result (λ e. boxed_expr e ≡ print_text form text) }
+) -> Result<Box<SurfaceExpr>, Fault>
+    ensures { Makes boxed_expr (print_text form text) result }
 {
     boxed(alloc, SurfaceExpr::PrintText(form, text))
 }
@@ -80,8 +85,8 @@ pub fn unary(
     alloc: Global,
     operator: UnaryOperator,
     operand: Box<SurfaceExpr>,
-) -> Result<Box<SurfaceExpr>, NoMemory>
-    ensures { IfOk result (λ e. boxed_expr e ≡ OfUnary operator (boxed_expr operand)) }
+) -> Result<Box<SurfaceExpr>, Fault>
+    ensures { Makes boxed_expr (OfUnary operator (boxed_expr operand)) result }
 {
     boxed(alloc, SurfaceExpr::Unary(operator, operand))
 }
@@ -92,8 +97,8 @@ pub fn binary(
     operator: BinaryOperator,
     left: Box<SurfaceExpr>,
     right: Box<SurfaceExpr>,
-) -> Result<Box<SurfaceExpr>, NoMemory>
-    ensures { IfOk result (λ e. boxed_expr e ≡ OfBinary operator (boxed_expr left) (boxed_expr right)) }
+) -> Result<Box<SurfaceExpr>, Fault>
+    ensures { Makes boxed_expr (OfBinary operator (boxed_expr left) (boxed_expr right)) result }
 {
     boxed(alloc, SurfaceExpr::Binary(operator, left, right))
 }
@@ -103,8 +108,8 @@ pub fn both(
     alloc: Global,
     left: Box<SurfaceExpr>,
     right: Box<SurfaceExpr>,
-) -> Result<Box<SurfaceExpr>, NoMemory>
-    ensures { IfOk result (λ e. boxed_expr e ≡ both (boxed_expr left) (boxed_expr right)) }
+) -> Result<Box<SurfaceExpr>, Fault>
+    ensures { Makes boxed_expr (both (boxed_expr left) (boxed_expr right)) result }
 {
     boxed(alloc, SurfaceExpr::And(left, right))
 }
@@ -114,8 +119,8 @@ pub fn either(
     alloc: Global,
     left: Box<SurfaceExpr>,
     right: Box<SurfaceExpr>,
-) -> Result<Box<SurfaceExpr>, NoMemory>
-    ensures { IfOk result (λ e. boxed_expr e ≡ either (boxed_expr left) (boxed_expr right)) }
+) -> Result<Box<SurfaceExpr>, Fault>
+    ensures { Makes boxed_expr (either (boxed_expr left) (boxed_expr right)) result }
 {
     boxed(alloc, SurfaceExpr::Or(left, right))
 }
@@ -126,8 +131,8 @@ pub fn branch(
     condition: Box<SurfaceExpr>,
     positive: Box<SurfaceExpr>,
     negative: Box<SurfaceExpr>,
-) -> Result<Box<SurfaceExpr>, NoMemory>
-    ensures { IfOk result (λ e. boxed_expr e ≡ branch (boxed_expr condition) (boxed_expr positive) (boxed_expr negative)) }
+) -> Result<Box<SurfaceExpr>, Fault>
+    ensures { Makes boxed_expr (branch (boxed_expr condition) (boxed_expr positive) (boxed_expr negative)) result }
 {
     boxed(alloc, SurfaceExpr::If(condition, positive, Some(negative)))
 }
@@ -137,8 +142,8 @@ pub fn branch_alone(
     alloc: Global,
     condition: Box<SurfaceExpr>,
     positive: Box<SurfaceExpr>,
-) -> Result<Box<SurfaceExpr>, NoMemory>
-    ensures { IfOk result (λ e. boxed_expr e ≡ branch_alone (boxed_expr condition) (boxed_expr positive)) }
+) -> Result<Box<SurfaceExpr>, Fault>
+    ensures { Makes boxed_expr (branch_alone (boxed_expr condition) (boxed_expr positive)) result }
 {
     boxed(alloc, SurfaceExpr::If(condition, positive, None))
 }
@@ -149,8 +154,8 @@ pub fn dot_call(
     first: Box<SurfaceExpr>,
     name: Identifier,
     others: Vec<SurfaceExpr>,
-) -> Result<Box<SurfaceExpr>, NoMemory>
-    ensures { IfOk result (λ e. boxed_expr e ≡ dot_call (boxed_expr first) name (writtens_of (map written_expr others.items))) }
+) -> Result<Box<SurfaceExpr>, Fault>
+    ensures { Makes boxed_expr (dot_call (boxed_expr first) name (writtens_of (map written_expr others.items))) result }
 {
     boxed(alloc, SurfaceExpr::DotCall(first, name, others))
 }
@@ -160,8 +165,8 @@ pub fn block_of(
     alloc: Global,
     statements: Vec<SurfaceStatement>,
     value: Box<SurfaceExpr>,
-) -> Result<Box<SurfaceExpr>, NoMemory>
-    ensures { IfOk result (λ e. boxed_expr e ≡ block_of (map written_statement statements.items) (boxed_expr value)) }
+) -> Result<Box<SurfaceExpr>, Fault>
+    ensures { Makes boxed_expr (block_of (map written_statement statements.items) (boxed_expr value)) result }
 {
     if statements.is_empty() {
         return Ok(value);

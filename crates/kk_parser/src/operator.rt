@@ -10,7 +10,6 @@ impl<'a> Parser<'a> {
     /// `"==" | "!=" | "<" | "<=" | ">" | ">="`, where one is next. It opens a level.
     pub fn comparison(&mut self) -> Result<Option<BinaryOperator>, Fault>
         ensures reads { ReadsIfNext comparison comparison_of result self.old self.new }
-        ensures depth { OnOk result (self.old.depth ≤ self.new.depth) }
         ensures left { length self.new.rest.now ≤ length self.old.rest.now }
         ensures passed { IfOk result (λ found. IsSome found → length self.new.rest.now + 1 ≡ length self.old.rest.now) }
     {
@@ -44,7 +43,6 @@ impl<'a> Parser<'a> {
     /// `"+" | "-"`, where one is next. It opens a level.
     pub fn sum_operator(&mut self) -> Result<Option<BinaryOperator>, Fault>
         ensures reads { ReadsIfNext sum_operator sum_operator_of result self.old self.new }
-        ensures depth { OnOk result (self.old.depth ≤ self.new.depth) }
         ensures left { length self.new.rest.now ≤ length self.old.rest.now }
         ensures passed { IfOk result (λ found. IsSome found → length self.new.rest.now + 1 ≡ length self.old.rest.now) }
     {
@@ -62,7 +60,6 @@ impl<'a> Parser<'a> {
     /// `"*" | "/" | "%"`, where one is next. It opens a level.
     pub fn product_operator(&mut self) -> Result<Option<BinaryOperator>, Fault>
         ensures reads { ReadsIfNext product_operator product_operator_of result self.old self.new }
-        ensures depth { OnOk result (self.old.depth ≤ self.new.depth) }
         ensures left { length self.new.rest.now ≤ length self.old.rest.now }
         ensures passed { IfOk result (λ found. IsSome found → length self.new.rest.now + 1 ≡ length self.old.rest.now) }
     {
@@ -84,8 +81,6 @@ impl<'a> Parser<'a> {
     /// `"!" | "~"`, where one is next. It opens a level.
     pub fn unary_operator(&mut self) -> Result<Option<UnaryOperator>, Fault>
         ensures reads { ReadsIfNext unary_operator unary_operator_of result self.old self.new }
-        ensures depth { IfOk result (λ found. IsSome found → self.new.depth ≡ self.old.depth + 1) }
-        ensures within { IfOk result (λ found. IsSome found → self.new.depth ≤ 200) }
         ensures left { length self.new.rest.now ≤ length self.old.rest.now }
         ensures passed { IfOk result (λ found. IsSome found → length self.new.rest.now + 1 ≡ length self.old.rest.now) }
     {

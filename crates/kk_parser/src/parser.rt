@@ -110,8 +110,6 @@ impl<'a> Parser<'a> {
     pub fn deepen(&mut self) -> Result<(), Fault>
         requires { 0 < length self.old.rest.now }
         ensures deepens { Deepens result self.old self.new }
-        ensures depth { OnOk result (self.new.depth ≡ self.old.depth + 1) }
-        ensures within { OnOk result (self.new.depth ≤ 200) }
         ensures left { length self.new.rest.now ≤ length self.old.rest.now }
         ensures passed { OnOk result (length self.new.rest.now + 1 ≡ length self.old.rest.now) }
     {
@@ -126,7 +124,6 @@ impl<'a> Parser<'a> {
     /// Passes this symbol.
     pub fn expect(&mut self, symbol: Symbol) -> Result<(), Fault>
         ensures reads { ReadsPhrase (token (symbol_kind symbol)) (λ _. tt) result self.old self.new }
-        ensures depth { OnOk result (self.new.depth ≡ self.old.depth) }
         ensures left { length self.new.rest.now ≤ length self.old.rest.now }
         ensures passed { OnOk result (length self.new.rest.now + 1 ≡ length self.old.rest.now) }
     {
@@ -140,7 +137,6 @@ impl<'a> Parser<'a> {
     /// Passes this keyword.
     pub fn expect_keyword(&mut self, word: Keyword) -> Result<(), Fault>
         ensures reads { ReadsPhrase (token (keyword word)) (λ _. tt) result self.old self.new }
-        ensures depth { OnOk result (self.new.depth ≡ self.old.depth) }
         ensures left { length self.new.rest.now ≤ length self.old.rest.now }
         ensures passed { OnOk result (length self.new.rest.now + 1 ≡ length self.old.rest.now) }
     {
@@ -154,7 +150,6 @@ impl<'a> Parser<'a> {
     /// Passes a wildcard.
     pub fn expect_wildcard(&mut self) -> Result<(), Fault>
         ensures reads { ReadsPhrase (token wildcard) (λ _. tt) result self.old self.new }
-        ensures depth { OnOk result (self.new.depth ≡ self.old.depth) }
         ensures left { length self.new.rest.now ≤ length self.old.rest.now }
     {
         match self.rest.first() {
@@ -172,8 +167,6 @@ impl<'a> Parser<'a> {
     /// Passes this symbol, which opens a level.
     pub fn open(&mut self, symbol: Symbol) -> Result<(), Fault>
         ensures reads { ReadsPhrase (opener (symbol_kind symbol)) (λ _. tt) result self.old self.new }
-        ensures depth { OnOk result (self.new.depth ≡ self.old.depth + 1) }
-        ensures within { OnOk result (self.new.depth ≤ 200) }
         ensures left { length self.new.rest.now ≤ length self.old.rest.now }
         ensures passed { OnOk result (length self.new.rest.now + 1 ≡ length self.old.rest.now) }
     {
@@ -186,8 +179,6 @@ impl<'a> Parser<'a> {
     /// Passes this keyword, which opens a level.
     pub fn open_keyword(&mut self, word: Keyword) -> Result<(), Fault>
         ensures reads { ReadsPhrase (opener (keyword word)) (λ _. tt) result self.old self.new }
-        ensures depth { OnOk result (self.new.depth ≡ self.old.depth + 1) }
-        ensures within { OnOk result (self.new.depth ≤ 200) }
         ensures left { length self.new.rest.now ≤ length self.old.rest.now }
         ensures passed { OnOk result (length self.new.rest.now + 1 ≡ length self.old.rest.now) }
     {
@@ -211,7 +202,6 @@ impl<'a> Parser<'a> {
     /// Passes semicolons, at least one.
     pub fn some_semicolons(&mut self) -> Result<(), Fault>
         ensures reads { ReadsFor some_semicolons (λ _. tt) result self.old self.new }
-        ensures depth { OnOk result (self.new.depth ≡ self.old.depth) }
         ensures left { length self.new.rest.now ≤ length self.old.rest.now }
     {
         self.expect(Symbol::Semicolon)?;
@@ -222,7 +212,6 @@ impl<'a> Parser<'a> {
     /// A name of this set, with the byte where it stands.
     pub fn identifier(&mut self, names: Names) -> Result<Identifier, Fault>
         ensures reads { ReadsPhrase (token (kind_of names)) (λ i. i) result self.old self.new }
-        ensures depth { OnOk result (self.new.depth ≡ self.old.depth) }
         ensures left { length self.new.rest.now ≤ length self.old.rest.now }
     {
         match self.rest.first() {
@@ -242,7 +231,6 @@ impl<'a> Parser<'a> {
     /// The name of a constructor, with the byte where it stands.
     pub fn constructor(&mut self) -> Result<Identifier, Fault>
         ensures reads { ReadsPhrase (token constructor) (λ i. i) result self.old self.new }
-        ensures depth { OnOk result (self.new.depth ≡ self.old.depth) }
         ensures left { length self.new.rest.now ≤ length self.old.rest.now }
     {
         match self.rest.first() {
@@ -271,7 +259,6 @@ impl<'a> Parser<'a> {
     /// `"print" | "println"`, with the name itself.
     pub fn print_word(&mut self) -> Result<(PrintForm, Identifier), Fault>
         ensures reads { ReadsFor print_word (λ word. (print_form word, print_identifier word)) result self.old self.new }
-        ensures depth { OnOk result (self.new.depth ≡ self.old.depth) }
         ensures left { length self.new.rest.now ≤ length self.old.rest.now }
     {
         match self.rest.first() {
@@ -294,7 +281,6 @@ impl<'a> Parser<'a> {
     /// A copy of a string.
     pub fn string(&mut self) -> Result<StringLiteral, Fault>
         ensures reads { ReadsPhrase (token string) (λ v. v) result self.old self.new }
-        ensures depth { OnOk result (self.new.depth ≡ self.old.depth) }
         ensures left { length self.new.rest.now ≤ length self.old.rest.now }
     {
         match self.rest.first() {
@@ -313,7 +299,6 @@ impl<'a> Parser<'a> {
     /// A number, where one is next.
     pub fn number(&mut self) -> Option<i32>
         ensures takes { TakesIfNext (token number) result self.old self.new }
-        ensures depth { self.new.depth ≡ self.old.depth }
         ensures left { length self.new.rest.now ≤ length self.old.rest.now }
     {
         match self.rest.first() {

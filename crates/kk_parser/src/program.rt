@@ -119,7 +119,6 @@ impl<'a> Parser<'a> {
     /// `main` may leave its result out.
     fn declaration(&mut self) -> Result<Box<Declaration>, Fault>
         ensures reads { ReadsPhrase (rule OfDecl) boxed_declaration result self.old self.new }
-        ensures depth { OnOk result (self.new.depth ≡ self.old.depth) }
         ensures left { length self.new.rest.now ≤ length self.old.rest.now }
     {
         let depth = self.depth;
@@ -128,7 +127,7 @@ impl<'a> Parser<'a> {
         let body = self.expr()?;
         self.depth = depth;
         let declaration = function_of(head, Box::into_inner(body));
-        Ok(boxed(self.alloc, declaration)?)
+        boxed(self.alloc, declaration)
     }
 
     // What stands between `fun` and the body.
@@ -199,7 +198,6 @@ impl<'a> Parser<'a> {
     /// `param = name ":" type`
     fn parameter(&mut self) -> Result<Parameter, Fault>
         ensures reads { ReadsPhrase (rule OfParam) written_parameter result self.old self.new }
-        ensures depth { OnOk result (self.new.depth ≡ self.old.depth) }
         ensures left { length self.new.rest.now ≤ length self.old.rest.now }
     {
         let name = self.identifier(Names::All)?;

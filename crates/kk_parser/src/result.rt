@@ -34,7 +34,6 @@ impl<'a> Parser<'a> {
     #[cycle(types)]
     pub fn type_(&mut self) -> Result<SurfaceType, Fault>
         ensures reads { ReadsPhrase (rule OfType) written_type result self.old self.new }
-        ensures depth { OnOk result (self.new.depth ≡ self.old.depth) }
         ensures left { length self.new.rest.now ≤ length self.old.rest.now }
     {
         let depth = self.depth;
@@ -51,7 +50,6 @@ impl<'a> Parser<'a> {
     // The same, where the first token is no effect.
     fn result_type(&mut self) -> Result<SurfaceType, Fault>
         ensures reads { ReadsPhrase (rule OfResultType) written_type result self.old self.new }
-        ensures depth { OnOk result (self.new.depth ≡ self.old.depth) }
         ensures left { length self.new.rest.now ≤ length self.old.rest.now }
     {
         let depth = self.depth;

@@ -3,7 +3,7 @@ use Rattle.std.proofs.lemmas.List.{append-nil}
 use Rattle.std.proofs.lemmas.Int.{to_z-of_z}
 use mir.Syntax.{w32}
 use mir.Val.{SFits}
-use Rattle.kk_syntax.specs.Surface.{written_expr, written_statement, construct, unary, binary, branch, variable, call, print_text, unit, writtens_of, number as OfNumber}
+use Rattle.kk_syntax.specs.Surface.{written_expr, written_statement, unary, binary, branch, variable, call, print_text, unit, writtens_of, number as OfNumber}
 use Rattle.kk_syntax.specs.declared.token.Keyword.TheVariants.{If, Then, Elif, Else, Val}
 use Rattle.kk_syntax.specs.declared.token.Symbol.TheVariants.{OpenParenthesis, CloseParenthesis, OpenBrace, CloseBrace, Semicolon, Comma, Dot, Equals, OrOr, AndAnd}
 use Rattle.kk_parser.specs.Forms.{branches, branches_of, inside, spoken_of, printed, printed_of, binding, binding_of, bindings_of, items}
@@ -17,7 +17,7 @@ use Rattle.kk_parser.proofs.Arguments.{given-view-some, given-view-none, named-s
 use Rattle.kk_parser.proofs.ReadAtoms.{brackets, other_name, atom_but_number, spoken-means, named-means}
 use Rattle.kk_parser.proofs.Blocks.{block_begins, block_goes_on, block_passes, stated, bound, items_go_on, items_end}
 use Rattle.kk_parser.proofs.Branches.{other_branches, behind_first, continues_elif, turn, turn-means, perhaps_found, perhaps_failed, if-means}
-use Rattle.kk_parser.proofs.Steps.{gives_up_in, gives_up_as, gives_up_as_in, gives_up_items, passed_on, too_deep_failed, deepen_reads_keyword, symbol_read, keyword_read, continues_rule, continues_left, continues_to, continues_many, continues_as, ends_many, first_next, first_absent, front_read, read_to, reads_on, reads_as_on}
+use Rattle.kk_parser.proofs.Steps.{gives_up_in, gives_up_as, gives_up_as_in, gives_up_items, reads_made, reads_made_as, passed_on, too_deep_failed, deepen_reads_keyword, symbol_read, keyword_read, continues_rule, continues_left, continues_to, continues_many, continues_as, ends_many, first_next, first_absent, front_read, read_to, reads_on, reads_as_on}
 use Rattle.kk_parser.proofs.parser.Parser.+expr.Goals as goal
 use Rattle.kk_parser.proofs.parser.Parser.+expr.Goals.{post-in-Some, post-in-None}
 
@@ -100,11 +100,9 @@ branches-returns-then-is_at_keyword-clause-reads t c =
     let condition = boxed_expr c.in_ok-condition.condition in
     let positive = boxed_expr c.in_ok-positive.positive in
     let n = c.in_ok-negative.ensures.reads in
-    let new = c.branches.new.self in (
-      (condition, (tt, (positive, turn n.0))),
-      turn-means condition positive n.0 ∙ ap (branch condition positive) n.1 ∙ sym c.in_ok-branch.ensures,
-      front.found (turn n.0) new.depth new.rest.now (elif.found n.0 new.depth new.rest.now n.2),
-    )
+    let new = c.branches.new.self in
+    reads_made_as branches branches_of boxed_expr (condition, (tt, (positive, turn n.0))) _ c.branch-self.result c.args.self.now new c.branch-self.ensures (turn-means condition positive n.0 ∙ ap (branch condition positive) n.1)
+    (front.found (turn n.0) new.depth new.rest.now (elif.found n.0 new.depth new.rest.now n.2))
 
 pub branches-returns-in_err-negative-2-clause-reads : goal.branches-returns-in_err-negative-2-clause-reads
 branches-returns-in_err-negative-2-clause-reads t c =
@@ -122,22 +120,18 @@ branches-returns-then-is_at_keyword-2-clause-reads t c =
     let h = sym c.is_at_keyword-2.ensures.value ∙ c.if-is_at_keyword-2.true in
     let else = keyword_read Else c.expr.new.self c.advance.new.self h c.advance.ensures.rest c.advance.ensures.depth in
     let negative = boxed_expr c.in_ok-negative-2.negative in
-    let new = c.expr-then-is_at_keyword-2.new.self in (
-      (boxed_expr c.in_ok-condition.condition, (tt, (boxed_expr c.in_ok-positive.positive, ([], Some negative)))),
-      sym c.in_ok-branch-2.ensures,
-      front.found ([], Some negative) new.depth new.rest.now (finds_both (finds_no_more h1) (perhaps_found else c.in_ok-negative-2.ensures.reads)),
-    )
+    let new = c.expr-then-is_at_keyword-2.new.self in
+    reads_made_as branches branches_of boxed_expr (boxed_expr c.in_ok-condition.condition, (tt, (boxed_expr c.in_ok-positive.positive, ([], Some negative)))) _ c.branch-self-then-is_at_keyword-2.result c.args.self.now new c.branch-self-then-is_at_keyword-2.ensures (refl)
+    (front.found ([], Some negative) new.depth new.rest.now (finds_both (finds_no_more h1) (perhaps_found else c.in_ok-negative-2.ensures.reads)))
 
 pub branches-returns-clause-reads : goal.branches-returns-clause-reads
 branches-returns-clause-reads t c =
     let front = behind_first c.args.self.now c.or.new.self c.expect_keyword.new.self c.expr.new.self c.in_ok-condition.ensures.reads c.in_ok-expect_keyword.ensures.reads c.in_ok-positive.ensures.reads in
     let here = c.expr.new.self in
     let h1 = sym c.is_at_keyword.ensures.value ∙ c.if-is_at_keyword.false in
-    let h2 = sym c.is_at_keyword-2.ensures.value ∙ c.if-is_at_keyword-2.false in (
-      (boxed_expr c.in_ok-condition.condition, (tt, (boxed_expr c.in_ok-positive.positive, ([], None)))),
-      sym c.in_ok-branch_alone.ensures,
-      front.found ([], None) here.depth here.rest.now (finds_both (finds_no_more h1) (finds_nothing h2)),
-    )
+    let h2 = sym c.is_at_keyword-2.ensures.value ∙ c.if-is_at_keyword-2.false in
+    reads_made_as branches branches_of boxed_expr (boxed_expr c.in_ok-condition.condition, (tt, (boxed_expr c.in_ok-positive.positive, ([], None)))) _ c.branch_alone.result c.args.self.now here c.branch_alone.ensures (refl)
+    (front.found ([], None) here.depth here.rest.now (finds_both (finds_no_more h1) (finds_nothing h2)))
 
 pub or-returns-in_err-left-clause-reads : goal.or-returns-in_err-left-clause-reads
 or-returns-in_err-left-clause-reads t c =
@@ -160,7 +154,8 @@ or-returns-in_err-right-clause-reads t c =
 pub or-returns-clause-reads : goal.or-returns-clause-reads
 or-returns-clause-reads t c =
     let h = sym c.is_at.ensures.value ∙ c.if-not-is_at.false in
-    subst (λ tree. Read (rule or) tree c.args.self.now c.or.new.self) (sym c.in_ok-either.ensures) (finds_rule (finds_both c.in_ok-left.ensures.reads (finds_presence h (finds_both c.in_ok-open.ensures.reads c.in_ok-right.ensures.reads))))
+    reads_made (rule or) boxed_expr _ c.either.result c.args.self.now c.or.new.self c.either.ensures
+    (finds_rule (finds_both c.in_ok-left.ensures.reads (finds_presence h (finds_both c.in_ok-open.ensures.reads c.in_ok-right.ensures.reads))))
 
 pub and-returns-in_err-left-clause-reads : goal.and-returns-in_err-left-clause-reads
 and-returns-in_err-left-clause-reads t c =
@@ -183,7 +178,8 @@ and-returns-in_err-right-clause-reads t c =
 pub and-returns-clause-reads : goal.and-returns-clause-reads
 and-returns-clause-reads t c =
     let h = sym c.is_at.ensures.value ∙ c.if-not-is_at.false in
-    subst (λ tree. Read (rule and) tree c.args.self.now c.and.new.self) (sym c.in_ok-both.ensures) (finds_rule (finds_both c.in_ok-left.ensures.reads (finds_presence h (finds_both c.in_ok-open.ensures.reads c.in_ok-right.ensures.reads))))
+    reads_made (rule and) boxed_expr _ c.both.result c.args.self.now c.and.new.self c.both.ensures
+    (finds_rule (finds_both c.in_ok-left.ensures.reads (finds_presence h (finds_both c.in_ok-open.ensures.reads c.in_ok-right.ensures.reads))))
 
 pub cmp-returns-in_err-left-clause-reads : goal.cmp-returns-in_err-left-clause-reads
 cmp-returns-in_err-left-clause-reads t c =
@@ -209,7 +205,9 @@ cmp-returns-clause-reads t c =
     let o = rw c.in-Some.is at c.in_ok-operator.ensures.reads in
     let l = boxed_expr c.in_ok-left.left in
     let r = boxed_expr c.in_ok-right.right in
-    subst (λ tree. Read (rule cmp) tree c.args.self.now c.add-2.new.self) (ap (λ operator. binary operator l r) o.2 ∙ sym c.in_ok-binary.ensures) (finds_rule (finds_both c.in_ok-left.ensures.reads (finds_presence o.0 (finds_both o.3 c.in_ok-right.ensures.reads))))
+    reads_made (rule cmp) boxed_expr _ c.binary.result c.args.self.now c.add-2.new.self c.binary.ensures
+    (subst (λ tree. Read (rule cmp) tree c.args.self.now c.add-2.new.self) (ap (λ operator. binary operator l r) o.2)
+    (finds_rule (finds_both c.in_ok-left.ensures.reads (finds_presence o.0 (finds_both o.3 c.in_ok-right.ensures.reads)))))
 
 pub add-returns-in_err-left-clause-reads : goal.add-returns-in_err-left-clause-reads
 add-returns-in_err-left-clause-reads t c =
@@ -219,7 +217,6 @@ pub add-loop-operator-init : goal.add-loop-operator-init
 add-loop-operator-init t c =
     record {
       left = omega (arith, c.in_ok-left.ensures.left);
-      depth = omega (arith, c.in_ok-left.ensures.depth);
       read = front_read c.mul.new.self (continues_rule add c.args.self.now) c.in_ok-left.ensures.reads;
     }
 
@@ -238,7 +235,6 @@ add-loop-operator-preserved t c =
     let o = rw c.in-Some.is at c.in_ok-operator.ensures.reads in
     record {
       left = omega (arith, c.in_ok-right.ensures.left, c.in_ok-operator.ensures.left);
-      depth = omega (arith, c.in_ok-right.ensures.depth, c.in_ok-operator.ensures.depth);
       read = continues_left (to_left sum_operator_of) (boxed_expr c.loop-operator.left) (boxed_expr c.in_ok-left-2.left) c.args.self.now c.loop-operator.self c.sum_operator.new.self c.mul-in-Some.new.self c.loop-operator.invariant.read o.0 o.3 c.in_ok-right.ensures.reads
           (λ vs. ap (λ left. to_left sum_operator_of left vs) (ap (λ operator. binary operator (boxed_expr c.loop-operator.left) (boxed_expr c.in_ok-right.right)) o.2 ∙ sym c.in_ok-left-2.ensures));
     }
@@ -256,7 +252,6 @@ pub mul-loop-operator-init : goal.mul-loop-operator-init
 mul-loop-operator-init t c =
     record {
       left = omega (arith, c.in_ok-left.ensures.left);
-      depth = omega (arith, c.in_ok-left.ensures.depth);
       read = front_read c.un.new.self (continues_rule mul c.args.self.now) c.in_ok-left.ensures.reads;
     }
 
@@ -275,7 +270,6 @@ mul-loop-operator-preserved t c =
     let o = rw c.in-Some.is at c.in_ok-operator.ensures.reads in
     record {
       left = omega (arith, c.in_ok-right.ensures.left, c.in_ok-operator.ensures.left);
-      depth = omega (arith, c.in_ok-right.ensures.depth, c.in_ok-operator.ensures.depth);
       read = continues_left (to_left product_operator_of) (boxed_expr c.loop-operator.left) (boxed_expr c.in_ok-left-2.left) c.args.self.now c.loop-operator.self c.product_operator.new.self c.un-in-Some.new.self c.loop-operator.invariant.read o.0 o.3 c.in_ok-right.ensures.reads
           (λ vs. ap (λ left. to_left product_operator_of left vs) (ap (λ operator. binary operator (boxed_expr c.loop-operator.left) (boxed_expr c.in_ok-right.right)) o.2 ∙ sym c.in_ok-left-2.ensures));
     }
@@ -306,7 +300,9 @@ pub un-returns-clause-reads : goal.un-returns-clause-reads
 un-returns-clause-reads t c =
     let o = rw c.in-Some.is at c.in_ok-operator.ensures.reads in
     let operand = boxed_expr c.in_ok-operand.operand in
-    subst (λ tree. Read (rule un) tree c.args.self.now c.un.new.self) (ap (λ operator. unary operator operand) o.2 ∙ sym c.in_ok-unary.ensures) (finds_rule (finds_first o.0 (finds_both o.3 c.in_ok-operand.ensures.reads)))
+    reads_made (rule un) boxed_expr _ c.unary.result c.args.self.now c.un.new.self c.unary.ensures
+    (subst (λ tree. Read (rule un) tree c.args.self.now c.un.new.self) (ap (λ operator. unary operator operand) o.2)
+    (finds_rule (finds_first o.0 (finds_both o.3 c.in_ok-operand.ensures.reads))))
 
 pub post-returns-in_err-first-clause-reads : goal.post-returns-in_err-first-clause-reads
 post-returns-in_err-first-clause-reads t c =
@@ -316,7 +312,6 @@ pub post-loop-self-init : goal.post-loop-self-init
 post-loop-self-init t c =
     record {
       left = omega (arith, c.in_ok-first.ensures.left);
-      depth = omega (arith, c.in_ok-first.ensures.depth);
       read = front_read c.atom.new.self (continues_rule post c.args.self.now) c.in_ok-first.ensures.reads;
     }
 
@@ -348,7 +343,6 @@ post-loop-self-preserved t c =
     ] in
     record {
       left = omega (arith, c.in_ok-given.ensures.left, c.in_ok-name.ensures.left, c.in_ok-open.ensures.left);
-      depth = omega (arith, c.in_ok-given.ensures.depth, c.in_ok-name.ensures.depth, c.in_ok-open.ensures.depth);
       read = continues_dot (boxed_expr c.loop-self.first) c.in_ok-name.name a.0 (map written_expr others.items) (boxed_expr c.in_ok-first-2.first) c.args.self.now c.loop-self.self c.open.new.self c.identifier.new.self c.arguments.new.self
           c.loop-self.invariant.read h c.in_ok-open.ensures.reads c.in_ok-name.ensures.reads a.2 is c.in_ok-first-2.ensures;
     }
@@ -360,15 +354,16 @@ pub atom-returns-in-Some-clause-reads : goal.atom-returns-in-Some-clause-reads
 atom-returns-in-Some-clause-reads t c =
     let n = rw c.in-Some.is at c.number.ensures.takes in
     let fits : SFits w32 c.in-Some.value = search rules in
-    subst (λ tree. Read (rule atom) tree c.args.self.now c.number.new.self) (ap OfNumber (sym (to_z-of_z w32 c.in-Some.value fits)) ∙ sym c.in_ok-number.ensures)
-    (finds_rule (finds_first n.0 n.1))
+    reads_made (rule atom) boxed_expr _ c.number-in-Some.result c.args.self.now c.number.new.self c.number-in-Some.ensures
+    (subst (λ tree. Read (rule atom) tree c.args.self.now c.number.new.self) (ap OfNumber (sym (to_z-of_z w32 c.in-Some.value fits)))
+    (finds_rule (finds_first n.0 n.1)))
 
 pub atom-returns-then-is_at_constructor-clause-reads : goal.atom-returns-then-is_at_constructor-clause-reads
 atom-returns-then-is_at_constructor-clause-reads t c =
     let n = rw c.in_default.is at c.number.ensures.takes in
     let new = c.constructor.new.self in
     let atom-is = first_next (atom_but_number c.args.self.now c.number.new.self n.0 n.1 n.2) (sym c.is_at_constructor.ensures ∙ c.if-is_at_constructor.true) in
-    subst (λ tree. Read (rule atom) tree c.args.self.now new) (sym c.in_ok-construct.ensures)
+    reads_made (rule atom) boxed_expr _ c.construct.result c.args.self.now new c.construct.ensures
     (atom-is.found c.in_ok-name.name new.depth new.rest.now c.in_ok-name.ensures.reads)
 
 pub atom-returns-then-is_at-clause-reads : goal.atom-returns-then-is_at-clause-reads
@@ -398,7 +393,8 @@ in_brackets-returns-in_err-open-clause-reads t c =
 pub in_brackets-returns-then-is_at-clause-reads : goal.in_brackets-returns-then-is_at-clause-reads
 in_brackets-returns-then-is_at-clause-reads t c =
     let h = sym c.is_at.ensures.value ∙ c.if-is_at.true in
-    ((tt, inl tt), sym c.in_ok-unit.ensures, finds_both c.in_ok-open.ensures.reads (finds_first h (symbol_read CloseParenthesis c.open.new.self c.advance.new.self h c.advance.ensures.rest c.advance.ensures.depth)))
+    reads_made_as brackets (inside unit (λ e. e)) boxed_expr (tt, inl tt) _ c.unit.result c.args.self.now c.advance.new.self c.unit.ensures (refl)
+    (finds_both c.in_ok-open.ensures.reads (finds_first h (symbol_read CloseParenthesis c.open.new.self c.advance.new.self h c.advance.ensures.rest c.advance.ensures.depth)))
 
 pub in_brackets-returns-in_err-inner-clause-reads : goal.in_brackets-returns-in_err-inner-clause-reads
 in_brackets-returns-in_err-inner-clause-reads t c =
@@ -423,7 +419,8 @@ printed-returns-in_err-form-clause-reads t c =
 pub printed-returns-then-not-is_at-clause-reads : goal.printed-returns-then-not-is_at-clause-reads
 printed-returns-then-not-is_at-clause-reads t c =
     let w = c.in_ok-form.ensures.reads in
-    ((w.0, None), ap (λ p. variable p.1) w.1 ∙ sym c.in_ok-variable.ensures, finds_both w.2 (finds_absence (sym c.is_at.ensures.value ∙ c.if-not-is_at.true)))
+    reads_made_as printed printed_of boxed_expr (w.0, None) _ c.variable.result c.args.self.now c.print_word.new.self c.variable.ensures (ap (λ p. variable p.1) w.1)
+    (finds_both w.2 (finds_absence (sym c.is_at.ensures.value ∙ c.if-not-is_at.true)))
 
 pub printed-returns-in_err-open-clause-reads : goal.printed-returns-in_err-open-clause-reads
 printed-returns-in_err-open-clause-reads t c =
@@ -444,11 +441,9 @@ printed-returns-then-is_at_quoted-clause-reads t c =
     let w = c.in_ok-form.ensures.reads in
     let h = sym c.is_at.ensures.value ∙ c.if-not-is_at.false in
     let q = sym c.is_at_quoted.ensures ∙ c.if-is_at_quoted.true in
-    let text = c.in_ok-text.text in (
-      (w.0, Some (tt, inl text)),
-      ap (λ p. print_text p.0 text) w.1 ∙ sym c.in_ok-print_text.ensures,
-      finds_both w.2 (finds_presence h (finds_both c.in_ok-open.ensures.reads (finds_quoted q (finds_both c.in_ok-text.ensures.reads c.in_ok-expect.ensures.reads)))),
-    )
+    let text = c.in_ok-text.text in
+    reads_made_as printed printed_of boxed_expr (w.0, Some (tt, inl text)) _ c.print_text.result c.args.self.now c.expect.new.self c.print_text.ensures (ap (λ p. print_text p.0 text) w.1)
+    (finds_both w.2 (finds_presence h (finds_both c.in_ok-open.ensures.reads (finds_quoted q (finds_both c.in_ok-text.ensures.reads c.in_ok-expect.ensures.reads)))))
 
 pub printed-returns-in_err-arguments-clause-reads : goal.printed-returns-in_err-arguments-clause-reads
 printed-returns-in_err-arguments-clause-reads t c =
@@ -472,11 +467,9 @@ printed-returns-clause-reads t c =
     let h = sym c.is_at.ensures.value ∙ c.if-not-is_at.false in
     let q = sym c.is_at_quoted.ensures ∙ c.if-is_at_quoted.false in
     let arguments = c.in_ok-arguments.arguments in
-    let given = map written_expr arguments.items in (
-      (w.0, Some (tt, inr (given, tt))),
-      ap (λ p. call p.1 (writtens_of given)) w.1 ∙ sym c.in_ok-call.ensures,
-      finds_both w.2 (finds_presence h (finds_both c.in_ok-open.ensures.reads (finds_unquoted q (finds_both c.in_ok-arguments.ensures.reads c.in_ok-expect-2.ensures.reads)))),
-    )
+    let given = map written_expr arguments.items in
+    reads_made_as printed printed_of boxed_expr (w.0, Some (tt, inr (given, tt))) _ c.call.result c.args.self.now c.expect-2.new.self c.call.ensures (ap (λ p. call p.1 (writtens_of given)) w.1)
+    (finds_both w.2 (finds_presence h (finds_both c.in_ok-open.ensures.reads (finds_unquoted q (finds_both c.in_ok-arguments.ensures.reads c.in_ok-expect-2.ensures.reads)))))
 
 pub named-returns-in_err-name-clause-reads : goal.named-returns-in_err-name-clause-reads
 named-returns-in_err-name-clause-reads t c =
@@ -487,17 +480,19 @@ named-returns-in_err-arguments-clause-reads t c =
     gives_up_as_in other_name (optional (bracketed (rule args))) (λ v. named_of v.0 v.1) boxed_expr c.from_residual-in_err-arguments.result c.in_err-arguments.field-0.0 c.args.self.now c.identifier.new.self c.arguments.new.self
     (λ f r. fails_behind c.in_ok-name.ensures.reads r) c.from_residual-in_err-arguments.ensures.1 c.in_err-arguments.ensures.reads
 
-pub named-returns-in_ok-call-in-Some-clause-reads : goal.named-returns-in_ok-call-in-Some-clause-reads
-named-returns-in_ok-call-in-Some-clause-reads t c =
+pub named-returns-in-Some-clause-reads : goal.named-returns-in-Some-clause-reads
+named-returns-in-Some-clause-reads t c =
     let a = rw c.in-Some.is at c.in_ok-arguments.ensures.reads in
     let called = c.in_ok-name.name in
-    ((called, a.0), named-some called a.0 (map written_expr c.in-Some.arguments.items) a.1 ∙ sym c.in_ok-call-in-Some.ensures, finds_both c.in_ok-name.ensures.reads a.2)
+    reads_made_as other_name (λ v. named_of v.0 v.1) boxed_expr (called, a.0) _ c.call.result c.args.self.now c.arguments.new.self c.call.ensures (named-some called a.0 (map written_expr c.in-Some.arguments.items) a.1)
+    (finds_both c.in_ok-name.ensures.reads a.2)
 
-pub named-returns-in_ok-variable-in-None-clause-reads : goal.named-returns-in_ok-variable-in-None-clause-reads
-named-returns-in_ok-variable-in-None-clause-reads t c =
+pub named-returns-in-None-clause-reads : goal.named-returns-in-None-clause-reads
+named-returns-in-None-clause-reads t c =
     let a = rw c.in-None.is at c.in_ok-arguments.ensures.reads in
     let called = c.in_ok-name.name in
-    ((called, a.0), named-none called a.0 a.1 ∙ sym c.in_ok-variable-in-None.ensures, finds_both c.in_ok-name.ensures.reads a.2)
+    reads_made_as other_name (λ v. named_of v.0 v.1) boxed_expr (called, a.0) _ c.variable.result c.args.self.now c.arguments.new.self c.variable.ensures (named-none called a.0 a.1)
+    (finds_both c.in_ok-name.ensures.reads a.2)
 
 pub arguments-returns-then-not-is_at-clause-reads : goal.arguments-returns-then-not-is_at-clause-reads
 arguments-returns-then-not-is_at-clause-reads t c =
@@ -543,7 +538,6 @@ args-loop-self-init t c =
     let is : c.put.new.items.items ≡ first.value ∷ [] = c.in_ok-put.ensures ∙ ap (λ es. es ++ c.into_inner.result ∷ []) c.new-arguments.ensures.items ∙ ap (λ e. e ∷ []) c.into_inner.ensures in
     record {
       left = omega (arith, c.in_ok-first.ensures.left);
-      depth = omega (arith, c.in_ok-first.ensures.depth);
       read = continues_as (rule args) more_args (λ vs. boxed_expr first ∷ map (λ m. m.1) vs) (λ vs. map written_expr c.put.new.items.items ++ map (λ m. m.1) vs) old c.expr.new.self
           (λ vs. one_more [] c.put.new.items.items first.value (map (λ m. m.1) vs) is)
           (record { found = λ v m us s. finds_rule (finds_presence h (finds_both r s)); failed = λ f s. fails_rule (fails_presence h (fails_behind r s)) });
@@ -565,7 +559,6 @@ args-loop-self-preserved t c =
     let new = c.expr-in-loop-self.new.self in
     record {
       left = omega (arith, c.in_ok-next.ensures.left);
-      depth = omega (arith, c.in_ok-next.ensures.depth);
       read = continues_as (rule args) more_args (λ vs. map written_expr before ++ (boxed_expr next ∷ map (λ m. m.1) vs)) (λ vs. map written_expr after ++ map (λ m. m.1) vs) c.args.self.now new
           (λ vs. one_more before after next.value (map (λ m. m.1) vs) (c.in_ok-put-2.ensures ∙ ap (λ e. before ++ e ∷ []) c.into_inner-in-loop-self.ensures))
           (continues_many (rule args) (token (symbol Comma) ▸ rule expr) (λ vs. map written_expr before ++ map (λ m. m.1) vs) (tt, boxed_expr next) c.args.self.now c.loop-self.self new c.loop-self.invariant.read h (finds_both comma c.in_ok-next.ensures.reads));
@@ -629,7 +622,6 @@ items-loop-self-preserved t c =
     let e = c.in_ok-some_semicolons.ensures.reads in
     record {
       left = omega (arith, c.in_ok-binder.ensures.left, c.in_ok-some_semicolons.ensures.left);
-      depth = omega (arith, c.in_ok-binder.ensures.depth, c.in_ok-some_semicolons.ensures.depth);
       read = (
         read.0 ++ (s.0, e.0) ∷ [],
         bound (map written_statement c.args.statements.now.items) c.loop-self.statements.items c.put.new.items.items c.in_ok-binder.binder c.in_ok-binder.value c.into_inner-value.result read.0 s.0 e.0 read.1 c.into_inner-value.ensures c.in_ok-put.ensures s.1,
@@ -658,8 +650,6 @@ block-loop-self-init t c =
     let semis = c.skip_semicolons.ensures.reads in
     record {
       left = omega (arith, c.in_ok-value.ensures.left);
-      depth = omega (arith, c.in_ok-value.ensures.depth, c.in_ok-open.ensures.depth);
-      within = omega (arith, c.in_ok-value.ensures.depth, c.in_ok-open.ensures.within, c.in_ok-open.ensures.depth);
       read = block_begins semis.0 v.0 _ (boxed_expr c.in_ok-value.value) c.args.self.now c.open.new.self c.skip_semicolons.new.self c.items.new.self c.in_ok-open.ensures.reads semis.1 v.3
           (v.1 ∙ ap (λ ss. map written_statement ss ++ bindings_of v.0.0) c.new-statements.ensures.items) v.2;
     }
@@ -680,8 +670,6 @@ block-loop-self-preserved-then-is_at_item t c =
     let v = c.in_ok-value-2.ensures.reads in
     record {
       left = omega (arith, c.in_ok-value-2.ensures.left);
-      depth = omega (arith, c.in_ok-value-2.ensures.depth);
-      within = omega (arith, c.in_ok-value-2.ensures.depth);
       read = block_goes_on (map written_statement c.loop-self.statements.items) _ (boxed_expr c.loop-self.value) (boxed_expr c.in_ok-value-2.value) v.0 c.args.self.now c.loop-self.self c.advance.new.self c.items-then-is_at_item.new.self c.loop-self.invariant.read h semi hs v.3
           (v.1 ∙ ap (λ ss. ss ++ bindings_of v.0.0) (stated c.loop-self.statements.items c.put.new.items.items c.loop-self.value c.into_inner.result c.into_inner.ensures c.in_ok-put.ensures)) v.2;
     }
@@ -693,8 +681,6 @@ block-loop-self-preserved t c =
     let semi = symbol_read Semicolon c.loop-self.self c.advance.new.self h c.advance.ensures.rest c.advance.ensures.depth in
     record {
       left = omega arith;
-      depth = omega arith;
-      within = omega arith;
       read = block_passes (map written_statement c.loop-self.statements.items) (boxed_expr c.loop-self.value) c.args.self.now c.loop-self.self c.advance.new.self c.loop-self.invariant.read h semi hs;
     }
 
@@ -706,6 +692,5 @@ block-returns-in_err-expect-clause-reads t c =
 pub block-returns-clause-reads : goal.block-returns-clause-reads
 block-returns-clause-reads t c =
     let h = sym c.is_at.ensures.value ∙ c.loop-self-test.false in
-    subst (λ tree. Read (rule block) tree c.args.self.now c.expect.new.self)
-    (sym c.in_ok-block_of.ensures)
+    reads_made (rule block) boxed_expr _ c.block_of.result c.args.self.now c.expect.new.self c.block_of.ensures
     (c.loop-self.invariant.read.found ([], tt) c.expect.new.self.depth c.expect.new.self.rest.now (finds_both (finds_none h) c.in_ok-expect.ensures.reads))

@@ -1,4 +1,4 @@
-use Rattle.std.proofs.Common.{◌≡◌, ◌≤◌, length, ◌+◌, ◌-◌, ◌*◌, ◌++◌, map}
+use Rattle.std.proofs.Common.{◌≡◌, ◌≤◌, length, ◌+◌, ◌*◌, ◌++◌, map}
 use Rattle.kk_syntax.specs.Surface.{written_expr, written_statement}
 use Rattle.kk_syntax.specs.declared.token.Symbol.TheVariants.{Comma, Dot}
 use Rattle.kk_parser.specs.Forms.{items, binding, bindings_of}
@@ -11,66 +11,65 @@ use Rattle.kk_parser.proofs.Steps.{Continues}
 use Rattle.kk_parser.proofs.parser.Parser.+expr.Given as goal
 
 abbrev pub decreases-items : goal.decreases-items
-decreases-items l = 20 * (201 - l.self.now.depth) + 15
+decreases-items l = 20 * length l.self.now.rest.now + 15
 
 abbrev pub decreases-binding : goal.decreases-binding
-decreases-binding l = 20 * (201 - l.self.now.depth) + 14
+decreases-binding l = 20 * length l.self.now.rest.now + 14
 
 abbrev pub decreases-branches : goal.decreases-branches
-decreases-branches l = 20 * (201 - l.self.now.depth) + 13
+decreases-branches l = 20 * length l.self.now.rest.now + 13
 
 abbrev pub decreases-args : goal.decreases-args
-decreases-args l = 20 * (201 - l.self.now.depth) + 13
+decreases-args l = 20 * length l.self.now.rest.now + 13
 
 abbrev pub decreases-expr : goal.decreases-expr
-decreases-expr l = 20 * (201 - l.self.now.depth) + 12
+decreases-expr l = 20 * length l.self.now.rest.now + 12
 
 abbrev pub decreases-block : goal.decreases-block
-decreases-block l = 20 * (201 - l.self.now.depth) + 11
+decreases-block l = 20 * length l.self.now.rest.now + 11
 
 abbrev pub decreases-if_ : goal.decreases-if_
-decreases-if_ l = 20 * (201 - l.self.now.depth) + 11
+decreases-if_ l = 20 * length l.self.now.rest.now + 11
 
 abbrev pub decreases-or : goal.decreases-or
-decreases-or l = 20 * (201 - l.self.now.depth) + 10
+decreases-or l = 20 * length l.self.now.rest.now + 10
 
 abbrev pub decreases-and : goal.decreases-and
-decreases-and l = 20 * (201 - l.self.now.depth) + 9
+decreases-and l = 20 * length l.self.now.rest.now + 9
 
 abbrev pub decreases-cmp : goal.decreases-cmp
-decreases-cmp l = 20 * (201 - l.self.now.depth) + 8
+decreases-cmp l = 20 * length l.self.now.rest.now + 8
 
 abbrev pub decreases-add : goal.decreases-add
-decreases-add l = 20 * (201 - l.self.now.depth) + 7
+decreases-add l = 20 * length l.self.now.rest.now + 7
 
 abbrev pub decreases-mul : goal.decreases-mul
-decreases-mul l = 20 * (201 - l.self.now.depth) + 6
+decreases-mul l = 20 * length l.self.now.rest.now + 6
 
 abbrev pub decreases-un : goal.decreases-un
-decreases-un l = 20 * (201 - l.self.now.depth) + 5
+decreases-un l = 20 * length l.self.now.rest.now + 5
 
 abbrev pub decreases-post : goal.decreases-post
-decreases-post l = 20 * (201 - l.self.now.depth) + 4
+decreases-post l = 20 * length l.self.now.rest.now + 4
 
 abbrev pub decreases-atom : goal.decreases-atom
-decreases-atom l = 20 * (201 - l.self.now.depth) + 3
+decreases-atom l = 20 * length l.self.now.rest.now + 3
 
 abbrev pub decreases-in_brackets : goal.decreases-in_brackets
-decreases-in_brackets l = 20 * (201 - l.self.now.depth) + 2
+decreases-in_brackets l = 20 * length l.self.now.rest.now + 2
 
 abbrev pub decreases-printed : goal.decreases-printed
-decreases-printed l = 20 * (201 - l.self.now.depth) + 2
+decreases-printed l = 20 * length l.self.now.rest.now + 2
 
 abbrev pub decreases-named : goal.decreases-named
-decreases-named l = 20 * (201 - l.self.now.depth) + 2
+decreases-named l = 20 * length l.self.now.rest.now + 2
 
 abbrev pub decreases-arguments : goal.decreases-arguments
-decreases-arguments l = 20 * (201 - l.self.now.depth) + 1
+decreases-arguments l = 20 * length l.self.now.rest.now + 1
 
 abbrev pub invariant-add-loop-operator : goal.invariant-add-loop-operator
 invariant-add-loop-operator l = record {
   left : length l.self.rest.now ≤ length l.fn.self.rest.now;
-  depth : l.fn.self.depth ≤ l.self.depth;
   read : Continues (rule add) (many (sum_operator ▸ rule mul)) (to_left sum_operator_of (boxed_expr l.left)) l.fn.self l.self;
 }
 
@@ -80,7 +79,6 @@ decreases-add-loop-operator l = length l.self.rest.now
 abbrev pub invariant-mul-loop-operator : goal.invariant-mul-loop-operator
 invariant-mul-loop-operator l = record {
   left : length l.self.rest.now ≤ length l.fn.self.rest.now;
-  depth : l.fn.self.depth ≤ l.self.depth;
   read : Continues (rule mul) (many (product_operator ▸ rule un)) (to_left product_operator_of (boxed_expr l.left)) l.fn.self l.self;
 }
 
@@ -90,7 +88,6 @@ decreases-mul-loop-operator l = length l.self.rest.now
 abbrev pub invariant-post-loop-self : goal.invariant-post-loop-self
 invariant-post-loop-self l = record {
   left : length l.self.rest.now ≤ length l.fn.self.rest.now;
-  depth : l.fn.self.depth ≤ l.self.depth;
   read : Continues (rule post) (many (opener (symbol Dot) ▸ token name ▸ optional (bracketed (rule args)))) (dotted (boxed_expr l.first)) l.fn.self l.self;
 }
 
@@ -100,7 +97,6 @@ decreases-post-loop-self l = length l.self.rest.now
 abbrev pub invariant-args-loop-self : goal.invariant-args-loop-self
 invariant-args-loop-self l = record {
   left : length l.self.rest.now ≤ length l.fn.self.rest.now;
-  depth : l.self.depth ≡ l.fn.self.depth;
   read : Continues (rule args) (many (token (symbol Comma) ▸ rule expr)) (λ vs. map written_expr l.arguments.items ++ map (λ m. m.1) vs) l.fn.self l.self;
 }
 
@@ -110,8 +106,6 @@ decreases-args-loop-self l = length l.self.rest.now
 abbrev pub invariant-block-loop-self : goal.invariant-block-loop-self
 invariant-block-loop-self l = record {
   left : length l.self.rest.now ≤ length l.fn.self.rest.now;
-  depth : l.self.depth ≡ l.fn.self.depth + 1;
-  within : l.self.depth ≤ 200;
   read : Continues (rule block) block_end (block_says (map written_statement l.statements.items) (boxed_expr l.value)) l.fn.self l.self;
 }
 
@@ -121,7 +115,6 @@ decreases-block-loop-self l = length l.self.rest.now
 abbrev pub invariant-items-loop-self : goal.invariant-items-loop-self
 invariant-items-loop-self l = record {
   left : length l.self.rest.now ≤ length l.fn.self.rest.now;
-  depth : l.self.depth ≡ l.fn.self.depth;
   read : (front : PhraseValue (many (binding ▸ some_semicolons))) × (map written_statement l.statements.items ≡ map written_statement l.fn.statements.items ++ bindings_of front) × Continues items items (λ v. (front ++ v.0, v.1)) l.fn.self l.self;
 }
 

@@ -1,4 +1,4 @@
-use Rattle.std.proofs.Common.{sym, ◌∙◌, ap}
+use Rattle.std.proofs.Common.{ap}
 use Rattle.kk_syntax.specs.declared.token.Symbol.TheVariants.{Dot}
 use Rattle.kk_syntax.specs.Surface.{print_text}
 use Rattle.kk_parser.specs.Forms.{spoken, spoken_of}
@@ -7,7 +7,7 @@ use Rattle.kk_parser.specs.Kinds.{symbol, string}
 use Rattle.kk_parser.specs.Phrases.{token, opener, optional}
 use Rattle.kk_parser.specs.Reading.{fails_front, fails_behind, finds_both}
 use Rattle.kk_parser.specs.Views.{boxed_expr}
-use Rattle.kk_parser.proofs.Steps.{gives_up_as_in}
+use Rattle.kk_parser.proofs.Steps.{gives_up_as_in, reads_made_as}
 use Rattle.kk_parser.proofs.parser.Parser.spoken.Goals as goal
 
 pub returns-in_err-text-clause-reads : goal.returns-in_err-text-clause-reads
@@ -32,8 +32,6 @@ returns-in_err-no_arguments-clause-reads c =
 pub returns-clause-reads : goal.returns-clause-reads
 returns-clause-reads c =
     let word = c.in_ok-form.ensures.reads in
-    let end = c.in_ok-no_arguments.ensures.reads in (
-      (c.in_ok-text.text, (tt, (word.0, end.0))),
-      ap (λ w. print_text w.0 c.in_ok-text.text) word.1 ∙ sym c.in_ok-print_text.ensures,
-      finds_both c.in_ok-text.ensures.reads (finds_both c.in_ok-open.ensures.reads (finds_both word.2 end.2)),
-    )
+    let end = c.in_ok-no_arguments.ensures.reads in
+    reads_made_as spoken spoken_of boxed_expr (c.in_ok-text.text, (tt, (word.0, end.0))) _ c.print_text.result c.args.self.now c.no_arguments.new.self c.print_text.ensures (ap (λ w. print_text w.0 c.in_ok-text.text) word.1)
+    (finds_both c.in_ok-text.ensures.reads (finds_both c.in_ok-open.ensures.reads (finds_both word.2 end.2)))
