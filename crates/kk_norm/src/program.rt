@@ -1,4 +1,5 @@
 ghost use Rattle.std.specs.Prelude.{◌≡◌, ◌≤◌, List, map, vec_len, IfOk};
+ghost use Rattle.kk_syntax.specs.declared.ground.GroundConstructor.{GroundConstructor};
 ghost use Rattle.kk_syntax.specs.GroundPrograms.{instance_tree, ground_program};
 ghost use Rattle.kk_syntax.specs.GroundTyping.{IsGroundTyped};
 ghost use Rattle.kk_syntax.specs.PlainTyping.{IsTyped};
@@ -6,6 +7,7 @@ ghost use Rattle.kk_syntax.specs.Shapes.{nodes_of};
 ghost use Rattle.kk_syntax.specs.Trees.{expr_tree};
 ghost use Rattle.kk_syntax.specs.Types.{TypeTree};
 ghost use Rattle.kk_core.specs.CellTypes.{TellsCells};
+ghost use Rattle.kk_core.specs.declared.shape.ConstructorShape.{ConstructorShape};
 ghost use Rattle.kk_core.specs.Codes.{function_code, core_code};
 ghost use Rattle.kk_core.specs.Sizes.{most_parameters, most_nodes};
 ghost use Rattle.kk_norm.specs.CellTables.{at_type, TellCells};
@@ -31,6 +33,8 @@ pub fn normal(alloc: Global, given: &Ground) -> Result<Core, NoMemory>
     ensures form { IfOk result (λ core. IsCoreForm (ground_program given.now) (core_code core)) }
     ensures means { IfOk result (λ core. IsNormalForm (ground_program given.now) (core_code core)) }
     ensures cells { IfOk result (λ core. TellsCells (ground_program given.now) core) }
+    ensures types { IfOk result (λ core. map (λ (c : ConstructorShape). c.of_type) core.constructors.items
+        ≡ map (λ (c : GroundConstructor). c.of_type) given.now.constructors.items) }
     ensures greatest_nodes { IfOk result (λ core. core.greatest_nodes ≡ given.now.greatest_nodes) }
     ensures summed_nodes { IfOk result (λ core. core.summed_nodes ≡ given.now.summed_nodes) }
     ensures plain { IfOk result (λ core. IsTyped (ground_program given.now) → IsPlainNormalForm (ground_program given.now) (core_code core)) }

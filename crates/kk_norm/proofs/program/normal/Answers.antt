@@ -62,3 +62,6 @@ returns-clause-cells c = tells_cells c.args.given.now c.in_ok-table.table.items 
     c.deref-2.ensures.value c.in_ok-constructors.ensures)
     (subst (λ table. TellCells table c.args.given.now.instances.items c.in_ok-functions.functions.items) c.deref.ensures.value
     c.in_ok-functions.ensures.cells)
+
+pub returns-clause-types : goal.returns-clause-types
+returns-clause-types c = c.in_ok-constructors.ensures.of_types
