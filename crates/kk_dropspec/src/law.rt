@@ -27,8 +27,8 @@ pub fn specialised_code_runs_the_same()
         → (n : ℕ) → AreSameAfter n weight other setting input }
 {}
 
-/// Specialised code with tokens has the specialised code as its bare form, and spends each token that the code spends that it is made
-/// of. It is a law, and does nothing.
+/// Specialised code with tokens has the specialised code as its bare form, and spends each token that the code spends that it
+/// is made of. It is a law, and does nothing.
 pub fn specialised_code_spends_its_tokens()
     ensures form { (code : Tokened) → bare (special_tokened code) ≡ special (bare code) }
     ensures spends { (code : Tokened) (left unspent held : List ℕ) → SpendsTokens left unspent held code
