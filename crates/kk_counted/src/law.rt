@@ -124,9 +124,9 @@ pub fn tokens_keep_runs_the_same()
         → setting.leaves ≡ false → FillsAlways weight setting input }
 {}
 
-/// Each step of code that spends its tokens does what its bare form does, or what the bare form does not see; and the lists by which
-/// it is judged become those that its form says: the slots that are unspent, those that are held, and those that older frames
-/// hold. It is a law, and does nothing.
+/// Each step of code that spends its tokens does what its bare form does, or what the bare form does not see; and the lists by
+/// which it is judged become those that its form says: the slots that are unspent, those that are held, and those that older
+/// frames hold. It is a law, and does nothing.
 pub fn tokens_follow_their_forms()
     ensures follows { (setting : TokenSetting) → AreTokensSpent setting.program
         → (lists : Lists) (code : Tokened) (environment : Environment) (joins : List TokenJoin) (from : TokenConfiguration)
@@ -148,10 +148,12 @@ pub fn tokens_follow_their_forms()
 pub fn reuse_takes_no_cell()
     ensures { (setting : TokenSetting) (x y c first p : ℕ) (arguments kept others : List ℕ) (rest : Tokened)
         (environment : Environment) (joins : List TokenJoin) (from : TokenConfiguration)
-        → AreKeptAt setting.cells from (TokenControl.running (Tokened.fill x y c first arguments kept others rest) environment joins)
+        → AreKeptAt setting.cells from
+        (TokenControl.running (Tokened.fill x y c first arguments kept others rest) environment joins)
         → from.tokens.slots (length from.frames) y ≡ token p
         → (to : TokenConfiguration)
-        × ((token_code_step setting (Tokened.fill x y c first arguments kept others rest) environment joins from ≡ builds (busy from.heap) to)
+        × ((token_code_step setting (Tokened.fill x y c first arguments kept others rest) environment joins from
+        ≡ builds (busy from.heap) to)
         × TakesNoCell (length from.frames) y from to) }
 {}
 

@@ -1,3 +1,4 @@
 pub mod Spends
 pub mod Steps
 pub mod Runs
+pub mod Tokens

@@ -1,2 +1,3 @@
 pub mod Specialised
 pub mod SameRuns
+pub mod SpecialTokens

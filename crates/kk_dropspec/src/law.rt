@@ -1,10 +1,14 @@
-ghost use Rattle.std.specs.Prelude.{ℕ, List};
+ghost use Rattle.std.specs.Prelude.{◌≡◌, ℕ, List};
 ghost use Rattle.kk_syntax.specs.PositionsOf.{PositionTable};
 ghost use Rattle.kk_counted.specs.CountedCodes.{CountedProgram};
 ghost use Rattle.kk_counted.specs.CountedStates.{CountedSetting, CountedState};
 ghost use Rattle.kk_counted.specs.Keeping.{FitsAlways};
 ghost use Rattle.kk_counted.specs.Spending.{IsSpent};
-ghost use Rattle.kk_dropspec.specs.Specialised.{special_program};
+ghost use Rattle.kk_counted.specs.TokenedCodes.{Tokened};
+ghost use Rattle.kk_counted.specs.BareForms.{bare};
+ghost use Rattle.kk_counted.specs.TokenSpending.{SpendsTokens};
+ghost use Rattle.kk_dropspec.specs.Specialised.{special, special_program};
+ghost use Rattle.kk_dropspec.specs.SpecialTokens.{special_tokened};
 ghost use Rattle.kk_dropspec.specs.SameRuns.{AreSameAfter};
 
 /// Specialised code spends what the code spends that it is made of. It is a law, and does nothing.
@@ -21,4 +25,12 @@ pub fn specialised_code_runs_the_same()
         → IsSpent positions setting.program
         → FitsAlways weight setting input
         → (n : ℕ) → AreSameAfter n weight other setting input }
+{}
+
+/// Specialised code with tokens has the specialised code as its bare form, and spends each token that the code spends that it
+/// is made of. It is a law, and does nothing.
+pub fn specialised_code_spends_its_tokens()
+    ensures form { (code : Tokened) → bare (special_tokened code) ≡ special (bare code) }
+    ensures spends { (code : Tokened) (left unspent held : List ℕ) → SpendsTokens left unspent held code
+        → SpendsTokens left unspent held (special_tokened code) }
 {}

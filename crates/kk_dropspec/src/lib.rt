@@ -3,4 +3,6 @@
 
 mod law;
 
-pub use law::{specialised_code_is_spent, specialised_code_runs_the_same};
+pub use law::{
+    specialised_code_is_spent, specialised_code_runs_the_same, specialised_code_spends_its_tokens,
+};
