@@ -1,5 +1,6 @@
 -- The held tokens that frames tell of: where their slots lie, and what changes them.
-use Rattle.std.proofs.Common.{◌≡◌, ◌≢◌, ◌==◌, ◌||◌, ◌≤◌, ◌<◌, ◌⊎◌, inl, inr, ℕ, suc, ◌+◌, ◌*◌, ◌%◌, ◌^◌, List, [], ◌∷◌, length, map, Option, Some, None, Bool, true, false, option_map, refl, sym, ap, ◌∙◌, subst, arith, lit<, eq-eqb}
+use Rattle.std.proofs.Common.{◌≡◌, ◌≢◌, ◌==◌, ◌||◌, ◌≤◌, ◌<◌, ◌⊎◌, inl, inr, ℕ, suc, ◌+◌, ◌*◌, ◌%◌, ◌^◌, List, [], ◌∷◌, length, map}
+use Rattle.std.proofs.Common.{Option, Some, None, Bool, true, false, option_map, refl, sym, ap, ◌∙◌, subst, arith, lit<, eq-eqb}
 use Rattle.std.specs.List.{list_any}
 use Rattle.std.proofs.lemmas.Bool.{or_parts, or_from, or_left, or_right, ne_eqb, cond-false, false≢true}
 use Rattle.rv_isa.specs.PlacedCode.{PlacedLine}
@@ -48,7 +49,8 @@ handed_own x handed =
     (or_from (x == 9) _ (ne_eqb x 9 (handed_apart x 9 refl handed))
     (or_from (x == 18) _ (ne_eqb x 18 (handed_apart x 18 refl handed)) (ne_eqb x 19 (handed_apart x 19 refl handed))))
 
-pub roots_done : {code : Code} {n : ℕ} {changed : List ℕ} {memory : ℕ → ℕ} {next : ℕ} {s u : Processor} → Done code n changed memory next s u → list_any is_own changed ≡ false → SameRoots s u
+pub roots_done : {code : Code} {n : ℕ} {changed : List ℕ} {memory : ℕ → ℕ} {next : ℕ} {s u : Processor}
+    → Done code n changed memory next s u → list_any is_own changed ≡ false → SameRoots s u
 roots_done {changed = changed} done none = record {
   parts = done.parts_are;
   chain = done.kept 8 (outside_own 8 refl changed none);
@@ -58,12 +60,15 @@ roots_done {changed = changed} done none = record {
 }
 
 -- where memory is as before
-pub cells_done : {pool : Pool} {cells : Cells} {links : List Link} {s u : Processor} → HoldsCells pool cells links s → SameRoots s u → u.memory ≡ s.memory → HoldsCells pool cells links u
+pub cells_done : {pool : Pool} {cells : Cells} {links : List Link} {s u : Processor} → HoldsCells pool cells links s
+    → SameRoots s u → u.memory ≡ s.memory → HoldsCells pool cells links u
 cells_done holds roots same =
-    outside-holds holds roots (record { same = λ x low high. ap (λ m. number_at m x 4) same }) (record { same = λ slot some. ap (λ m. number_at m slot 4) same })
+    outside-holds holds roots (record { same = λ x low high. ap (λ m. number_at m x 4) same })
+    (record { same = λ slot some. ap (λ m. number_at m slot 4) same })
 
 -- at an exit the cells are as before
-pub cells_ended : {pool : Pool} {cells : Cells} {links : List Link} {number count : ℕ} {u : Processor} → HoldsCells pool cells links u → (exits : Exits number count u) → HoldsCells pool cells links exits.last
+pub cells_ended : {pool : Pool} {cells : Cells} {links : List Link} {number count : ℕ} {u : Processor}
+    → HoldsCells pool cells links u → (exits : Exits number count u) → HoldsCells pool cells links exits.last
 cells_ended holds exits =
     cells_done holds (record {
       parts = exits.parts;
@@ -75,8 +80,10 @@ cells_ended holds exits =
 
 -- ---- where the slots lie
 
-links_in_all : (P : ℕ → Type 0) (base : ℕ) (cells : ℕ → Option ℕ) (held : List ℕ) (below : List Link) → ((k : ℕ) → is_among k held ≡ true → P (base + slot_offset k))
-    → ((slot : ℕ) → occurs slot (slots_in below) ≢ 0 → P slot) → (slot : ℕ) → occurs slot (slots_in (links_in base cells held below)) ≢ 0 → P slot
+links_in_all : (P : ℕ → Type 0) (base : ℕ) (cells : ℕ → Option ℕ) (held : List ℕ) (below : List Link)
+    → ((k : ℕ) → is_among k held ≡ true → P (base + slot_offset k))
+    → ((slot : ℕ) → occurs slot (slots_in below) ≢ 0 → P slot) → (slot : ℕ)
+    → occurs slot (slots_in (links_in base cells held below)) ≢ 0 → P slot
 links_in_all P base cells [] below here later slot some = later slot some
 links_in_all P base cells (k ∷ ks) below here later slot some =
     elim (occurs-by slot (base + slot_offset k) (slots_in (links_in base cells ks below)) some) [
@@ -85,14 +92,16 @@ links_in_all P base cells (k ∷ ks) below here later slot some =
     ]
 
 -- above the first word of the newest frame
-pub links_low : (map : Map) (base : ℕ) (frames : List (Frame PlacedLine)) (slot : ℕ) → occurs slot (slots_in (links_of map base frames)) ≢ 0 → base + 4 ≤ slot
+pub links_low : (map : Map) (base : ℕ) (frames : List (Frame PlacedLine)) (slot : ℕ)
+    → occurs slot (slots_in (links_of map base frames)) ≢ 0 → base + 4 ≤ slot
 links_low map base [] slot some = absurd (some refl)
 links_low map base (frame ∷ frames) slot some =
     links_in_all (λ x. base + 4 ≤ x) base frame.cells frame.held (links_of map (base + map.frame) frames) (λ k among. omega arith)
     (λ x more. let low = links_low map (base + map.frame) frames x more in omega arith) slot some
 
 -- a store below the frames leaves the slots
-pub slots_below : (map : Map) (base : ℕ) (frames : List (Frame PlacedLine)) (old new : ℕ → ℕ) → ((x : ℕ) → base + 4 ≤ x → number_at new x 4 ≡ number_at old x 4) → SameSlots old new (links_of map base frames)
+pub slots_below : (map : Map) (base : ℕ) (frames : List (Frame PlacedLine)) (old new : ℕ → ℕ)
+    → ((x : ℕ) → base + 4 ≤ x → number_at new x 4 ≡ number_at old x 4) → SameSlots old new (links_of map base frames)
 slots_below map base frames old new same = record { same = λ slot some. same slot (links_low map base frames slot some) }
 
 -- ---- a store to a slot of the newest frame
@@ -100,18 +109,23 @@ slots_below map base frames old new same = record { same = λ slot some. same sl
 among_not : (j k : ℕ) (ks : List ℕ) → is_among j ks ≡ false → is_among k ks ≡ true → k ≢ j
 among_not j k ks none some same = false≢true (sym none ∙ ap (λ x. is_among x ks) (sym same) ∙ some)
 
-pub links_put : (base j : ℕ) (word : Option ℕ) (cells : ℕ → Option ℕ) (held : List ℕ) (below : List Link) → is_among j held ≡ false → links_in base (put j word cells) held below ≡ links_in base cells held below
+pub links_put : (base j : ℕ) (word : Option ℕ) (cells : ℕ → Option ℕ) (held : List ℕ) (below : List Link) → is_among j held ≡ false
+    → links_in base (put j word cells) held below ≡ links_in base cells held below
 links_put base j word cells [] below none = refl
 links_put base j word cells (k ∷ ks) below none =
     let both = or_parts (k == j) (is_among j ks) none in
-    ap (λ w. record { cell = word_of w; slot = base + slot_offset k } ∷ links_in base (put j word cells) ks below) (cond-false (k == j) word (cells k) both.0)
+    ap (λ w. record { cell = word_of w; slot = base + slot_offset k } ∷ links_in base (put j word cells) ks below)
+    (cond-false (k == j) word (cells k) both.0)
     ∙ ap (λ ls. record { cell = word_of (cells k); slot = base + slot_offset k } ∷ ls) (links_put base j word cells ks below both.1)
 
 -- the slots of held tokens are apart from another slot
-pub slots_apart : (map : Map) (base j : ℕ) (frame : Frame PlacedLine) (frames : List (Frame PlacedLine)) → slot_offset j + 4 ≤ map.frame → is_among j frame.held ≡ false
-    → (slot : ℕ) → occurs slot (slots_in (links_of map base (frame ∷ frames))) ≢ 0 → (slot + 4 ≤ base + slot_offset j) ⊎ (base + slot_offset j + 4 ≤ slot)
+pub slots_apart : (map : Map) (base j : ℕ) (frame : Frame PlacedLine) (frames : List (Frame PlacedLine))
+    → slot_offset j + 4 ≤ map.frame → is_among j frame.held ≡ false
+    → (slot : ℕ) → occurs slot (slots_in (links_of map base (frame ∷ frames))) ≢ 0
+    → (slot + 4 ≤ base + slot_offset j) ⊎ (base + slot_offset j + 4 ≤ slot)
 slots_apart map base j frame frames inside none =
-    links_in_all (λ x. (x + 4 ≤ base + slot_offset j) ⊎ (base + slot_offset j + 4 ≤ x)) base frame.cells frame.held (links_of map (base + map.frame) frames)
+    links_in_all (λ x. (x + 4 ≤ base + slot_offset j) ⊎ (base + slot_offset j + 4 ≤ x)) base frame.cells frame.held
+    (links_of map (base + map.frame) frames)
     (λ k among. aside k (among_not j k frame.held none among))
     (λ x more. let low = links_low map (base + map.frame) frames x more in inr (omega arith))
   where
@@ -121,7 +135,8 @@ slots_apart map base j frame frames inside none =
 -- ---- the newest held token is taken
 
 -- code that is left does not depend on words and held tokens
-pub is_in_again : {map : Map} {code : Code} {most at : ℕ} {frame : Frame PlacedLine} → IsIn map code most at frame → (cells : ℕ → Option ℕ) (held : List ℕ) → IsIn map code most at (record frame { cells = cells; held = held })
+pub is_in_again : {map : Map} {code : Code} {most at : ℕ} {frame : Frame PlacedLine} → IsIn map code most at frame
+    → (cells : ℕ → Option ℕ) (held : List ℕ) → IsIn map code most at (record frame { cells = cells; held = held })
 is_in_again i cells held = record {
   forms = i.forms;
   start = i.start;
@@ -140,14 +155,17 @@ known_word : (o : Option ℕ) → word_of o ≢ 0 → o ≡ Some (word_of o)
 known_word None some = absurd (some refl)
 known_word (Some w) some = refl
 
-none_again : (base k : ℕ) (cells : ℕ → Option ℕ) (ks : List ℕ) (below : List Link) → occurs (base + slot_offset k) (slots_in (links_in base cells ks below)) ≡ 0 → is_among k ks ≡ false
+none_again : (base k : ℕ) (cells : ℕ → Option ℕ) (ks : List ℕ) (below : List Link)
+    → occurs (base + slot_offset k) (slots_in (links_in base cells ks below)) ≡ 0 → is_among k ks ≡ false
 none_again base k cells [] below none = refl
 none_again base k cells (j ∷ js) below none =
     let both = occurs-none (base + slot_offset k) (base + slot_offset j) (slots_in (links_in base cells js below)) none in
-    or_from (j == k) (is_among k js) (ne_eqb j k (λ e. both.0 (ap (λ x. base + slot_offset x) (sym e)))) (none_again base k cells js below both.1)
+    or_from (j == k) (is_among k js) (ne_eqb j k (λ e. both.0 (ap (λ x. base + slot_offset x) (sym e))))
+    (none_again base k cells js below both.1)
 
 -- The frames from which the newest held token was taken.
-pub record TakenFrames (map : Map) (code : Code) (most stop roof : ℕ) (memory : ℕ → ℕ) (at base : ℕ) (frames : List (Frame PlacedLine)) (link : Link) (left : List Link) : Type 0 where
+pub record TakenFrames (map : Map) (code : Code) (most stop roof : ℕ) (memory : ℕ
+    → ℕ) (at base : ℕ) (frames : List (Frame PlacedLine)) (link : Link) (left : List Link) : Type 0 where
   pub after : List (Frame PlacedLine)
   pub taken_is : top_taken frames ≡ Some after
   pub top_is : top frames ≡ Some link.cell
@@ -155,12 +173,16 @@ pub record TakenFrames (map : Map) (code : Code) (most stop roof : ℕ) (memory 
   pub stand : FramesAt map code most stop roof memory at base after
   pub size : length after ≡ length frames
 
-module _ (map : Map) (code : Code) (most stop roof : ℕ) (some : 4 ≤ map.frame) (s t : Processor) (link : Link) (left : List Link) (cell : link.cell ≢ 0) (once : occurs link.slot (slots_in left) ≡ 0)
+module _ (map : Map) (code : Code) (most stop roof : ℕ) (some : 4 ≤ map.frame) (s t : Processor) (link : Link) (left : List Link)
+    (cell : link.cell ≢ 0) (once : occurs link.slot (slots_in left) ≡ 0)
     (zero : number_at t.memory link.slot 4 ≡ 0) (keeps : KeepsOutside link.slot 4 s t) where
   -- it is one of the newest frame's
-  taken_here : (at base : ℕ) (frame : Frame PlacedLine) (frames : List (Frame PlacedLine)) (k : ℕ) (ks : List ℕ) → frame.held ≡ k ∷ ks
-      → record { cell = word_of (frame.cells k); slot = base + slot_offset k } ∷ links_in base frame.cells ks (links_of map (base + map.frame) frames) ≡ link ∷ left
-      → FramesAt map code most stop roof s.memory at base (frame ∷ frames) → TakenFrames map code most stop roof t.memory at base (frame ∷ frames) link left
+  taken_here : (at base : ℕ) (frame : Frame PlacedLine) (frames : List (Frame PlacedLine)) (k : ℕ) (ks : List ℕ)
+      → frame.held ≡ k ∷ ks
+      → record { cell = word_of (frame.cells k); slot = base + slot_offset k } ∷ links_in base frame.cells ks
+      (links_of map (base + map.frame) frames) ≡ link ∷ left
+      → FramesAt map code most stop roof s.memory at base (frame ∷ frames)
+      → TakenFrames map code most stop roof t.memory at base (frame ∷ frames) link left
   taken_here at base frame frames k ks held_is newest stand =
       let cells = frame.cells in
       let below = links_of map (base + map.frame) frames in
@@ -171,7 +193,9 @@ module _ (map : Map) (code : Code) (most stop roof : ℕ) (some : 4 ≤ map.fram
       let known : cells k ≡ Some (word_of (cells k)) = known_word (cells k) (λ e. cell (sym cell_is ∙ e)) in
       let inside : slot_offset k + 4 ≤ map.frame = (stand.1 k (word_of (cells k)) known).0 in
       let only : is_among k ks ≡ false =
-      none_again base k cells ks below (subst (λ x. occurs x (slots_in (links_in base cells ks below)) ≡ 0) (sym slot_is) (subst (λ ls. occurs link.slot (slots_in ls) ≡ 0) (sym tail) once)) in
+      none_again base k cells ks below
+      (subst (λ x. occurs x (slots_in (links_in base cells ks below)) ≡ 0) (sym slot_is)
+      (subst (λ ls. occurs link.slot (slots_in ls) ≡ 0) (sym tail) once)) in
       let way : number_at t.memory base 4 ≡ number_at s.memory base 4 = word_kept link.slot 4 s t base keeps (inl (omega arith)) in
       let rest = frames_kept map code most stop roof some s.memory t.memory (number_at s.memory base 4) (base + map.frame) frames
       (λ x low high. word_kept link.slot 4 s t x keeps (inr (omega arith))) stand.3 in
@@ -189,11 +213,14 @@ module _ (map : Map) (code : Code) (most stop roof : ℕ) (some : 4 ≤ map.fram
         size = refl;
       }
     where
-      slot_word : (at base : ℕ) (frame : Frame PlacedLine) (frames : List (Frame PlacedLine)) (k : ℕ) → base + slot_offset k ≡ link.slot → slot_offset k + 4 ≤ map.frame → Slots map s.memory base frame.cells
-          → (j w : ℕ) → ((j ≡ k) × (Some 0 ≡ Some w)) ⊎ ((j ≢ k) × (frame.cells j ≡ Some w)) → (slot_offset j + 4 ≤ map.frame) × (number_at t.memory (base + slot_offset j) 4 ≡ w) × (w < 2 ^ 32)
+      slot_word : (at base : ℕ) (frame : Frame PlacedLine) (frames : List (Frame PlacedLine)) (k : ℕ)
+          → base + slot_offset k ≡ link.slot → slot_offset k + 4 ≤ map.frame → Slots map s.memory base frame.cells
+          → (j w : ℕ) → ((j ≡ k) × (Some 0 ≡ Some w)) ⊎ ((j ≢ k) × (frame.cells j ≡ Some w))
+          → (slot_offset j + 4 ≤ map.frame) × (number_at t.memory (base + slot_offset j) 4 ≡ w) × (w < 2 ^ 32)
       slot_word at base frame frames k slot_is inside slots j w (inl here) =
           let none : 0 ≡ w = cc (here.1) in
-          let there : number_at t.memory (base + slot_offset j) 4 ≡ 0 = ap (λ i. number_at t.memory (base + slot_offset i) 4) here.0 ∙ ap (λ x. number_at t.memory x 4) slot_is ∙ zero in
+          let there : number_at t.memory (base + slot_offset j) 4 ≡ 0 = ap
+          (λ i. number_at t.memory (base + slot_offset i) 4) here.0 ∙ ap (λ x. number_at t.memory x 4) slot_is ∙ zero in
           (subst (λ i. slot_offset i + 4 ≤ map.frame) (sym here.0) inside, there ∙ none, subst (λ v. v < 2 ^ 32) none (lit< tt))
       slot_word at base frame frames k slot_is inside slots j w (inr other) =
           let old = slots j w other.1 in
@@ -205,41 +232,55 @@ module _ (map : Map) (code : Code) (most stop roof : ℕ) (some : 4 ≤ map.fram
               by : j ≢ k → (base + slot_offset j + 4 ≤ base + slot_offset k) ⊎ (base + slot_offset k + 4 ≤ base + slot_offset j)
               by differ = grind arith
 
-  pub frames_taken : (at base : ℕ) (frames : List (Frame PlacedLine)) → links_of map base frames ≡ link ∷ left → FramesAt map code most stop roof s.memory at base frames → TakenFrames map code most stop roof t.memory at base frames link left
+  pub frames_taken : (at base : ℕ) (frames : List (Frame PlacedLine)) → links_of map base frames ≡ link ∷ left
+      → FramesAt map code most stop roof s.memory at base frames
+      → TakenFrames map code most stop roof t.memory at base frames link left
   frames_taken at base [] newest stand = cc
-  frames_taken at base (frame ∷ frames) newest stand = by frame.held refl (frames_taken (number_at s.memory base 4) (base + map.frame) frames)
+  frames_taken at base (frame ∷ frames) newest stand = by frame.held refl
+      (frames_taken (number_at s.memory base 4) (base + map.frame) frames)
     where
       by : (held : List ℕ) → frame.held ≡ held
-          → (links_of map (base + map.frame) frames ≡ link ∷ left → FramesAt map code most stop roof s.memory (number_at s.memory base 4) (base + map.frame) frames → TakenFrames map code most stop roof t.memory (number_at s.memory base 4) (base + map.frame) frames link left)
+          → (links_of map (base + map.frame) frames ≡ link ∷ left
+          → FramesAt map code most stop roof s.memory (number_at s.memory base 4) (base + map.frame) frames
+          → TakenFrames map code most stop roof t.memory (number_at s.memory base 4) (base + map.frame) frames link left)
           → TakenFrames map code most stop roof t.memory at base (frame ∷ frames) link left
       by [] held_is older =
-          let below : links_of map (base + map.frame) frames ≡ link ∷ left = ap (λ h. links_in base frame.cells h (links_of map (base + map.frame) frames)) (sym held_is) ∙ newest in
+          let below : links_of map (base + map.frame) frames ≡ link ∷ left = ap
+          (λ h. links_in base frame.cells h (links_of map (base + map.frame) frames)) (sym held_is) ∙ newest in
           let rest = older below stand.3 in
           let there : base + map.frame + 4 ≤ link.slot =
-          links_low map (base + map.frame) frames link.slot (subst (λ ls. occurs link.slot (slots_in ls) ≢ 0) (sym below) (occurs-first link.slot (slots_in left))) in
-          let way : number_at t.memory base 4 ≡ number_at s.memory base 4 = word_kept link.slot 4 s t base keeps (inl (omega arith)) in
+          links_low map (base + map.frame) frames link.slot
+          (subst (λ ls. occurs link.slot (slots_in ls) ≢ 0) (sym below) (occurs-first link.slot (slots_in left))) in
+          let way : number_at t.memory base 4 ≡ number_at s.memory base 4 = word_kept link.slot 4 s t base keeps
+          (inl (omega arith)) in
           record {
             after = frame ∷ rest.after;
-            taken_is = ap (λ h. taken_in h frame frames (top_taken frames)) held_is ∙ ap (option_map (λ later. frame ∷ later)) rest.taken_is;
+            taken_is = ap (λ h. taken_in h frame frames (top_taken frames)) held_is
+                ∙ ap (option_map (λ later. frame ∷ later)) rest.taken_is;
             top_is = ap (λ h. top_in h frame.cells (top frames)) held_is ∙ rest.top_is;
             links_are = ap (λ h. links_in base frame.cells h (links_of map (base + map.frame) rest.after)) held_is ∙ rest.links_are;
             stand = (
               stand.0,
-              slots_kept map code most stop roof s.memory t.memory base frame.cells (λ x low high. word_kept link.slot 4 s t x keeps (inl (omega arith))) stand.1,
+              slots_kept map code most stop roof s.memory t.memory base frame.cells
+                  (λ x low high. word_kept link.slot 4 s t x keeps (inl (omega arith))) stand.1,
               stand.2,
               subst (λ w. FramesAt map code most stop roof t.memory w (base + map.frame) rest.after) (sym way) rest.stand,
             );
             size = ap suc rest.size;
           }
       by (k ∷ ks) held_is older =
-          taken_here at base frame frames k ks held_is (ap (λ h. links_in base frame.cells h (links_of map (base + map.frame) frames)) (sym held_is) ∙ newest) stand
+          taken_here at base frame frames k ks held_is
+          (ap (λ h. links_in base frame.cells h (links_of map (base + map.frame) frames)) (sym held_is) ∙ newest) stand
 
 -- where no token is held there is no newest one
 pub top_none : (map : Map) (base : ℕ) (frames : List (Frame PlacedLine)) → links_of map base frames ≡ [] → top frames ≡ None
 top_none map base [] none = refl
 top_none map base (frame ∷ frames) none = by frame.held refl (top_none map (base + map.frame) frames)
   where
-    by : (held : List ℕ) → frame.held ≡ held → (links_of map (base + map.frame) frames ≡ [] → top frames ≡ None) → top (frame ∷ frames) ≡ None
+    by : (held : List ℕ) → frame.held ≡ held → (links_of map (base + map.frame) frames ≡ [] → top frames ≡ None)
+        → top (frame ∷ frames) ≡ None
     by [] held_is later =
-        ap (λ h. top_in h frame.cells (top frames)) held_is ∙ later (ap (λ h. links_in base frame.cells h (links_of map (base + map.frame) frames)) (sym held_is) ∙ none)
-    by (k ∷ ks) held_is later = let some = ap (λ h. links_in base frame.cells h (links_of map (base + map.frame) frames)) (sym held_is) ∙ none in cc some
+        ap (λ h. top_in h frame.cells (top frames)) held_is
+        ∙ later (ap (λ h. links_in base frame.cells h (links_of map (base + map.frame) frames)) (sym held_is) ∙ none)
+    by (k ∷ ks) held_is later = let some = ap (λ h. links_in base frame.cells h (links_of map (base + map.frame) frames))
+        (sym held_is) ∙ none in cc some

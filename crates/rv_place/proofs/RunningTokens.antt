@@ -1,5 +1,7 @@
 -- Tokens that are held and taken back by the machine of the placed form, followed by the processor.
-use Rattle.std.proofs.Common.{◌≡◌, ◌≢◌, ◌==◌, ◌||◌, ◌≤◌, ◌<◌, ◌⊎◌, inl, inr, ℕ, zero, suc, ◌+◌, ◌*◌, ◌%◌, ◌^◌, List, [], ◌∷◌, length, map, Option, Some, None, Bool, true, false, All, cond, option_map, refl, sym, ap, ◌∙◌, subst, arith, lit<}
+use Rattle.std.proofs.Common.{◌≡◌, ◌≢◌, ◌==◌, ◌||◌, ◌≤◌, ◌<◌, ◌⊎◌, inl, inr, ℕ, zero, suc, ◌+◌, ◌*◌, ◌%◌, ◌^◌, List, [], ◌∷◌}
+use Rattle.std.proofs.Common.{length, map, Option, Some, None, Bool, true, false, All, cond, option_map, refl, sym, ap, ◌∙◌, subst}
+use Rattle.std.proofs.Common.{arith, lit<}
 use Rattle.std.proofs.lemmas.Bool.{or_parts, eqb-true, eqb-false}
 use Rattle.kk_base.specs.Memory.{Part}
 use Rattle.rv_isa.specs.declared.immediate.Immediate.{Immediate}
@@ -26,7 +28,8 @@ use Rattle.cell_heap.specs.Cells.{token, changed, occurs}
 use Rattle.cell_heap.specs.Pool.{Pool, end_of}
 use Rattle.cell_heap.specs.View.{Link, View}
 use Rattle.cell_heap.specs.Memory.{IsSlot}
-use Rattle.cell_heap.specs.Blocks.{Block, no_block, unused, own, kept, Cells, with_block, past_links, fields_of, held_as, unheld_as, seen_cells, view_of}
+use Rattle.cell_heap.specs.Blocks.{Block, no_block, unused, own, kept, Cells, with_block, past_links, fields_of, held_as, unheld_as}
+use Rattle.cell_heap.specs.Blocks.{seen_cells, view_of}
 use Rattle.cell_heap.specs.Blocks as OfBlocks
 use Rattle.cell_heap.specs.Known.{IsOwnBlock, HoldsCells}
 use Rattle.cell_heap.proofs.Frames.{changed-same}
@@ -54,7 +57,8 @@ none_if zero never = refl
 none_if (suc n) never = absurd (never (λ e. omega (arith, e)))
 
 -- the word of a token is that of its slot
-slot_word_is : (known cells : ℕ → Option ℕ) (args : List Operand) (words : List ℕ) (k word : ℕ) → only_slot args ≡ Some k → all_of (map (λ (arg : Operand). read_at known cells arg.place) args) ≡ Some words → only_of words ≡ Some word
+slot_word_is : (known cells : ℕ → Option ℕ) (args : List Operand) (words : List ℕ) (k word : ℕ) → only_slot args ≡ Some k
+    → all_of (map (λ (arg : Operand). read_at known cells arg.place) args) ≡ Some words → only_of words ≡ Some word
     → cells k ≡ Some word
 slot_word_is known cells [] words k word slot_is words_are only = cc
 slot_word_is known cells (arg ∷ other ∷ more) words k word slot_is words_are only = cc
@@ -72,16 +76,19 @@ slot_word_is known cells (arg ∷ []) words k word slot_is words_are only = by a
         sym (ap cells e) ∙ of_read (cells j) (ap (λ place. all_of (read_at known cells place ∷ [])) (sym at) ∙ words_are)
 
 -- a token that may be held, or one that is null
-holding_by : (k word : ℕ) (held next : List ℕ) → holding k word held ≡ Some next → (is_among k held ≡ false) × (((word ≡ 0) × (next ≡ held)) ⊎ ((word ≢ 0) × (next ≡ k ∷ held)))
+holding_by : (k word : ℕ) (held next : List ℕ) → holding k word held ≡ Some next
+    → (is_among k held ≡ false) × (((word ≡ 0) × (next ≡ held)) ⊎ ((word ≢ 0) × (next ≡ k ∷ held)))
 holding_by k word held next is = by (is_among k held) refl (word == 0) refl is
   where
-    by : (among : Bool) → is_among k held ≡ among → (null : Bool) → (word == 0) ≡ null → cond among None (cond null (Some held) (Some (k ∷ held))) ≡ Some next
+    by : (among : Bool) → is_among k held ≡ among → (null : Bool) → (word == 0) ≡ null
+        → cond among None (cond null (Some held) (Some (k ∷ held))) ≡ Some next
         → (is_among k held ≡ false) × (((word ≡ 0) × (next ≡ held)) ⊎ ((word ≢ 0) × (next ≡ k ∷ held)))
     by true among null null_is is = cc
     by false among true null_is is = (among, inl (eqb-true word 0 null_is, cc))
     by false among false null_is is = (among, inr (eqb-false word 0 null_is, cc))
 
-unholding_by : (k word : ℕ) (held next : List ℕ) → unholding k word held ≡ Some next → ((word ≡ 0) × (next ≡ held)) ⊎ ((word ≢ 0) × (held ≡ k ∷ next))
+unholding_by : (k word : ℕ) (held next : List ℕ) → unholding k word held ≡ Some next
+    → ((word ≡ 0) × (next ≡ held)) ⊎ ((word ≢ 0) × (held ≡ k ∷ next))
 unholding_by k word held next is = by (word == 0) refl is
   where
     top : (j : ℕ) (more : List ℕ) (same : Bool) → (j == k) ≡ same → cond same (Some more) None ≡ Some next → j ∷ more ≡ k ∷ next
@@ -96,18 +103,21 @@ unholding_by k word held next is = by (word == 0) refl is
     quiet true is = cc
     quiet false is = cc
 
-    by : (null : Bool) → (word == 0) ≡ null → cond null (cond (is_among k held) None (Some held)) (off_top k held) ≡ Some next → ((word ≡ 0) × (next ≡ held)) ⊎ ((word ≢ 0) × (held ≡ k ∷ next))
+    by : (null : Bool) → (word == 0) ≡ null → cond null (cond (is_among k held) None (Some held)) (off_top k held) ≡ Some next
+        → ((word ≡ 0) × (next ≡ held)) ⊎ ((word ≢ 0) × (held ≡ k ∷ next))
     by true test is = inl (eqb-true word 0 test, quiet (is_among k held) is)
     by false test is = inr (eqb-false word 0 test, off held is)
 
-null_token : (act : ℕ → World → Option World) (word : ℕ) (world next : World) → word ≡ 0 → by_token act word world ≡ Some next → next ≡ world
+null_token : (act : ℕ → World → Option World) (word : ℕ) (world next : World) → word ≡ 0 → by_token act word world ≡ Some next
+    → next ≡ world
 null_token act word world next null is = by (word == 0) refl is
   where
     by : (b : Bool) → (word == 0) ≡ b → cond b (Some world) (act word world) ≡ Some next → next ≡ world
     by true test is = cc
     by false test is = absurd (eqb-false word 0 test null)
 
-some_token : (act : ℕ → World → Option World) (word : ℕ) (world next : World) → word ≢ 0 → by_token act word world ≡ Some next → act word world ≡ Some next
+some_token : (act : ℕ → World → Option World) (word : ℕ) (world next : World) → word ≢ 0 → by_token act word world ≡ Some next
+    → act word world ≡ Some next
 some_token act word world next some is = by (word == 0) refl is
   where
     by : (b : Bool) → (word == 0) ≡ b → cond b (Some world) (act word world) ≡ Some next → act word world ≡ Some next
@@ -120,24 +130,29 @@ held_own no_block next is = cc
 held_own unused next is = cc
 held_own (kept words) next is = cc
 
-unheld_kept : (block next : Block) → unheld_as block ≡ Some next → (words : ℕ → Option ℕ) × (block ≡ kept words) × (next ≡ own (past_links words))
+unheld_kept : (block next : Block) → unheld_as block ≡ Some next
+    → (words : ℕ → Option ℕ) × (block ≡ kept words) × (next ≡ own (past_links words))
 unheld_kept (kept words) next is = (words, refl, cc)
 unheld_kept no_block next is = cc
 unheld_kept unused next is = cc
 unheld_kept (own words) next is = cc
 
 -- the registers of an action that keeps all but two
-kept_known : (known : ℕ → Option ℕ) (x w : ℕ) → cond ((x == 5) || (x == 10)) None (known x) ≡ Some w → (x ≢ 5) × (x ≢ 10) × (known x ≡ Some w)
+kept_known : (known : ℕ → Option ℕ) (x w : ℕ) → cond ((x == 5) || (x == 10)) None (known x) ≡ Some w
+    → (x ≢ 5) × (x ≢ 10) × (known x ≡ Some w)
 kept_known known x w is = by ((x == 5) || (x == 10)) refl is
   where
     by : (b : Bool) → ((x == 5) || (x == 10)) ≡ b → cond b None (known x) ≡ Some w → (x ≢ 5) × (x ≢ 10) × (known x ≡ Some w)
     by true test is = cc
     by false test is = let both = or_parts (x == 5) (x == 10) test in (eqb-false x 5 both.0, eqb-false x 10 both.1, is)
 
-module _ {map_of : Map} {pool : Pool} {functions : List PlacedLines} {depth buffer stop : ℕ} {code : Code} {parts : List Part} (ground : Ground map_of pool functions depth buffer stop code parts)
+module _ {map_of : Map} {pool : Pool} {functions : List PlacedLines} {depth buffer stop : ℕ} {code : Code} {parts : List Part}
+    (ground : Ground map_of pool functions depth buffer stop code parts)
     (f : Frame PlacedLine) (fs : List (Frame PlacedLine)) (known : ℕ → Option ℕ) (world : World) (s : Processor)
-    (running : Running map_of pool functions depth stop code parts (record { frames = f ∷ fs; registers = known; shared = world }) s) (rest : List PlacedLine) (old : ℕ) (forms : Forms)
-    (is_behind : (next : ℕ) → s.pc + 4 * (1 + words_of_jump forms.jumps) ≡ next → next < 2 ^ 32 → IsIn map_of code (most_lines functions) next (record f { code = rest })) where
+    (running : Running map_of pool functions depth stop code parts
+    (record { frames = f ∷ fs; registers = known; shared = world }) s) (rest : List PlacedLine) (old : ℕ) (forms : Forms)
+    (is_behind : (next : ℕ) → s.pc + 4 * (1 + words_of_jump forms.jumps) ≡ next → next < 2 ^ 32
+    → IsIn map_of code (most_lines functions) next (record f { code = rest })) where
   abbrev behind : Frame PlacedLine
   behind = record f { code = rest }
 
@@ -159,7 +174,8 @@ module _ {map_of : Map} {pool : Pool} {functions : List PlacedLines} {depth buff
     way_fits : way < 2 ^ 32
     is_slot : IsSlot pool after.parts (base + slot_offset k)
 
-  called : (name : Symbol) (k target : ℕ) → IsSymbolAt map_of name target → slot_offset k + 4 ≤ map_of.frame → (offset : Immediate) → offset.word ≡ slot_offset k → code s.pc ≡ Some (Addi a0 sp offset)
+  called : (name : Symbol) (k target : ℕ) → IsSymbolAt map_of name target → slot_offset k + 4 ≤ map_of.frame → (offset : Immediate)
+      → offset.word ≡ slot_offset k → code s.pc ≡ Some (Addi a0 sp offset)
       → CallsTo forms.jumps code (s.pc + 4) target → Called k target
   called name k target (before, place, target_is) inside offset offset_is here calls =
       let runtime = ground.runtime_word in
@@ -183,8 +199,10 @@ module _ {map_of : Map} {pool : Pool} {functions : List PlacedLines} {depth buff
           aligned = aligned;
           below = omega arith;
           apart = inr (omega arith);
-          loads = rw (done.parts_are, running.rests.parts_are) (ground.loads (base + slot_offset k) (omega arith) (omega arith) aligned);
-          stores = rw (done.parts_are, running.rests.parts_are) (ground.stores (base + slot_offset k) (omega arith) (omega arith) aligned);
+          loads = rw (done.parts_are, running.rests.parts_are)
+              (ground.loads (base + slot_offset k) (omega arith) (omega arith) aligned);
+          stores = rw (done.parts_are, running.rests.parts_are)
+              (ground.stores (base + slot_offset k) (omega arith) (omega arith) aligned);
         };
       }
 
@@ -202,41 +220,57 @@ module _ {map_of : Map} {pool : Pool} {functions : List PlacedLines} {depth buff
 
   -- ---- back from the routine
 
-  token_comes : {k target : ℕ} (most count changed bytes : ℕ) (call : Called k target) (t : Processor) → Leads count call.after t → t.pc ≡ value call.after.registers 1 → ((x : ℕ) → x ≢ 9 → x ≢ 5 → value t.registers x ≡ value call.after.registers x)
-      → t.parts ≡ call.after.parts → t.left ≡ call.after.left → t.trace ≡ call.after.trace → KeepsOutside changed bytes call.after t → changed + bytes ≤ end_of pool
-      → ((x : ℕ) → map_of.constants.first ≤ x → x < map_of.constants.first + constant_bytes map_of → (x < changed) ⊎ (changed + bytes ≤ x)) → (held : List ℕ) (next : Cells) → HoldsCells pool next (links_of map_of base (record behind { held = held } ∷ fs)) t → 3 + count ≤ most
-      → Comes map_of pool functions depth stop code parts most old (placed_goes (record behind { held = held }) fs (λ x. cond ((x == 5) || (x == 10)) None (known x)) (with_cells world next)) s
+  token_comes : {k target : ℕ} (most count changed bytes : ℕ) (call : Called k target) (t : Processor) → Leads count call.after t
+      → t.pc ≡ value call.after.registers 1 → ((x : ℕ) → x ≢ 9 → x ≢ 5 → value t.registers x ≡ value call.after.registers x)
+      → t.parts ≡ call.after.parts → t.left ≡ call.after.left → t.trace ≡ call.after.trace
+      → KeepsOutside changed bytes call.after t → changed + bytes ≤ end_of pool
+      → ((x : ℕ) → map_of.constants.first ≤ x → x < map_of.constants.first + constant_bytes map_of
+      → (x < changed) ⊎ (changed + bytes ≤ x)) → (held : List ℕ) (next : Cells)
+      → HoldsCells pool next (links_of map_of base (record behind { held = held } ∷ fs)) t → 3 + count ≤ most
+      → Comes map_of pool functions depth stop code parts most old
+      (placed_goes (record behind { held = held }) fs (λ x. cond ((x == 5) || (x == 10)) None (known x))
+      (with_cells world next)) s
   token_comes most count changed bytes call t leads back registers parts_are left trace keeps high clear held next holds within =
       let stand = running.frames in
       let sp_at = sp_low ground f fs known world s running in
       let under = ground.cells_below in
       let known' : ℕ → Option ℕ = λ x. cond ((x == 5) || (x == 10)) None (known x) in
       let pc_is : t.pc ≡ way = back ∙ call.way_is in
-      let base_is : value t.registers 2 ≡ base = registers 2 (λ e. cc) (λ e. cc) ∙ call.done.kept 2 ((λ e. cc), ((λ e. cc), ((λ e. cc), tt))) in
+      let base_is : value t.registers 2 ≡ base = registers 2 (λ e. cc) (λ e. cc)
+      ∙ call.done.kept 2 ((λ e. cc), ((λ e. cc), ((λ e. cc), tt))) in
       let whole = Leads-then call.done.leads leads in
       let same_way : s.pc + 4 * (1 + words_of_jump forms.jumps) ≡ way = omega arith in
-      let here : FramesAt map_of code (most_lines functions) stop (stack_end map_of depth) s.memory way base (record behind { held = held } ∷ fs)
+      let here : FramesAt map_of code (most_lines functions) stop (stack_end map_of depth) s.memory way base
+      (record behind { held = held } ∷ fs)
       = (is_in_again (is_behind way same_way call.way_fits) f.cells held, stand.1, stand.2, stand.3) in
       let outside : KeepsOutside changed bytes s t = λ x apart. keeps x apart ∙ ap (λ (m : ℕ → ℕ). m x) call.done.memory_is in
-      let frames = frames_kept map_of code (most_lines functions) stop (stack_end map_of depth) ground.some_frame s.memory t.memory way base (record behind { held = held } ∷ fs)
+      let frames = frames_kept map_of code (most_lines functions) stop
+      (stack_end map_of depth) ground.some_frame s.memory t.memory way base (record behind { held = held } ∷ fs)
       (λ x above upto. word_kept changed bytes s t x outside (inr (omega arith))) here in
-      let at_pc = subst (λ a. FramesAt map_of code (most_lines functions) stop (stack_end map_of depth) t.memory a base (record behind { held = held } ∷ fs)) (sym pc_is) frames in
-      comes_go map_of pool functions depth stop code parts most old (record { frames = record behind { held = held } ∷ fs; registers = known'; shared = with_cells world next }) s t (1 + words_of_jump forms.jumps + count) whole (record {
+      let at_pc = subst (λ a. FramesAt map_of code (most_lines functions) stop (stack_end map_of depth) t.memory a base
+      (record behind { held = held } ∷ fs)) (sym pc_is) frames in
+      comes_go map_of pool functions depth stop code parts most old
+      (record { frames = record behind { held = held } ∷ fs; registers = known'; shared = with_cells world next }) s t
+      (1 + words_of_jump forms.jumps + count) whole (record {
         rests = record {
           stands = Stands-leads whole running.rests.stands;
           parts_are = parts_are ∙ call.done.parts_are ∙ running.rests.parts_are;
-          constants = bytes_at-same t.memory s.memory map_of.constants.first (constant_bytes map_of) (λ x low high. outside x (clear x low high)) ∙ running.rests.constants;
+          constants = bytes_at-same t.memory s.memory map_of.constants.first (constant_bytes map_of)
+              (λ x low high. outside x (clear x low high)) ∙ running.rests.constants;
         };
         trace = trace ∙ call.done.trace_is ∙ running.trace;
         left = left ∙ call.done.left_is ∙ running.left;
         bytes = subst (λ bytes. All (λ byte. byte < 256) bytes) (sym (left ∙ call.done.left_is)) running.bytes;
         room = running.room;
-        frames = subst (λ b. FramesAt map_of code (most_lines functions) stop (stack_end map_of depth) t.memory t.pc b (record behind { held = held } ∷ fs)) (sym base_is) at_pc;
+        frames = subst (λ b. FramesAt map_of code (most_lines functions) stop (stack_end map_of depth) t.memory t.pc b
+            (record behind { held = held } ∷ fs)) (sym base_is) at_pc;
         registers = λ x w is.
             let kept = kept_known known x w is in
             let old_word = running.registers x w kept.2 in (
               old_word.0,
-              registers x (handed_apart x 9 refl old_word.0) kept.0 ∙ call.done.kept x (kept.1, (handed_apart x 1 refl old_word.0, (handed_apart x 1 refl old_word.0, tt))) ∙ old_word.1,
+              registers x (handed_apart x 9 refl old_word.0) kept.0
+                  ∙ call.done.kept x (kept.1, (handed_apart x 1 refl old_word.0, (handed_apart x 1 refl old_word.0, tt)))
+                  ∙ old_word.1,
               old_word.2,
             );
         cells = subst (λ b. HoldsCells pool next (links_of map_of b (record behind { held = held } ∷ fs)) t) (sym base_is) holds;
@@ -250,14 +284,20 @@ module _ {map_of : Map} {pool : Pool} {functions : List PlacedLines} {depth buff
   nothing_clear x low high = inr (omega arith)
 
   -- the first words of a cell are no constants
-  cell_clear : (at : ℕ) → pool.first ≤ at → at + 32 ≤ end_of pool → (x : ℕ) → map_of.constants.first ≤ x → x < map_of.constants.first + constant_bytes map_of → (x < at) ⊎ (at + 8 ≤ x)
+  cell_clear : (at : ℕ) → pool.first ≤ at → at + 32 ≤ end_of pool → (x : ℕ) → map_of.constants.first ≤ x
+      → x < map_of.constants.first + constant_bytes map_of → (x < at) ⊎ (at + 8 ≤ x)
   cell_clear at low high x from upto =
       let usable = running.cells.memory.usable in
-      let first = ground.constants_kept at 4 (subst (λ p. can_store p at 4 ≡ true) running.rests.parts_are (usable.stores at low (omega arith))) (lit< tt) in
-      let second = ground.constants_kept (at + 4) 4 (subst (λ p. can_store p (at + 4) 4 ≡ true) running.rests.parts_are (usable.stores (at + 4) (omega arith) (omega arith))) (lit< tt) in
+      let first = ground.constants_kept at 4
+      (subst (λ p. can_store p at 4 ≡ true) running.rests.parts_are (usable.stores at low (omega arith))) (lit< tt) in
+      let second = ground.constants_kept (at + 4) 4
+      (subst (λ p. can_store p (at + 4) 4 ≡ true) running.rests.parts_are (usable.stores (at + 4) (omega arith) (omega arith)))
+      (lit< tt) in
       by first second
     where
-      by : (map_of.constants.first + constant_bytes map_of ≤ at) ⊎ (at + 4 ≤ map_of.constants.first) → (map_of.constants.first + constant_bytes map_of ≤ at + 4) ⊎ (at + 4 + 4 ≤ map_of.constants.first) → (x < at) ⊎ (at + 8 ≤ x)
+      by : (map_of.constants.first + constant_bytes map_of ≤ at) ⊎ (at + 4 ≤ map_of.constants.first)
+          → (map_of.constants.first + constant_bytes map_of ≤ at + 4) ⊎ (at + 4 + 4 ≤ map_of.constants.first)
+          → (x < at) ⊎ (at + 8 ≤ x)
       by (inl before) second = inl (omega arith)
       by (inr after) (inl before) = inl (omega arith)
       by (inr after) (inr behind) = inr (omega arith)
@@ -265,51 +305,80 @@ module _ {map_of : Map} {pool : Pool} {functions : List PlacedLines} {depth buff
   -- a slot that holds the null token
   module _ (k target : ℕ) (call : Called k target) (none : f.cells k ≡ Some 0) where
     slot_null : number_at call.after.memory (value call.after.registers 10) 4 ≡ 0
-    slot_null = ap (λ x. number_at call.after.memory x 4) call.slot_is ∙ ap (λ m. number_at m (base + slot_offset k) 4) call.done.memory_is ∙ (running.frames.1 k 0 none).1
+    slot_null = ap (λ x. number_at call.after.memory x 4) call.slot_is
+        ∙ ap (λ m. number_at m (base + slot_offset k) 4) call.done.memory_is ∙ (running.frames.1 k 0 none).1
 
-    hold_null : IsHold pool code target → Comes map_of pool functions depth stop code parts 9 old (placed_goes behind fs after_known world) s
+    hold_null : IsHold pool code target → Comes map_of pool functions depth stop code parts 9 old
+        (placed_goes behind fs after_known world) s
     hold_null is_hold =
         let holds = holds_at call in
-        let result = is_hold (view_of world.cells links_here) links_here 3 0 0 call.after (begins_at call) (has_way call) holds.memory (rw call.slot_is call.is_slot) (no_token slot_null) in
+        let result = is_hold (view_of world.cells links_here) links_here 3 0 0 call.after (begins_at call)
+        (has_way call) holds.memory (rw call.slot_is call.is_slot) (no_token slot_null) in
         let t = result.0 in
         let after = result.1 in
-        token_comes 9 3 0 0 call t after.returns.leads after.returns.back (λ x a b. after.returns.registers x (a, (b, tt))) after.returns.parts after.left after.trace after.memory (omega arith) nothing_clear f.held world.cells
+        token_comes 9 3 0 0 call t after.returns.leads after.returns.back
+        (λ x a b. after.returns.registers x (a, (b, tt))) after.returns.parts after.left after.trace after.memory
+        (omega arith) nothing_clear f.held world.cells
         (again_holds holds after.cells (λ x. after.memory x (inr (omega arith)))) (omega arith)
 
-    unhold_null : IsUnhold pool code target → Comes map_of pool functions depth stop code parts 7 old (placed_goes behind fs after_known world) s
+    unhold_null : IsUnhold pool code target → Comes map_of pool functions depth stop code parts 7 old
+        (placed_goes behind fs after_known world) s
     unhold_null is_unhold =
         let holds = holds_at call in
-        let result = is_unhold (view_of world.cells links_here) links_here 3 call.after (begins_at call) (has_way call) holds.memory (rw call.slot_is call.is_slot) (no_token slot_null) in
+        let result = is_unhold (view_of world.cells links_here) links_here 3 call.after (begins_at call)
+        (has_way call) holds.memory (rw call.slot_is call.is_slot) (no_token slot_null) in
         let t = result.0 in
         let after = result.1 in
-        token_comes 7 3 0 0 call t after.returns.leads after.returns.back (λ x a b. after.returns.registers x (a, (b, tt))) after.returns.parts after.left after.trace (λ x apart. ap (λ (m : ℕ → ℕ). m x) after.memory) (omega arith) nothing_clear f.held world.cells
+        token_comes 7 3 0 0 call t after.returns.leads after.returns.back
+        (λ x a b. after.returns.registers x (a, (b, tt))) after.returns.parts after.left after.trace (λ x apart. ap (λ (m : ℕ
+        → ℕ). m x) after.memory) (omega arith) nothing_clear f.held world.cells
         (again_holds holds after.cells (λ x. ap (λ (m : ℕ → ℕ). m x) after.memory)) (omega arith)
 
   -- ---- hold
 
   module _ (k target word : ℕ) (call : Called k target) (word_is : f.cells k ≡ Some word) where
     slot_has : number_at call.after.memory (value call.after.registers 10) 4 ≡ word
-    slot_has = ap (λ x. number_at call.after.memory x 4) call.slot_is ∙ ap (λ m. number_at m (base + slot_offset k) 4) call.done.memory_is ∙ (running.frames.1 k word word_is).1
+    slot_has = ap (λ x. number_at call.after.memory x 4) call.slot_is
+        ∙ ap (λ m. number_at m (base + slot_offset k) 4) call.done.memory_is ∙ (running.frames.1 k word word_is).1
 
     hold_token : IsHold pool code target → is_among k f.held ≡ false → (words : ℕ → Option ℕ) → world.cells.blocks word ≡ own words
-        → Comes map_of pool functions depth stop code parts 9 old (placed_goes (record behind { held = k ∷ f.held }) fs after_known (with_cells world (with_block word (kept words) world.cells))) s
+        → Comes map_of pool functions depth stop code parts 9 old
+        (placed_goes (record behind { held = k ∷ f.held }) fs after_known
+        (with_cells world (with_block word (kept words) world.cells))) s
     hold_token is_hold free words is =
         let holds = holds_at call in
         let link : Link = record { cell = word; slot = base + slot_offset k } in
-        let view : View = record { heap = changed word (token (fields_of words)) (seen_cells world.cells); frees = world.cells.frees; border = world.cells.border; held = links_here } in
+        let view : View = record {
+          heap = changed word (token (fields_of words))
+              (seen_cells world.cells);
+          frees = world.cells.frees;
+          border = world.cells.border;
+          held = links_here;
+        } in
         let inside = own-inside holds word words is in
         let cell = own-cell holds word words is in
         let frame_inside = (running.frames.1 k word word_is).0 in
-        let apart_slot : occurs (base + slot_offset k) (slots_in links_here) ≡ 0 = none_if (occurs (base + slot_offset k) (slots_in links_here)) (λ some. overlap (slots_apart map_of base k f fs frame_inside free (base + slot_offset k) some)) in
-        let held_now : Held view call.after.memory (base + slot_offset k) (link ∷ links_here) 6 word 8 = newest {cell = word} {fields = fields_of words} (ap (λ x. number_at call.after.memory x 4) (sym call.slot_is) ∙ slot_has)
-        (changed-same word (token (fields_of words)) (seen_cells world.cells)) (holds.apart word (subst IsOwnBlock (sym is) tt)) apart_slot in
-        let result = is_hold view (link ∷ links_here) 6 word 8 call.after (begins_at call) (has_way call) (token_view holds word words is) (rw call.slot_is call.is_slot)
+        let apart_slot : occurs (base + slot_offset k) (slots_in links_here) ≡ 0 = none_if
+        (occurs (base + slot_offset k) (slots_in links_here))
+        (λ some. overlap (slots_apart map_of base k f fs frame_inside free (base + slot_offset k) some)) in
+        let held_now : Held view call.after.memory (base + slot_offset k)
+        (link ∷ links_here) 6 word 8 = newest {cell = word} {fields = fields_of words}
+        (ap (λ x. number_at call.after.memory x 4) (sym call.slot_is) ∙ slot_has)
+        (changed-same word (token (fields_of words)) (seen_cells world.cells))
+        (holds.apart word (subst IsOwnBlock (sym is) tt)) apart_slot in
+        let result = is_hold view (link ∷ links_here) 6 word 8 call.after (begins_at call) (has_way call)
+        (token_view holds word words is) (rw call.slot_is call.is_slot)
         (subst (λ slot. Held view call.after.memory slot (link ∷ links_here) 6 word 8) (sym call.slot_is) held_now) in
         let t = result.0 in
         let after = result.1 in
-        let links_are : links_of map_of base (record behind { held = k ∷ f.held } ∷ fs) ≡ link ∷ links_here = ap (λ o. record { cell = word_of o; slot = base + slot_offset k } ∷ links_here) word_is in
-        token_comes 9 6 word 8 call t after.returns.leads after.returns.back (λ x a b. after.returns.registers x (a, (b, tt))) after.returns.parts after.left after.trace after.memory (omega (arith, inside.0)) (cell_clear word cell.behind inside.0) (k ∷ f.held)
-        (with_block word (kept words) world.cells) (subst (λ links. HoldsCells pool (with_block word (kept words) world.cells) links t) (sym links_are) (held_holds holds word (base + slot_offset k) words is after.cells after.memory)) (omega arith)
+        let links_are : links_of map_of base (record behind { held = k ∷ f.held } ∷ fs) ≡ link ∷ links_here = ap
+        (λ o. record { cell = word_of o; slot = base + slot_offset k } ∷ links_here) word_is in
+        token_comes 9 6 word 8 call t after.returns.leads after.returns.back
+        (λ x a b. after.returns.registers x (a, (b, tt))) after.returns.parts after.left after.trace after.memory
+        (omega (arith, inside.0)) (cell_clear word cell.behind inside.0) (k ∷ f.held)
+        (with_block word (kept words) world.cells)
+        (subst (λ links. HoldsCells pool (with_block word (kept words) world.cells) links t) (sym links_are)
+        (held_holds holds word (base + slot_offset k) words is after.cells after.memory)) (omega arith)
       where
         overlap : (base + slot_offset k + 4 ≤ base + slot_offset k) ⊎ (base + slot_offset k + 4 ≤ base + slot_offset k) → ⊥
         overlap (inl less) = omega arith
@@ -317,78 +386,114 @@ module _ {map_of : Map} {pool : Pool} {functions : List PlacedLines} {depth buff
 
     -- ---- unhold
 
-    unhold_token : IsUnhold pool code target → (held : List ℕ) → f.held ≡ k ∷ held → (words : ℕ → Option ℕ) → world.cells.blocks word ≡ kept words
-        → Comes map_of pool functions depth stop code parts 7 old (placed_goes (record behind { held = held }) fs after_known (with_cells world (with_block word (own (past_links words)) world.cells))) s
+    unhold_token : IsUnhold pool code target → (held : List ℕ) → f.held ≡ k ∷ held → (words : ℕ → Option ℕ)
+        → world.cells.blocks word ≡ kept words
+        → Comes map_of pool functions depth stop code parts 7 old
+        (placed_goes (record behind { held = held }) fs after_known
+        (with_cells world (with_block word (own (past_links words)) world.cells))) s
     unhold_token is_unhold held held_is words is =
         let link : Link = record { cell = word; slot = base + slot_offset k } in
         let left = links_in base f.cells held (links_of map_of (base + map_of.frame) fs) in
         let links_are : links_here ≡ link ∷ left =
-        ap (λ h. links_in base f.cells h (links_of map_of (base + map_of.frame) fs)) held_is ∙ ap (λ o. record { cell = word_of o; slot = base + slot_offset k } ∷ left) word_is in
+        ap (λ h. links_in base f.cells h (links_of map_of (base + map_of.frame) fs)) held_is
+        ∙ ap (λ o. record { cell = word_of o; slot = base + slot_offset k } ∷ left) word_is in
         let holds = subst (λ links. HoldsCells pool world.cells links call.after) links_are (holds_at call) in
-        let result = is_unhold (view_of world.cells (link ∷ left)) left 4 call.after (begins_at call) (has_way call) holds.memory (rw call.slot_is call.is_slot) (newest refl (sym call.slot_is)) in
+        let result = is_unhold (view_of world.cells (link ∷ left)) left 4 call.after (begins_at call) (has_way call) holds.memory
+        (rw call.slot_is call.is_slot) (newest refl (sym call.slot_is)) in
         let t = result.0 in
         let after = result.1 in
-        token_comes 7 4 0 0 call t after.returns.leads after.returns.back (λ x a b. after.returns.registers x (a, (b, tt))) after.returns.parts after.left after.trace (λ x apart. ap (λ (m : ℕ → ℕ). m x) after.memory) (omega arith) nothing_clear held
+        token_comes 7 4 0 0 call t after.returns.leads after.returns.back
+        (λ x a b. after.returns.registers x (a, (b, tt))) after.returns.parts after.left after.trace (λ x apart. ap (λ (m : ℕ
+        → ℕ). m x) after.memory) (omega arith) nothing_clear held
         (with_block word (own (past_links words)) world.cells) (unheld_holds holds words is after.cells after.memory) (omega arith)
 
   -- ---- both
 
-  module _ (args : List Operand) (into : Option Operand) (words : List ℕ) (turn : PlacedTurn World Ending) (good : turn ≢ stuck) (words_are : all_of (map (λ (arg : Operand). read_at known f.cells arg.place) args) ≡ Some words) where
-    pub follow_hold : CallsForToken map_of forms code s.pc symbol.Hold args → placed_acts (primitives map_of.constants pool) depth functions behind fs known world Hold args into words ≡ turn → Comes map_of pool functions depth stop code parts 9 old turn s
+  module _ (args : List Operand) (into : Option Operand) (words : List ℕ) (turn : PlacedTurn World Ending) (good : turn ≢ stuck)
+      (words_are : all_of (map (λ (arg : Operand). read_at known f.cells arg.place) args) ≡ Some words) where
+    pub follow_hold : CallsForToken map_of forms code s.pc symbol.Hold args
+        → placed_acts (primitives map_of.constants pool) depth functions behind fs known world Hold args into words ≡ turn
+        → Comes map_of pool functions depth stop code parts 9 old turn s
     follow_hold here is =
-        let on : ℕ → List ℕ → PlacedTurn World Ending = λ word held. or_stuck (by_token (on_cells OfBlocks.hold) word world) (λ next. placed_goes (record behind { held = held }) fs (kept_by Hold known) next) in
-        let at_slot = or_stuck_some (only_slot args) (λ k. or_stuck (only_of words) (λ word. or_stuck (holding k word f.held) (on word))) turn is good in
-        let at_word = or_stuck_some (only_of words) (λ word. or_stuck (holding at_slot.0 word f.held) (on word)) turn at_slot.2 good in
+        let on : ℕ → List ℕ → PlacedTurn World Ending = λ word held. or_stuck (by_token (on_cells OfBlocks.hold) word world)
+        (λ next. placed_goes (record behind { held = held }) fs (kept_by Hold known) next) in
+        let at_slot = or_stuck_some (only_slot args)
+        (λ k. or_stuck (only_of words) (λ word. or_stuck (holding k word f.held) (on word))) turn is good in
+        let at_word = or_stuck_some (only_of words)
+        (λ word. or_stuck (holding at_slot.0 word f.held) (on word)) turn at_slot.2 good in
         let at_held = or_stuck_some (holding at_slot.0 at_word.0 f.held) (on at_word.0) turn at_word.2 good in
-        let at_next = or_stuck_some (by_token (on_cells OfBlocks.hold) at_word.0 world) (λ next. placed_goes (record behind { held = at_held.0 }) fs (kept_by Hold known) next) turn at_held.2 good in
+        let at_next = or_stuck_some (by_token (on_cells OfBlocks.hold) at_word.0 world)
+        (λ next. placed_goes (record behind { held = at_held.0 }) fs (kept_by Hold known) next) turn at_held.2 good in
         let word_is = slot_word_is known f.cells args words at_slot.0 at_word.0 at_slot.1 words_are at_word.1 in
         let inside = (running.frames.1 at_slot.0 at_word.0 word_is).0 in
         let row = here at_slot.0 at_slot.1 ground.hold.0 ground.hold.1 in
         let call = called symbol.Hold at_slot.0 ground.hold.0 ground.hold.1 inside row.0.0 row.0.1.0 row.0.2 row.1 in
-        by at_slot.0 at_word.0 at_held.0 at_next.0 call word_is (holding_by at_slot.0 at_word.0 f.held at_held.0 at_held.1) at_next.1 at_next.2
+        by at_slot.0 at_word.0 at_held.0 at_next.0 call word_is
+        (holding_by at_slot.0 at_word.0 f.held at_held.0 at_held.1) at_next.1 at_next.2
       where
-        by : (k word : ℕ) (held : List ℕ) (next : World) → Called k ground.hold.0 → f.cells k ≡ Some word → (is_among k f.held ≡ false) × (((word ≡ 0) × (held ≡ f.held)) ⊎ ((word ≢ 0) × (held ≡ k ∷ f.held)))
-            → by_token (on_cells OfBlocks.hold) word world ≡ Some next → placed_goes (record behind { held = held }) fs (kept_by Hold known) next ≡ turn → Comes map_of pool functions depth stop code parts 9 old turn s
+        by : (k word : ℕ) (held : List ℕ) (next : World) → Called k ground.hold.0 → f.cells k ≡ Some word
+            → (is_among k f.held ≡ false) × (((word ≡ 0) × (held ≡ f.held)) ⊎ ((word ≢ 0) × (held ≡ k ∷ f.held)))
+            → by_token (on_cells OfBlocks.hold) word world ≡ Some next
+            → placed_goes (record behind { held = held }) fs (kept_by Hold known) next ≡ turn
+            → Comes map_of pool functions depth stop code parts 9 old turn s
         by k word held next call word_is (free, inl null) next_is is =
             let same = null_token (on_cells OfBlocks.hold) word world next null.0 next_is in
             subst (λ t. Comes map_of pool functions depth stop code parts 9 old t s)
-            (ap (λ (w : World). placed_goes behind fs after_known w) (sym same) ∙ ap (λ h. placed_goes (record behind { held = h }) fs after_known next) (sym null.1) ∙ is)
+            (ap (λ (w : World). placed_goes behind fs after_known w) (sym same)
+            ∙ ap (λ h. placed_goes (record behind { held = h }) fs after_known next) (sym null.1) ∙ is)
             (hold_null k ground.hold.0 call (word_is ∙ ap (λ w. Some w) null.0) ground.hold.2)
         by k word held next call word_is (free, inr some) next_is is =
-            let done = mapped (with_cells world) (OfBlocks.hold word world.cells) next (some_token (on_cells OfBlocks.hold) word world next some.0 next_is) in
+            let done = mapped (with_cells world) (OfBlocks.hold word world.cells) next
+            (some_token (on_cells OfBlocks.hold) word world next some.0 next_is) in
             let block = mapped (λ b. with_block word b world.cells) (held_as (world.cells.blocks word)) done.0 done.1 in
             let found = held_own (world.cells.blocks word) block.0 block.1 in
-            let cells_are : with_block word (kept found.0) world.cells ≡ done.0 = ap (λ b. with_block word b world.cells) (sym found.2) ∙ block.2 in
+            let cells_are : with_block word (kept found.0) world.cells ≡ done.0 = ap (λ b. with_block word b world.cells)
+            (sym found.2) ∙ block.2 in
             subst (λ t. Comes map_of pool functions depth stop code parts 9 old t s)
-            (ap (λ c. placed_goes (record behind { held = k ∷ f.held }) fs after_known (with_cells world c)) cells_are ∙ ap (λ (w : World). placed_goes (record behind { held = k ∷ f.held }) fs after_known w) done.2
+            (ap (λ c. placed_goes (record behind { held = k ∷ f.held }) fs after_known (with_cells world c)) cells_are
+            ∙ ap (λ (w : World). placed_goes (record behind { held = k ∷ f.held }) fs after_known w) done.2
             ∙ ap (λ h. placed_goes (record behind { held = h }) fs after_known next) (sym some.1) ∙ is)
             (hold_token k ground.hold.0 word call word_is ground.hold.2 free found.0 found.1)
 
-    pub follow_unhold : CallsForToken map_of forms code s.pc symbol.Unhold args → placed_acts (primitives map_of.constants pool) depth functions behind fs known world Unhold args into words ≡ turn → Comes map_of pool functions depth stop code parts 7 old turn s
+    pub follow_unhold : CallsForToken map_of forms code s.pc symbol.Unhold args
+        → placed_acts (primitives map_of.constants pool) depth functions behind fs known world Unhold args into words ≡ turn
+        → Comes map_of pool functions depth stop code parts 7 old turn s
     follow_unhold here is =
-        let on : ℕ → List ℕ → PlacedTurn World Ending = λ word held. or_stuck (by_token (on_cells OfBlocks.unhold) word world) (λ next. placed_goes (record behind { held = held }) fs (kept_by Unhold known) next) in
-        let at_slot = or_stuck_some (only_slot args) (λ k. or_stuck (only_of words) (λ word. or_stuck (unholding k word f.held) (on word))) turn is good in
-        let at_word = or_stuck_some (only_of words) (λ word. or_stuck (unholding at_slot.0 word f.held) (on word)) turn at_slot.2 good in
+        let on : ℕ → List ℕ → PlacedTurn World Ending = λ word held. or_stuck (by_token (on_cells OfBlocks.unhold) word world)
+        (λ next. placed_goes (record behind { held = held }) fs (kept_by Unhold known) next) in
+        let at_slot = or_stuck_some (only_slot args)
+        (λ k. or_stuck (only_of words) (λ word. or_stuck (unholding k word f.held) (on word))) turn is good in
+        let at_word = or_stuck_some (only_of words)
+        (λ word. or_stuck (unholding at_slot.0 word f.held) (on word)) turn at_slot.2 good in
         let at_held = or_stuck_some (unholding at_slot.0 at_word.0 f.held) (on at_word.0) turn at_word.2 good in
-        let at_next = or_stuck_some (by_token (on_cells OfBlocks.unhold) at_word.0 world) (λ next. placed_goes (record behind { held = at_held.0 }) fs (kept_by Unhold known) next) turn at_held.2 good in
+        let at_next = or_stuck_some (by_token (on_cells OfBlocks.unhold) at_word.0 world)
+        (λ next. placed_goes (record behind { held = at_held.0 }) fs (kept_by Unhold known) next) turn at_held.2 good in
         let word_is = slot_word_is known f.cells args words at_slot.0 at_word.0 at_slot.1 words_are at_word.1 in
         let inside = (running.frames.1 at_slot.0 at_word.0 word_is).0 in
         let row = here at_slot.0 at_slot.1 ground.unhold.0 ground.unhold.1 in
         let call = called symbol.Unhold at_slot.0 ground.unhold.0 ground.unhold.1 inside row.0.0 row.0.1.0 row.0.2 row.1 in
-        by at_slot.0 at_word.0 at_held.0 at_next.0 call word_is (unholding_by at_slot.0 at_word.0 f.held at_held.0 at_held.1) at_next.1 at_next.2
+        by at_slot.0 at_word.0 at_held.0 at_next.0 call word_is
+        (unholding_by at_slot.0 at_word.0 f.held at_held.0 at_held.1) at_next.1 at_next.2
       where
-        by : (k word : ℕ) (held : List ℕ) (next : World) → Called k ground.unhold.0 → f.cells k ≡ Some word → ((word ≡ 0) × (held ≡ f.held)) ⊎ ((word ≢ 0) × (f.held ≡ k ∷ held))
-            → by_token (on_cells OfBlocks.unhold) word world ≡ Some next → placed_goes (record behind { held = held }) fs (kept_by Unhold known) next ≡ turn → Comes map_of pool functions depth stop code parts 7 old turn s
+        by : (k word : ℕ) (held : List ℕ) (next : World) → Called k ground.unhold.0 → f.cells k ≡ Some word
+            → ((word ≡ 0) × (held ≡ f.held)) ⊎ ((word ≢ 0) × (f.held ≡ k ∷ held))
+            → by_token (on_cells OfBlocks.unhold) word world ≡ Some next
+            → placed_goes (record behind { held = held }) fs (kept_by Unhold known) next ≡ turn
+            → Comes map_of pool functions depth stop code parts 7 old turn s
         by k word held next call word_is (inl null) next_is is =
             let same = null_token (on_cells OfBlocks.unhold) word world next null.0 next_is in
             subst (λ t. Comes map_of pool functions depth stop code parts 7 old t s)
-            (ap (λ (w : World). placed_goes behind fs after_known w) (sym same) ∙ ap (λ h. placed_goes (record behind { held = h }) fs after_known next) (sym null.1) ∙ is)
+            (ap (λ (w : World). placed_goes behind fs after_known w) (sym same)
+            ∙ ap (λ h. placed_goes (record behind { held = h }) fs after_known next) (sym null.1) ∙ is)
             (unhold_null k ground.unhold.0 call (word_is ∙ ap (λ w. Some w) null.0) ground.unhold.2)
         by k word held next call word_is (inr some) next_is is =
-            let done = mapped (with_cells world) (OfBlocks.unhold word world.cells) next (some_token (on_cells OfBlocks.unhold) word world next some.0 next_is) in
+            let done = mapped (with_cells world) (OfBlocks.unhold word world.cells) next
+            (some_token (on_cells OfBlocks.unhold) word world next some.0 next_is) in
             let block = mapped (λ b. with_block word b world.cells) (unheld_as (world.cells.blocks word)) done.0 done.1 in
             let found = unheld_kept (world.cells.blocks word) block.0 block.1 in
-            let cells_are : with_block word (own (past_links found.0)) world.cells ≡ done.0 = ap (λ b. with_block word b world.cells) (sym found.2) ∙ block.2 in
+            let cells_are : with_block word (own (past_links found.0)) world.cells ≡ done.0 = ap
+            (λ b. with_block word b world.cells) (sym found.2) ∙ block.2 in
             subst (λ t. Comes map_of pool functions depth stop code parts 7 old t s)
-            (ap (λ c. placed_goes (record behind { held = held }) fs after_known (with_cells world c)) cells_are ∙ ap (λ (w : World). placed_goes (record behind { held = held }) fs after_known w) done.2 ∙ is)
+            (ap (λ c. placed_goes (record behind { held = held }) fs after_known (with_cells world c)) cells_are
+            ∙ ap (λ (w : World). placed_goes (record behind { held = held }) fs after_known w) done.2 ∙ is)
             (unhold_token k ground.unhold.0 word call word_is ground.unhold.2 held some.1 found.0 found.1)
