@@ -4,7 +4,7 @@ use Rattle.std.specs.Prelude.{slice_get, count_by, cond, if◌then◌else◌, �
 use Rattle.std.proofs.lemmas.Bool.{eqb-true, eq-eqb, ltb-false}
 use Rattle.std.proofs.lemmas.List.Sums.{sum_by-cons}
 use Rattle.std.proofs.lemmas.Option.{none-some, same_Some, slice_get-map}
-use Rattle.kk_syntax.specs.OfType.{field_types, fields_of, with_arguments}
+use Rattle.kk_syntax.specs.OfType.{field_types, fields_of, fields_with}
 use Rattle.kk_syntax.specs.Programs.{ConstructorTree}
 use Rattle.kk_syntax.specs.Types.{TypeTree, TypeTrees, int32, unit_type, type_variable, named}
 use Rattle.kk_source.specs.Matching.{fields_under, fields_made_by}
@@ -82,7 +82,7 @@ type_is : (constructors : List ConstructorTree) (by : ℕ) (arguments : TypeTree
     → slice_get (types_in constructors) c ≡ Some by
 type_is constructors by arguments c us is = slice_get-map (λ (k : ConstructorTree). k.of_type) constructors c ∙ at (slice_get constructors c) is
   where
-    test : (k : ConstructorTree) (b : Bool) → (k.of_type == by) ≡ b → (if b then Some (map (with_arguments arguments) k.fields) else None) ≡ Some us → k.of_type ≡ by
+    test : (k : ConstructorTree) (b : Bool) → (k.of_type == by) ≡ b → (if b then fields_with k.arguments k.fields arguments else None) ≡ Some us → k.of_type ≡ by
     test k true same is = eqb-true k.of_type by same
     test k false same is = absurd (none-some us is)
 

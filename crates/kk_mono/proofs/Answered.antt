@@ -201,7 +201,7 @@ module _ (typed : Typed) (principal : ArePrincipal (program_tree typed.program) 
       EachIsMade instances =
           (n : ℕ) (x : InstanceTree) (f : FunctionTree) → slice_get instances n ≡ Some x → slice_get (ground_program given).functions n ≡ Some f
           → (function : FunctionTree) × (slice_get (program_tree typed.program).functions x.function ≡ Some function)
-            × IsAtTypes instances (used_in found) x.at (slice_index_or (typings_of typed) x.function []) function f
+          × IsAtTypes instances (used_in found) x.at (slice_index_or (typings_of typed) x.function []) function f
 
       each_made : EachIsMade (known_in found)
       each_made n x f x_found f_found =

@@ -57,7 +57,7 @@ module _ {X : Type 0} (named : X → Names) (change : Names → X → X) where
       → map v copies ≡ labelled_each named change labels (take i (map v items)) → now ≡ behind labels (names_of_each named (take i (map v items)))
       → next ≡ copies ++ copy ∷ [] → v copy ≡ change now (v item) → after ≡ behind now (named (v item))
       → (map v next ≡ labelled_each named change labels (take (i + 1) (map v items)))
-        × (after ≡ behind labels (names_of_each named (take (i + 1) (map v items))))
+      × (after ≡ behind labels (names_of_each named (take (i + 1) (map v items))))
   each_more v labels now after items copies next item copy i lt is so_far now_is next_is copy_is after_is =
       let more : take (i + 1) (map v items) ≡ take i (map v items) ++ v item ∷ [] =
       take-map v (i + 1) items
@@ -125,7 +125,7 @@ pub constructor_labelled : (labels : Names) (pattern : Pat) (by copied : ℕ) (p
     → map pattern_tree copies.items ≡ labelled_each names_of_pattern labelled_pattern then (map pattern_tree ps)
     → last ≡ behind then (names_of_each names_of_pattern (map pattern_tree ps))
     → (pattern_tree (OfPat.Constructor copied copies) ≡ labelled_pattern labels (pattern_tree pattern))
-      × (last ≡ behind labels (names_of_pattern (pattern_tree pattern)))
+    × (last ≡ behind labels (names_of_pattern (pattern_tree pattern)))
 constructor_labelled labels pattern by copied parts copies ps then last is ps_are copied_is then_is copies_are last_is =
     let whole : pattern_tree pattern ≡ constructor by (patterns_of (map pattern_tree ps)) =
     ap pattern_tree is ∙ (constructor_tree by parts ∙ ap (λ qs. constructor by (patterns_of (map pattern_tree qs))) (sym ps_are)) in (
@@ -231,7 +231,7 @@ row_copied labels then after r p e pattern_is then_is body_is after_is =
 pub statement_copied : (labels after : Names) (s : Statement) (e : Expr) → expr_tree e ≡ labelled labels (expr_tree s.value)
     → after ≡ behind labels (names (expr_tree s.value))
     → (statement_tree (record { binder = s.binder; value = e }) ≡ labelled_statement labels (statement_tree s))
-      × (after ≡ behind labels (statement_names (statement_tree s)))
+    × (after ≡ behind labels (statement_names (statement_tree s)))
 statement_copied labels after s e value_is after_is = (
   statement_tree_is (record { binder = s.binder; value = e })
       ∙ ((λ i. record { binder = s.binder; value = value_is i }) ∙ ap (labelled_statement labels) (sym (statement_tree_is s))),

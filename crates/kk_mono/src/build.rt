@@ -41,7 +41,12 @@ pub fn ground(
         constructors,
         looked,
     } = found;
-    let constructors = ground_constructors(alloc, &mut types, &program.constructors, &constructors)?;
+    let constructors = ground_constructors(
+        alloc,
+        &mut types,
+        &program.constructors,
+        &constructors,
+    )?;
     let instances = all_instances(alloc, program, &keys, looked)?;
     Ok(Ground {
         declarations: copied_declarations(alloc, &program.types)?,

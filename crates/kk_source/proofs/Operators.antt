@@ -9,10 +9,10 @@ use Rattle.kk_syntax.specs.declared.operator.BinaryOperator.TheVariants.{Add, Su
 use Rattle.kk_syntax.specs.declared.program.Form.{Form}
 use Rattle.kk_syntax.specs.declared.program.Form.TheVariants.{Number, Unit as Nothing, ReadByte, PrintText, Unary, Binary, Print, Construct, Call}
 use Rattle.kk_syntax.specs.GroundTyping.{HasTruths, Table, IsFormTyped}
-use Rattle.kk_syntax.specs.OfType.{field_types, fields_of, with_arguments}
+use Rattle.kk_syntax.specs.OfType.{field_types, fields_of, fields_with, same_types, with_arguments}
 use Rattle.kk_syntax.specs.PlainTyping.{Signature, signature_of}
 use Rattle.kk_syntax.specs.Programs.{ConstructorTree, FunctionTree}
-use Rattle.kk_syntax.specs.Types.{TypeTree, int32, unit_type, type_variable, named}
+use Rattle.kk_syntax.specs.Types.{TypeTree, TypeTrees, int32, unit_type, type_variable, named}
 use Rattle.kk_syntax.specs.Typing.{bool, unary_type, binary_type}
 use Rattle.kk_source.specs.State.{Value, integer, unit, constant, Store}
 use Rattle.kk_source.specs.FormEffects.{FormEffect, gives, prints, reads, makes, enters, truth, unary_result, number_result, argument, byte_value, form_effect}
@@ -41,13 +41,21 @@ constructor_there constructors unit_type c ts is = absurd (cc)
 constructor_there constructors (type_variable x) c ts is = absurd (cc)
 constructor_there constructors (named of at) c ts is = by_found (slice_get constructors c) refl is
   where
+    by_types : (own : Bool) (fields : List TypeTree) → (if own then Some fields else None) ≡ Some ts → length ts ≡ length fields
+    by_types false fields types = absurd (cc)
+    by_types true fields types = let same : fields ≡ ts = cc in ap (λ (us : List TypeTree). length us) (sym same)
+
+    by_arguments : (own : Option TypeTrees) (fields : List TypeTree) → fields_with own fields at ≡ Some ts → length ts ≡ length fields
+    by_arguments None fields types =
+        let same : map (with_arguments at) fields ≡ ts = cc in
+        ap (λ (us : List TypeTree). length us) (sym same) ∙ length-map fields (with_arguments at)
+    by_arguments (Some own) fields types = by_types (same_types own at) fields types
+
     by_test : (constructor : ConstructorTree) (own : Bool)
-        → (if own then Some (map (with_arguments at) constructor.fields) else None) ≡ Some ts
+        → (if own then fields_with constructor.arguments constructor.fields at else None) ≡ Some ts
         → length ts ≡ length constructor.fields
     by_test constructor false types = absurd (cc)
-    by_test constructor true types =
-        let same : map (with_arguments at) constructor.fields ≡ ts = cc in
-        ap (λ (us : List TypeTree). length us) (sym same) ∙ length-map constructor.fields (with_arguments at)
+    by_test constructor true types = by_arguments constructor.arguments constructor.fields types
 
     by_found : (found : Option ConstructorTree) → slice_get constructors c ≡ found → fields_of found of at ≡ Some ts
         → (constructor : ConstructorTree) × (slice_get constructors c ≡ Some constructor) × (length ts ≡ length constructor.fields)

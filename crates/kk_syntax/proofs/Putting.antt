@@ -118,9 +118,11 @@ module _ (program : ProgramTree) (s : ℕ → TypeTree) where
     pattern_put scope (pattern_variable x) t choices typed = tt
     pattern_put scope (exactly value) t choices typed = numbers_put s t (ap is_int32 typed.0)
     pattern_put scope (constructor c parts) t choices uses =
-        let fields = map (put (type_at uses.at)) uses.of.parameters in
-        (map (put s) fields, found_put c uses.of uses.at t uses.is uses.each uses.gives,
-        patterns_put scope parts fields uses.rest uses.arguments)
+        let fields = map (put (type_at uses.at)) uses.of.parameters in (
+          map (put s) fields,
+          found_put c uses.of uses.at t uses.is uses.each uses.gives,
+          patterns_put scope parts fields uses.rest uses.arguments,
+        )
 
     pub patterns_put : (scope : Scope) (ps : Patterns) (ts : List TypeTree) (choices : List Choice)
         → ArePatternsTyped program scope ps ts choices → ArePatternsOf (values_of program.constructors) (map (put s) ts) (outlines_of ps)

@@ -27,6 +27,8 @@ pub fn accepted(alloc: Global, body: &str) -> Result<Accepted, Fail> {
             texts: Vec::new(alloc),
             types: Vec::new(alloc),
             instances: Vec::new(alloc),
+            greatest_nodes: 0,
+            summed_nodes: 0,
         },
     })
 }
