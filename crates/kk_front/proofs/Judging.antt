@@ -1,9 +1,9 @@
 -- What a text comes to, judgement by judgement.
-use Rattle.std.proofs.Common.{◌≡◌, ℕ, ◌*◌, ◌<◌, ◌≤◌, ◌^◌, List, [], length, map, get_or, None, Some, false, refl, sym, ap, ◌∙◌, subst, inl, inr, arith}
-use Rattle.std.specs.Prelude.{All, IfOk, IfErr, OnOk, Result, Ok, Err, slice_get}
+use Rattle.std.proofs.Common.{◌≡◌, ℕ, zero, suc, ◌*◌, ◌<◌, ◌≤◌, ◌^◌, List, [], ◌∷◌, length, map, get_or, None, Some, false, refl, sym, ap, ◌∙◌, subst, inl, inr, arith}
+use Rattle.std.specs.Prelude.{codes, All, IfOk, IfErr, OnOk, Result, Ok, Err, slice_get}
 use Rattle.std.proofs.lemmas.Bool.{cases_lt}
 use Rattle.std.proofs.lemmas.List.{length-map, get_or-map}
-use Rattle.std.proofs.lemmas.Option.{slice_get_within, get_or_from_slice_get}
+use Rattle.std.proofs.lemmas.Option.{slice_get_within, get_or_from_slice_get, same_Some}
 use Rattle.kk_base.specs.Exactly.{IsOnly, ExactlyOne}
 use Rattle.kk_base.specs.declared.error.LexError.{LexError}
 use Rattle.kk_base.specs.declared.error.LexError.TheVariants as OfLex
@@ -20,7 +20,7 @@ use Rattle.kk_syntax.specs.declared.program.Program.{Program}
 use Rattle.kk_syntax.specs.declared.tree.Tree.{Tree}
 use Rattle.kk_syntax.specs.Outlines.{Outline}
 use Rattle.kk_syntax.specs.declared.program.Fun.{Fun}
-use Rattle.kk_syntax.specs.Programs.{FunctionTree, ProgramTree, function_tree, program_tree}
+use Rattle.kk_syntax.specs.Programs.{ConstructorTree, FunctionTree, ProgramTree, AreDeclared, function_tree, program_tree}
 use Rattle.kk_syntax.specs.Shapes.{nodes_of}
 use Rattle.kk_syntax.specs.Surface.{WrittenTree, written_declaration, written_tree}
 use Rattle.kk_syntax.specs.Typing.{TypesAs}
@@ -32,7 +32,7 @@ use Rattle.kk_parser.specs.Parses.{in_u32, ParsesAs, AnswersParse, EachListIsPar
 use Rattle.kk_names.specs.declared.fault.FaultKind.{FaultKind}
 use Rattle.kk_names.specs.declared.fault.FaultKind.TheVariants.{Twice, Unknown, Arity}
 use Rattle.kk_names.specs.Faults.{error_for}
-use Rattle.kk_names.specs.Names.{ResolvesAs, IsRefusedFor, first_fault, no_main, main_shape, AnswersNames, KeepsNodes, EachTreeIsResolved}
+use Rattle.kk_names.specs.Names.{ResolvesAs, bool_constructor, IsRefusedFor, first_fault, no_main, main_shape, AnswersNames, KeepsNodes, EachTreeIsResolved}
 use Rattle.kk_types.specs.Checks.{EachProgramIsChecked, EachTypedProgramHasPrincipalTypes}
 use Rattle.kk_mono.specs.Counts.{ParametersAs, CountsAs, AnswersCounts, EachProgramIsCounted}
 use Rattle.kk_cover.specs.Matches.{Miss, CoversAs, missed_in, IsDecided, EachTypedProgramIsDecided}
@@ -222,8 +222,21 @@ no_lexer_wants lexemes t (OfLex.OpenString at) h = refl
 no_lexer_wants lexemes t (OfLex.NumberTooLarge at) h = refl
 no_lexer_wants lexemes t (OfLex.StringTooLong at) h = refl
 
+-- the constructors of a program whose names are resolved are declared ones
+resolved_declared : (tree : WrittenTree) (program : ProgramTree) → ResolvesAs tree (Ok program) → AreDeclared program.constructors
+resolved_declared tree program h = subst (λ (p : ProgramTree). AreDeclared p.constructors) (sym h.makes.is) bools
+  where
+    bools : AreDeclared (bool_constructor (codes "False") 0 ∷ bool_constructor (codes "True") 1 ∷ [])
+    bools zero constructor there =
+        let same : bool_constructor (codes "False") 0 ≡ constructor = same_Some _ _ there in
+        ap (λ (k : ConstructorTree). k.arguments) (sym same)
+    bools (suc zero) constructor there =
+        let same : bool_constructor (codes "True") 1 ≡ constructor = same_Some _ _ there in
+        ap (λ (k : ConstructorTree). k.arguments) (sym same)
+    bools (suc (suc c)) constructor there = absurd (cc)
+
 -- a program whose names are resolved comes to one thing: where it is typed, it has principal types, so its instances count
-module _ (types : EachProgramIsChecked) (principal : EachTypedProgramHasPrincipalTypes) (decided : EachTypedProgramIsDecided) (counts : EachProgramIsCounted) (program : ProgramTree) where
+module _ (types : EachProgramIsChecked) (principal : EachTypedProgramHasPrincipalTypes) (decided : EachTypedProgramIsDecided) (counts : EachProgramIsCounted) (program : ProgramTree) (declared : AreDeclared program.constructors) where
   sound_counts : TypesAs program (Ok tt) → IsSound wants_memory OfCounts program
   sound_counts typed =
       let typings = principal program typed in
@@ -232,7 +245,7 @@ module _ (types : EachProgramIsChecked) (principal : EachTypedProgramHasPrincipa
   sound_cover : TypesAs program (Ok tt) → IsSound wants_memory FromCover program
   sound_cover typed =
       sound_then wants_memory OfCover OfCounts program
-      (sound_checking wants_memory ChecksCover program (one_covered program (decided program typed)) (λ refusal h. ap wants_memory h.refusal_is))
+      (sound_checking wants_memory ChecksCover program (one_covered program (decided program declared typed)) (λ refusal h. ap wants_memory h.refusal_is))
       (λ passed h. subst (IsSound wants_memory OfCounts) (sym h.0) (sound_counts typed))
 
   sound_types : IsSound wants_memory FromTypes program
@@ -254,7 +267,7 @@ each_text_is_judged lexemes grammar names types principal decided counts text = 
   where
     named : (tree : WrittenTree) → IsSound wants_memory FromNames tree
     named tree =
-        sound_then wants_memory OfNames ChecksProgram tree (sound_told wants_memory OfText.Name ResolvesAs tree (names tree) (no_name_wants tree)) (λ program h. sound_program types principal decided counts program)
+        sound_then wants_memory OfNames ChecksProgram tree (sound_told wants_memory OfText.Name ResolvesAs tree (names tree) (no_name_wants tree)) (λ program h. sound_program types principal decided counts program (resolved_declared tree program h))
 
     parsed : (tokens : TokenList) → IsSound wants_memory FromGrammar tokens
     parsed tokens =

@@ -1,7 +1,7 @@
 -- A program without type variables, matches and cells that is typed is so by the rules of such programs.
 use Rattle.std.proofs.Common.{◌≡◌, ◌≤◌, ℕ, List, [], ◌∷◌, map, Option, Some, None, option_map, refl, sym, ap, subst, ◌∙◌}
 use Rattle.std.specs.Prelude.{MatchOption, Ok, slice_get}
-use Rattle.std.proofs.lemmas.Option.{slice_get-map}
+use Rattle.std.proofs.lemmas.Option.{slice_get-map, same_Some}
 use Rattle.kk_syntax.specs.declared.operator.UnaryOperator.{UnaryOperator}
 use Rattle.kk_syntax.specs.declared.operator.UnaryOperator.TheVariants.{Negate, Not}
 use Rattle.kk_syntax.specs.declared.operator.BinaryOperator.{BinaryOperator}
@@ -14,6 +14,7 @@ use Rattle.kk_syntax.specs.Trees.{Tree, variable, apply, branch, match, sequence
 use Rattle.kk_syntax.specs.Types.{TypeTree, named, no_type, types_of, put, type_at, variables_below}
 use Rattle.kk_syntax.specs.Typing.{bool, Scope, Scheme, variables_of_type, with_parameters, with_binder, Choice, form_scheme, function_scheme, constructor_scheme, scheme_in, IsTypedBy, AreTypedBy, IsTypable, TypesAs}
 use Rattle.kk_syntax.proofs.Closed.{put_closed, put_all_closed}
+use Rattle.kk_syntax.proofs.PatternTypes.{is_declared}
 
 unary_closed : (operator : UnaryOperator) → IsClosed (unary_type operator)
 unary_closed Negate = tt
@@ -72,7 +73,9 @@ module _ (program : ProgramTree) (plain : IsPlainProgram program) where
       ap (λ (n : ℕ). record { variables = n; parameters = of_bool.constructor.fields; result = named of_type (types_of (variables_below n)) }) count
       ∙ (ap (λ (fields : List TypeTree). record { variables = 0; parameters = fields; result = named of_type no_type }) of_bool.fields
       ∙ ap (λ (n : ℕ). record { variables = 0; parameters = []; result = named n no_type }) of_bool.of_type) in
-      form_is (Construct c) scheme bool_scheme at (sym (ap (option_map (scheme_in program)) of_bool.is ∙ ap Some same) ∙ is) (refl, refl, small)
+      let known = is_declared program (slice_get program.constructors c) scheme is in
+      let made : of_bool.constructor ≡ known.made = same_Some of_bool.constructor known.made (sym of_bool.is ∙ known.there) in
+      form_is (Construct c) scheme bool_scheme at (ap Some (sym same ∙ (ap (scheme_in program) made ∙ known.scheme))) (refl, refl, small)
 
   form_typed : (form : Form) (scheme : Scheme) (at : List TypeTree) → IsPlainForm form → form_scheme program form ≡ Some scheme → IsFormTyped signatures form (taken scheme at) (given scheme at)
   form_typed (Number value) scheme at simple is = form_is (Number value) scheme _ at is (refl, refl)

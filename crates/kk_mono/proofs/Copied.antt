@@ -13,7 +13,8 @@ use Rattle.kk_mono.proofs.Labelled.{both_assoc}
 
 -- what labels stand for
 abbrev pub origins : Renaming → Names → Names
-origins origin labels = record { functions = map origin.functions labels.functions; constructors = map origin.constructors labels.constructors }
+origins origin labels = record { functions = map origin.functions labels.functions; constructors = map origin.constructors
+    labels.constructors }
 
 -- labels of one kind in two parts
 record Parts (f : ℕ → ℕ) (labels first second : List ℕ) : Type 0 where
@@ -49,8 +50,10 @@ module _ (origin : Renaming) where
 
   split : (labels first second : Names) → origins origin labels ≡ both first second → Split labels first second
   split labels first second are =
-      let functions = parts origin.functions labels.functions first.functions second.functions (ap (λ (ns : Names). ns.functions) are) in
-      let constructors = parts origin.constructors labels.constructors first.constructors second.constructors (ap (λ (ns : Names). ns.constructors) are) in
+      let functions = parts origin.functions labels.functions first.functions second.functions
+          (ap (λ (ns : Names). ns.functions) are) in
+      let constructors = parts origin.constructors labels.constructors first.constructors second.constructors
+          (ap (λ (ns : Names). ns.constructors) are) in
       record {
         one = record { functions = functions.one; constructors = constructors.one };
         two = record { functions = functions.two; constructors = constructors.two };
@@ -62,16 +65,20 @@ module _ (origin : Renaming) where
   -- the labels behind those of a first part
   left_behind : (one two more first : Names) → origins origin one ≡ first → behind (both (both one two) more) first ≡ both two more
   left_behind one two more first are =
-      let functions = dropped origin.functions one.functions two.functions more.functions first.functions (ap (λ (ns : Names). ns.functions) are) in
-      let constructors = dropped origin.constructors one.constructors two.constructors more.constructors first.constructors (ap (λ (ns : Names). ns.constructors) are) in
+      let functions = dropped origin.functions one.functions two.functions more.functions first.functions
+          (ap (λ (ns : Names). ns.functions) are) in
+      let constructors = dropped origin.constructors one.constructors two.constructors more.constructors first.constructors
+          (ap (λ (ns : Names). ns.constructors) are) in
       λ i. record { functions = functions i; constructors = constructors i }
 
   -- labels for two parts, one behind the other
-  module _ {X Y : Type 0} (put_one : Names → X) (put_two : Names → Y) (IsOne : Names → X → Type 0) (IsTwo : Names → Y → Type 0) (first second : Names)
+  module _ {X Y : Type 0} (put_one : Names → X) (put_two : Names → Y) (IsOne : Names → X → Type 0) (IsTwo : Names → Y
+      → Type 0) (first second : Names)
       (one_is : (labels more : Names) → origins origin labels ≡ first → IsOne labels (put_one (both labels more)))
       (two_is : (labels more : Names) → origins origin labels ≡ second → IsTwo labels (put_two (both labels more))) where
     both_are : (labels more : Names) → origins origin labels ≡ both first second
-        → (one two : Names) × (labels ≡ both one two) × IsOne one (put_one (both labels more)) × IsTwo two (put_two (behind (both labels more) first))
+        → (one two : Names) × (labels ≡ both one two) × IsOne one (put_one (both labels more))
+            × IsTwo two (put_two (behind (both labels more) first))
     both_are labels more are =
         let halves = split labels first second are in
         let front : both labels more ≡ both halves.one (both halves.two more) =
@@ -121,7 +128,8 @@ module _ (origin : Renaming) where
   one_of f (label ∷ []) more n are = (cc, refl)
   one_of f (label ∷ (next ∷ labels)) more n are = cc
 
-  form_copied : (form : Form) (labels more : Names) → origins origin labels ≡ names_of_form form → IsCopiedForm form labels (labelled_form (both labels more) form)
+  form_copied : (form : Form) (labels more : Names) → origins origin labels ≡ names_of_form form
+      → IsCopiedForm form labels (labelled_form (both labels more) form)
   form_copied (Call f) labels more are =
       let one = one_of origin.functions labels.functions more.functions f (ap (λ (ns : Names). ns.functions) are) in
       let none = none_of origin.constructors labels.constructors (ap (λ (ns : Names). ns.constructors) are) in
@@ -136,26 +144,31 @@ module _ (origin : Renaming) where
   abbrev IsCopiedName : ℕ → Names → ℕ → Type 0
   IsCopiedName by labels copy = (origin.constructors copy ≡ by) × (only_constructor copy ≡ labels)
 
-  name_copied : (by : ℕ) (labels more : Names) → origins origin labels ≡ only_constructor by → IsCopiedName by labels (get_or (both labels more).constructors 0 by)
+  name_copied : (by : ℕ) (labels more : Names) → origins origin labels ≡ only_constructor by
+      → IsCopiedName by labels (get_or (both labels more).constructors 0 by)
   name_copied by labels more are =
       let none = none_of origin.functions labels.functions (ap (λ (ns : Names). ns.functions) are) in
       let one = one_of origin.constructors labels.constructors more.constructors by (ap (λ (ns : Names). ns.constructors) are) in
       (one.0, λ i. record { functions = none i; constructors = one.1 i })
 
   mutual
-    pattern_copied : (p : Pattern) (labels more : Names) → origins origin labels ≡ names_of_pattern p → IsCopiedPattern p labels (labelled_pattern (both labels more) p)
+    pattern_copied : (p : Pattern) (labels more : Names) → origins origin labels ≡ names_of_pattern p
+        → IsCopiedPattern p labels (labelled_pattern (both labels more) p)
     pattern_copied anything labels more are = (refl, none_left labels are)
     pattern_copied (pattern_variable of) labels more are = (refl, none_left labels are)
     pattern_copied (exactly value) labels more are = (refl, none_left labels are)
     pattern_copied (constructor by ps) labels more are =
-        let halves = both_are (λ ls. get_or ls.constructors 0 by) (λ ls. labelled_patterns ls ps) (IsCopiedName by) (AreCopiedPatterns ps)
+        let halves = both_are (λ ls. get_or ls.constructors 0 by) (λ ls. labelled_patterns ls ps) (IsCopiedName by)
+            (AreCopiedPatterns ps)
         (only_constructor by) (names_of_patterns ps) (name_copied by) (patterns_copied ps) labels more are in
         ((λ i. constructor (halves.3.0 i) (halves.4.0 i)), (λ i. both (halves.3.1 i) (halves.4.1 i)) ∙ sym halves.2)
 
-    patterns_copied : (ps : Patterns) (labels more : Names) → origins origin labels ≡ names_of_patterns ps → AreCopiedPatterns ps labels (labelled_patterns (both labels more) ps)
+    patterns_copied : (ps : Patterns) (labels more : Names) → origins origin labels ≡ names_of_patterns ps
+        → AreCopiedPatterns ps labels (labelled_patterns (both labels more) ps)
     patterns_copied no_part labels more are = (refl, none_left labels are)
     patterns_copied (part first rest) labels more are =
-        let halves = both_are (λ ls. labelled_pattern ls first) (λ ls. labelled_patterns ls rest) (IsCopiedPattern first) (AreCopiedPatterns rest)
+        let halves = both_are (λ ls. labelled_pattern ls first) (λ ls. labelled_patterns ls rest) (IsCopiedPattern first)
+            (AreCopiedPatterns rest)
         (names_of_pattern first) (names_of_patterns rest) (pattern_copied first) (patterns_copied rest) labels more are in
         ((λ i. part (halves.3.0 i) (halves.4.0 i)), (λ i. both (halves.3.1 i) (halves.4.1 i)) ∙ sym halves.2)
 
@@ -165,43 +178,52 @@ module _ (origin : Renaming) where
     negative : Tree
 
   abbrev branch_rest : Names → Tree → Tree → Branches
-  branch_rest labels positive negative = record { positive = labelled labels positive; negative = labelled (behind labels (names positive)) negative }
+  branch_rest labels positive negative = record { positive = labelled labels positive; negative = labelled
+      (behind labels (names positive)) negative }
 
   abbrev IsCopiedRest : Tree → Tree → Names → Branches → Type 0
   IsCopiedRest positive negative labels copies =
-      (renamed origin copies.positive ≡ positive) × (renamed origin copies.negative ≡ negative) × (both (names copies.positive) (names copies.negative) ≡ labels)
+      (renamed origin copies.positive ≡ positive) × (renamed origin copies.negative ≡ negative)
+          × (both (names copies.positive) (names copies.negative) ≡ labels)
 
   abbrev IsCopiedRow : RowTree → Names → RowTree → Type 0
-  IsCopiedRow r labels copy = (renamed_pattern origin copy.pattern ≡ r.pattern) × (renamed origin copy.body ≡ r.body) × (row_names copy ≡ labels)
+  IsCopiedRow r labels copy = (renamed_pattern origin copy.pattern ≡ r.pattern) × (renamed origin copy.body ≡ r.body)
+      × (row_names copy ≡ labels)
 
   -- copies of one tree, whatever labels are behind
   abbrev Copies : Tree → Type 0
   Copies t = (labels more : Names) → origins origin labels ≡ names t → IsCopy t labels (labelled (both labels more) t)
 
   rest_copied : (positive negative : Tree) → Copies positive → Copies negative → (labels more : Names)
-      → origins origin labels ≡ both (names positive) (names negative) → IsCopiedRest positive negative labels (branch_rest (both labels more) positive negative)
+      → origins origin labels ≡ both (names positive) (names negative)
+          → IsCopiedRest positive negative labels (branch_rest (both labels more) positive negative)
   rest_copied positive negative one_copied other_copied labels more are =
       let halves = both_are (λ ls. labelled ls positive) (λ ls. labelled ls negative) (IsCopy positive) (IsCopy negative)
       (names positive) (names negative) one_copied other_copied labels more are in
       (halves.3.0, halves.4.0, (λ i. both (halves.3.1 i) (halves.4.1 i)) ∙ sym halves.2)
 
-  row_copied : (p : Pattern) (body : Tree) → Copies body → (labels more : Names) → origins origin labels ≡ both (names_of_pattern p) (names body)
-      → IsCopiedRow (record { pattern = p; body = body }) labels (labelled_row (both labels more) (record { pattern = p; body = body }))
+  row_copied : (p : Pattern) (body : Tree) → Copies body → (labels more : Names)
+      → origins origin labels ≡ both (names_of_pattern p) (names body)
+      → IsCopiedRow (record { pattern = p; body = body }) labels
+          (labelled_row (both labels more) (record { pattern = p; body = body }))
   row_copied p body body_copied labels more are =
       let halves = both_are (λ ls. labelled_pattern ls p) (λ ls. labelled ls body) (IsCopiedPattern p) (IsCopy body)
       (names_of_pattern p) (names body) (pattern_copied p) body_copied labels more are in
       (halves.3.0, halves.4.0, (λ i. both (halves.3.1 i) (halves.4.1 i)) ∙ sym halves.2)
 
   mutual
-    pub copied : (t : Tree) (labels more : Names) → origins origin labels ≡ names t → IsCopy t labels (labelled (both labels more) t)
+    pub copied : (t : Tree) (labels more : Names) → origins origin labels ≡ names t
+        → IsCopy t labels (labelled (both labels more) t)
     copied (variable of) labels more are = (refl, none_left labels are)
     copied (apply form es) labels more are =
         let halves = both_are (λ ls. labelled_form ls form) (λ ls. labelled_all ls es) (IsCopiedForm form) (IsCopyOfAll es)
         (names_of_form form) (names_of_all es) (form_copied form) (all_copied es) labels more are in
         ((λ i. apply (halves.3.0 i) (halves.4.0 i)), (λ i. both (halves.3.1 i) (halves.4.1 i)) ∙ sym halves.2)
     copied (branch e positive negative) labels more are =
-        let halves = both_are (λ ls. labelled ls e) (λ ls. branch_rest ls positive negative) (IsCopy e) (IsCopiedRest positive negative)
-        (names e) (both (names positive) (names negative)) (copied e) (rest_copied positive negative (copied positive) (copied negative)) labels more are in
+        let halves = both_are (λ ls. labelled ls e) (λ ls. branch_rest ls positive negative) (IsCopy e)
+            (IsCopiedRest positive negative)
+        (names e) (both (names positive) (names negative)) (copied e)
+            (rest_copied positive negative (copied positive) (copied negative)) labels more are in
         ((λ i. branch (halves.3.0 i) (halves.4.0 i) (halves.4.1 i)), (λ i. both (halves.3.1 i) (halves.4.2 i)) ∙ sym halves.2)
     copied (match e rows) labels more are =
         let halves = both_are (λ ls. labelled ls e) (λ ls. labelled_rows ls rows) (IsCopy e) (AreCopied rows)
@@ -212,14 +234,16 @@ module _ (origin : Renaming) where
         (names first) (names rest) (copied first) (copied rest) labels more are in
         ((λ i. sequence binder (halves.3.0 i) (halves.4.0 i)), (λ i. both (halves.3.1 i) (halves.4.1 i)) ∙ sym halves.2)
 
-    all_copied : (ts : Trees) (labels more : Names) → origins origin labels ≡ names_of_all ts → IsCopyOfAll ts labels (labelled_all (both labels more) ts)
+    all_copied : (ts : Trees) (labels more : Names) → origins origin labels ≡ names_of_all ts
+        → IsCopyOfAll ts labels (labelled_all (both labels more) ts)
     all_copied no_tree labels more are = (refl, none_left labels are)
     all_copied (tree first rest) labels more are =
         let halves = both_are (λ ls. labelled ls first) (λ ls. labelled_all ls rest) (IsCopy first) (IsCopyOfAll rest)
         (names first) (names_of_all rest) (copied first) (all_copied rest) labels more are in
         ((λ i. tree (halves.3.0 i) (halves.4.0 i)), (λ i. both (halves.3.1 i) (halves.4.1 i)) ∙ sym halves.2)
 
-    rows_copied : (rs : Rows) (labels more : Names) → origins origin labels ≡ names_of_rows rs → AreCopied rs labels (labelled_rows (both labels more) rs)
+    rows_copied : (rs : Rows) (labels more : Names) → origins origin labels ≡ names_of_rows rs
+        → AreCopied rs labels (labelled_rows (both labels more) rs)
     rows_copied no_row labels more are = (refl, none_left labels are)
     rows_copied (row pattern body rest) labels more are =
         let first : RowTree = record { pattern = pattern; body = body } in
@@ -243,7 +267,8 @@ mutual
   pub nodes_renamed : (new : Renaming) (t : Tree) → nodes_of (renamed new t) ≡ nodes_of t
   nodes_renamed new (variable of) = refl
   nodes_renamed new (apply form arguments) = omega (arith, all_nodes_renamed new arguments)
-  nodes_renamed new (branch condition positive negative) = omega (arith, nodes_renamed new condition, nodes_renamed new positive, nodes_renamed new negative)
+  nodes_renamed new (branch condition positive negative) = omega
+      (arith, nodes_renamed new condition, nodes_renamed new positive, nodes_renamed new negative)
   nodes_renamed new (match scrutinee rows) = omega (arith, nodes_renamed new scrutinee, row_nodes_renamed new rows)
   nodes_renamed new (sequence binder first rest) = omega (arith, nodes_renamed new first, nodes_renamed new rest)
 
@@ -253,4 +278,5 @@ mutual
 
   row_nodes_renamed : (new : Renaming) (rs : Rows) → nodes_of_rows (renamed_rows new rs) ≡ nodes_of_rows rs
   row_nodes_renamed new no_row = refl
-  row_nodes_renamed new (row pattern body rest) = omega (arith, pattern_nodes new pattern, nodes_renamed new body, row_nodes_renamed new rest)
+  row_nodes_renamed new (row pattern body rest) = omega
+      (arith, pattern_nodes new pattern, nodes_renamed new body, row_nodes_renamed new rest)

@@ -30,36 +30,48 @@ use Rattle.kk_mono.proofs.Numbered.{within_grown}
 abbrev pub grown : Found → Types → Found
 grown found table = record { types = table; keys = found.keys; constructors = found.constructors; looked = found.looked }
 
-module _ (typed : Typed) (found : Found) (table : Types) (grows : Grows (types_in found.types) (types_in table)) (searched : HasSearched typed found) where
+module _ (typed : Typed) (found : Found) (table : Types) (grows : Grows (types_in found.types) (types_in table))
+    (searched : HasSearched typed found) where
   same_known : known_in (grown found table) ≡ known_in found
   same_known = keys_stay (types_in found.types) (types_in table) grows (keys_in found.keys) searched.searching.within
 
   same_used : used_in (grown found table) ≡ used_in found
-  same_used = constructors_stay (types_in found.types) (types_in table) grows (keys_in found.constructors) searched.searching.used_within
+  same_used = constructors_stay (types_in found.types) (types_in table) grows
+      (keys_in found.constructors) searched.searching.used_within
 
   wider : (keys : List KeyTree) → All (IsKeyWithin (types_in found.types)) keys → All (IsKeyWithin (types_in table)) keys
-  wider keys within = All-weaker (IsKeyWithin (types_in found.types)) (IsKeyWithin (types_in table)) (λ k inside. within_grown (types_in found.types) (types_in table) k.at inside grows) keys within
+  wider keys within = All-weaker (IsKeyWithin (types_in found.types)) (IsKeyWithin (types_in table))
+      (λ k inside. within_grown (types_in found.types) (types_in table) k.at inside grows) keys within
 
   still_looked : (i : ℕ) (d : Looked) → i < length found.looked.items
-      → IsLooked (program_tree typed.program) (typings_of typed) (types_in table) (known_in found) (used_in found) (get_or (known_in found) i (main_instance 0)) (get_or found.looked.items i d)
+      → IsLooked (program_tree typed.program) (typings_of typed) (types_in table) (known_in found) (used_in found)
+          (get_or (known_in found) i (main_instance 0)) (get_or found.looked.items i d)
   still_looked i d lt =
-      let looked = looked_stays (types_in found.types) (types_in table) grows (program_tree typed.program) (typings_of typed) (known_in found) [] (used_in found) []
+      let looked = looked_stays (types_in found.types) (types_in table) grows (program_tree typed.program) (typings_of typed)
+          (known_in found) [] (used_in found) []
       (get_or (known_in found) i (main_instance 0)) (get_or found.looked.items i d) (searched.searching.looked i d lt) in
-      subst (λ us. IsLooked (program_tree typed.program) (typings_of typed) (types_in table) (known_in found) us (get_or (known_in found) i (main_instance 0)) (get_or found.looked.items i d)) (append-nil (used_in found))
-      (subst (λ ks. IsLooked (program_tree typed.program) (typings_of typed) (types_in table) ks (used_in found ++ []) (get_or (known_in found) i (main_instance 0)) (get_or found.looked.items i d)) (append-nil (known_in found)) looked)
+      subst (λ us. IsLooked (program_tree typed.program) (typings_of typed) (types_in table) (known_in found) us
+          (get_or (known_in found) i (main_instance 0)) (get_or found.looked.items i d)) (append-nil (used_in found))
+      (subst (λ ks. IsLooked (program_tree typed.program) (typings_of typed) (types_in table) ks (used_in found ++ [])
+          (get_or (known_in found) i (main_instance 0)) (get_or found.looked.items i d)) (append-nil (known_in found)) looked)
 
   pub grown_searched : HasSearched typed (grown found table)
   grown_searched = record {
     searching = record {
       within = wider (keys_in found.keys) searched.searching.within;
-      searched = subst (λ xs. Searched typed.program.main (typings_of typed) xs (length found.looked.items)) (sym same_known) searched.searching.searched;
-      looked = subst (λ xs. AreLooked (program_tree typed.program) (typings_of typed) (types_in table) xs (used_in (grown found table)) found.looked.items) (sym same_known)
-          (subst (λ us. AreLooked (program_tree typed.program) (typings_of typed) (types_in table) (known_in found) us found.looked.items) (sym same_used) still_looked);
+      searched = subst (λ xs. Searched typed.program.main (typings_of typed) xs (length found.looked.items))
+          (sym same_known) searched.searching.searched;
+      looked = subst (λ xs. AreLooked (program_tree typed.program) (typings_of typed) (types_in table) xs
+          (used_in (grown found table)) found.looked.items) (sym same_known)
+          (subst (λ us. AreLooked (program_tree typed.program) (typings_of typed) (types_in table)
+              (known_in found) us found.looked.items) (sym same_used) still_looked);
       used_within = wider (keys_in found.constructors) searched.searching.used_within;
       below = searched.searching.below;
       whole = searched.searching.whole;
-      used = subst (λ xs. AreGroundConstructors (program_tree typed.program) (typings_of typed) (take (length found.looked.items) xs) (used_in (grown found table))) (sym same_known)
-          (subst (AreGroundConstructors (program_tree typed.program) (typings_of typed) (take (length found.looked.items) (known_in found))) (sym same_used) searched.searching.used);
+      used = subst (λ xs. AreGroundConstructors (program_tree typed.program) (typings_of typed)
+          (take (length found.looked.items) xs) (used_in (grown found table))) (sym same_known)
+          (subst (AreGroundConstructors (program_tree typed.program) (typings_of typed)
+              (take (length found.looked.items) (known_in found))) (sym same_used) searched.searching.used);
     };
     ends = elim searched.ends [
       | inl all ↦ inl (subst (λ xs. length xs ≤ length found.looked.items) (sym same_known) all)
@@ -74,13 +86,16 @@ listed_types [] = refl
 listed_types (t ∷ ts) = ap (λ us. t ∷ us) (listed_types ts)
 
 module _ (program : Program) (types : List TypeTree) where
-  one_view : (key : KeyTree) (made : GroundConstructor) → IsMadeOf (map constructor_tree program.constructors.items) types key made → ground_view types made ≡ viewed_constructor types key
+  one_view : (key : KeyTree) (made : GroundConstructor)
+      → IsMadeOf (map constructor_tree program.constructors.items) types key made
+      → ground_view types made ≡ viewed_constructor types key
   one_view key made is =
       let at : type_list (arguments_of_type (type_at types made.of_type)) ≡ map (type_at types) key.at =
       ap (λ t. type_list (arguments_of_type t)) is.of_type_is ∙ listed_types (map (type_at types) key.at) in
       λ i. record { constructor = is.constructor_is i; at = at i }
 
-  one_constructor : (key : KeyTree) (made : GroundConstructor) → IsMadeOf (map constructor_tree program.constructors.items) types key made
+  one_constructor : (key : KeyTree) (made : GroundConstructor)
+      → IsMadeOf (map constructor_tree program.constructors.items) types key made
       → ground_constructor_tree types made ≡ ground_constructor (program_tree program) (viewed_constructor types key)
   one_constructor key made is =
       let cs = map constructor_tree program.constructors.items in
@@ -96,7 +111,8 @@ module _ (program : Program) (types : List TypeTree) where
       let own = ap (λ t. Some (arguments_of_type t)) is.of_type_is in
       λ i. record { name = []; at = 0; of_type = owner i; arguments = own i; tag = tag i; fields = is.fields.types_are i }
 
-  one_has : (key : KeyTree) (made : GroundConstructor) → IsMadeOf (map constructor_tree program.constructors.items) types key made → HasTypes types made
+  one_has : (key : KeyTree) (made : GroundConstructor)
+      → IsMadeOf (map constructor_tree program.constructors.items) types key made → HasTypes types made
   one_has key made is = record {
     of_type = is.of_type_within;
     by = type_of (map constructor_tree program.constructors.items) key.number;
@@ -105,16 +121,20 @@ module _ (program : Program) (types : List TypeTree) where
     fields = is.fields.within;
   }
 
-  pub views_made : (keys : List KeyTree) (made : List GroundConstructor) → AllZip (IsMadeOf (map constructor_tree program.constructors.items) types) keys made
+  pub views_made : (keys : List KeyTree) (made : List GroundConstructor)
+      → AllZip (IsMadeOf (map constructor_tree program.constructors.items) types) keys made
       → map (ground_view types) made ≡ map (viewed_constructor types) keys
   views_made [] [] zip = refl
   views_made [] (m ∷ made) zip = absurd zip
   views_made (key ∷ keys) [] zip = absurd zip
   views_made (key ∷ keys) (m ∷ made) zip =
-      ap (λ x. x ∷ map (ground_view types) made) (one_view key m zip.0) ∙ ap (λ xs. viewed_constructor types key ∷ xs) (views_made keys made zip.1)
+      ap (λ x. x ∷ map (ground_view types) made) (one_view key m zip.0)
+          ∙ ap (λ xs. viewed_constructor types key ∷ xs) (views_made keys made zip.1)
 
-  pub constructors_made : (keys : List KeyTree) (made : List GroundConstructor) → AllZip (IsMadeOf (map constructor_tree program.constructors.items) types) keys made
-      → map (ground_constructor_tree types) made ≡ map (ground_constructor (program_tree program)) (map (viewed_constructor types) keys)
+  pub constructors_made : (keys : List KeyTree) (made : List GroundConstructor)
+      → AllZip (IsMadeOf (map constructor_tree program.constructors.items) types) keys made
+      → map (ground_constructor_tree types) made
+          ≡ map (ground_constructor (program_tree program)) (map (viewed_constructor types) keys)
   constructors_made [] [] zip = refl
   constructors_made [] (m ∷ made) zip = absurd zip
   constructors_made (key ∷ keys) [] zip = absurd zip
@@ -122,7 +142,8 @@ module _ (program : Program) (types : List TypeTree) where
       ap (λ x. x ∷ map (ground_constructor_tree types) made) (one_constructor key m zip.0)
       ∙ ap (λ xs. ground_constructor (program_tree program) (viewed_constructor types key) ∷ xs) (constructors_made keys made zip.1)
 
-  pub made_have : (keys : List KeyTree) (made : List GroundConstructor) → AllZip (IsMadeOf (map constructor_tree program.constructors.items) types) keys made → All (HasTypes types) made
+  pub made_have : (keys : List KeyTree) (made : List GroundConstructor)
+      → AllZip (IsMadeOf (map constructor_tree program.constructors.items) types) keys made → All (HasTypes types) made
   made_have [] [] zip = All-nil (HasTypes types)
   made_have [] (m ∷ made) zip = absurd zip
   made_have (key ∷ keys) [] zip = absurd zip

@@ -109,7 +109,8 @@ pub record GroundConstructorTree : Type 0 where
 -- variables of its function.
 abbrev pub constructed_at : List TypeTree → List Choice → List GroundConstructorTree
 constructed_at ts [] = []
-constructed_at ts (constructing by at ∷ choices) = record { constructor = by; at = map (put (type_at ts)) at } ∷ constructed_at ts choices
+constructed_at ts (constructing by at ∷ choices) =
+    record { constructor = by; at = map (put (type_at ts)) at } ∷ constructed_at ts choices
 constructed_at ts (calling function at ∷ choices) = constructed_at ts choices
 constructed_at ts (holding of ∷ choices) = constructed_at ts choices
 
@@ -137,10 +138,12 @@ of_same_type program used = ground_constructors program (constructor_in program 
 
 -- These are the ground constructors of instances, each once: first those of `bool`, and then, in the order of first sight, those
 -- of each type with whose constructors the body of an instance builds or matches.
-pub record AreGroundConstructors (program : ProgramTree) (typings : List (List Choice)) (instances : List InstanceTree) (grounds : List GroundConstructorTree) : Type 0 where
+pub record AreGroundConstructors (program : ProgramTree) (typings : List (List Choice)) (instances : List InstanceTree)
+    (grounds : List GroundConstructorTree) : Type 0 where
   pub others : List GroundConstructorTree
   pub begins : grounds ≡ ground_constructors program 0 [] ++ others
-  pub in_order : FirstSights (ground_constructors program 0 []) (flat_map (of_same_type program) (flat_map (constructed_in typings) instances)) others
+  pub in_order : FirstSights (ground_constructors program 0 [])
+      (flat_map (of_same_type program) (flat_map (constructed_in typings) instances)) others
 
 -- A ground constructor as a constructor, without a name and a place in the text: it makes values of its type at its types
 -- alone, which stand in the types of its fields. Its tag is its place among the constructors of its type.
@@ -209,7 +212,8 @@ origin_in instances grounds = record { functions = function_of instances; constr
 -- A function is an instance of another, whose body has this typing: its types are without variables, and its body is the
 -- other's, in which each call names the instance that is called there, and each construction and each pattern the ground
 -- constructor that is used there.
-pub record IsAtTypes (instances : List InstanceTree) (grounds : List GroundConstructorTree) (at : List TypeTree) (choices : List Choice) (function made : FunctionTree) : Type 0 where
+pub record IsAtTypes (instances : List InstanceTree) (grounds : List GroundConstructorTree) (at : List TypeTree)
+    (choices : List Choice) (function made : FunctionTree) : Type 0 where
   pub no_variables : made.variables ≡ 0
   pub parameters : made.parameters ≡ map (put (type_at at)) function.parameters
   pub result : made.result ≡ put (type_at at) function.result

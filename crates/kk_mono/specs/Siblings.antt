@@ -25,4 +25,5 @@ siblings constructors key = keys_of constructors (type_of constructors key.numbe
 
 -- with each ground constructor all others of its type are there
 abbrev pub HaveSiblings : List ConstructorTree → List KeyTree → Type 0
-HaveSiblings constructors keys = (key other : KeyTree) → Contains keys key → Contains (siblings constructors key) other → Contains keys other
+HaveSiblings constructors keys = (key other : KeyTree) → Contains keys key → Contains (siblings constructors key) other
+    → Contains keys other

@@ -3,9 +3,8 @@ use Rattle.std.proofs.Common.{◌≡◌, ◌≤◌, ◌<◌, ◌+◌, ℕ, zero,
 use Rattle.std.specs.Prelude.{if◌then◌else◌}
 use Rattle.kk_syntax.specs.declared.tree.SurfaceBinder.{SurfaceBinder}
 use Rattle.kk_syntax.specs.declared.tree.SurfaceBinder.TheVariants as OfSurface
-use Rattle.kk_syntax.specs.Checked.{printed_by, of_texts, printed, PrintsTexts}
+use Rattle.kk_syntax.specs.Checked.{printed_by, of_texts, printed}
 use Rattle.kk_syntax.specs.Covered.{Each}
-use Rattle.kk_syntax.specs.GroundTyping.{HasTruths}
 use Rattle.kk_syntax.specs.OfType.{field_types}
 use Rattle.kk_syntax.specs.Programs.{FunctionTree}
 use Rattle.kk_syntax.specs.Shapes.{gathered_all}
@@ -17,7 +16,7 @@ use Rattle.kk_syntax.proofs.Elements.{each_both}
 use Rattle.kk_names.specs.declared.table.Callee.{Callee}
 use Rattle.kk_names.specs.declared.table.Declared.{Declared}
 use Rattle.kk_names.specs.Expressions.{applied, variable_or_unit, meant, meant_all}
-use Rattle.kk_names.specs.Names.{bool_constructor, before_body, with_texts, with_all_texts, function_of, functions_of, functions_meant, texts_meant, program_of, HasTruthsAndTexts, ResolvedProgramsHaveTruthsAndTexts}
+use Rattle.kk_names.specs.Names.{bool_constructor, before_body, with_texts, with_all_texts, functions_of, texts_meant, HasTruthsAndTexts, ResolvedProgramsHaveTruthsAndTexts}
 use Rattle.kk_names.specs.Scopes.{Scope, number_in, with_parameters, with_binder, Before, past_binder, past, past_all}
 use Rattle.kk_names.specs.Tables.{constructors, numbered, functions_in, meaning_in}
 

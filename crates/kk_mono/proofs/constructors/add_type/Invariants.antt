@@ -5,4 +5,5 @@ use Rattle.kk_mono.specs.Siblings.{keys_of}
 use Rattle.kk_mono.proofs.constructors.add_type.Given as goal
 
 abbrev pub invariant-loop-place : goal.invariant-loop-place
-invariant-loop-place l = Sees (keys_in l.initial.known) (keys_in l.known) (keys_of (take l.place (map constructor_tree l.constructors)) l.of_type l.at)
+invariant-loop-place l = Sees (keys_in l.initial.known) (keys_in l.known)
+    (keys_of (take l.place (map constructor_tree l.constructors)) l.of_type l.at)

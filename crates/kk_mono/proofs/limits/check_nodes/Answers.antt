@@ -21,17 +21,21 @@ loop-function-preserved c =
     let so_far = c.loop-function.invariant.greatest in
     let most = c.max-greatest.ensures in
     record {
-      few = c.loop-function.invariant.few ∙ few_more functions i c.function-item.result c.loop-function-test.true c.function-item.is few;
+      few = c.loop-function.invariant.few
+          ∙ few_more functions i c.function-item.result c.loop-function-test.true c.function-item.is few;
       greatest = omega (arith, so_far, more, most, nodes, few);
     }
 
 pub returns-clause-ok : goal.returns-clause-ok
 returns-clause-ok c =
-    let none = ap (λ fs. greatest_of (map function_tree fs)) (drop_all c.loop-function.function-index c.args.functions.now c.loop-function-test.false) in
+    let none = ap (λ fs. greatest_of (map function_tree fs))
+        (drop_all c.loop-function.function-index c.args.functions.now c.loop-function-test.false) in
     let so_far = c.loop-function.invariant.greatest in
     omega (arith, none, so_far)
 
 pub returns-clause-err : goal.returns-clause-err
 returns-clause-err c =
     ap (option_map (told FunctionNodes))
-    (sym (c.loop-function.invariant.few ∙ ap (λ fs. too_many_nodes (map function_tree fs)) (drop_all c.loop-function.function-index c.args.functions.now c.loop-function-test.false)))
+    (sym (c.loop-function.invariant.few
+        ∙ ap (λ fs. too_many_nodes (map function_tree fs))
+        (drop_all c.loop-function.function-index c.args.functions.now c.loop-function-test.false)))

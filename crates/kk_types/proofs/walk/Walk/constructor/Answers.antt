@@ -2,7 +2,7 @@ use Rattle.std.proofs.Common.{◌≡◌, [], ◌∷◌, Some, option_map, map, l
 use Rattle.std.specs.Prelude.{slice_get}
 use Rattle.std.proofs.lemmas.Option.{slice_get-map, slice_get_read, slice_get_past}
 use Rattle.kk_syntax.specs.declared.typed.Taken.TheVariants.{Construct}
-use Rattle.kk_syntax.specs.Programs.{constructor_tree, program_tree}
+use Rattle.kk_syntax.specs.Programs.{constructor_tree, program_tree, declared_in}
 use Rattle.kk_syntax.specs.Types.{named, types_of, type_tree, variables_below}
 use Rattle.kk_syntax.specs.Typing.{constructing, constructor_scheme, scheme_in, variables_of_type}
 use Rattle.kk_unify.specs.Graphs.{Adds}
@@ -41,5 +41,5 @@ returns c =
     instantiated old c.opened.new.graph c.build_each.new.graph c.add.new.self c.push.new.self at.items count made.fields.items (record { parameters = c.in_ok-parameters.parameters; result = c.in_ok-result.result }) (named made.of_type (types_of (variables_below count)))
     c.in_ok-at.ensures.opens parts whole (c.in_ok-result.ensures.variables ∙ (c.in_ok-parameters.ensures.variables ∙ c.in_ok-at.ensures.variables))
     (constructor_scheme (program_tree program) c.args.constructor) (λ ts. constructing c.args.constructor ts ∷ []) (constructing_at c.args.constructor at.items ∷ [])
-    (ap (option_map (scheme_in (program_tree program))) found ∙ ap (λ n. Some (record { variables = n; parameters = map type_tree made.fields.items; result = named made.of_type (types_of (variables_below n)) })) (sym counted))
+    (ap (λ o. option_map (scheme_in (program_tree program)) (declared_in o)) found ∙ ap (λ n. Some (record { variables = n; parameters = map type_tree made.fields.items; result = named made.of_type (types_of (variables_below n)) })) (sym counted))
     (taken_grown old.taken.items c.push.new.self.items (Construct c.args.constructor at) c.in_ok-push.ensures.items) (λ size h. one_below size (constructing_at c.args.constructor at.items) h) (λ r. refl)
