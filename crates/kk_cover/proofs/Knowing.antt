@@ -49,7 +49,7 @@ members program all_declared (named by arguments) c d us at_c lt own =
     let owned : constructor.of_type ≡ by = own ∙ (owner_is program c first.constructor first.there ∙ first.owned) in (
       map (with_arguments arguments) constructor.fields,
       (let there = slice_get-get_or program.constructors d no_constructor lt in
-      fields_made (slice_get program.constructors d) constructor by arguments there (all_declared d constructor there) owned),
+          fields_made (slice_get program.constructors d) constructor by arguments there (all_declared d constructor there) owned),
       length-map constructor.fields (with_arguments arguments),
     )
 

@@ -13,8 +13,11 @@ use Rattle.kk_mono.proofs.Labelled.{both_assoc}
 
 -- what labels stand for
 abbrev pub origins : Renaming → Names → Names
-origins origin labels = record { functions = map origin.functions labels.functions; constructors = map origin.constructors
-    labels.constructors }
+origins origin labels = record {
+  functions = map origin.functions labels.functions;
+  constructors = map origin.constructors
+      labels.constructors;
+}
 
 -- labels of one kind in two parts
 record Parts (f : ℕ → ℕ) (labels first second : List ℕ) : Type 0 where
@@ -51,9 +54,9 @@ module _ (origin : Renaming) where
   split : (labels first second : Names) → origins origin labels ≡ both first second → Split labels first second
   split labels first second are =
       let functions = parts origin.functions labels.functions first.functions second.functions
-          (ap (λ (ns : Names). ns.functions) are) in
+      (ap (λ (ns : Names). ns.functions) are) in
       let constructors = parts origin.constructors labels.constructors first.constructors second.constructors
-          (ap (λ (ns : Names). ns.constructors) are) in
+      (ap (λ (ns : Names). ns.constructors) are) in
       record {
         one = record { functions = functions.one; constructors = constructors.one };
         two = record { functions = functions.two; constructors = constructors.two };
@@ -66,9 +69,9 @@ module _ (origin : Renaming) where
   left_behind : (one two more first : Names) → origins origin one ≡ first → behind (both (both one two) more) first ≡ both two more
   left_behind one two more first are =
       let functions = dropped origin.functions one.functions two.functions more.functions first.functions
-          (ap (λ (ns : Names). ns.functions) are) in
+      (ap (λ (ns : Names). ns.functions) are) in
       let constructors = dropped origin.constructors one.constructors two.constructors more.constructors first.constructors
-          (ap (λ (ns : Names). ns.constructors) are) in
+      (ap (λ (ns : Names). ns.constructors) are) in
       λ i. record { functions = functions i; constructors = constructors i }
 
   -- labels for two parts, one behind the other
@@ -78,7 +81,7 @@ module _ (origin : Renaming) where
       (two_is : (labels more : Names) → origins origin labels ≡ second → IsTwo labels (put_two (both labels more))) where
     both_are : (labels more : Names) → origins origin labels ≡ both first second
         → (one two : Names) × (labels ≡ both one two) × IsOne one (put_one (both labels more))
-            × IsTwo two (put_two (behind (both labels more) first))
+        × IsTwo two (put_two (behind (both labels more) first))
     both_are labels more are =
         let halves = split labels first second are in
         let front : both labels more ≡ both halves.one (both halves.two more) =
@@ -159,7 +162,7 @@ module _ (origin : Renaming) where
     pattern_copied (exactly value) labels more are = (refl, none_left labels are)
     pattern_copied (constructor by ps) labels more are =
         let halves = both_are (λ ls. get_or ls.constructors 0 by) (λ ls. labelled_patterns ls ps) (IsCopiedName by)
-            (AreCopiedPatterns ps)
+        (AreCopiedPatterns ps)
         (only_constructor by) (names_of_patterns ps) (name_copied by) (patterns_copied ps) labels more are in
         ((λ i. constructor (halves.3.0 i) (halves.4.0 i)), (λ i. both (halves.3.1 i) (halves.4.1 i)) ∙ sym halves.2)
 
@@ -168,7 +171,7 @@ module _ (origin : Renaming) where
     patterns_copied no_part labels more are = (refl, none_left labels are)
     patterns_copied (part first rest) labels more are =
         let halves = both_are (λ ls. labelled_pattern ls first) (λ ls. labelled_patterns ls rest) (IsCopiedPattern first)
-            (AreCopiedPatterns rest)
+        (AreCopiedPatterns rest)
         (names_of_pattern first) (names_of_patterns rest) (pattern_copied first) (patterns_copied rest) labels more are in
         ((λ i. part (halves.3.0 i) (halves.4.0 i)), (λ i. both (halves.3.1 i) (halves.4.1 i)) ∙ sym halves.2)
 
@@ -178,13 +181,16 @@ module _ (origin : Renaming) where
     negative : Tree
 
   abbrev branch_rest : Names → Tree → Tree → Branches
-  branch_rest labels positive negative = record { positive = labelled labels positive; negative = labelled
-      (behind labels (names positive)) negative }
+  branch_rest labels positive negative = record {
+    positive = labelled labels positive;
+    negative = labelled
+        (behind labels (names positive)) negative;
+  }
 
   abbrev IsCopiedRest : Tree → Tree → Names → Branches → Type 0
   IsCopiedRest positive negative labels copies =
       (renamed origin copies.positive ≡ positive) × (renamed origin copies.negative ≡ negative)
-          × (both (names copies.positive) (names copies.negative) ≡ labels)
+      × (both (names copies.positive) (names copies.negative) ≡ labels)
 
   abbrev IsCopiedRow : RowTree → Names → RowTree → Type 0
   IsCopiedRow r labels copy = (renamed_pattern origin copy.pattern ≡ r.pattern) × (renamed origin copy.body ≡ r.body)
@@ -196,7 +202,7 @@ module _ (origin : Renaming) where
 
   rest_copied : (positive negative : Tree) → Copies positive → Copies negative → (labels more : Names)
       → origins origin labels ≡ both (names positive) (names negative)
-          → IsCopiedRest positive negative labels (branch_rest (both labels more) positive negative)
+      → IsCopiedRest positive negative labels (branch_rest (both labels more) positive negative)
   rest_copied positive negative one_copied other_copied labels more are =
       let halves = both_are (λ ls. labelled ls positive) (λ ls. labelled ls negative) (IsCopy positive) (IsCopy negative)
       (names positive) (names negative) one_copied other_copied labels more are in
@@ -205,7 +211,7 @@ module _ (origin : Renaming) where
   row_copied : (p : Pattern) (body : Tree) → Copies body → (labels more : Names)
       → origins origin labels ≡ both (names_of_pattern p) (names body)
       → IsCopiedRow (record { pattern = p; body = body }) labels
-          (labelled_row (both labels more) (record { pattern = p; body = body }))
+      (labelled_row (both labels more) (record { pattern = p; body = body }))
   row_copied p body body_copied labels more are =
       let halves = both_are (λ ls. labelled_pattern ls p) (λ ls. labelled ls body) (IsCopiedPattern p) (IsCopy body)
       (names_of_pattern p) (names body) (pattern_copied p) body_copied labels more are in
@@ -221,9 +227,9 @@ module _ (origin : Renaming) where
         ((λ i. apply (halves.3.0 i) (halves.4.0 i)), (λ i. both (halves.3.1 i) (halves.4.1 i)) ∙ sym halves.2)
     copied (branch e positive negative) labels more are =
         let halves = both_are (λ ls. labelled ls e) (λ ls. branch_rest ls positive negative) (IsCopy e)
-            (IsCopiedRest positive negative)
+        (IsCopiedRest positive negative)
         (names e) (both (names positive) (names negative)) (copied e)
-            (rest_copied positive negative (copied positive) (copied negative)) labels more are in
+        (rest_copied positive negative (copied positive) (copied negative)) labels more are in
         ((λ i. branch (halves.3.0 i) (halves.4.0 i) (halves.4.1 i)), (λ i. both (halves.3.1 i) (halves.4.2 i)) ∙ sym halves.2)
     copied (match e rows) labels more are =
         let halves = both_are (λ ls. labelled ls e) (λ ls. labelled_rows ls rows) (IsCopy e) (AreCopied rows)

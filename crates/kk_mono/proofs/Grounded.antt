@@ -39,9 +39,9 @@ members_count by first (c ∷ cs) =
 pub place_more : (constructors before : List Constructor) (places next : List ℕ) (n by place : ℕ) (found : Constructor)
     → n < length constructors → length places ≡ n
     → found ≡ get_or constructors n found → by ≡ found.of_type → before ≡ take n constructors
-        → place ≡ count_by (λ (c : Constructor). c.of_type == by) before
+    → place ≡ count_by (λ (c : Constructor). c.of_type == by) before
     → next ≡ places ++ place ∷ [] → ArePlaces (map constructor_tree constructors) places
-        → ArePlaces (map constructor_tree constructors) next
+    → ArePlaces (map constructor_tree constructors) next
 place_more constructors before places next n by place found lt long is by_is before_is place_is next_is are = subst
     (ArePlaces cs) (sym next_is) pushed
   where
@@ -88,10 +88,10 @@ made_stays declared types more key tag made grows within is = record {
 pub made_from : (declared : ConstructorTree) (before with after : List TypeTree) (key : KeyTree) (tag : ℕ)
     (arguments at : List ℕ) (made : GroundConstructor) (written : List TypeTree)
     → IsKeyWithin before key → Grows before with → Grows with after → arguments ≡ key.at → at ≡ key.at
-        → made.constructor ≡ key.number → made.of_type < length with
+    → made.constructor ≡ key.number → made.of_type < length with
     → type_at with made.of_type ≡ named declared.of_type (types_of (map (type_at before) arguments)) → made.tag ≡ tag
     → AreNumbers after made.fields.items (map (put (type_at (map (type_at with) at))) written) → written ≡ declared.fields
-        → IsMadeAs declared after key tag made
+    → IsMadeAs declared after key tag made
 made_from declared before with after key tag arguments at made written within first second arguments_are at_is constructor_is
     of_type_within of_type_is tag_is fields written_is =
     let both = grows_on before with after first second in
@@ -113,9 +113,9 @@ made_from declared before with after key tag arguments at made written within fi
 pub made_of : (constructors : List Constructor) (places : List ℕ) (types : List TypeTree) (key : KeyTree) (found : Constructor)
     (tag : ℕ) (made : GroundConstructor)
     → key.number < length constructors → length places ≡ length constructors → found ≡ get_or constructors key.number found
-        → tag ≡ get_or places key.number tag
+    → tag ≡ get_or places key.number tag
     → ArePlaces (map constructor_tree constructors) places → IsMadeAs (constructor_tree found) types key tag made
-        → IsMadeOf (map constructor_tree constructors) types key made
+    → IsMadeOf (map constructor_tree constructors) types key made
 made_of constructors places types key found tag made lt many found_is tag_is are is =
     subst (λ n. IsMadeAs (get_or (map constructor_tree constructors) key.number no_constructor) types key n made)
     (tag_is ∙ are key.number tag (omega (arith, lt, many)))
@@ -149,14 +149,14 @@ module _ (cs : List ConstructorTree) where
       (key : KeyTree) (m : GroundConstructor)
       → Grows before types → Grows types more → All (IsKeyWithin before) keys → slice_get keys i ≡ Some key
       → AllZip (IsMadeOf cs types) (take i keys) made → IsMadeOf cs more key m → next ≡ made ++ m ∷ []
-          → AllZip (IsMadeOf cs more) (take (i + 1) keys) next
+      → AllZip (IsMadeOf cs more) (take (i + 1) keys) next
   made_more before types more keys made next i key m first grows within found so_far is next_is =
       let lt = slice_get_within keys i key found in
       let here : get_or keys i key ≡ key = get_or_from_slice_get keys i key key found in
       let within_now : All (IsKeyWithin types) (take i keys) =
       λ k d below. within_grown before types (get_or (take i keys) k d).at
-          (All-take (IsKeyWithin before) i keys within k d below) first in
+      (All-take (IsKeyWithin before) i keys within k d below) first in
       subst (λ ks. AllZip (IsMadeOf cs more) ks next) (ap (λ k. take i keys ++ k ∷ []) (sym here) ∙ sym (take_more keys i key lt))
       (subst (λ ms. AllZip (IsMadeOf cs more) (take i keys ++ key ∷ []) ms) (sym next_is)
       (zip_pushed (IsMadeOf cs more) (take i keys) made key m
-          (all_made_stay types more (take i keys) made grows within_now so_far) is))
+      (all_made_stay types more (take i keys) made grows within_now so_far) is))

@@ -45,15 +45,15 @@ module _ (typed : Typed) (found : Found) (table : Types) (grows : Grows (types_i
 
   still_looked : (i : ℕ) (d : Looked) → i < length found.looked.items
       → IsLooked (program_tree typed.program) (typings_of typed) (types_in table) (known_in found) (used_in found)
-          (get_or (known_in found) i (main_instance 0)) (get_or found.looked.items i d)
+      (get_or (known_in found) i (main_instance 0)) (get_or found.looked.items i d)
   still_looked i d lt =
       let looked = looked_stays (types_in found.types) (types_in table) grows (program_tree typed.program) (typings_of typed)
-          (known_in found) [] (used_in found) []
+      (known_in found) [] (used_in found) []
       (get_or (known_in found) i (main_instance 0)) (get_or found.looked.items i d) (searched.searching.looked i d lt) in
       subst (λ us. IsLooked (program_tree typed.program) (typings_of typed) (types_in table) (known_in found) us
-          (get_or (known_in found) i (main_instance 0)) (get_or found.looked.items i d)) (append-nil (used_in found))
+      (get_or (known_in found) i (main_instance 0)) (get_or found.looked.items i d)) (append-nil (used_in found))
       (subst (λ ks. IsLooked (program_tree typed.program) (typings_of typed) (types_in table) ks (used_in found ++ [])
-          (get_or (known_in found) i (main_instance 0)) (get_or found.looked.items i d)) (append-nil (known_in found)) looked)
+      (get_or (known_in found) i (main_instance 0)) (get_or found.looked.items i d)) (append-nil (known_in found)) looked)
 
   pub grown_searched : HasSearched typed (grown found table)
   grown_searched = record {
@@ -64,14 +64,14 @@ module _ (typed : Typed) (found : Found) (table : Types) (grows : Grows (types_i
       looked = subst (λ xs. AreLooked (program_tree typed.program) (typings_of typed) (types_in table) xs
           (used_in (grown found table)) found.looked.items) (sym same_known)
           (subst (λ us. AreLooked (program_tree typed.program) (typings_of typed) (types_in table)
-              (known_in found) us found.looked.items) (sym same_used) still_looked);
+          (known_in found) us found.looked.items) (sym same_used) still_looked);
       used_within = wider (keys_in found.constructors) searched.searching.used_within;
       below = searched.searching.below;
       whole = searched.searching.whole;
       used = subst (λ xs. AreGroundConstructors (program_tree typed.program) (typings_of typed)
           (take (length found.looked.items) xs) (used_in (grown found table))) (sym same_known)
           (subst (AreGroundConstructors (program_tree typed.program) (typings_of typed)
-              (take (length found.looked.items) (known_in found))) (sym same_used) searched.searching.used);
+          (take (length found.looked.items) (known_in found))) (sym same_used) searched.searching.used);
     };
     ends = elim searched.ends [
       | inl all ↦ inl (subst (λ xs. length xs ≤ length found.looked.items) (sym same_known) all)
@@ -129,12 +129,12 @@ module _ (program : Program) (types : List TypeTree) where
   views_made (key ∷ keys) [] zip = absurd zip
   views_made (key ∷ keys) (m ∷ made) zip =
       ap (λ x. x ∷ map (ground_view types) made) (one_view key m zip.0)
-          ∙ ap (λ xs. viewed_constructor types key ∷ xs) (views_made keys made zip.1)
+      ∙ ap (λ xs. viewed_constructor types key ∷ xs) (views_made keys made zip.1)
 
   pub constructors_made : (keys : List KeyTree) (made : List GroundConstructor)
       → AllZip (IsMadeOf (map constructor_tree program.constructors.items) types) keys made
       → map (ground_constructor_tree types) made
-          ≡ map (ground_constructor (program_tree program)) (map (viewed_constructor types) keys)
+      ≡ map (ground_constructor (program_tree program)) (map (viewed_constructor types) keys)
   constructors_made [] [] zip = refl
   constructors_made [] (m ∷ made) zip = absurd zip
   constructors_made (key ∷ keys) [] zip = absurd zip

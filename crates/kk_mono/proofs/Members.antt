@@ -33,13 +33,13 @@ module _ (by : ℕ) where
   members_append first [] ys = ap (λ n. members_from n ys by) (omega arith)
   members_append first (x ∷ xs) ys =
       let rest = members_append (first + 1) xs ys
-          ∙ ap (λ n. members_from (first + 1) xs by ++ members_from n ys by) (omega arith) in
+      ∙ ap (λ n. members_from (first + 1) xs by ++ members_from n ys by) (omega arith) in
       ap (λ ns. if x.of_type == by then first ∷ ns else ns) rest ∙ moved (x.of_type == by)
     where
       moved : (b : Bool) → (if b then first ∷ (members_from (first + 1) xs by ++ members_from
           (first + length (x ∷ xs)) ys by) else (members_from (first + 1) xs by ++ members_from (first + length (x ∷ xs)) ys by))
           ≡ (if b then first ∷ members_from (first + 1) xs by else members_from (first + 1) xs by) ++ members_from
-              (first + length (x ∷ xs)) ys by
+          (first + length (x ∷ xs)) ys by
       moved true = refl
       moved false = refl
 
@@ -52,17 +52,22 @@ module _ (by : ℕ) where
       behind : (Contains (members_from (first + 1) cs by) n
           → (k : ℕ) × (n ≡ first + 1 + k) × (k < length cs) × ((d : ConstructorTree) → (get_or cs k d).of_type ≡ by))
           → Contains (members_from (first + 1) cs by) n
-              → (k : ℕ) × (n ≡ first + k) × (k < length (c ∷ cs)) × ((d : ConstructorTree) → (get_or (c ∷ cs) k d).of_type ≡ by)
+          → (k : ℕ) × (n ≡ first + k) × (k < length (c ∷ cs)) × ((d : ConstructorTree) → (get_or (c ∷ cs) k d).of_type ≡ by)
       behind rest later = let is = (rest later).1 in let lt = (rest later).2 in
           (suc (rest later).0, omega (arith, is), omega (arith, lt), (rest later).3)
 
       by_test : (Contains (members_from (first + 1) cs by) n
           → (k : ℕ) × (n ≡ first + 1 + k) × (k < length cs) × ((d : ConstructorTree) → (get_or cs k d).of_type ≡ by))
           → (b : Bool) → (c.of_type == by) ≡ b
-              → Contains (if b then first ∷ members_from (first + 1) cs by else members_from (first + 1) cs by) n
+          → Contains (if b then first ∷ members_from (first + 1) cs by else members_from (first + 1) cs by) n
           → (k : ℕ) × (n ≡ first + k) × (k < length (c ∷ cs)) × ((d : ConstructorTree) → (get_or (c ∷ cs) k d).of_type ≡ by)
-      by_test rest true same (zero, lt, is) = (0, (let e : first
-          ≡ n = is in omega (arith, e)), omega arith, λ d. eqb-true c.of_type by same)
+      by_test rest true same (zero, lt, is) = (
+        0,
+        (let e : first
+            ≡ n = is in omega (arith, e)),
+        omega arith,
+        λ d. eqb-true c.of_type by same,
+      )
       by_test rest true same (suc k, lt, is) = behind rest (k, omega (arith, lt), is)
       by_test rest false same later = behind rest later
 
@@ -72,7 +77,7 @@ module _ (by : ℕ) where
   member_in first [] k d lt is = absurd (omega (arith, lt))
   member_in first (c ∷ cs) zero d lt is =
       subst (λ b. Contains (if b then first ∷ members_from (first + 1) cs by else members_from (first + 1) cs by) (first + 0))
-          (sym (eq-eqb c.of_type by is))
+      (sym (eq-eqb c.of_type by is))
       (0, omega arith, omega arith)
   member_in first (c ∷ cs) (suc k) d lt is = by_test (c.of_type == by)
       (subst (λ n. Contains (members_from (first + 1) cs by) n) (omega arith) (member_in (first + 1) cs k d (omega (arith, lt)) is))
@@ -121,13 +126,13 @@ module _ (by : ℕ) where
       later : All (λ n. first < n) (members_from (first + 1) cs by)
       later k d lt =
           let is = member_is by (first + 1) cs (get_or (members_from (first + 1) cs by) k d)
-              (Contains-get_or (members_from (first + 1) cs by) k d lt) in
+          (Contains-get_or (members_from (first + 1) cs by) k d lt) in
           let e = is.1 in
           omega (arith, e)
 
       by_test : AllPairs (λ one other. one < other) (members_from (first + 1) cs by) → (b : Bool)
           → AllPairs (λ one other. one < other) (if b then first ∷ members_from (first + 1) cs by else members_from
-              (first + 1) cs by)
+          (first + 1) cs by)
       by_test rest true = AllPairs-cons (λ one other. one < other) first (members_from (first + 1) cs by) later rest
       by_test rest false = rest
 
@@ -137,11 +142,11 @@ keys_once cs by at i j d lt within same =
     let key : ℕ → KeyTree = λ n. record { number = n; at = at } in
     let long = length-map (members cs by) key in
     let one : get_or (keys_of cs by at) i d
-        ≡ key (get_or (members cs by) i 0) = get_or-map key (members cs by) i 0 d (omega (arith, long, lt, within)) in
+    ≡ key (get_or (members cs by) i 0) = get_or-map key (members cs by) i 0 d (omega (arith, long, lt, within)) in
     let other : get_or (keys_of cs by at) j d
-        ≡ key (get_or (members cs by) j 0) = get_or-map key (members cs by) j 0 d (omega (arith, long, within)) in
+    ≡ key (get_or (members cs by) j 0) = get_or-map key (members cs by) j 0 d (omega (arith, long, within)) in
     let numbers : get_or (members cs by) i 0 ≡ get_or (members cs by) j 0 = ap (λ (k : KeyTree). k.number) (sym one
-        ∙ (same ∙ other)) in
+    ∙ (same ∙ other)) in
     let less = members_apart by 0 cs i j 0 lt (omega (arith, long, within)) in
     omega (arith, less, numbers)
 
@@ -152,13 +157,13 @@ pub makers_are : (by : ℕ) (arguments : TypeTrees) (first : ℕ) (cs : List Con
 makers_are by arguments first [] = refl
 makers_are by arguments first (c ∷ cs) =
     ap (λ ns. if is_some (fields_of (Some (constructor_tree c)) by arguments) then first ∷ ns else ns)
-        (makers_are by arguments (first + 1) cs)
+    (makers_are by arguments (first + 1) cs)
     ∙ by_test (c.of_type == by) (map (with_arguments arguments) (constructor_tree c).fields)
   where
     by_test : (b : Bool) (us : List TypeTree)
         → (if is_some (if b then Some us else None) then first ∷ members_from (first + 1)
-            (map constructor_tree cs) by else members_from (first + 1) (map constructor_tree cs) by)
+        (map constructor_tree cs) by else members_from (first + 1) (map constructor_tree cs) by)
         ≡ (if b then first ∷ members_from (first + 1) (map constructor_tree cs) by else members_from (first + 1)
-            (map constructor_tree cs) by)
+        (map constructor_tree cs) by)
     by_test true us = refl
     by_test false us = refl

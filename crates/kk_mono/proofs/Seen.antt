@@ -37,18 +37,21 @@ pub sees_from : (before after asked : List KeyTree) → Sees before after asked 
     → Contains before key ⊎ Contains asked key
 sees_from before after asked (new, sights, is) key there = elim
     (Contains-append_cases before new key (subst (λ ks. Contains ks key) is there)) [
-  | inl earlier ↦ inl earlier
-  | inr later ↦ inr (sights_each sights key later)
-]
+      | inl earlier ↦ inl earlier
+      | inr later ↦ inr (sights_each sights key later)
+    ]
 
 -- what is known is not seen anew
 pub sees_known : (before asked : List KeyTree) → ((key : KeyTree) → Contains asked key → Contains before key)
     → Sees before before asked
 sees_known before [] all = sees_none before
 sees_known before (key ∷ asked) all =
-    let rest = sees_known before asked (λ other there. all other (Contains-append_right (key ∷ []) asked other there)) in
-    (rest.0, again (all key (Contains-append_left (key ∷ []) asked key
-        (Contains-get_or (key ∷ []) 0 key (omega arith)))) rest.1, rest.2)
+    let rest = sees_known before asked (λ other there. all other (Contains-append_right (key ∷ []) asked other there)) in (
+      rest.0,
+      again (all key (Contains-append_left (key ∷ []) asked key
+          (Contains-get_or (key ∷ []) 0 key (omega arith)))) rest.1,
+      rest.2,
+    )
 
 none_new : {seen new : List KeyTree} {key : KeyTree} → Contains seen key → FirstSights seen (key ∷ []) new → new ≡ []
 none_new there (again _ none_left) = refl
@@ -109,7 +112,7 @@ module _ (cs : List ConstructorTree) where
   module _ (by : ℕ) (at : List ℕ) where
     keys_behind : (xs : List ConstructorTree) (x : ConstructorTree)
         → keys_of (xs ++ x ∷ []) by at
-            ≡ keys_of xs by at ++ (if x.of_type == by then record { number = length xs; at = at } ∷ [] else [])
+        ≡ keys_of xs by at ++ (if x.of_type == by then record { number = length xs; at = at } ∷ [] else [])
     keys_behind xs x =
         let key : ℕ → KeyTree = λ n. record { number = n; at = at } in
         ap (map key) (members_append by 0 xs (x ∷ []))
@@ -135,7 +138,7 @@ module _ (cs : List ConstructorTree) where
     pub keys_next : (before now after : List KeyTree) (n : ℕ) (x d : ConstructorTree) → n < length cs → x ≡ get_or cs n d
         → x.of_type ≡ by
         → Sees before now (keys_of (take n cs) by at) → Sees now after (record { number = n; at = at } ∷ [])
-            → Sees before after (keys_of (take (n + 1) cs) by at)
+        → Sees before after (keys_of (take (n + 1) cs) by at)
     keys_next before now after n x d lt is own so_far sees =
         subst (Sees before after) (sym (next n x d lt is (eq-eqb x.of_type by own)))
         (sees_more before now after (keys_of (take n cs) by at) (record { number = n; at = at } ∷ []) so_far sees)
@@ -152,7 +155,7 @@ pub type_read : (constructors : List Constructor) (n : ℕ) (found : Constructor
     → type_of (map constructor_tree constructors) n ≡ found.of_type
 type_read constructors n found lt is =
     ap (λ (c : ConstructorTree). c.of_type) (get_or-map constructor_tree constructors n found no_constructor lt)
-        ∙ ap (λ (c : Constructor). c.of_type) (sym is)
+    ∙ ap (λ (c : Constructor). c.of_type) (sym is)
 
 -- what follows where a call succeeds
 pub on_ok : {T E P Q : Type 0} (result : Result T E) → OnOk result P → (P → Q) → OnOk result Q

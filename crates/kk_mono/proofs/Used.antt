@@ -28,7 +28,7 @@ module _ (program : Program) (types : List TypeTree) where
   keys_viewed by at =
       each (members (map constructor_tree program.constructors.items) by)
       ∙ ap (map (λ c. record { constructor = c; at = map (type_at types) at }))
-          (sym (makers_are by (types_of (map (type_at types) at)) 0 program.constructors.items))
+      (sym (makers_are by (types_of (map (type_at types) at)) 0 program.constructors.items))
     where
       each : (ns : List ℕ) → map (viewed_constructor types) (map (λ n. record { number = n; at = at }) ns)
           ≡ map (λ c. record { constructor = c; at = map (type_at types) at }) ns
@@ -98,7 +98,7 @@ pub taken_next : (known new : List InstanceTree) (looked : ℕ) (next : Instance
     → take (looked + 1) (known ++ new) ≡ take looked known ++ next ∷ []
 taken_next known new looked next lt is =
     take-append-le (looked + 1) known new (omega (arith, lt))
-        ∙ (take_more known looked next lt ∙ ap (λ x. take looked known ++ x ∷ []) is)
+    ∙ (take_more known looked next lt ∙ ap (λ x. take looked known ++ x ∷ []) is)
 
 pub used_steps : (program : ProgramTree) (typings : List (List Choice)) (known new : List InstanceTree) (looked : ℕ)
     (next : InstanceTree) (used more : List GroundConstructorTree)
@@ -110,7 +110,7 @@ used_steps program typings known new looked next used more so_far lt is sights =
   begins = ap (λ xs. xs ++ more) so_far.begins ∙ append_assoc (ground_constructors program 0 []) so_far.others more;
   in_order = subst (λ ys. FirstSights (ground_constructors program 0 []) ys (so_far.others ++ more)) (sym asked)
       (sights_append so_far.in_order (subst (λ xs. FirstSights xs
-          (flat_map (of_same_type program) (constructed_in typings next)) more) so_far.begins sights));
+      (flat_map (of_same_type program) (constructed_in typings next)) more) so_far.begins sights));
 }
   where
     front : List GroundConstructorTree

@@ -15,7 +15,7 @@ ground_constructor-requires c =
     let lt = slice_get_within keys c.loop-number.number key c.get-key.ensures in
     within_grown (types_in c.args.types.now) (types_in c.loop-number.types) key.at
     (subst (IsKeyWithin (types_in c.args.types.now)) (get_or_from_slice_get keys c.loop-number.number key key c.get-key.ensures)
-        (c.requires.types c.loop-number.number key lt)) c.loop-number.invariant.grows
+    (c.requires.types c.loop-number.number key lt)) c.loop-number.invariant.grows
 
 pub loop-number-preserved : goal.loop-number-preserved
 loop-number-preserved c =
@@ -34,10 +34,10 @@ loop-number-preserved c =
           (types_in c.loop-number.types) after keys c.loop-number.made.items c.push.new.self.items c.loop-number.number key
           c.in_ok-ground_constructor.field-0
           c.loop-number.invariant.grows c.ground_constructor.ensures.grows c.requires.types c.get-key.ensures
-              c.loop-number.invariant.are
+          c.loop-number.invariant.are
           (made_of c.args.constructors.now c.in_ok-places.places.items after key c.index-constructors-place.result
-              c.index.result.now c.in_ok-ground_constructor.field-0
+          c.index.result.now c.in_ok-ground_constructor.field-0
           below c.in_ok-places.ensures.as_many c.index-constructors-place.is c.index.ensures c.in_ok-places.ensures.are
-              c.in_ok-ground_constructor.ensures.is)
+          c.in_ok-ground_constructor.ensures.is)
           c.in_ok-push.ensures.items;
     }

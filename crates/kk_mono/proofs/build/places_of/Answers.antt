@@ -17,6 +17,6 @@ loop-number-preserved c =
           (take c.loop-number.number c.args.constructors.now) c.loop-number.places.items c.push.new.self.items
           c.loop-number.number found.of_type c.in-Ok.place c.index-constructors-number.result
           c.loop-number-test.true c.loop-number.invariant.as_many c.index-constructors-number.is
-              (ap (λ (k : Constructor). k.of_type) (sym c.index-constructors-number.is)) refl (c.in-Ok.ensures.1
-              ∙ c.count_of_type-count.ensures) c.in_ok-push.ensures.items c.loop-number.invariant.are;
+          (ap (λ (k : Constructor). k.of_type) (sym c.index-constructors-number.is)) refl (c.in-Ok.ensures.1
+          ∙ c.count_of_type-count.ensures) c.in_ok-push.ensures.items c.loop-number.invariant.are;
     }

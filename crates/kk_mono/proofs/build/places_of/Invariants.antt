@@ -4,5 +4,8 @@ use Rattle.kk_mono.specs.Building.{ArePlaces}
 use Rattle.kk_mono.proofs.build.places_of.Given as goal
 
 abbrev pub invariant-loop-number : goal.invariant-loop-number
-invariant-loop-number l = record { as_many : length l.places.items
-    ≡ l.number; are : ArePlaces (map constructor_tree l.constructors) l.places.items }
+invariant-loop-number l = record {
+  as_many : length l.places.items
+      ≡ l.number;
+  are : ArePlaces (map constructor_tree l.constructors) l.places.items;
+}

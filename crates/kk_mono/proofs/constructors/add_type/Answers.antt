@@ -27,13 +27,13 @@ loop-place-preserved c =
       | then-constructor-of_type+in-Ok+in_ok-arguments+in_ok-number w ↦
           subst (λ (ks : Keys). Sees before (keys_in ks) (keys_of (take (n + 1) cs) c.args.of_type c.args.at.now)) (sym w.known-is)
           (keys_next cs c.args.of_type c.args.at.now before now
-              (keys_in w.number.new.self) n x x lt is w.if-constructor-of_type.true c.loop-place.invariant
+          (keys_in w.number.new.self) n x x lt is w.if-constructor-of_type.true c.loop-place.invariant
           (sees_key now (keys_in w.number.new.self) w.in-Ok.number n w.in_ok-arguments.arguments.items c.args.at.now
-              w.in-Ok.ensures.1 w.in_ok-arguments.ensures.items w.in_ok-number.ensures.sees))
+          w.in-Ok.ensures.1 w.in_ok-arguments.ensures.items w.in_ok-number.ensures.sees))
       | else-constructor-of_type w ↦
           subst (λ (ks : Keys). Sees before (keys_in ks) (keys_of (take (n + 1) cs) c.args.of_type c.args.at.now)) (sym w.known-is)
           (keys_not cs c.args.of_type c.args.at.now before now n x x lt is
-              (ne_eqb x.of_type c.args.of_type w.if-constructor-of_type.false) c.loop-place.invariant)
+          (ne_eqb x.of_type c.args.of_type w.if-constructor-of_type.false) c.loop-place.invariant)
     ]
 
 pub returns : goal.returns

@@ -13,8 +13,8 @@ returns-clause-sees c =
     let key : KeyTree = record { number = c.args.constructor; at = c.in_ok-from_slice.field-0.items } in
     let long = length-map c.args.constructors.now constructor_tree in
     subst (λ (at : List ℕ). OnOk c.number.result (Sees (keys_in c.args.known.now) (keys_in c.number.new.self)
-        (siblings cs (record { number = c.args.constructor; at = at }))))
+    (siblings cs (record { number = c.args.constructor; at = at }))))
     c.in_ok-from_slice.ensures.items
     (on_ok c.number.result c.number.ensures.sees
     (sees_itself cs (keys_in c.args.known.now) (keys_in c.add_siblings.new.known) (keys_in c.number.new.self) key
-        (let lt = c.requires.there in omega (arith, long, lt)) c.in_ok-add_siblings.ensures))
+    (let lt = c.requires.there in omega (arith, long, lt)) c.in_ok-add_siblings.ensures))

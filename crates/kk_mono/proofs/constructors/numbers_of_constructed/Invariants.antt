@@ -7,4 +7,4 @@ use Rattle.kk_mono.proofs.constructors.numbers_of_constructed.Given as goal
 abbrev pub invariant-loop-choice : goal.invariant-loop-choice
 invariant-loop-choice l =
     Constructing (map constructor_tree l.constructors) (keys_in l.initial.known) (keys_in l.known) l.numbers.items
-        (keys_constructed (take l.choice-index l.taken))
+    (keys_constructed (take l.choice-index l.taken))

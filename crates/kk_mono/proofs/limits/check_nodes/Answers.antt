@@ -29,7 +29,7 @@ loop-function-preserved c =
 pub returns-clause-ok : goal.returns-clause-ok
 returns-clause-ok c =
     let none = ap (λ fs. greatest_of (map function_tree fs))
-        (drop_all c.loop-function.function-index c.args.functions.now c.loop-function-test.false) in
+    (drop_all c.loop-function.function-index c.args.functions.now c.loop-function-test.false) in
     let so_far = c.loop-function.invariant.greatest in
     omega (arith, none, so_far)
 
@@ -37,5 +37,5 @@ pub returns-clause-err : goal.returns-clause-err
 returns-clause-err c =
     ap (option_map (told FunctionNodes))
     (sym (c.loop-function.invariant.few
-        ∙ ap (λ fs. too_many_nodes (map function_tree fs))
-        (drop_all c.loop-function.function-index c.args.functions.now c.loop-function-test.false)))
+    ∙ ap (λ fs. too_many_nodes (map function_tree fs))
+    (drop_all c.loop-function.function-index c.args.functions.now c.loop-function-test.false)))
