@@ -5,8 +5,12 @@ use kk_base::{Bytes, NoMemory};
 use std::alloc::Global;
 
 /// What every generated program begins with: lists, and a list that is built, reversed and summed.
-const LISTS: &str =
-    "type list<a> { Nil; Cons(head: a, tail: list<a>) }\nfun build(n: int32): list<int32> { if n == 0 then Nil else Cons(n, build(n - 1)) }\nfun rev(xs: list<int32>, acc: list<int32>): list<int32> { match xs { Nil -> acc; Cons(x, xx) -> rev(xx, Cons(x, acc)) } }\nfun sum(xs: list<int32>, acc: int32): int32 { match xs { Nil -> acc; Cons(x, xx) -> sum(xx, acc + x) } }\n";
+const LISTS: &str = "\
+type list<a> { Nil; Cons(head: a, tail: list<a>) }
+fun build(n: int32): list<int32> { if n == 0 then Nil else Cons(n, build(n - 1)) }
+fun rev(xs: list<int32>, acc: list<int32>): list<int32> { match xs { Nil -> acc; Cons(x, xx) -> rev(xx, Cons(x, acc)) } }
+fun sum(xs: list<int32>, acc: int32): int32 { match xs { Nil -> acc; Cons(x, xx) -> sum(xx, acc + x) } }
+";
 
 /// The text of the program of a seed and a size, which is the number of its functions `f1`, `f2` and so on. Each takes a list
 /// and gives a list; which of four functions it is, and with which constant, depends on the seed. `main` applies one after
