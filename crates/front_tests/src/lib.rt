@@ -5,6 +5,8 @@
 #[cfg(test)]
 mod cover;
 #[cfg(test)]
+mod generator;
+#[cfg(test)]
 mod lexer;
 #[cfg(test)]
 mod owned;
