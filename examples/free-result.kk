@@ -1,0 +1,2 @@
+fun f(x: a): int32 { x }
+fun main() { println(1) }

@@ -1,0 +1,4 @@
+fun main()
+  match 5
+    0 -> println(1)
+    n -> println(n)

@@ -1,0 +1,3 @@
+fun main()
+  match 5
+    0 -> println(1)
