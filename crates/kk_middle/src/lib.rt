@@ -1,0 +1,6 @@
+//! From an accepted program to its counted form. What the passes need of each other stands here, as laws.
+#![tactic(auto)]
+
+mod law;
+
+pub use law::tail_calls_of_core_forms_lend_on;
