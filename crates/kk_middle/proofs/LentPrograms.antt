@@ -32,7 +32,7 @@ lent_there (x ∷ row) zero less = refl
 lent_there (x ∷ row) (suc i) less = lent_there row i (omega (arith, less))
 
 -- the row of a function, by the numbers of parameters
-row_length : (table : PositionTable) (functions : List FunctionTree) (f : ℕ)
+pub row_length : (table : PositionTable) (functions : List FunctionTree) (f : ℕ)
     → map length table ≡ map (λ (function : FunctionTree). length function.parameters) functions
     → length (slice_index_or table f []) ≡ length (slice_index_or functions f no_function).parameters
 row_length [] [] f same = refl

@@ -263,7 +263,7 @@ lent_variable lent (branch e positive negative) is = absurd (cc)
 lent_variable lent (match e rows) is = absurd (cc)
 lent_variable lent (sequence binder first rest) is = absurd (cc)
 
-inside_one_more : (lent : List ℕ) (around : List Opening) (o : Opening)
+pub inside_one_more : (lent : List ℕ) (around : List Opening) (o : Opening)
     → lent_inside lent (around ++ o ∷ [])
     ≡ lent_in_row (lent_inside lent around) (is_lent_variable (lent_inside lent around) o.scrutinee) o.pattern
 inside_one_more lent [] o = refl

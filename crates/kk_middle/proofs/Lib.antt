@@ -1,3 +1,4 @@
 mod Passing
 mod LentTails
 mod LentPrograms
+mod LentInstances

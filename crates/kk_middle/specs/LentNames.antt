@@ -1,6 +1,8 @@
 -- That the numbers of lent variables keep their meaning on the way to the tail calls of a body.
-use Rattle.std.specs.Prelude.{◌≡◌, ℕ, Bool, true, false, List}
-use Rattle.kk_syntax.specs.OwnedPositions.{is_lent_variable, lent_in_row}
+use Rattle.std.specs.Prelude.{◌≡◌, ℕ, Bool, true, false, List, length, Some, slice_get}
+use Rattle.kk_syntax.specs.OwnedPositions.{is_lent_variable, lent_in_row, lent_below, owned_in}
+use Rattle.kk_syntax.specs.PositionsOf.{PositionTable}
+use Rattle.kk_syntax.specs.Programs.{FunctionTree, ProgramTree}
 use Rattle.kk_syntax.specs.Shapes.{bound, bound_by, is_among}
 use Rattle.kk_syntax.specs.Trees.{Tree, variable, apply, branch, match, sequence, Rows, no_row, row}
 
@@ -23,3 +25,9 @@ abbrev mutual
   KeepLent lent scrutinee (row pattern body rest) =
       (scrutinee ≡ false → AreOthers (bound pattern) lent)
       × (KeepsLent (lent_in_row lent scrutinee pattern) body × KeepLent lent scrutinee rest)
+
+-- so in each function of a program, by the positions that it is lent
+abbrev pub AllKeepLent : ProgramTree → PositionTable → Type 0
+AllKeepLent program positions =
+    (f : ℕ) (function : FunctionTree) → slice_get program.functions f ≡ Some function
+    → KeepsLent (lent_below (owned_in positions f) (length function.parameters)) function.body

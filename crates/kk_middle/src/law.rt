@@ -1,11 +1,14 @@
-ghost use Rattle.std.specs.Prelude.{◌≡◌, ℕ, length, Some, slice_get};
-ghost use Rattle.kk_syntax.specs.OwnedPositions.{lent_below, owned_in, Told, ClosedUnderTailCalls};
+ghost use Rattle.std.specs.Prelude.{List};
+ghost use Rattle.kk_syntax.specs.OwnedPositions.{owned_in, Told, ClosedUnderTailCalls};
 ghost use Rattle.kk_syntax.specs.PositionsOf.{PositionTable};
-ghost use Rattle.kk_syntax.specs.Programs.{FunctionTree, ProgramTree};
+ghost use Rattle.kk_syntax.specs.Programs.{ProgramTree};
+ghost use Rattle.kk_syntax.specs.Typing.{Choice};
+ghost use Rattle.kk_mono.specs.Instances.{InstanceTree, IsInstanceProgram};
+ghost use Rattle.kk_instances.specs.Meaning.{positions_in};
 ghost use Rattle.kk_core.specs.Codes.{ProgramCode};
 ghost use Rattle.kk_norm.specs.Normalized.{IsCoreForm};
 ghost use Rattle.kk_insert.specs.Promise.{TailsLendOn};
-ghost use Rattle.kk_middle.specs.LentNames.{KeepsLent};
+ghost use Rattle.kk_middle.specs.LentNames.{AllKeepLent};
 
 /// Where a program's owned positions are closed under the rule on tail calls, its core form's tail calls lend only what is lent.
 /// No binder on the way to a tail call may have the number of a lent variable, as where each binder of a function has a number
@@ -13,7 +16,18 @@ ghost use Rattle.kk_middle.specs.LentNames.{KeepsLent};
 pub fn tail_calls_of_core_forms_lend_on()
     ensures { (program : ProgramTree) (code : ProgramCode) (positions : PositionTable)
         → IsCoreForm program code → Told program positions → ClosedUnderTailCalls program (owned_in positions)
-        → ((f : ℕ) (function : FunctionTree) → slice_get program.functions f ≡ Some function
-        → KeepsLent (lent_below (owned_in positions f) (length function.parameters)) function.body)
-        → TailsLendOn positions code }
+        → AllKeepLent program positions → TailsLendOn positions code }
+{}
+
+/// Where a program's owned positions are closed under the rule on tail calls, so are those of its instances, which are those of
+/// the functions that they are. So the law above holds of the instances. It is a law, and does nothing.
+pub fn owned_positions_of_instances_are_closed()
+    ensures told { (program made : ProgramTree) (typings : List (List Choice)) (instances : List InstanceTree) (table : PositionTable)
+        → IsInstanceProgram program typings instances made → Told program table → Told made (positions_in instances table) }
+    ensures closed { (program made : ProgramTree) (typings : List (List Choice)) (instances : List InstanceTree) (table : PositionTable)
+        → IsInstanceProgram program typings instances made → Told program table
+        → ClosedUnderTailCalls program (owned_in table) → ClosedUnderTailCalls made (owned_in (positions_in instances table)) }
+    ensures keeps { (program made : ProgramTree) (typings : List (List Choice)) (instances : List InstanceTree) (table : PositionTable)
+        → IsInstanceProgram program typings instances made → Told program table
+        → AllKeepLent program table → AllKeepLent made (positions_in instances table) }
 {}

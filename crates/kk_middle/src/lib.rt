@@ -3,4 +3,4 @@
 
 mod law;
 
-pub use law::tail_calls_of_core_forms_lend_on;
+pub use law::{owned_positions_of_instances_are_closed, tail_calls_of_core_forms_lend_on};
