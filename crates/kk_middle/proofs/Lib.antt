@@ -1,4 +1,5 @@
 mod Passing
+mod Rows
 mod LentTails
 mod LentPrograms
 mod LentInstances

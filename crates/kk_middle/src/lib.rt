@@ -2,5 +2,7 @@
 #![tactic(auto)]
 
 mod law;
+mod positions;
 
 pub use law::{owned_positions_of_instances_are_closed, tail_calls_of_core_forms_lend_on};
+pub use positions::positions_of_instances;
