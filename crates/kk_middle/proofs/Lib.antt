@@ -1,5 +1,6 @@
 mod Passing
 mod Rows
+mod Blocks
 mod LentTails
 mod LentPrograms
 mod LentInstances
