@@ -1,20 +1,18 @@
 -- The ground constructors of a program stand type by type, those of a type in the order of their declaration. So the tag of each,
 -- its place among the constructors of its type, is the number of those of its type that stand before it.
-use Rattle.std.proofs.Common.{◌≡◌, ◌≢◌, ◌⊎◌, inl, inr, ℕ, zero, suc, ◌+◌, ◌<◌, ◌≤◌, ◌==◌, Bool, true, false, List, [], ◌∷◌, ◌++◌, length, map, get_or, take, AllPairs, All, Contains, Option, Some, None, arith, refl, sym, ap, ◌∙◌, subst, append_assoc}
+use Rattle.std.proofs.Common.{◌≡◌, ◌≢◌, ◌⊎◌, inl, inr, ℕ, zero, suc, ◌+◌, ◌<◌, ◌≤◌, ◌==◌, Bool, true, false, List, [], ◌∷◌, ◌++◌, length, map, get_or, take, AllPairs, Contains, Some, None, arith, refl, sym, ap, ◌∙◌, subst, append_assoc}
 use Rattle.std.specs.Prelude.{if◌then◌else◌, slice_get, slice_index_or, flat_map, is_some, count_by}
 use Rattle.std.proofs.lemmas.Bool.{eqb-true}
 use Rattle.std.proofs.lemmas.List.Sums.{sum_by-cons, sum_by-append}
 use Rattle.std.proofs.lemmas.Option.{slice_get-get_or}
-use Rattle.std.proofs.lemmas.List.{append-nil, length-append, length-map, get_or-map}
+use Rattle.std.proofs.lemmas.List.{append-nil}
 use Rattle.std.proofs.lemmas.List.Elements.{Contains-get_or, Contains-append_left, Contains-append_right, Contains-append_cases}
-use Rattle.std.proofs.lemmas.List.Kept.{AllPairs-cons}
 use Rattle.kk_syntax.specs.OfType.{fields_with, fields_of}
 use Rattle.kk_syntax.specs.Programs.{ConstructorTree, ProgramTree, no_constructor, constructor_in}
 use Rattle.kk_syntax.specs.Types.{TypeTree, TypeTrees, types_of}
 use Rattle.kk_mono.specs.Instances.{GroundConstructorTree, FirstSights, none_left, again, new_one, makers_from, makers, ground_constructors, of_same_type}
 use Rattle.kk_mono.proofs.Distinct.{sights_apart}
-use Rattle.kk_mono.proofs.Members.{in_map, out_of_map}
-use Rattle.kk_mono.proofs.Sights.{Parted, sights_part, only_one}
+use Rattle.kk_mono.proofs.Sights.{Parted, sights_part}
 
 -- ---- the makers of a type
 
@@ -86,10 +84,10 @@ maker_at first (d ∷ cs) by arguments k c there =
 
 module _ (program : ProgramTree) where
   -- a ground constructor of a declared type at types
-  IsOf : ℕ → List TypeTree → GroundConstructorTree → Type 0
+  abbrev pub IsOf : ℕ → List TypeTree → GroundConstructorTree → Type 0
   IsOf by at x = ((constructor_in program x.constructor).of_type ≡ by) × (x.at ≡ at)
 
-  abbrev block : ℕ → List TypeTree → List GroundConstructorTree
+  abbrev pub block : ℕ → List TypeTree → List GroundConstructorTree
   block by at = ground_constructors program by at
 
   get_mapped : (at : List TypeTree) (cs : List ℕ) (k : ℕ) (x : GroundConstructorTree)
@@ -126,13 +124,11 @@ module _ (program : ProgramTree) where
   -- the k-th of a block
   in_block : (by : ℕ) (at : List TypeTree) (k : ℕ) (x : GroundConstructorTree) → slice_get (block by at) k ≡ Some x
       → IsOf by at x × (length (makers (take x.constructor program.constructors) by (types_of at)) ≡ k)
-  unfolding IsOf
   in_block by at k x there =
       let one = get_mapped at (makers program.constructors by (types_of at)) k x there in
       let maker : Maker 0 program.constructors by (types_of at) k x.constructor =
-          maker_at 0 program.constructors by (types_of at) k x.constructor one.0 in
-      let same : x.constructor ≡ maker.behind = maker.is ∙ omega arith in
-      (
+      maker_at 0 program.constructors by (types_of at) k x.constructor one.0 in
+      let same : x.constructor ≡ maker.behind = maker.is ∙ omega arith in (
         (ap (λ (c : ℕ). (constructor_in program c).of_type) same ∙ maker.of_type, one.1),
         ap (λ (c : ℕ). length (makers (take c program.constructors) by (types_of at))) same ∙ maker.count,
       )
@@ -146,12 +142,12 @@ module _ (program : ProgramTree) where
       let one = in_block by at i (get_or (block by at) i d) (slice_get-get_or (block by at) i d (omega (arith, lt, within))) in
       let other = in_block by at j (get_or (block by at) j d) (slice_get-get_or (block by at) j d within) in
       let equal : i ≡ j = sym one.1 ∙ ap (λ (x : GroundConstructorTree). length (makers (take x.constructor program.constructors) by (types_of at))) same
-          ∙ other.1 in
+      ∙ other.1 in
       omega (arith, lt, equal)
 
   -- ---- lists of whole blocks
 
-  data Whole : List GroundConstructorTree → Type 0 where
+  pub data Whole : List GroundConstructorTree → Type 0 where
     no_block : Whole []
     more : {xs : List GroundConstructorTree} → Whole xs → (by : ℕ) → (at : List TypeTree)
         → ((x : GroundConstructorTree) → Contains xs x → IsOf by at x → ⊥) → Whole (xs ++ block by at)
@@ -159,15 +155,14 @@ module _ (program : ProgramTree) where
   -- with one of a type all of its block are there
   whole_in : (xs : List GroundConstructorTree) → Whole xs → (by : ℕ) (at : List TypeTree) (x y : GroundConstructorTree)
       → Contains xs x → IsOf by at x → Contains (block by at) y → Contains xs y
-  unfolding IsOf
   whole_in [] no_block by at x y there is own = absurd (let lt = there.1 in omega (arith, lt))
   whole_in zs (more {xs} whole by' at' fresh) by at x y there is own =
       elim (Contains-append_cases xs (block by' at') x there) [
         | inl before ↦ Contains-append_left xs (block by' at') y (whole_in xs whole by at x y before is own)
         | inr here ↦ Contains-append_right xs (block by' at') y
-          (let of = block_of by' at' x here in
-          subst (λ (ts : List TypeTree). Contains (block by' ts) y) (sym is.1 ∙ of.1)
-          (subst (λ (n : ℕ). Contains (block n at) y) (sym is.0 ∙ of.0) own))
+            (let of = block_of by' at' x here in
+            subst (λ (ts : List TypeTree). Contains (block by' ts) y) (sym is.1 ∙ of.1)
+            (subst (λ (n : ℕ). Contains (block n at) y) (sym is.0 ∙ of.0) own))
       ]
 
   -- a block that is looked at is there whole, or none of it
@@ -190,7 +185,7 @@ module _ (program : ProgramTree) where
       by_case : (ys : List GroundConstructorTree) → block by at ≡ ys → FirstSights xs (block by at) new → Whole (xs ++ new)
       by_case [] same look =
           let none : new ≡ [] = none_new [] new xs (λ y there. absurd (let lt = there.1 in omega (arith, lt)))
-              (subst (λ (ys : List GroundConstructorTree). FirstSights xs ys new) same look) in
+          (subst (λ (ys : List GroundConstructorTree). FirstSights xs ys new) same look) in
           subst Whole (ap (λ (zs : List GroundConstructorTree). xs ++ zs) (sym none)) (subst Whole (sym (append-nil xs)) whole)
       by_case (y ∷ ys) same look =
           first_case new (subst (λ (zs : List GroundConstructorTree). FirstSights xs zs new) same look) refl look
@@ -203,34 +198,34 @@ module _ (program : ProgramTree) where
               → Whole (xs ++ new)
           first_case news (again there rest) equal look =
               let none : new ≡ [] = none_new (block by at) new xs
-                  (λ z later. whole_in xs whole by at y z there (block_of by at y own) later) look in
+              (λ z later. whole_in xs whole by at y z there (block_of by at y own) later) look in
               subst Whole (ap (λ (zs : List GroundConstructorTree). xs ++ zs) (sym none)) (subst Whole (sym (append-nil xs)) whole)
           first_case (z ∷ news) (new_one absent rest) equal look =
               let all : new ≡ block by at =
-                  sights_apart (block_once by at) (λ x later there. fresh y own absent x there (block_of by at x later)) look in
+              sights_apart (block_once by at) (λ x later there. fresh y own absent x there (block_of by at x later)) look in
               subst Whole (ap (λ (zs : List GroundConstructorTree). xs ++ zs) (sym all)) (more whole by at (fresh y own absent))
 
-  sees_blocks : (xs used new : List GroundConstructorTree) → Whole xs → FirstSights xs (flat_map (of_same_type program) used) new
+  pub sees_blocks : (xs used new : List GroundConstructorTree) → Whole xs → FirstSights xs (flat_map (of_same_type program) used) new
       → Whole (xs ++ new)
   sees_blocks xs [] [] whole none_left = subst Whole (sym (append-nil xs)) whole
   sees_blocks xs [] (z ∷ new) whole sights = elim sights [ ]
   sees_blocks xs (u ∷ used) new whole sights =
       let parts : Parted xs (of_same_type program u) (flat_map (of_same_type program) used) new =
-          sights_part xs (of_same_type program u) (flat_map (of_same_type program) used) new sights in
+      sights_part xs (of_same_type program u) (flat_map (of_same_type program) used) new sights in
       let first : Whole (xs ++ parts.first) =
-          sees_block xs parts.first (constructor_in program u.constructor).of_type u.at whole parts.of_first in
+      sees_block xs parts.first (constructor_in program u.constructor).of_type u.at whole parts.of_first in
       subst Whole (append_assoc xs parts.first parts.rest ∙ ap (λ (zs : List GroundConstructorTree). xs ++ zs) (sym parts.whole))
       (sees_blocks (xs ++ parts.first) used parts.rest first parts.of_rest)
 
   -- ---- tags as places
 
   -- whether a ground constructor is of a type, told by a test
-  record Tells (p : GroundConstructorTree → Bool) (by : ℕ) (at : List TypeTree) : Type 0 where
-    yes : (x : GroundConstructorTree) → IsOf by at x → p x ≡ true
-    no : (x : GroundConstructorTree) → (IsOf by at x → ⊥) → p x ≡ false
+  pub record Tells (p : GroundConstructorTree → Bool) (by : ℕ) (at : List TypeTree) : Type 0 where
+    pub yes : (x : GroundConstructorTree) → IsOf by at x → p x ≡ true
+    pub no : (x : GroundConstructorTree) → (IsOf by at x → ⊥) → p x ≡ false
 
   -- each stands behind as many of its type as come before it among the makers
-  abbrev Placed : List GroundConstructorTree → Type 0
+  abbrev pub Placed : List GroundConstructorTree → Type 0
   Placed xs =
       (i : ℕ) (g : GroundConstructorTree) → slice_get xs i ≡ Some g → (p : GroundConstructorTree → Bool)
       → Tells p (constructor_in program g.constructor).of_type g.at
@@ -291,8 +286,7 @@ module _ (program : ProgramTree) where
   take_length [] (suc k) le = absurd (omega (arith, le))
   take_length (x ∷ xs) (suc k) le = ap suc (take_length xs k (omega (arith, le)))
 
-  placed : (xs : List GroundConstructorTree) → Whole xs → Placed xs
-  unfolding IsOf
+  pub placed : (xs : List GroundConstructorTree) → Whole xs → Placed xs
   placed [] no_block i g there p tells = absurd (nothing i there)
     where
       nothing : (i : ℕ) → slice_get [] i ≡ Some g → ⊥
@@ -301,19 +295,19 @@ module _ (program : ProgramTree) where
       elim (front_or_back xs (block by at) i g there) [
         | inl one ↦ ap (count_by p) one.1 ∙ placed xs whole i g one.0 p tells
         | inr one ↦
-          (let place = in_block by at one.0 g one.1.0 in
-          let of_type = place.0.0 in
-          let types = place.0.1 in
-          ap (count_by p) one.1.1 ∙ sum_by-append (λ x. if p x then 1 else 0) xs (take one.0 (block by at))
-          ∙ ap (λ (n : ℕ). n + count_by p (take one.0 (block by at)))
-          (count_none p xs (λ x before. tells.no x (λ is. fresh x before (is.0 ∙ of_type, is.1 ∙ types))))
-          ∙ omega arith
-          ∙ count_all p (take one.0 (block by at))
-          (λ x inner. let own = block_of by at x (take_in (block by at) one.0 x inner) in
-          tells.yes x (own.0 ∙ sym of_type, own.1 ∙ sym types))
-          ∙ take_length (block by at) one.0 (let less = within_get (block by at) one.0 g one.1.0 in omega (arith, less))
-          ∙ sym place.1
-          ∙ ap (λ (n : ℕ). length (makers (take g.constructor program.constructors) n (types_of at))) (sym of_type)
-          ∙ ap (λ (ts : List TypeTree). length (makers (take g.constructor program.constructors) (constructor_in program g.constructor).of_type (types_of ts)))
-          (sym types))
+            (let place = in_block by at one.0 g one.1.0 in
+            let of_type = place.0.0 in
+            let types = place.0.1 in
+            ap (count_by p) one.1.1 ∙ sum_by-append (λ x. if p x then 1 else 0) xs (take one.0 (block by at))
+            ∙ ap (λ (n : ℕ). n + count_by p (take one.0 (block by at)))
+            (count_none p xs (λ x before. tells.no x (λ is. fresh x before (is.0 ∙ of_type, is.1 ∙ types))))
+            ∙ omega arith
+            ∙ count_all p (take one.0 (block by at))
+            (λ x inner. let own = block_of by at x (take_in (block by at) one.0 x inner) in
+            tells.yes x (own.0 ∙ sym of_type, own.1 ∙ sym types))
+            ∙ take_length (block by at) one.0 (let less = within_get (block by at) one.0 g one.1.0 in omega (arith, less))
+            ∙ sym place.1
+            ∙ ap (λ (n : ℕ). length (makers (take g.constructor program.constructors) n (types_of at))) (sym of_type)
+            ∙ ap (λ (ts : List TypeTree). length (makers (take g.constructor program.constructors) (constructor_in program g.constructor).of_type (types_of ts)))
+            (sym types))
       ]

@@ -1,5 +1,5 @@
 -- The positions of instances, by the instances in memory.
-use Rattle.std.proofs.Common.{◌≡◌, ℕ, List, [], ◌∷◌, map, refl, ap}
+use Rattle.std.proofs.Common.{◌≡◌, List, [], ◌∷◌, map, refl, ap}
 use Rattle.std.specs.Prelude.{slice_index_or}
 use Rattle.kk_syntax.specs.declared.ground.Instance.{Instance}
 use Rattle.kk_syntax.specs.PositionsOf.{PositionTable}
