@@ -1,7 +1,7 @@
 -- Programs whose functions are those of their instances are spent.
 use Rattle.std.proofs.Common.{◌≡◌, ℕ, zero, suc, ◌+◌, ◌<◌, Bool, true, false, List, [], ◌∷◌, ◌++◌, map, length, Some}
 use Rattle.std.proofs.Common.{arith, refl, sym, ap, ◌∙◌, subst}
-use Rattle.std.proofs.Math.Logic.{∥∥₁_map}
+use Rattle.std.proofs.Math.Logic.{∥∥₁_elim, ∥∥₁_map, ∥∥₁_prop}
 use Rattle.std.specs.Prelude.{if◌then◌else◌, slice_get, slice_index_or}
 use Rattle.kk_syntax.specs.PositionsOf.{PositionTable}
 use Rattle.kk_counted.specs.declared.counted.CountedFun.{CountedFun}
@@ -58,9 +58,10 @@ function_more positions functions all fun are next is =
 
 -- a function is added, or there is no room for it
 pub function_pushed : (positions : PositionTable) (functions all : List CountedFun) (fun : CountedFun) (ok : Bool)
-    → ∥ AreFunctions positions functions ∥₁ → IsFunctionOf positions (length functions) fun
+    → ∥ AreFunctions positions functions ∥₁ → ∥ IsFunctionOf positions (length functions) fun ∥₁
     → all ≡ (if ok then functions ++ fun ∷ [] else functions) → ∥ AreFunctions positions all ∥₁
-function_pushed positions functions all fun true are next is = function_more positions functions all fun are next is
+function_pushed positions functions all fun true are next is =
+    ∥∥₁_elim next ∥∥₁_prop (λ one. function_more positions functions all fun are one is)
 function_pushed positions functions all fun false are next is =
     subst (λ (xs : List CountedFun). ∥ AreFunctions positions xs ∥₁) (sym is) are
 

@@ -7,7 +7,7 @@ ghost use Rattle.kk_counted.specs.Emissions.{state};
 ghost use Rattle.kk_counted.specs.Programs.{IsFunctionOf};
 ghost use Rattle.kk_counted.specs.Works.{left_in};
 
-use crate::copies::copied;
+use crate::copies::copied_decisions;
 use crate::counted::CountedFun;
 use crate::debts::{ArmEnd, Arms, Debts, Held, Kept, Owed};
 use crate::emitter::Emitter;
@@ -26,7 +26,7 @@ impl<'a> Emitter<'a> {
         ensures err { OnErr result (state self.new ≡ state self.old) }
         ensures kept { IfErr result (λ kept. kept.held ≡ Held.Many debts) }
     {
-        let Ok(copy) = copied(self.work.alloc, tests) else {
+        let Ok(copy) = copied_decisions(self.work.alloc, tests) else {
             return Err(Kept::of_many(debts));
         };
         let arms = self.begin(on, copy, debts)?;

@@ -7,7 +7,7 @@ use kk_core::{Decisions, Node};
 use std::alloc::Global;
 
 /// The same decisions again.
-pub fn copied(alloc: Global, decisions: &Decisions) -> Result<Decisions, NoMemory>
+pub fn copied_decisions(alloc: Global, decisions: &Decisions) -> Result<Decisions, NoMemory>
     ensures rows { IfOk result (λ copy. copy.rows ≡ decisions.now.rows) }
     ensures decisions { IfOk result (λ copy. decisions_of copy ≡ decisions_of decisions.now) }
 {

@@ -9,7 +9,7 @@ use crate::shape::Shape;
 use kk_base::NoMemory;
 use std::alloc::Global;
 
-/// The function of an instance, in counted form. An emitter makes it.
+/// The function of an instance, in counted form. An emitter makes it, or a pass that rewrites one.
 #[derive(Debug, Drop)]
 pub struct CountedFun {
     instance: u32,
@@ -27,6 +27,17 @@ impl CountedFun {
             instance,
             parameters,
             body: Block { steps, last },
+        }
+    }
+
+    /// The function of an instance, with so many parameters and this body. A program takes it where it spends what it owns.
+    pub fn new(instance: u32, parameters: u32, body: Block) -> Self
+        ensures { result ≡ record { instance = instance; parameters = parameters; body = body } }
+    {
+        CountedFun {
+            instance,
+            parameters,
+            body,
         }
     }
 
@@ -103,7 +114,7 @@ impl Counted {
 
     /// Adds the function of the next instance. Refused, it changes nothing.
     pub fn add(&mut self, function: CountedFun) -> Result<(), NoMemory>
-        requires { IsFunctionOf (positions_in self.old.shape.instances.items) (length self.old.functions.items) function }
+        requires { ∥ IsFunctionOf (positions_in self.old.shape.instances.items) (length self.old.functions.items) function ∥₁ }
         ensures ok { OnOk result (self.new.functions.items ≡ self.old.functions.items ++ function ∷ []) }
         ensures err { OnErr result (self.new.functions.items ≡ self.old.functions.items) }
         ensures shape { self.new.shape ≡ self.old.shape }

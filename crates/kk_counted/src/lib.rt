@@ -13,6 +13,7 @@ mod lists;
 mod shape;
 mod work;
 
+pub use copies::copied_decisions;
 pub use counted::{Counted, CountedFun, counted_programs_are_judged};
 pub use debts::{ArmEnd, Arms, Debts, Kept, Owed, give_up};
 pub use emitter::Emitter;

@@ -2,3 +2,4 @@ pub mod Spends
 pub mod Steps
 pub mod Runs
 pub mod Tokens
+pub mod Forms

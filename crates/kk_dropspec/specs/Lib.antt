@@ -1,3 +1,4 @@
 pub mod Specialised
+pub mod SpecialForms
 pub mod SameRuns
 pub mod SpecialTokens

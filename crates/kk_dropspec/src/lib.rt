@@ -1,8 +1,11 @@
-//! Drop specialisation: counted code whose openings go by the count of the cell. It is a function on code in specs/, with laws.
+//! Drop specialisation: counted code whose openings go by the count of the cell. What it makes of code is a function in specs/;
+//! laws say that its runs are the same.
 #![tactic(auto)]
 
 mod law;
+mod special;
 
 pub use law::{
     specialised_code_is_spent, specialised_code_runs_the_same, specialised_code_spends_its_tokens,
 };
+pub use special::run;

@@ -1,6 +1,6 @@
 use Rattle.std.proofs.Common.{◌≡◌, ◌++◌, map, drop}
 use Rattle.kk_core.specs.Decisions.{node_tree}
-use Rattle.kk_counted.proofs.copies.copied.Given as goal
+use Rattle.kk_counted.proofs.copies.copied_decisions.Given as goal
 
 abbrev pub invariant-loop-node : goal.invariant-loop-node
 invariant-loop-node l =

@@ -1,0 +1,15 @@
+use Rattle.std.proofs.Common.{ap, ◌∙◌}
+use Rattle.kk_counted.specs.CountedForms.{block_code}
+use Rattle.kk_counted.specs.Shaping.{positions_in}
+use Rattle.kk_dropspec.specs.Specialised.{special}
+use Rattle.kk_dropspec.proofs.Spends.{next_is_function}
+use Rattle.kk_dropspec.proofs.special.run.Goals as goal
+
+pub add-requires : goal.add-requires
+add-requires c =
+    next_is_function (positions_in c.args.counted.shape.instances.items) _ c.args.counted.functions.items
+    c.deref-function-items.result.now c.function-item.result c.new.result c.loop-function.function-index _ c.args.counted.spent
+    (ap (λ shape. positions_in shape.instances.items) (c.loop-function.invariant.1.1.0 ∙ c.new-made.ensures.shape ∙ ap (λ parts. parts.0) c.parts-shape.ensures))
+    (c.deref-function-items.ensures.value ∙ ap (λ parts. parts.1.items) c.parts-shape.ensures) c.loop-function-test.true c.function-item.is c.loop-function.invariant.1.0
+    (ap (λ fun. fun.instance) c.new.ensures ∙ c.instance.ensures) (ap (λ fun. fun.parameters) c.new.ensures ∙ c.parameters.ensures)
+    (ap (λ fun. block_code fun.body) c.new.ensures ∙ c.in_ok-body.ensures ∙ ap (λ body. special (block_code body)) c.body.ensures)

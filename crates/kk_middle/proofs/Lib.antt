@@ -1,0 +1,7 @@
+mod Passing
+mod Rows
+mod Blocks
+mod Consistent
+mod LentTails
+mod LentPrograms
+mod LentInstances

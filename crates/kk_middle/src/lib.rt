@@ -1,0 +1,11 @@
+//! From an accepted program to its counted form. What the passes need of each other stands here, as laws.
+#![tactic(auto)]
+
+mod law;
+mod positions;
+
+pub use law::{
+    core_constructors_are_consistent, owned_positions_of_instances_are_closed,
+    tail_calls_of_core_forms_lend_on,
+};
+pub use positions::positions_of_instances;
