@@ -15,3 +15,6 @@ pub mod Computing
 pub mod Simulating
 pub mod Typed
 pub mod Marked
+pub mod TypeMarks
+pub mod TypedMarks
+pub mod MarkedPrograms

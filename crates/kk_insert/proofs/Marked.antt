@@ -7,10 +7,10 @@ use Rattle.kk_core.specs.Codes.{Code, give, tail_call, branch, case, compute, us
 use Rattle.kk_core.specs.Sizes.{AreBound}
 use Rattle.kk_counted.specs.CountedCodes as Counted
 use Rattle.kk_counted.specs.Marks.{CellMarks, parameter_marks, result_mark, field_marks, HaveMarks, IsFormMarked, Opens, HasMark, HaveMark}
-use Rattle.kk_insert.specs.Insertion.{common, extra, dups, drops, dropping, opening, back, used, lends, owns, wants, own, own_arms, insert, insert_arms}
+use Rattle.kk_insert.specs.Insertion.{common, extra, dups, drops, dropping, opening, back, used, lends, owns, wants, own, insert, insert_arms}
 use Rattle.kk_insert.proofs.Sets.{Part, among_first, among_next, one_only, in_front, in_back, in_either, filter_in, before_either, extra_in}
 use Rattle.kk_insert.proofs.Fine.{IsFine, AreFine}
-use Rattle.kk_insert.proofs.Owned.{used_part, lends_part, owns_part, fields_part, rest_part, own_part, own_arms_part}
+use Rattle.kk_insert.proofs.Owned.{used_part, lends_part, owns_part, rest_part, own_part}
 
 -- ---- core code, by the variables of its function that are marked
 
@@ -113,15 +113,14 @@ module _ (marks : CellMarks) (holds : ℕ → Bool) (result : Bool) where
           let owned : Part (own positions lent left rest) (x ∷ bound) = own_part positions lent left (x ∷ bound) rest fine.1.1.1 more in
           let kept : Part (without (x ∷ []) (own positions lent left rest)) bound = rest_part positions lent x (own positions lent left rest) bound owned in
           let lends_bound : Part (owns lent (lends positions form arguments) (without (x ∷ []) (own positions lent left rest))) bound =
-              owns_part positions lent (lends positions form arguments) (without (x ∷ []) (own positions lent left rest)) bound
-              (λ y is. fine.0 y (lends_part positions form arguments y is)) kept in
+          owns_part positions lent (lends positions form arguments) (without (x ∷ []) (own positions lent left rest)) bound
+          (λ y is. fine.0 y (lends_part positions form arguments y is)) kept in
           dups_marked
           (wants lent (used positions form arguments) (owns lent (lends positions form arguments) (without (x ∷ []) (own positions lent left rest))))
           bound given
           (Counted.compute x form arguments (back lent (lends positions form arguments) x (own positions lent left rest) (insert positions lent left rest)))
           (wants_part lent (used positions form arguments) (owns lent (lends positions form arguments) (without (x ∷ []) (own positions lent left rest)))
-          bound (λ y is. fine.0 y (used_part positions form arguments y is)) lends_bound)
-          (
+          bound (λ y is. fine.0 y (used_part positions form arguments y is)) lends_bound) (
             bound_all arguments bound fine.0,
             (
               mark.0,
@@ -143,8 +142,7 @@ module _ (marks : CellMarks) (holds : ℕ → Bool) (result : Bool) where
           (insert_marked left (fields ++ bound) given rest fine.1.1.1.1 (λ y is. in_back fields bound y (part y is)) mark.1.1)
       insert_marked left bound given (inside x block rest) fine part mark =
           let more : Part left (x ∷ bound) = λ y is. among_next x y bound (part y is) in
-          let owned : Part (own positions lent left rest) (x ∷ bound) = own_part positions lent left (x ∷ bound) rest fine.1.1.1 more in
-          (
+          let owned : Part (own positions lent left rest) (x ∷ bound) = own_part positions lent left (x ∷ bound) rest fine.1.1.1 more in (
             insert_marked (without (x ∷ []) (own positions lent left rest)) bound (holds x) block fine.0
                 (rest_part positions lent x (own positions lent left rest) bound owned) mark.0,
             dropping_marked (x ∷ []) (own positions lent left rest) (x ∷ bound) given (insert positions lent left rest)
