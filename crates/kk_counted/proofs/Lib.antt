@@ -24,6 +24,9 @@ pub mod SoundRuns
 pub mod SoundUses
 pub mod Cost
 pub mod Marking
+pub mod OwnedBounds
+pub mod CountSteps
+pub mod NarrowCounts
 pub mod Places
 pub mod Looks
 pub mod SoundGoing

@@ -1,6 +1,7 @@
 pub mod Arms
 pub mod BareForms
 pub mod Cost
+pub mod CountBounds
 pub mod CountedCodes
 pub mod CountedForms
 pub mod CountedMachine

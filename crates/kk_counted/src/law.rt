@@ -1,4 +1,4 @@
-ghost use Rattle.std.specs.Prelude.{◌≡◌, ◌↔◌, ◌+◌, ◌*◌, ◌≤◌, ℕ, Bool, true, false, List, [], ◌∷◌, map, length, Some, slice_get};
+ghost use Rattle.std.specs.Prelude.{◌≡◌, ◌↔◌, ◌+◌, ◌*◌, ◌^◌, ◌≤◌, ◌<◌, ℕ, Bool, true, false, List, [], ◌∷◌, map, length, Some, slice_get};
 ghost use Rattle.kk_syntax.specs.Shapes.{is_among};
 ghost use Rattle.kk_syntax.specs.PositionsOf.{PositionTable};
 ghost use Rattle.kk_source.specs.State.{Value, place, Cell, Environment};
@@ -21,7 +21,8 @@ ghost use Rattle.kk_counted.specs.TokenStates.{TokenSetting, TokenJoin, TokenCon
 ghost use Rattle.kk_counted.specs.TokenMachine.{at_code, token_code_step};
 ghost use Rattle.kk_counted.specs.TokenSpending.{AreTokensSpent};
 ghost use Rattle.kk_counted.specs.TokenKeeping.{ArePooled, IsJudged, AreKeptAt, AreKept, Lists, ListsAfter, FillsAt, FillsAlways, token_after};
-ghost use Rattle.kk_counted.specs.Marks.{CellMarks, result_mark, AreMarked};
+ghost use Rattle.kk_counted.specs.CountBounds.{AllSpendAtMost};
+ghost use Rattle.kk_counted.specs.Marks.{CellMarks, field_marks, AreMarked};
 ghost use Rattle.kk_counted.specs.MarkKeeping.{FitsMark, RunFits, StateFits, numbers_after, numbers_in};
 ghost use Rattle.kk_counted.specs.NumberedPool.{IsPlaced, IsPool, Growth, Placing};
 ghost use Rattle.kk_counted.specs.TokenRuns.{is_quiet, bare_weight, AllLead, IsFollowed, IsUnseen, IsSameRun, TakesNoCell};
@@ -197,4 +198,27 @@ pub fn marked_code_keeps_its_marks()
     ensures unmarked { (marks : CellMarks) (holds : ℕ → Bool) (result : Bool) (code : Counted) (environment : Environment)
         (joins : List CountedJoin) → RunFits marks holds result code environment joins
         → (x : ℕ) → holds x ≡ false → FitsMark false (value_of environment x) }
+{}
+
+/// Counts are narrow: where each function spends at most so many references on a path, no more functions stand than the stack has
+/// call frames, so a count is at most what all of them own and what the fields of counted cells name. In each state of a run that
+/// has not ended, within the limits of cells, call frames and code, a count and one more are below 2 ^ 32. It is a law, and does
+/// nothing.
+pub fn judged_code_keeps_counts_narrow()
+    ensures bounded { (positions : PositionTable) (marks : CellMarks) (holds : ℕ → ℕ → Bool) (setting : CountedSetting)
+        (weight : CountedState → ℕ) (input : List ℕ) (most fields : ℕ) → IsSpent positions setting.program
+        → FitsAlways weight setting input → AreMarked marks holds setting.program → AllSpendAtMost setting.program most
+        → ((c : ℕ) → length (field_marks marks c) ≤ fields) → 1 ≤ setting.depth
+        → (n : ℕ) (code : Counted) (environment : Environment) (joins : List CountedJoin)
+        → (counted_after weight setting input n).control ≡ running code environment joins
+        → (at : ℕ)
+        → count_at (counted_after weight setting input n).heap at ≤ setting.depth * most + fields * setting.cells }
+    ensures narrow { (positions : PositionTable) (marks : CellMarks) (holds : ℕ → ℕ → Bool) (setting : CountedSetting)
+        (weight : CountedState → ℕ) (input : List ℕ) (most : ℕ) → IsSpent positions setting.program
+        → FitsAlways weight setting input → AreMarked marks holds setting.program → AllSpendAtMost setting.program most
+        → most ≤ 65000 → ((c : ℕ) → length (field_marks marks c) ≤ 6) → 1 ≤ setting.depth → setting.depth ≤ 65536
+        → setting.cells ≤ 1048576
+        → (n : ℕ) (code : Counted) (environment : Environment) (joins : List CountedJoin)
+        → (counted_after weight setting input n).control ≡ running code environment joins
+        → (at : ℕ) → count_at (counted_after weight setting input n).heap at + 1 < 2 ^ 32 }
 {}
