@@ -27,6 +27,7 @@ pub mod Marking
 pub mod OwnedBounds
 pub mod CountSteps
 pub mod NarrowCounts
+pub mod GainBounds
 pub mod Places
 pub mod Looks
 pub mod SoundGoing

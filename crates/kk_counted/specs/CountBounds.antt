@@ -31,6 +31,43 @@ abbrev mutual
   SpendAtMost no_arm n = Unit {0}
   SpendAtMost (arm body rest) n = SpendsAtMost body n × SpendAtMost rest n
 
+-- each case of a code has an arm
+abbrev mutual
+  pub EachHasAnArm : Counted → Type 0
+  EachHasAnArm (branch x positive negative) = EachHasAnArm positive × EachHasAnArm negative
+  EachHasAnArm (case x decisions arms) = HasAnArm arms × AllHaveAnArm arms
+  EachHasAnArm (compute x form arguments rest) = EachHasAnArm rest
+  EachHasAnArm (inside x block rest) = EachHasAnArm block × EachHasAnArm rest
+  EachHasAnArm (read x c fields rest) = EachHasAnArm rest
+  EachHasAnArm (open_cell x c fields used rest) = EachHasAnArm rest
+  EachHasAnArm (if_unique x c fields used rest) = EachHasAnArm rest
+  EachHasAnArm (dup x rest) = EachHasAnArm rest
+  EachHasAnArm (drop x rest) = EachHasAnArm rest
+  EachHasAnArm _ = Unit {0}
+
+  pub AllHaveAnArm : CountedArms → Type 0
+  AllHaveAnArm no_arm = Unit {0}
+  AllHaveAnArm (arm body rest) = EachHasAnArm body × AllHaveAnArm rest
+
+-- what a code may gain beside what it owns: the variables that it binds, its dups, and the arguments that it lends
+abbrev mutual
+  pub gains : Counted → ℕ
+  gains (give x) = 0
+  gains (tail_call f arguments) = length arguments
+  gains (branch x positive negative) = gains positive + gains negative
+  gains (case x decisions arms) = gains_in arms
+  gains (compute x form arguments rest) = suc (length arguments + gains rest)
+  gains (inside x block rest) = suc (gains block + gains rest)
+  gains (read x c fields rest) = gains rest
+  gains (open_cell x c fields used rest) = length fields + gains rest
+  gains (if_unique x c fields used rest) = length fields + gains rest
+  gains (dup x rest) = suc (gains rest)
+  gains (drop x rest) = gains rest
+
+  pub gains_in : CountedArms → ℕ
+  gains_in no_arm = 0
+  gains_in (arm body rest) = gains body + gains_in rest
+
 -- each function of a program spends at most so many
 abbrev pub AllSpendAtMost : CountedProgram → ℕ → Type 0
 AllSpendAtMost program n =

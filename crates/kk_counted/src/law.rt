@@ -5,13 +5,13 @@ ghost use Rattle.kk_source.specs.State.{Value, place, Cell, Environment};
 ghost use Rattle.kk_source.specs.Live.{value_of, Reached, live};
 ghost use Rattle.kk_source.specs.Sound.{AllWithin};
 ghost use Rattle.kk_core.specs.Decisions.{NodeTree, chosen};
-ghost use Rattle.kk_counted.specs.CountedCodes.{Counted, CountedArms, give, case};
+ghost use Rattle.kk_counted.specs.CountedCodes.{Counted, CountedArms, CountedFunction, give, case};
 ghost use Rattle.kk_counted.specs.CountedMachine.{opened_heap, unique_heap, counted_code_step, counted_step, NotStuck};
 ghost use Rattle.kk_counted.specs.CountedStates.{CountedSetting, CountedJoin, CountedState, running, counted_start};
 ghost use Rattle.kk_counted.specs.Heaps.{Heap, forwards, count_at, cell_at, fields_held, busy, weight, dup_value, drop_value};
 ghost use Rattle.kk_counted.specs.Keeping.{HasNoCell, uses, IsKept, counted_after, FitsAlways, HasShapeAlways};
 ghost use Rattle.kk_counted.specs.References.{refs, IsSound, IsCounted, cells_of, AreOlder, counted};
-ghost use Rattle.kk_counted.specs.Spending.{AreEven, IsSpent};
+ghost use Rattle.kk_counted.specs.Spending.{AreEven, SpendsParameters, IsSpent};
 ghost use Rattle.kk_counted.specs.Cost.{drop_turns, saved, opening_turns};
 ghost use Rattle.kk_source.specs.Actions.{builds};
 ghost use Rattle.kk_counted.specs.TokenedCodes.{Tokened};
@@ -21,7 +21,7 @@ ghost use Rattle.kk_counted.specs.TokenStates.{TokenSetting, TokenJoin, TokenCon
 ghost use Rattle.kk_counted.specs.TokenMachine.{at_code, token_code_step};
 ghost use Rattle.kk_counted.specs.TokenSpending.{AreTokensSpent};
 ghost use Rattle.kk_counted.specs.TokenKeeping.{ArePooled, IsJudged, AreKeptAt, AreKept, Lists, ListsAfter, FillsAt, FillsAlways, token_after};
-ghost use Rattle.kk_counted.specs.CountBounds.{AllSpendAtMost};
+ghost use Rattle.kk_counted.specs.CountBounds.{SpendsAtMost, AllSpendAtMost, EachHasAnArm, gains};
 ghost use Rattle.kk_counted.specs.Marks.{CellMarks, field_marks, AreMarked};
 ghost use Rattle.kk_counted.specs.MarkKeeping.{FitsMark, RunFits, StateFits, numbers_after, numbers_in};
 ghost use Rattle.kk_counted.specs.NumberedPool.{IsPlaced, IsPool, Growth, Placing};
@@ -221,4 +221,7 @@ pub fn judged_code_keeps_counts_narrow()
         → (n : ℕ) (code : Counted) (environment : Environment) (joins : List CountedJoin)
         → (counted_after weight setting input n).control ≡ running code environment joins
         → (at : ℕ) → count_at (counted_after weight setting input n).heap at + 1 < 2 ^ 32 }
+    ensures spends { (positions : PositionTable) (functions : List CountedFunction) (f : ℕ) (function : CountedFunction)
+        → SpendsParameters positions functions f function → EachHasAnArm function.body
+        → SpendsAtMost function.body (function.parameters + gains function.body) }
 {}
