@@ -28,6 +28,7 @@ pub mod OwnedBounds
 pub mod CountSteps
 pub mod NarrowCounts
 pub mod GainBounds
+pub mod TokenStates
 pub mod Places
 pub mod Looks
 pub mod SoundGoing

@@ -115,14 +115,22 @@ pub fn drops_pay_for_themselves()
 
 /// Code that spends its tokens does what its bare form does: it tells the same notes and ends alike, so with a full heap exactly
 /// where the counted cells fill it. In each state of its run each cell is free, a token or counted, a token belongs to one slot,
-/// and the chain lists the held slots that are not null; and it is never stuck. The bare run must not be stuck, and a
-/// construction may leave only fields that it would write as they are; one that leaves none does. It is a law, and does nothing.
+/// and the chain lists the held slots that are not null; and it is never stuck. Without its tokens the state is one of the bare
+/// run, so that what is true of each state of the bare run is true of it. The bare run must not be stuck, and a construction may
+/// leave only fields that it would write as they are; one that leaves none does. It is a law, and does nothing.
 pub fn tokens_keep_runs_the_same()
     ensures same { (weight : CountedState → ℕ) (setting : TokenSetting) (input : List ℕ)
         → AreTokensSpent setting.program
         → FillsAlways (bare_weight weight) setting input
         → ((n : ℕ) → NotStuck (counted_after weight (bare_setting setting) input n).control)
         → IsSameRun weight setting input }
+    ensures states { (weight : CountedState → ℕ) (setting : TokenSetting) (input : List ℕ)
+        → AreTokensSpent setting.program
+        → FillsAlways (bare_weight weight) setting input
+        → ((n : ℕ) → NotStuck (counted_after weight (bare_setting setting) input n).control)
+        → (n : ℕ) → (m : ℕ)
+        × (bare_configuration (token_after (bare_weight weight) setting input n)
+        ≡ counted_after weight (bare_setting setting) input m) }
     ensures written { (weight : TokenState → ℕ) (setting : TokenSetting) (input : List ℕ)
         → setting.leaves ≡ false → FillsAlways weight setting input }
 {}
