@@ -1,4 +1,4 @@
-ghost use Rattle.std.specs.Prelude.{◌≡◌, ◌↔◌, ◌+◌, ◌*◌, ◌^◌, ◌≤◌, ◌<◌, ℕ, Bool, true, false, List, [], ◌∷◌, map, length, Some, slice_get};
+ghost use Rattle.std.specs.Prelude.{◌≡◌, ◌↔◌, ◌+◌, ◌*◌, ◌^◌, ◌≤◌, ◌<◌, ℕ, suc, Bool, true, false, List, [], ◌∷◌, map, length, Some, slice_get};
 ghost use Rattle.kk_syntax.specs.Shapes.{is_among};
 ghost use Rattle.kk_syntax.specs.PositionsOf.{PositionTable};
 ghost use Rattle.kk_source.specs.State.{Value, place, Cell, Environment};
@@ -170,8 +170,8 @@ pub fn reuse_takes_no_cell()
 
 /// A name in use, which is that of a counted cell or of a token, has a cell of the pool of its own; the other cells are free. The
 /// cells that are not free are as many as are counted or are tokens. A step leaves each name its cell; a new one may have any cell
-/// that is free when the step has spent or taken its token, and there is one. So in each state of a run all names in use are
-/// placed. It is a law, and does nothing.
+/// that is free when the step has spent or taken its token, and there is one. So a whole run has one assignment, which grows: in
+/// each state all names in use are placed, and a name that is there keeps its cell. It is a law, and does nothing.
 pub fn names_have_cells_of_a_pool()
     ensures pool { (cells : ℕ) (assigned : ℕ → ℕ) (heap : Heap) (tokens : Tokens) → ArePooled cells heap tokens
         → IsPlaced cells assigned heap tokens.marks → IsPool cells assigned heap tokens.marks }
@@ -184,8 +184,10 @@ pub fn names_have_cells_of_a_pool()
         → IsPlaced cells assigned from.heap from.tokens.marks → Growth cells from to → Placing cells assigned from to }
     ensures runs { (weight : TokenState → ℕ) (setting : TokenSetting) (input : List ℕ)
         → ((k : ℕ) → AreKept setting.cells (token_after weight setting input k))
-        → (n : ℕ) → (assigned : ℕ → ℕ) × IsPlaced setting.cells assigned (token_after weight setting input n).heap
-        (token_after weight setting input n).tokens.marks }
+        → (assigned : ℕ → ℕ → ℕ)
+        × (((n : ℕ) → IsPlaced setting.cells (assigned n) (token_after weight setting input n).heap
+        (token_after weight setting input n).tokens.marks)
+        × ((n p : ℕ) → p < length (token_after weight setting input n).heap → assigned (suc n) p ≡ assigned n p)) }
 {}
 
 /// Code that is marked by types keeps each value fit for its mark: in each state of a run a marked variable that is bound holds no
