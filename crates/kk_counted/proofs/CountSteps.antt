@@ -42,7 +42,8 @@ module _ (setting : CountedSetting) (most : ℕ) (all : AllSpendAtMost setting.p
   Bounded c = IsBounded setting most c
 
   entered : (f : ℕ) (function : CountedFunction) (values : List Value) (from : CountedConfiguration)
-      → slice_get setting.program.functions f ≡ Some function → suc (length from.frames) ≤ setting.depth → FramesSpend from.frames most
+      → slice_get setting.program.functions f ≡ Some function → suc (length from.frames) ≤ setting.depth
+      → FramesSpend from.frames most
       → busy from.heap ≤ setting.cells → Bounded (in_code function values from)
   entered f function values from there few frames cells =
       record {
@@ -51,7 +52,8 @@ module _ (setting : CountedSetting) (most : ℕ) (all : AllSpendAtMost setting.p
         cells_busy = cells;
       }
 
-  module _ (from : CountedConfiguration) (environment : Environment) (joins : List CountedJoin) (frames : FramesSpend from.frames most)
+  module _ (from : CountedConfiguration) (environment : Environment) (joins : List CountedJoin)
+      (frames : FramesSpend from.frames most)
       (cells : busy from.heap ≤ setting.cells) (few : suc (length from.frames) ≤ setting.depth) where
     stuck_bounded : Bounded (at_stuck from)
     stuck_bounded = record { control_spends = tt; frames_spend = frames; cells_busy = cells }
@@ -59,10 +61,12 @@ module _ (setting : CountedSetting) (most : ℕ) (all : AllSpendAtMost setting.p
     end_bounded : (end : End) → Bounded (at_end end from)
     end_bounded end = record { control_spends = tt; frames_spend = frames; cells_busy = cells }
 
-    goes_on : (code : Counted) (now : Environment) (next : List CountedJoin) → RestSpends code next most → Bounded (at_counted code now next from)
+    goes_on : (code : Counted) (now : Environment) (next : List CountedJoin) → RestSpends code next most → Bounded
+        (at_counted code now next from)
     goes_on code now next rest = record { control_spends = (rest, few); frames_spend = frames; cells_busy = cells }
 
-    heap_bounded : (result : Option Heap) (code : Counted) (now : Environment) → EasedTo from.heap result → RestSpends code joins most
+    heap_bounded : (result : Option Heap) (code : Counted) (now : Environment) → EasedTo from.heap result
+        → RestSpends code joins most
         → Bounded (with_heap result from (at_counted code now joins from))
     heap_bounded None code now eased rest = stuck_bounded
     heap_bounded (Some heap) code now eased rest =
@@ -118,7 +122,8 @@ module _ (setting : CountedSetting) (most : ℕ) (all : AllSpendAtMost setting.p
       made c (v ∷ vs) = by_test (nat_le setting.cells (busy from.heap)) refl
         where
           by_test : (t : Bool) → nat_le setting.cells (busy from.heap) ≡ t
-              → Bounded (if t then at_end heap_full from else record (bound_then x (place (length from.heap)) rest environment joins from) {
+              → Bounded (if t then at_end heap_full from else record
+              (bound_then x (place (length from.heap)) rest environment joins from) {
                 heap = record { count = 1; cell = record { made_by = c; fields = v ∷ vs } } ∷ from.heap;
               })
           by_test true is = end_bounded heap_full
@@ -130,20 +135,26 @@ module _ (setting : CountedSetting) (most : ℕ) (all : AllSpendAtMost setting.p
               }
 
       called : (f : ℕ) (arguments : List Value) (found : Option CountedFunction) → slice_get setting.program.functions f ≡ found
-          → LeadsTo Bounded (call_step setting found arguments (record { variable = x; rest = rest; joins = joins; environment = environment }) from)
+          → LeadsTo Bounded (call_step setting found arguments
+          (record { variable = x; rest = rest; joins = joins; environment = environment }) from)
       called f arguments None there = stuck_bounded
       called f arguments (Some function) there = by_test (nat_le setting.depth (suc (length from.frames))) refl
         where
           by_test : (t : Bool) → nat_le setting.depth (suc (length from.frames)) ≡ t
               → Bounded (if t then at_end stack_full from else in_code function arguments
-              (record from { frames = record { variable = x; rest = rest; joins = joins; environment = environment } ∷ from.frames }))
+              (record from {
+                frames = record { variable = x; rest = rest; joins = joins; environment = environment } ∷ from.frames;
+              }))
           by_test true is = end_bounded stack_full
           by_test false is =
               entered f function arguments
-              (record from { frames = record { variable = x; rest = rest; joins = joins; environment = environment } ∷ from.frames }) there
+              (record from {
+                frames = record { variable = x; rest = rest; joins = joins; environment = environment } ∷ from.frames;
+              }) there
               (omega (arith, room_or setting.depth (suc (length from.frames)) false is refl)) (spends, frames) cells
 
-      form_bounded : (form : Form) (values : List Value) → LeadsTo Bounded (form_step setting form values x rest environment joins from)
+      form_bounded : (form : Form) (values : List Value) → LeadsTo Bounded
+          (form_step setting form values x rest environment joins from)
       form_bounded (Number n) values = valued (integer n)
       form_bounded Nothing values = valued unit
       form_bounded ReadByte values = λ byte. valued (byte_value byte)
@@ -154,9 +165,12 @@ module _ (setting : CountedSetting) (most : ℕ) (all : AllSpendAtMost setting.p
       form_bounded (Construct c) values = made c values
       form_bounded (Call f) values = called f values (slice_get setting.program.functions f) refl
 
-    code_bounded : (code : Counted) → RestSpends code joins most → LeadsTo Bounded (counted_code_step setting code environment joins from)
-    code_bounded (give x) r = give_bounded (value_of environment x) joins from.frames r.1.0 r.1.1.1.1 (omega (arith, r.1.1.0)) frames (omega arith)
-    code_bounded (tail_call f arguments) r = tail_bounded f (map (value_of environment) arguments) (slice_get setting.program.functions f) refl
+    code_bounded : (code : Counted) → RestSpends code joins most → LeadsTo Bounded
+        (counted_code_step setting code environment joins from)
+    code_bounded (give x) r = give_bounded (value_of environment x) joins from.frames r.1.0 r.1.1.1.1
+        (omega (arith, r.1.1.0)) frames (omega arith)
+    code_bounded (tail_call f arguments) r = tail_bounded f (map (value_of environment) arguments)
+        (slice_get setting.program.functions f) refl
     code_bounded (branch x positive negative) r = by_test (is_true (value_of environment x))
       where
         by_test : (t : Bool) → Bounded (at_counted (if t then positive else negative) environment joins from)
@@ -169,8 +183,16 @@ module _ (setting : CountedSetting) (most : ℕ) (all : AllSpendAtMost setting.p
         (map (value_of environment) arguments)
     code_bounded (inside x block rest) r =
         let s = r.1.1.1.0 in
-        goes_on block environment (record { variable = x; rest = rest } ∷ joins)
-        (s.0, (s.1.0 + r.1.0, (omega (arith, r.1.1.0, s.1.1.0), (s.1.1.1.0, (s.1.0, (r.1.0, (omega arith, (s.1.1.1.1, r.1.1.1.1))))))))
+        goes_on block environment (record { variable = x; rest = rest } ∷ joins) (
+          s.0,
+          (
+            s.1.0 + r.1.0,
+            (
+              omega (arith, r.1.1.0, s.1.1.0),
+              (s.1.1.1.0, (s.1.0, (r.1.0, (omega arith, (s.1.1.1.1, r.1.1.1.1))))),
+            ),
+          ),
+        )
     code_bounded (read x c fields rest) r =
         opening_bounded fields rest (λ named. Some from.heap) _ (λ named. eased_same from.heap) r
     code_bounded (open_cell x c fields used rest) r =
@@ -180,16 +202,21 @@ module _ (setting : CountedSetting) (most : ℕ) (all : AllSpendAtMost setting.p
     code_bounded (if_unique x c fields used rest) r =
         opening_bounded fields rest
         (λ named.
-        unique_heap (count_at from.heap named.at) named.at (used_values used fields named.fields) (other_values used fields named.fields) from.heap) _
+        unique_heap (count_at from.heap named.at) named.at (used_values used fields named.fields)
+        (other_values used fields named.fields) from.heap) _
         (λ named.
-        eased_unique (count_at from.heap named.at) named.at (used_values used fields named.fields) (other_values used fields named.fields) from.heap refl)
+        eased_unique (count_at from.heap named.at) named.at (used_values used fields named.fields)
+        (other_values used fields named.fields) from.heap refl)
         (r.1.1.1.0.0, (r.1.0, (omega (arith, r.1.1.0, r.1.1.1.0.1.0), (r.1.1.1.0.1.1, r.1.1.1.1))))
-    code_bounded (dup x rest) r = heap_bounded (dup_value (value_of environment x) from.heap) rest environment (eased_dup (value_of environment x) from.heap) r
+    code_bounded (dup x rest) r = heap_bounded (dup_value (value_of environment x) from.heap) rest environment
+        (eased_dup (value_of environment x) from.heap) r
     code_bounded (drop x rest) r =
-        heap_bounded (drop_value (value_of environment x) from.heap) rest environment (eased_drop (value_of environment x) from.heap)
+        heap_bounded (drop_value (value_of environment x) from.heap) rest environment
+        (eased_drop (value_of environment x) from.heap)
         (r.1.1.1.0.0, (r.1.0, (omega (arith, r.1.1.0, r.1.1.1.0.1.0), (r.1.1.1.0.1.1, r.1.1.1.1))))
 
-  control_bounded : (control : CountedControl) (c : CountedConfiguration) → ControlSpends control (length c.frames) setting.depth most → Bounded c
+  control_bounded : (control : CountedControl) (c : CountedConfiguration) → ControlSpends control
+      (length c.frames) setting.depth most → Bounded c
       → LeadsTo Bounded (counted_step_at setting control c)
   control_bounded (running code environment joins) c spends bounded =
       code_bounded c environment joins bounded.frames_spend bounded.cells_busy spends.1 code spends.0
@@ -204,11 +231,14 @@ module _ (setting : CountedSetting) (most : ℕ) (all : AllSpendAtMost setting.p
     start_bounded =
         subst (λ (function : CountedFunction). Bounded (record { control = running function.body [] []; frames = []; heap = [] }))
         (sym (get_or_from_slice_get setting.program.functions setting.program.main main no_function there))
-        (entered setting.program.main main [] (record { control = stuck; frames = []; heap = [] }) there (omega (arith, deep)) tt (omega arith))
+        (entered setting.program.main main [] (record { control = stuck; frames = []; heap = [] }) there (omega (arith, deep)) tt
+        (omega arith))
 
     module _ (weight : CountedState → ℕ) where
-      next_bounded : (s : CountedState) (how : Option End) → Bounded s.machine → Bounded (step_unless how s (counted_step setting s)).1.machine
-      next_bounded s None bounded = performed_kept Bounded (counted_step_of setting s.machine) s.input (step_bounded s.machine bounded)
+      next_bounded : (s : CountedState) (how : Option End) → Bounded s.machine → Bounded
+          (step_unless how s (counted_step setting s)).1.machine
+      next_bounded s None bounded = performed_kept Bounded (counted_step_of setting s.machine) s.input
+          (step_bounded s.machine bounded)
       next_bounded s (Some end) bounded = bounded
 
       run_bounded : (n : ℕ) (s : CountedState) → Bounded s.machine → Bounded (state (counted_machine weight setting) n s).machine

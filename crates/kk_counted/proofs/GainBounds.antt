@@ -16,7 +16,8 @@ mutual
   pub more_spent : (code : Counted) (n m : ℕ) → n ≤ m → SpendsAtMost code n → SpendsAtMost code m
   more_spent (give x) n m less small = omega (arith, less, small)
   more_spent (tail_call f arguments) n m less small = omega (arith, less, small)
-  more_spent (branch x positive negative) n m less small = (more_spent positive n m less small.0, more_spent negative n m less small.1)
+  more_spent (branch x positive negative) n m less small =
+      (more_spent positive n m less small.0, more_spent negative n m less small.1)
   more_spent (case x decisions arms) n m less small = (small.0, more_spent_arms arms n m less small.1)
   more_spent (compute x form arguments rest) n m less small = (small.0, (omega (arith, less, small.1.0), small.1.1))
   more_spent (inside x block rest) n m less small = (small.0, (small.1.0, (omega (arith, less, small.1.1.0), small.1.1.1)))
@@ -34,7 +35,8 @@ few_filtered : (test : ℕ → Bool) (xs : List ℕ) → many (filter test xs) �
 few_filtered test [] = omega arith
 few_filtered test (x ∷ xs) = by_test (test x) (few_filtered test xs)
   where
-    by_test : (t : Bool) → many (filter test xs) ≤ length xs → many (if t then x ∷ filter test xs else filter test xs) ≤ suc (length xs)
+    by_test : (t : Bool) → many (filter test xs) ≤ length xs → many (if t then x ∷ filter test xs else filter test xs) ≤ suc
+        (length xs)
     by_test true later = omega (arith, later)
     by_test false later = omega (arith, later)
 
@@ -70,8 +72,7 @@ module _ (positions : PositionTable) (functions : List CountedFunction) where
     spends_gains lent readable left owned (branch x positive negative) s has =
         let one = spends_gains lent [] left s.0 positive s.1.1.1.0 has.0 in
         let two = spends_gains lent [] left s.0 negative s.1.1.1.1 has.1 in
-        let g = greater one.0 two.0 in
-        (
+        let g = greater one.0 two.0 in (
           g.n,
           (
             greater_within one.0 two.0 (many (left_by left)) (many owned + (gains positive + gains negative)) g
@@ -83,8 +84,7 @@ module _ (positions : PositionTable) (functions : List CountedFunction) where
         let all = arms_gain lent left s.0 arms s.1.1.1 has.0 has.1 in
         (all.0, (omega (arith, all.1.0, s.1.0 (λ x. 1)), (has.0, all.1.1)))
     spends_gains lent readable left owned (compute x form arguments rest) s has =
-        let after = spends_gains lent [] left (x ∷ s.0) rest s.1.1.1.1.1.1 has in
-        (
+        let after = spends_gains lent [] left (x ∷ s.0) rest s.1.1.1.1.1.1 has in (
           length arguments + after.0,
           (
             omega (arith, after.1.0, s.1.0 (λ x. 1), total_append (λ x. 1) (used_by positions functions form arguments) s.0),
@@ -93,8 +93,7 @@ module _ (positions : PositionTable) (functions : List CountedFunction) where
         )
     spends_gains lent readable left owned (inside x block rest) s has =
         let one = spends_gains lent [] (Some s.1.0) s.0 block s.1.1.1.1.1.0 has.0 in
-        let two = spends_gains lent [] left (x ∷ s.1.0) rest s.1.1.1.1.1.1 has.1 in
-        (
+        let two = spends_gains lent [] left (x ∷ s.1.0) rest s.1.1.1.1.1.1 has.1 in (
           one.0 + two.0,
           (omega (arith, one.1.0, two.1.0, s.1.1.0 (λ x. 1)), (one.0, (two.0, (omega arith, (one.1.1, two.1.1))))),
         )
@@ -102,20 +101,32 @@ module _ (positions : PositionTable) (functions : List CountedFunction) where
         let after = spends_gains lent fields left s.0 rest s.1.1.1.1 has in
         (after.0, (omega (arith, after.1.0, s.1.0 (λ x. 1)), after.1.1))
     spends_gains lent readable left owned (open_cell x c fields used rest) s has =
-        let after = spends_gains lent [] left (filter (is_among used) fields ++ s.0) rest s.1.1.1.1.1 has in
-        (
+        let after = spends_gains lent [] left (filter (is_among used) fields ++ s.0) rest s.1.1.1.1.1 has in (
           suc after.0,
           (
-            omega (arith, after.1.0, s.1.0 (λ x. 1), total_append (λ x. 1) (filter (is_among used) fields) s.0, few_filtered (is_among used) fields),
+            omega (
+              arith,
+              after.1.0,
+              s.1.0 (λ x. 1),
+              total_append (λ x. 1) (filter (is_among used) fields) s.0,
+              few_filtered
+                  (is_among used) fields,
+            ),
             (after.0, (omega arith, after.1.1)),
           ),
         )
     spends_gains lent readable left owned (if_unique x c fields used rest) s has =
-        let after = spends_gains lent [] left (filter (is_among used) fields ++ s.0) rest s.1.1.1.1.1 has in
-        (
+        let after = spends_gains lent [] left (filter (is_among used) fields ++ s.0) rest s.1.1.1.1.1 has in (
           suc after.0,
           (
-            omega (arith, after.1.0, s.1.0 (λ x. 1), total_append (λ x. 1) (filter (is_among used) fields) s.0, few_filtered (is_among used) fields),
+            omega (
+              arith,
+              after.1.0,
+              s.1.0 (λ x. 1),
+              total_append (λ x. 1) (filter (is_among used) fields) s.0,
+              few_filtered
+                  (is_among used) fields,
+            ),
             (after.0, (omega arith, after.1.1)),
           ),
         )
@@ -144,8 +155,8 @@ module _ (positions : PositionTable) (functions : List CountedFunction) where
         let one = spends_gains lent [] left owned body s.0 each.0 in
         let g = greater first one.0 in
         let all = others_gain lent left owned rest g.n (gained + gains body) s.1 each.1
-            (greater_within first one.0 (many (left_by left)) (many owned + (gained + gains body)) g (omega (arith, within)) (omega (arith, one.1.0))) in
-        (
+        (greater_within first one.0 (many (left_by left)) (many owned + (gained + gains body)) g (omega (arith, within))
+        (omega (arith, one.1.0))) in (
           all.0,
           (
             omega (arith, g.one, all.1.0),
@@ -158,10 +169,18 @@ module _ (positions : PositionTable) (functions : List CountedFunction) where
   count_numbers next (suc n) = ap suc (count_numbers (suc next) n)
 
   -- a function's code spends at most its parameters and what it gains
-  pub function_spends : (f : ℕ) (function : CountedFunction) → SpendsParameters positions functions f function → EachHasAnArm function.body
+  pub function_spends : (f : ℕ) (function : CountedFunction) → SpendsParameters positions functions f function
+      → EachHasAnArm function.body
       → SpendsAtMost function.body (function.parameters + gains function.body)
   function_spends f function s has =
-      let all = spends_gains s.0 [] None (at_positions (is_owned positions functions f) 0 (numbers_from 0 function.parameters)) function.body s.1.1 has in
+      let all = spends_gains s.0 [] None (at_positions (is_owned positions functions f) 0 (numbers_from 0 function.parameters))
+      function.body s.1.1 has in
       more_spent function.body all.0 (function.parameters + gains function.body)
-      (omega (arith, all.1.0, few_at (is_owned positions functions f) 0 (numbers_from 0 function.parameters), count_numbers 0 function.parameters))
+      (omega (
+        arith,
+        all.1.0,
+        few_at (is_owned positions functions f) 0
+            (numbers_from 0 function.parameters),
+        count_numbers 0 function.parameters,
+      ))
       all.1.1

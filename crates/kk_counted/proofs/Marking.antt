@@ -83,7 +83,8 @@ module _ (marks : CellMarks) where
   by_count turns at (suc zero) vs heap last lower = last
   by_count turns at (suc (suc others)) vs heap last lower = lower others
 
-  given_up_fits : (turns : ℕ) (vs : List Value) (heap : Heap) → CellsFit marks heap → OnHeap (CellsFit marks) (give_up turns vs heap)
+  given_up_fits : (turns : ℕ) (vs : List Value) (heap : Heap) → CellsFit marks heap → OnHeap (CellsFit marks)
+      (give_up turns vs heap)
   given_up_fits zero [] heap fit = fit
   given_up_fits (suc turns) [] heap fit = fit
   given_up_fits zero (v ∷ vs) heap fit = tt
@@ -102,14 +103,17 @@ module _ (marks : CellMarks) where
   drops_fit [] heap fit = fit
   drops_fit (v ∷ vs) heap fit = then_on (CellsFit marks) (drop_value v heap) (drop_all vs) (drop_fits v heap fit) (drops_fit vs)
 
-  pub opened_fits : (at : ℕ) (used : List Value) (heap : Heap) → CellsFit marks heap → OnHeap (CellsFit marks) (opened_heap at used heap)
-  opened_fits at used heap fit = then_on (CellsFit marks) (dup_all used heap) (drop_value (place at)) (dups_fit used heap fit) (drop_fits (place at))
+  pub opened_fits : (at : ℕ) (used : List Value) (heap : Heap) → CellsFit marks heap → OnHeap (CellsFit marks)
+      (opened_heap at used heap)
+  opened_fits at used heap fit = then_on (CellsFit marks) (dup_all used heap) (drop_value (place at)) (dups_fit used heap fit)
+      (drop_fits (place at))
 
   pub unique_fits : (count at : ℕ) (used others : List Value) (heap : Heap) → CellsFit marks heap
       → OnHeap (CellsFit marks) (unique_heap count at used others heap)
   unique_fits zero at used others heap fit = tt
   unique_fits (suc zero) at used others heap fit = drops_fit others (set_count at 0 heap) (set_fits at 0 heap fit)
-  unique_fits (suc (suc count)) at used others heap fit = dups_fit used (set_count at (suc count) heap) (set_fits at (suc count) heap fit)
+  unique_fits (suc (suc count)) at used others heap fit = dups_fit used (set_count at (suc count) heap)
+      (set_fits at (suc count) heap fit)
 
   -- ---- the cell that a value names
 
@@ -144,7 +148,8 @@ module _ (marks : CellMarks) where
 
       by_counted : (count_now : ℕ) (cell : Cell) → FitMarks (field_marks marks cell.made_by) cell.fields
           → OnNamed (λ named. FitMarks (field_marks marks c) named.fields)
-          (and_then (if_counted count_now cell) (λ cell. and_then (if_made_by c count cell) (λ fields. Some (record { at = at; fields = fields }))))
+          (and_then (if_counted count_now cell) (λ cell. and_then (if_made_by c count cell)
+          (λ fields. Some (record { at = at; fields = fields }))))
       by_counted zero cell fits = tt
       by_counted (suc k) cell fits =
           by_test cell fits ((cell.made_by == c) && (length cell.fields == count))
@@ -152,7 +157,8 @@ module _ (marks : CellMarks) where
 
       by_held : (found : Option Held) → OnHeld found
           → OnNamed (λ named. FitMarks (field_marks marks c) named.fields)
-          (and_then (and_then found (λ held. if_counted held.count held.cell)) (λ cell. and_then (if_made_by c count cell) (λ fields. Some (record { at = at; fields = fields }))))
+          (and_then (and_then found (λ held. if_counted held.count held.cell))
+          (λ cell. and_then (if_made_by c count cell) (λ fields. Some (record { at = at; fields = fields }))))
       by_held None on = tt
       by_held (Some held) on = by_counted held.count held.cell on
 
@@ -178,7 +184,8 @@ among_longer x ys y is = by_test (x == y)
 among_first : (x : ℕ) (xs ys : List ℕ) → is_among ys x ≡ true → AreIn xs ys → AreIn (x ∷ xs) ys
 among_first x xs ys first each y is = by_test (x == y) refl is (each y)
   where
-    by_test : (t : Bool) → (x == y) ≡ t → (t || is_among xs y) ≡ true → (is_among xs y ≡ true → is_among ys y ≡ true) → is_among ys y ≡ true
+    by_test : (t : Bool) → (x == y) ≡ t → (t || is_among xs y) ≡ true → (is_among xs y ≡ true → is_among ys y ≡ true)
+        → is_among ys y ≡ true
     by_test true here is later = ap (is_among ys) (sym (same x y here)) ∙ first
     by_test false here is later = later is
 
@@ -214,17 +221,20 @@ unmarked_fits holds (binding ∷ environment) x fit unmarked =
     by_test : (t : Bool) → (binding.variable == x) ≡ t → FitsMark false (value_of environment x)
         → FitsMark false (if t then binding.value else value_of environment x)
     by_test true here later =
-        subst (λ m. FitsMark m binding.value) unmarked (subst (λ y. FitsMark (holds y) binding.value) (same binding.variable x here) fit.0)
+        subst (λ m. FitsMark m binding.value) unmarked
+        (subst (λ y. FitsMark (holds y) binding.value) (same binding.variable x here) fit.0)
     by_test false here later = later
 
-pub fields_grow : (xs : List ℕ) (vs : List Value) (environment : Environment) → AreIn (variables_of environment) (variables_of (bind_fields xs vs environment))
+pub fields_grow : (xs : List ℕ) (vs : List Value) (environment : Environment) → AreIn (variables_of environment)
+    (variables_of (bind_fields xs vs environment))
 fields_grow [] vs environment y is = is
 fields_grow (x ∷ xs) [] environment y is = is
 fields_grow (x ∷ xs) (v ∷ vs) environment y is =
     fields_grow xs vs (record { variable = x; value = v } ∷ environment) y (among_longer x (variables_of environment) y is)
 
 module _ (holds : ℕ → Bool) where
-  fields_new : (xs : List ℕ) (marks : List Bool) (vs : List Value) (environment : Environment) → HaveMarks holds xs marks → FitMarks marks vs
+  fields_new : (xs : List ℕ) (marks : List Bool) (vs : List Value) (environment : Environment) → HaveMarks holds xs marks
+      → FitMarks marks vs
       → AreIn xs (variables_of (bind_fields xs vs environment))
   fields_new [] marks vs environment have fit y is = none_in _ y is
   fields_new (x ∷ xs) [] vs environment have fit y is = absurd have
@@ -234,7 +244,8 @@ module _ (holds : ℕ → Bool) where
       (fields_grow xs vs (record { variable = x; value = v } ∷ environment) x (among_itself x (variables_of environment)))
       (fields_new xs marks vs (record { variable = x; value = v } ∷ environment) have.1 fit.1) y is
 
-  fields_fit : (xs : List ℕ) (marks : List Bool) (vs : List Value) (environment : Environment) → HaveMarks holds xs marks → FitMarks marks vs
+  fields_fit : (xs : List ℕ) (marks : List Bool) (vs : List Value) (environment : Environment) → HaveMarks holds xs marks
+      → FitMarks marks vs
       → EnvironmentFits holds environment → EnvironmentFits holds (bind_fields xs vs environment)
   fields_fit [] marks vs environment have fit each = each
   fields_fit (x ∷ xs) [] vs environment have fit each = absurd have
@@ -255,7 +266,8 @@ module _ (holds : ℕ → Bool) where
       parameters_as_fields (suc next) n marks vs (record { variable = next; value = v } ∷ environment) have.1 fit.1
 
   pub arguments_fit : (environment : Environment) (bound xs : List ℕ) (marks : List Bool) → EnvironmentFits holds environment
-      → AreIn bound (variables_of environment) → AreBound bound xs → HaveMarks holds xs marks → FitMarks marks (map (value_of environment) xs)
+      → AreIn bound (variables_of environment) → AreBound bound xs → HaveMarks holds xs marks → FitMarks marks
+      (map (value_of environment) xs)
   arguments_fit environment bound [] [] fit known are have = tt
   arguments_fit environment bound [] (mark ∷ marks) fit known are have = absurd have
   arguments_fit environment bound (x ∷ xs) [] fit known are have = absurd have
@@ -264,7 +276,8 @@ module _ (holds : ℕ → Bool) where
     arguments_fit environment bound xs marks fit known are.1 have.1,
   )
 
-joins_longer : (marks : CellMarks) (holds : ℕ → Bool) (result given : Bool) (environment longer : Environment) (joins : List CountedJoin)
+joins_longer : (marks : CellMarks) (holds : ℕ → Bool) (result given : Bool) (environment longer : Environment)
+    (joins : List CountedJoin)
     → AreIn (variables_of environment) (variables_of longer) → JoinsFit marks holds result environment given joins
     → JoinsFit marks holds result longer given joins
 joins_longer marks holds result given environment longer [] grow fit = fit
@@ -316,12 +329,14 @@ abbrev OnCode : (Counted → Type 0) → Option Counted → Type 0
 OnCode P None = Unit {0}
 OnCode P (Some code) = P code
 
-module _ (marks : CellMarks) (holds : ℕ → ℕ → Bool) (setting : CountedSetting) (marked : AreMarked marks holds setting.program) where
+module _ (marks : CellMarks) (holds : ℕ → ℕ → Bool) (setting : CountedSetting)
+    (marked : AreMarked marks holds setting.program) where
   abbrev Fits : List ℕ → CountedConfiguration → Type 0
   Fits numbers c = StateFits marks holds numbers c
 
   -- a value comes to a variable of the function that runs
-  arrives : (f : ℕ) (numbers : List ℕ) (from : CountedConfiguration) (x : ℕ) (v : Value) (rest : Counted) (environment : Environment)
+  arrives : (f : ℕ) (numbers : List ℕ) (from : CountedConfiguration) (x : ℕ) (v : Value) (rest : Counted)
+      (environment : Environment)
       (joins : List CountedJoin) (bound : List ℕ) (next : Bool)
       → CellsFit marks from.heap → FramesFit marks holds (result_mark marks f) numbers from.frames
       → HasMark marks (holds f) (result_mark marks f) (x ∷ bound) next rest → FitsMark (holds f x) v
@@ -337,7 +352,8 @@ module _ (marks : CellMarks) (holds : ℕ → ℕ → Bool) (setting : CountedSe
         code_marked = code;
         bound_in = among_more x bound (variables_of environment) known;
         values_fit = (fits, values);
-        joins_fit = joins_longer marks (holds f) (result_mark marks f) next environment (record { variable = x; value = v } ∷ environment) joins
+        joins_fit = joins_longer marks (holds f) (result_mark marks f) next environment
+            (record { variable = x; value = v } ∷ environment) joins
             (among_longer x (variables_of environment)) waits;
       },
       frames,
@@ -356,9 +372,11 @@ module _ (marks : CellMarks) (holds : ℕ → ℕ → Bool) (setting : CountedSe
         given = result_mark marks f;
         code_marked = is.body_marked;
         bound_in = subst (λ environment. AreIn (numbers_from 0 function.parameters) (variables_of environment)) as_fields
-            (fields_new (holds f) (numbers_from 0 function.parameters) (parameter_marks marks f) values [] is.parameters_marked fit);
+            (fields_new (holds f) (numbers_from 0 function.parameters)
+            (parameter_marks marks f) values [] is.parameters_marked fit);
         values_fit = subst (EnvironmentFits (holds f)) as_fields
-            (fields_fit (holds f) (numbers_from 0 function.parameters) (parameter_marks marks f) values [] is.parameters_marked fit tt);
+            (fields_fit (holds f) (numbers_from 0 function.parameters)
+            (parameter_marks marks f) values [] is.parameters_marked fit tt);
         joins_fit = refl;
       },
       frames,
@@ -385,7 +403,8 @@ module _ (marks : CellMarks) (holds : ℕ → ℕ → Bool) (setting : CountedSe
   given_fits f [] v given environment [] (frame ∷ older) from fits cells values waits all these = absurd these
   given_fits f (g ∷ numbers) v given environment [] (frame ∷ older) from fits cells values waits all these =
       let fit = these.0 in
-      arrives g numbers (record from { frames = older }) frame.variable v frame.rest frame.environment frame.joins fit.bound fit.next cells these.1
+      arrives g numbers (record from { frames = older }) frame.variable v frame.rest frame.environment frame.joins fit.bound
+      fit.next cells these.1
       fit.rest_marked (subst (λ m. FitsMark m v) (waits ∙ sym fit.takes) fits) fit.bound_in fit.values_fit fit.joins_fit
 
   module _ (f : ℕ) (numbers : List ℕ) (from : CountedConfiguration) (environment : Environment) (joins : List CountedJoin)
@@ -397,7 +416,8 @@ module _ (marks : CellMarks) (holds : ℕ → ℕ → Bool) (setting : CountedSe
     -- another code of the function follows
     follows : (code : Counted) (bound : List ℕ) (given : Bool) (next : List CountedJoin)
         → HasMark marks (holds f) (result_mark marks f) bound given code → AreIn bound (variables_of environment)
-        → JoinsFit marks (holds f) (result_mark marks f) environment given next → Fits (f ∷ numbers) (at_counted code environment next from)
+        → JoinsFit marks (holds f) (result_mark marks f) environment given next → Fits (f ∷ numbers)
+        (at_counted code environment next from)
     follows code bound given next code_marked known waits = (
       cells,
       (
@@ -418,18 +438,21 @@ module _ (marks : CellMarks) (holds : ℕ → ℕ → Bool) (setting : CountedSe
     with_heap_fits None to on fit = stuck_fits (f ∷ numbers)
     with_heap_fits (Some heap) to on fit = (on, fit.1)
 
-    arms_marked : (bound : List ℕ) (given : Bool) (arms : CountedArms) (row : ℕ) → HaveMark marks (holds f) (result_mark marks f) bound given arms
+    arms_marked : (bound : List ℕ) (given : Bool) (arms : CountedArms) (row : ℕ) → HaveMark marks (holds f)
+        (result_mark marks f) bound given arms
         → OnCode (HasMark marks (holds f) (result_mark marks f) bound given) (arm_at arms row)
     arms_marked bound given no_arm row all = tt
     arms_marked bound given (arm body rest) zero all = all.0
     arms_marked bound given (arm body rest) (suc row) all = arms_marked bound given rest row all.1
 
-    row_marked : (bound : List ℕ) (given : Bool) (arms : CountedArms) (row : Option ℕ) → HaveMark marks (holds f) (result_mark marks f) bound given arms
+    row_marked : (bound : List ℕ) (given : Bool) (arms : CountedArms) (row : Option ℕ) → HaveMark marks (holds f)
+        (result_mark marks f) bound given arms
         → OnCode (HasMark marks (holds f) (result_mark marks f) bound given) (and_then row (arm_at arms))
     row_marked bound given arms None all = tt
     row_marked bound given arms (Some row) all = arms_marked bound given arms row all
 
-    case_fits : (found : Option Counted) (bound : List ℕ) (given : Bool) → OnCode (HasMark marks (holds f) (result_mark marks f) bound given) found
+    case_fits : (found : Option Counted) (bound : List ℕ) (given : Bool) → OnCode
+        (HasMark marks (holds f) (result_mark marks f) bound given) found
         → AreIn bound (variables_of environment) → JoinsFit marks (holds f) (result_mark marks f) environment given joins
         → LeadsTo (Fits (f ∷ numbers)) (case_step found environment joins from)
     case_fits None bound given on known waits = stuck_fits (f ∷ numbers)
@@ -444,7 +467,8 @@ module _ (marks : CellMarks) (holds : ℕ → ℕ → Bool) (setting : CountedSe
         (subst (λ m. FramesFit marks holds m numbers from.frames) (sym result) frames)
 
     -- the fields of a cell are bound
-    opening_fits : (c : ℕ) (x : ℕ) (fields bound : List ℕ) (given : Bool) (rest : Counted) (change : Named → Option Heap) (found : Option Named)
+    opening_fits : (c : ℕ) (x : ℕ) (fields bound : List ℕ) (given : Bool) (rest : Counted) (change : Named → Option Heap)
+        (found : Option Named)
         → OnNamed (λ named. FitMarks (field_marks marks c) named.fields) found
         → ((named : Named) → OnHeap (CellsFit marks) (change named))
         → Opens marks (holds f) bound x c fields → HasMark marks (holds f) (result_mark marks f) (fields ++ bound) given rest
@@ -463,7 +487,8 @@ module _ (marks : CellMarks) (holds : ℕ → ℕ → Bool) (setting : CountedSe
                   (fields_new (holds f) fields (field_marks marks c) named.fields environment opens.1.1 on)
                   (λ y is. fields_grow fields named.fields environment y (known y is));
               values_fit = fields_fit (holds f) fields (field_marks marks c) named.fields environment opens.1.1 on values;
-              joins_fit = joins_longer marks (holds f) (result_mark marks f) given environment (bind_fields fields named.fields environment) joins
+              joins_fit = joins_longer marks (holds f) (result_mark marks f) given environment
+                  (bind_fields fields named.fields environment) joins
                   (fields_grow fields named.fields environment) waits;
             },
             frames,
@@ -473,12 +498,14 @@ module _ (marks : CellMarks) (holds : ℕ → ℕ → Bool) (setting : CountedSe
     -- ---- forms
 
     module _ (x : ℕ) (rest : Counted) (bound : List ℕ) (given : Bool)
-        (code : HasMark marks (holds f) (result_mark marks f) (x ∷ bound) given rest) (known : AreIn bound (variables_of environment))
+        (code : HasMark marks (holds f) (result_mark marks f) (x ∷ bound) given rest)
+        (known : AreIn bound (variables_of environment))
         (waits : JoinsFit marks (holds f) (result_mark marks f) environment given joins) where
       valued : (v : Value) → FitsMark (holds f x) v → Fits (f ∷ numbers) (bound_then x v rest environment joins from)
       valued v fits = arrives f numbers from x v rest environment joins bound given cells frames code fits known values waits
 
-      unmarked : (v : Value) → holds f x ≡ false → FitsMark false v → Fits (f ∷ numbers) (bound_then x v rest environment joins from)
+      unmarked : (v : Value) → holds f x ≡ false → FitsMark false v → Fits (f ∷ numbers)
+          (bound_then x v rest environment joins from)
       unmarked v none fits = valued v (subst (λ m. FitsMark m v) (sym none) fits)
 
       printed : (piece : List ℕ) → holds f x ≡ false
@@ -486,31 +513,37 @@ module _ (marks : CellMarks) (holds : ℕ → ℕ → Bool) (setting : CountedSe
       printed [] none = unmarked unit none tt
       printed (byte ∷ bytes) none = unmarked unit none tt
 
-      full_or : (now : List ℕ) (full : Bool) (end : End) (to : CountedConfiguration) → Fits now to → Fits now (if full then at_end end from else to)
+      full_or : (now : List ℕ) (full : Bool) (end : End) (to : CountedConfiguration) → Fits now to → Fits now
+          (if full then at_end end from else to)
       full_or now true end to fit = (cells, tt)
       full_or now false end to fit = fit
 
       made : (c : ℕ) (arguments : List ℕ) → FitMarks (field_marks marks c) (map (value_of environment) arguments)
           → holds f x ≡ made_mark marks c arguments
-          → LeadsTo (Fits (f ∷ numbers)) (form_step setting (Construct c) (map (value_of environment) arguments) x rest environment joins from)
+          → LeadsTo (Fits (f ∷ numbers)) (form_step setting (Construct c)
+          (map (value_of environment) arguments) x rest environment joins from)
       made c [] fit mark = valued (constant c) (constant_fits (holds f x) c)
       made c (argument ∷ more) fit mark =
           full_or (f ∷ numbers) (nat_le setting.cells (busy from.heap)) heap_full
           (record (bound_then x (place (length from.heap)) rest environment joins from) {
-            heap = record { count = 1; cell = record { made_by = c; fields = map (value_of environment) (argument ∷ more) } } ∷ from.heap;
+            heap = record { count = 1; cell = record { made_by = c; fields = map (value_of environment) (argument ∷ more) } } ∷
+                from.heap;
           })
           ((fit, cells), (valued (place (length from.heap)) (subst (λ m. FitsMark m (place (length from.heap))) (sym mark) tt)).1)
 
-      called_fits : (g : ℕ) (arguments : List Value) (found : Option CountedFunction) → slice_get setting.program.functions g ≡ found
+      called_fits : (g : ℕ) (arguments : List Value) (found : Option CountedFunction)
+          → slice_get setting.program.functions g ≡ found
           → FitMarks (parameter_marks marks g) arguments → holds f x ≡ result_mark marks g
           → LeadsTo (Fits (g ∷ (f ∷ numbers)))
           (call_step setting found arguments (record { variable = x; rest = rest; joins = joins; environment = environment }) from)
       called_fits g arguments None there fit mark = stuck_fits (g ∷ (f ∷ numbers))
       called_fits g arguments (Some function) there fit mark =
           full_or (g ∷ (f ∷ numbers)) (nat_le setting.depth (suc (length from.frames))) stack_full
-          (in_code function arguments (record from { frames = record { variable = x; rest = rest; joins = joins; environment = environment } ∷ from.frames }))
+          (in_code function arguments (record from
+          { frames = record { variable = x; rest = rest; joins = joins; environment = environment } ∷ from.frames }))
           (entered g (f ∷ numbers) function arguments
-          (record from { frames = record { variable = x; rest = rest; joins = joins; environment = environment } ∷ from.frames }) there fit cells (
+          (record from { frames = record { variable = x; rest = rest; joins = joins; environment = environment } ∷ from.frames })
+          there fit cells (
             record {
               bound = bound;
               next = given;
@@ -523,14 +556,16 @@ module _ (marks : CellMarks) (holds : ℕ → ℕ → Bool) (setting : CountedSe
             frames,
           ))
 
-      form_fits : (form : Form) (arguments : List ℕ) → AreBound bound arguments → IsFormMarked marks (holds f) form arguments (holds f x)
+      form_fits : (form : Form) (arguments : List ℕ) → AreBound bound arguments → IsFormMarked marks (holds f) form arguments
+          (holds f x)
           → LeadsTo (Fits (numbers_called form (f ∷ numbers)))
           (form_step setting form (map (value_of environment) arguments) x rest environment joins from)
       form_fits (Number n) arguments are is = unmarked (integer n) is.1 tt
       form_fits Nothing arguments are is = unmarked unit is.1 tt
       form_fits ReadByte arguments are is = λ byte. unmarked (byte_value byte) is.1 (byte_fits byte)
       form_fits (PrintText form text) arguments are is = printed (piece_of form (text_at setting.program.texts text)) is.1
-      form_fits (Unary operator) arguments are is = unmarked (unary_result operator (argument 0 (map (value_of environment) arguments))) is.1 (unary_fits operator _)
+      form_fits (Unary operator) arguments are is = unmarked
+          (unary_result operator (argument 0 (map (value_of environment) arguments))) is.1 (unary_fits operator _)
       form_fits (Binary operator) arguments are is = unmarked _ is.1 (number_fits operator _ _)
       form_fits (Print form) arguments are is =
           printed (piece_of form (signed_decimal (integer_of (argument 0 (map (value_of environment) arguments))))) is.1
@@ -540,59 +575,79 @@ module _ (marks : CellMarks) (holds : ℕ → ℕ → Bool) (setting : CountedSe
           called_fits g (map (value_of environment) arguments) (slice_get setting.program.functions g) refl
           (arguments_fit (holds f) environment bound arguments (parameter_marks marks g) values known are is.0) is.1
 
-  code_fits : (f : ℕ) (numbers : List ℕ) (from : CountedConfiguration) (environment : Environment) (joins : List CountedJoin) (code : Counted)
+  code_fits : (f : ℕ) (numbers : List ℕ) (from : CountedConfiguration) (environment : Environment) (joins : List CountedJoin)
+      (code : Counted)
       → CellsFit marks from.heap → RunFits marks (holds f) (result_mark marks f) code environment joins
       → FramesFit marks holds (result_mark marks f) numbers from.frames
       → LeadsTo (Fits (numbers_at code joins (f ∷ numbers))) (counted_code_step setting code environment joins from)
   code_fits f numbers from environment joins (give x) cells r frames =
       given_fits f numbers (value_of environment x) r.given environment joins from.frames from
-      (subst (λ m. FitsMark m (value_of environment x)) r.code_marked.1 (value_fits (holds f) environment x r.values_fit (r.bound_in x r.code_marked.0)))
+      (subst (λ m. FitsMark m (value_of environment x)) r.code_marked.1
+      (value_fits (holds f) environment x r.values_fit (r.bound_in x r.code_marked.0)))
       cells r.values_fit r.joins_fit frames frames
   code_fits f numbers from environment joins (tail_call g arguments) cells r frames =
-      tail_fits f numbers from environment joins cells frames r.values_fit g (map (value_of environment) arguments) (slice_get setting.program.functions g) refl
-      (arguments_fit (holds f) environment r.bound arguments (parameter_marks marks g) r.values_fit r.bound_in r.code_marked.0 r.code_marked.1.0) r.code_marked.1.1
-  code_fits f numbers from environment joins (branch x positive negative) cells r frames = by_test (is_true (value_of environment x))
+      tail_fits f numbers from environment joins cells frames r.values_fit g (map (value_of environment) arguments)
+      (slice_get setting.program.functions g) refl
+      (arguments_fit (holds f) environment r.bound arguments
+      (parameter_marks marks g) r.values_fit r.bound_in r.code_marked.0 r.code_marked.1.0) r.code_marked.1.1
+  code_fits f numbers from environment joins (branch x positive negative) cells r frames = by_test
+      (is_true (value_of environment x))
     where
       by_test : (t : Bool) → Fits (f ∷ numbers) (at_counted (if t then positive else negative) environment joins from)
-      by_test true = follows f numbers from environment joins cells frames r.values_fit positive r.bound r.given joins r.code_marked.1.1.0 r.bound_in r.joins_fit
-      by_test false = follows f numbers from environment joins cells frames r.values_fit negative r.bound r.given joins r.code_marked.1.1.1 r.bound_in r.joins_fit
+      by_test true = follows f numbers from environment joins cells frames r.values_fit positive r.bound r.given joins
+          r.code_marked.1.1.0 r.bound_in r.joins_fit
+      by_test false = follows f numbers from environment joins cells frames r.values_fit negative r.bound r.given joins
+          r.code_marked.1.1.1 r.bound_in r.joins_fit
   code_fits f numbers from environment joins (case x decisions arms) cells r frames =
       case_fits f numbers from environment joins cells frames r.values_fit _ r.bound r.given
-      (row_marked f numbers from environment joins cells frames r.values_fit r.bound r.given arms _ r.code_marked.1) r.bound_in r.joins_fit
+      (row_marked f numbers from environment joins cells frames r.values_fit r.bound r.given arms _ r.code_marked.1) r.bound_in
+      r.joins_fit
   code_fits f numbers from environment joins (compute x form arguments rest) cells r frames =
-      form_fits f numbers from environment joins cells frames r.values_fit x rest r.bound r.given r.code_marked.1.1 r.bound_in r.joins_fit form arguments
+      form_fits f numbers from environment joins cells frames r.values_fit x rest r.bound r.given r.code_marked.1.1 r.bound_in
+      r.joins_fit form arguments
       r.code_marked.0 r.code_marked.1.0
   code_fits f numbers from environment joins (inside x block rest) cells r frames =
-      follows f numbers from environment joins cells frames r.values_fit block r.bound (holds f x) (record { variable = x; rest = rest } ∷ joins) r.code_marked.0 r.bound_in
+      follows f numbers from environment joins cells frames r.values_fit block r.bound (holds f x)
+      (record { variable = x; rest = rest } ∷ joins) r.code_marked.0 r.bound_in
       (r.bound, (r.given, (r.bound_in, (refl, (r.code_marked.1, r.joins_fit)))))
   code_fits f numbers from environment joins (read x c fields rest) cells r frames =
-      opening_fits f numbers from environment joins cells frames r.values_fit c x fields r.bound r.given rest (λ named. Some from.heap) _
-      (named_fits marks c (length fields) from.heap (value_of environment x) cells) (λ named. cells) r.code_marked.0 r.code_marked.1 r.bound_in r.joins_fit
+      opening_fits f numbers from environment joins cells frames r.values_fit c x fields r.bound r.given rest
+      (λ named. Some from.heap) _
+      (named_fits marks c (length fields) from.heap (value_of environment x) cells)
+      (λ named. cells) r.code_marked.0 r.code_marked.1 r.bound_in r.joins_fit
   code_fits f numbers from environment joins (open_cell x c fields used rest) cells r frames =
       opening_fits f numbers from environment joins cells frames r.values_fit c x fields r.bound r.given rest
       (λ named. opened_heap named.at (used_values used fields named.fields) from.heap) _
       (named_fits marks c (length fields) from.heap (value_of environment x) cells)
-      (λ named. opened_fits marks named.at (used_values used fields named.fields) from.heap cells) r.code_marked.0 r.code_marked.1 r.bound_in r.joins_fit
+      (λ named. opened_fits marks named.at (used_values used fields named.fields) from.heap cells) r.code_marked.0 r.code_marked.1
+      r.bound_in r.joins_fit
   code_fits f numbers from environment joins (if_unique x c fields used rest) cells r frames =
       opening_fits f numbers from environment joins cells frames r.values_fit c x fields r.bound r.given rest
-      (λ named. unique_heap (count_at from.heap named.at) named.at (used_values used fields named.fields) (other_values used fields named.fields) from.heap) _
+      (λ named. unique_heap (count_at from.heap named.at) named.at (used_values used fields named.fields)
+      (other_values used fields named.fields) from.heap) _
       (named_fits marks c (length fields) from.heap (value_of environment x) cells)
-      (λ named. unique_fits marks (count_at from.heap named.at) named.at (used_values used fields named.fields) (other_values used fields named.fields) from.heap cells)
+      (λ named. unique_fits marks (count_at from.heap named.at) named.at (used_values used fields named.fields)
+      (other_values used fields named.fields) from.heap cells)
       r.code_marked.0 r.code_marked.1 r.bound_in r.joins_fit
   code_fits f numbers from environment joins (dup x rest) cells r frames =
-      with_heap_fits f numbers from environment joins cells frames r.values_fit (dup_value (value_of environment x) from.heap) (at_counted rest environment joins from)
+      with_heap_fits f numbers from environment joins cells frames r.values_fit (dup_value (value_of environment x) from.heap)
+      (at_counted rest environment joins from)
       (dup_fits marks (value_of environment x) from.heap cells)
-      (follows f numbers from environment joins cells frames r.values_fit rest r.bound r.given joins r.code_marked.1 r.bound_in r.joins_fit)
+      (follows f numbers from environment joins cells frames r.values_fit rest r.bound r.given joins r.code_marked.1 r.bound_in
+      r.joins_fit)
   code_fits f numbers from environment joins (drop x rest) cells r frames =
-      with_heap_fits f numbers from environment joins cells frames r.values_fit (drop_value (value_of environment x) from.heap) (at_counted rest environment joins from)
+      with_heap_fits f numbers from environment joins cells frames r.values_fit (drop_value (value_of environment x) from.heap)
+      (at_counted rest environment joins from)
       (drop_fits marks (value_of environment x) from.heap cells)
-      (follows f numbers from environment joins cells frames r.values_fit rest r.bound r.given joins r.code_marked.1 r.bound_in r.joins_fit)
+      (follows f numbers from environment joins cells frames r.values_fit rest r.bound r.given joins r.code_marked.1 r.bound_in
+      r.joins_fit)
 
   control_fits : (control : CountedControl) (numbers : List ℕ) (c : CountedConfiguration) → CellsFit marks c.heap
       → ControlFits marks holds control numbers c.frames → ControlFits marks holds c.control numbers c.frames
       → LeadsTo (Fits (numbers_after control numbers)) (counted_step_at setting control c)
   control_fits (running code environment joins) [] c cells fit same = absurd fit
-  control_fits (running code environment joins) (f ∷ numbers) c cells fit same = code_fits f numbers c environment joins code cells fit.0 fit.1
+  control_fits (running code environment joins) (f ∷ numbers) c cells fit same =
+      code_fits f numbers c environment joins code cells fit.0 fit.1
   control_fits (stopped by) numbers c cells fit same = (cells, same)
   control_fits stuck numbers c cells fit same = (cells, same)
 
@@ -603,9 +658,12 @@ module _ (marks : CellMarks) (holds : ℕ → ℕ → Bool) (setting : CountedSe
 
   pub start_fits : Fits (setting.program.main ∷ []) (counted_start setting)
   start_fits =
-      subst (λ (function : CountedFunction). Fits (setting.program.main ∷ []) (record { control = running function.body [] []; frames = []; heap = [] }))
-      (sym (get_or_from_slice_get setting.program.functions setting.program.main marked.main_there.0 no_function marked.main_there.1.0))
-      (entered setting.program.main [] marked.main_there.0 [] (record { control = stuck; frames = []; heap = [] }) marked.main_there.1.0 none tt tt)
+      subst (λ (function : CountedFunction). Fits (setting.program.main ∷ [])
+      (record { control = running function.body [] []; frames = []; heap = [] }))
+      (sym (get_or_from_slice_get setting.program.functions setting.program.main marked.main_there.0 no_function
+      marked.main_there.1.0))
+      (entered setting.program.main [] marked.main_there.0 []
+      (record { control = stuck; frames = []; heap = [] }) marked.main_there.1.0 none tt tt)
     where
       by_number : (n : ℕ) (ms : List Bool) → n ≡ 0 → HaveMarks (holds setting.program.main) (numbers_from 0 n) ms → FitMarks ms []
       by_number zero [] is have = tt
@@ -620,7 +678,8 @@ module _ (marks : CellMarks) (holds : ℕ → ℕ → Bool) (setting : CountedSe
   pub after_step : (numbers : List ℕ) (s : CountedState) → Fits numbers s.machine
       → Fits (numbers_after s.machine.control numbers) (counted_step setting s).1.machine
   after_step numbers s fit =
-      performed_kept (Fits (numbers_after s.machine.control numbers)) (counted_step_of setting s.machine) s.input (step_fits numbers s.machine fit)
+      performed_kept (Fits (numbers_after s.machine.control numbers)) (counted_step_of setting s.machine) s.input
+      (step_fits numbers s.machine fit)
 
   module _ (weight : CountedState → ℕ) where
     next_fits : (s : CountedState) (numbers : List ℕ) (how : Option End) → counted_ending_of s ≡ how → Fits numbers s.machine

@@ -22,7 +22,8 @@ pub counts_few : (positions : PositionTable) (marks : CellMarks) (holds : ℕ �
     → (n : ℕ) (code : Counted) (environment : Environment) (joins : List CountedJoin)
     → (counted_after weight setting input n).control ≡ running code environment joins
     → (at : ℕ) → count_at (counted_after weight setting input n).heap at ≤ setting.depth * most + fields * setting.cells
-counts_few positions marks holds setting weight input most fields spent fits marked spends few deep n code environment joins here at =
+counts_few positions marks holds setting weight input most fields spent fits marked spends few deep n code environment joins here at
+    =
     count_few positions setting marks most fields few (counted_after weight setting input n) code environment joins
     (keeps_sound positions setting weight input spent fits n)
     (always_bounded setting most spends deep spent.main.0 spent.main.1.0 weight input n)
@@ -35,10 +36,12 @@ pub counts_narrow : (positions : PositionTable) (marks : CellMarks) (holds : ℕ
     → (n : ℕ) (code : Counted) (environment : Environment) (joins : List CountedJoin)
     → (counted_after weight setting input n).control ≡ running code environment joins
     → (at : ℕ) → count_at (counted_after weight setting input n).heap at + 1 < 2 ^ 32
-counts_narrow positions marks holds setting weight input most spent fits marked spends small few deep shallow cells n code environment joins here at =
+counts_narrow positions marks holds setting weight input most spent fits marked spends small few deep shallow cells n code
+    environment joins here at =
     omega (
       arith,
-      counts_few positions marks holds setting weight input most 6 spent fits marked spends few deep n code environment joins here at,
+      counts_few positions marks holds setting weight input most 6 spent fits marked spends few deep n code environment joins here
+          at,
       mul-le-mul_right most shallow,
       mul-le-mul_left 65536 small,
       cells,

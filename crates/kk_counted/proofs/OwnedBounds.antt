@@ -101,7 +101,8 @@ module _ (positions : PositionTable) (functions : List CountedFunction) where
         omega (arith, s.1.0 (λ x. 1), owned_few lent [] left s.0 rest small.0 s.1.1 small.1.1, small.1.0)
 
     arms_few : (lent : List ℕ) (left : Option (List ℕ)) (owned : List ℕ) (arms : CountedArms) (n : ℕ)
-        → SpendsAll positions functions lent left owned arms → HasAnArm arms → SpendAtMost arms n → many owned ≤ n + many (left_by left)
+        → SpendsAll positions functions lent left owned arms → HasAnArm arms → SpendAtMost arms n → many owned ≤ n + many
+        (left_by left)
     arms_few lent left owned no_arm n s has small = absurd has
     arms_few lent left owned (arm body rest) n s has small = owned_few lent [] left owned body n s.0 small.0
 
@@ -120,7 +121,8 @@ module _ (positions : PositionTable) (functions : List CountedFunction) where
       )
 
   -- what the functions that wait own
-  waiting_few : (store : Store) (frames : List CountedFrame) (owned : List Value) (n : ℕ) → Own positions functions store frames owned
+  waiting_few : (store : Store) (frames : List CountedFrame) (owned : List Value) (n : ℕ)
+      → Own positions functions store frames owned
       → FramesSpend frames n → length owned ≤ length frames * n
   waiting_few store [] owned n own small = omega (arith, ap length own)
   waiting_few store (frame ∷ older) owned n own small =

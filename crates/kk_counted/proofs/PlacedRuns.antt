@@ -100,8 +100,7 @@ module _ (weight : TokenState → ℕ) (setting : TokenSetting) where
       (token_after weight setting input n).tokens.marks)
       × ((n p : ℕ) → p < length (token_after weight setting input n).heap → assigned (suc n) p ≡ assigned n p))
   runs_placed input kept =
-      let first : At (token_first_state setting input).machine = ((λ p. p), none_placed setting.cells (λ p. p)) in
-      (
+      let first : At (token_first_state setting input).machine = ((λ p. p), none_placed setting.cells (λ p. p)) in (
         λ n. (run_at n (token_first_state setting input) kept first).0,
         (
           λ n. (run_at n (token_first_state setting input) kept first).1,

@@ -23,7 +23,8 @@ module _ (marks : CellMarks) (holds : ℕ → Bool) (result : Bool) where
     CoreMark given (case x decisions arms) = ArmsMark given arms
     CoreMark given (compute x form arguments rest) = IsFormMarked marks holds form arguments (holds x) × CoreMark given rest
     CoreMark given (use_of x rest) = CoreMark given rest
-    CoreMark given (unpack x c fields rest) = (holds x ≡ true) × (HaveMarks holds fields (field_marks marks c) × CoreMark given rest)
+    CoreMark given (unpack x c fields rest) = (holds x ≡ true) ×
+        (HaveMarks holds fields (field_marks marks c) × CoreMark given rest)
     CoreMark given (inside x block rest) = CoreMark (holds x) block × CoreMark given rest
 
     pub ArmsMark : Bool → Arms → Type 0
@@ -83,11 +84,13 @@ module _ (marks : CellMarks) (holds : ℕ → Bool) (result : Bool) where
       pub insert_marked : (left bound : List ℕ) (given : Bool) (code : Code) → IsFine lent bound code → Part left bound
           → CoreMark marks holds result given code → Marked bound given (insert positions lent left code)
       insert_marked left bound given (give x) fine part mark =
-          dups_marked (wants lent (x ∷ []) left) bound given (Counted.give x) (wants_part lent (x ∷ []) left bound (one_part x bound fine) part)
+          dups_marked (wants lent (x ∷ []) left) bound given (Counted.give x)
+          (wants_part lent (x ∷ []) left bound (one_part x bound fine) part)
           (fine, mark)
       insert_marked left bound given (tail_call f arguments) fine part mark =
           dups_marked (wants lent (used positions (Call f) arguments) left) bound given (Counted.tail_call f arguments)
-          (wants_part lent (used positions (Call f) arguments) left bound (λ y is. fine y (used_part positions (Call f) arguments y is)) part)
+          (wants_part lent (used positions (Call f) arguments) left bound
+          (λ y is. fine y (used_part positions (Call f) arguments y is)) part)
           (bound_all arguments bound fine, mark)
       insert_marked left bound given (branch x positive negative) fine part mark = (
         fine.0,
@@ -110,16 +113,22 @@ module _ (marks : CellMarks) (holds : ℕ → Bool) (result : Bool) where
       )
       insert_marked left bound given (compute x form arguments rest) fine part mark =
           let more : Part left (x ∷ bound) = λ y is. among_next x y bound (part y is) in
-          let owned : Part (own positions lent left rest) (x ∷ bound) = own_part positions lent left (x ∷ bound) rest fine.1.1.1 more in
-          let kept : Part (without (x ∷ []) (own positions lent left rest)) bound = rest_part positions lent x (own positions lent left rest) bound owned in
-          let lends_bound : Part (owns lent (lends positions form arguments) (without (x ∷ []) (own positions lent left rest))) bound =
+          let owned : Part (own positions lent left rest) (x ∷ bound) = own_part positions lent left
+          (x ∷ bound) rest fine.1.1.1 more in
+          let kept : Part (without (x ∷ []) (own positions lent left rest)) bound = rest_part positions lent x
+          (own positions lent left rest) bound owned in
+          let lends_bound : Part (owns lent (lends positions form arguments) (without (x ∷ []) (own positions lent left rest)))
+          bound =
           owns_part positions lent (lends positions form arguments) (without (x ∷ []) (own positions lent left rest)) bound
           (λ y is. fine.0 y (lends_part positions form arguments y is)) kept in
           dups_marked
-          (wants lent (used positions form arguments) (owns lent (lends positions form arguments) (without (x ∷ []) (own positions lent left rest))))
+          (wants lent (used positions form arguments)
+          (owns lent (lends positions form arguments) (without (x ∷ []) (own positions lent left rest))))
           bound given
-          (Counted.compute x form arguments (back lent (lends positions form arguments) x (own positions lent left rest) (insert positions lent left rest)))
-          (wants_part lent (used positions form arguments) (owns lent (lends positions form arguments) (without (x ∷ []) (own positions lent left rest)))
+          (Counted.compute x form arguments (back lent (lends positions form arguments) x (own positions lent left rest)
+          (insert positions lent left rest)))
+          (wants_part lent (used positions form arguments)
+          (owns lent (lends positions form arguments) (without (x ∷ []) (own positions lent left rest)))
           bound (λ y is. fine.0 y (used_part positions form arguments y is)) lends_bound) (
             bound_all arguments bound fine.0,
             (
@@ -129,28 +138,34 @@ module _ (marks : CellMarks) (holds : ℕ → Bool) (result : Bool) where
                   (dropping (x ∷ []) (own positions lent left rest) (insert positions lent left rest))
                   (λ y is. among_next x y bound (lends_bound y is))
                   (dropping_marked (x ∷ []) (own positions lent left rest) (x ∷ bound) given (insert positions lent left rest)
-                  (one_part x (x ∷ bound) (among_first x bound)) (insert_marked left (x ∷ bound) given rest fine.1.1.1 more mark.1)),
+                  (one_part x (x ∷ bound) (among_first x bound))
+                  (insert_marked left (x ∷ bound) given rest fine.1.1.1 more mark.1)),
             ),
           )
       insert_marked left bound given (use_of x rest) fine part mark =
-          dropping_marked (own positions lent left (use_of x rest)) (own positions lent left rest) bound given (insert positions lent left rest)
+          dropping_marked (own positions lent left (use_of x rest)) (own positions lent left rest) bound given
+          (insert positions lent left rest)
           (own_part positions lent left bound (use_of x rest) fine part) (insert_marked left bound given rest fine.1 part mark)
       insert_marked left bound given (unpack x c fields rest) fine part mark =
-          opening_marked (is_among lent x || is_among (own positions lent left rest) x) x c fields (common (own positions lent left rest) fields) bound
+          opening_marked (is_among lent x || is_among (own positions lent left rest) x) x c fields
+          (common (own positions lent left rest) fields) bound
           given (insert positions lent left rest) (fine.0, (mark.0, mark.1.0))
           (λ y is. in_front fields bound y (filter_in (is_among (own positions lent left rest)) fields y is))
           (insert_marked left (fields ++ bound) given rest fine.1.1.1.1 (λ y is. in_back fields bound y (part y is)) mark.1.1)
       insert_marked left bound given (inside x block rest) fine part mark =
           let more : Part left (x ∷ bound) = λ y is. among_next x y bound (part y is) in
-          let owned : Part (own positions lent left rest) (x ∷ bound) = own_part positions lent left (x ∷ bound) rest fine.1.1.1 more in (
+          let owned : Part (own positions lent left rest) (x ∷ bound) = own_part positions lent left
+          (x ∷ bound) rest fine.1.1.1 more in (
             insert_marked (without (x ∷ []) (own positions lent left rest)) bound (holds x) block fine.0
                 (rest_part positions lent x (own positions lent left rest) bound owned) mark.0,
             dropping_marked (x ∷ []) (own positions lent left rest) (x ∷ bound) given (insert positions lent left rest)
                 (one_part x (x ∷ bound) (among_first x bound)) (insert_marked left (x ∷ bound) given rest fine.1.1.1 more mark.1),
           )
 
-      arms_marked : (left all bound : List ℕ) (given : Bool) (arms : Arms) → AreFine lent bound arms → Part left bound → Part all bound
-          → ArmsMark marks holds result given arms → HaveMark marks holds result bound given (insert_arms positions lent left all arms)
+      arms_marked : (left all bound : List ℕ) (given : Bool) (arms : Arms) → AreFine lent bound arms → Part left bound
+          → Part all bound
+          → ArmsMark marks holds result given arms → HaveMark marks holds result bound given
+          (insert_arms positions lent left all arms)
       arms_marked left all bound given no_arm fine part owned mark = tt
       arms_marked left all bound given (arm pattern body rest) fine part owned mark = (
         dropping_marked all (own positions lent left body) bound given (insert positions lent left body) owned
@@ -180,7 +195,8 @@ module _ (marks : CellMarks) (holds : ℕ → Bool) (result : Bool) where
       part x mark.0,
       (mark.1.0, (bound_more bound more given positive part mark.1.1.0, bound_more bound more given negative part mark.1.1.1)),
     )
-    bound_more bound more given (Counted.case x decisions arms) part mark = (part x mark.0, arms_more bound more given arms part mark.1)
+    bound_more bound more given (Counted.case x decisions arms) part mark =
+        (part x mark.0, arms_more bound more given arms part mark.1)
     bound_more bound more given (Counted.compute x form arguments rest) part mark = (
       all_more arguments bound more part mark.0,
       (mark.1.0, bound_more (x ∷ bound) (x ∷ more) given rest (fields_more (x ∷ []) bound more part) mark.1.1),

@@ -36,7 +36,8 @@ less_there (y ∷ ys) (suc i) x there = omega (arith, less_there ys i x there)
 none_in : (P : Type 0) (y : ℕ) → is_among [] y ≡ true → P
 none_in P y is = absurd (cc)
 
-module _ (positions : PositionTable) (table : Table) (ground : AreGround table.constructors) (truths : HasTruths table.constructors) where
+module _ (positions : PositionTable) (table : Table) (ground : AreGround table.constructors)
+    (truths : HasTruths table.constructors) where
   module _ (f : ℕ) (function : FunctionCode) (signature : Signature) (there : slice_get table.functions f ≡ Some signature)
       (typed : IsCodeTyped table function signature) where
     fine : IsFine (lent_of positions f function) (below function.parameters) function.body
@@ -53,7 +54,8 @@ module _ (positions : PositionTable) (table : Table) (ground : AreGround table.c
     own_marks : Choice table ground truths (result_mark (marks_of_types table) f) function.parameters function.variables
         (typing_parameters 0 signature.parameters []) (cells table signature.result) function.body
     own_marks =
-        choose table ground truths (result_mark (marks_of_types table) f) (below function.parameters) function.parameters function.variables true
+        choose table ground truths (result_mark (marks_of_types table) f)
+        (below function.parameters) function.parameters function.variables true
         (typing_parameters 0 signature.parameters []) signature.result function.body typed.body typed.ordered (λ tail. result_is)
 
     abbrev marked_variables : ℕ → Bool
@@ -67,7 +69,8 @@ module _ (positions : PositionTable) (table : Table) (ground : AreGround table.c
         (omega (arith, less_there signature.parameters i t is, typed.parameters))
         ∙ mapped_at (cells table) signature.parameters i t false is)
 
-    core_marked : CoreMark (marks_of_types table) marked_variables (result_mark (marks_of_types table) f) (cells table signature.result) function.body
+    core_marked : CoreMark (marks_of_types table) marked_variables (result_mark (marks_of_types table) f)
+        (cells table signature.result) function.body
     core_marked =
         own_marks.1 marked_variables
         (parameters_fit table marked_variables 0 signature.parameters [] (λ x fact is. absurd (cc)) parameter_is)
@@ -82,7 +85,8 @@ module _ (positions : PositionTable) (table : Table) (ground : AreGround table.c
     function_marked : IsMarked (marks_of_types table) marked_variables f (inserted_function positions f function)
     function_marked =
         record {
-          parameters_marked = subst (λ n. HaveMarks marked_variables (numbers_from 0 n) (parameter_marks (marks_of_types table) f)) typed.parameters
+          parameters_marked = subst (λ n. HaveMarks marked_variables (numbers_from 0 n) (parameter_marks (marks_of_types table) f))
+              typed.parameters
               (subst (HaveMarks marked_variables (numbers_from 0 (length signature.parameters)))
               (sym (parameter_marks_are table f signature.parameters signature.result there))
               (parameters_have table marked_variables 0 signature.parameters parameter_is));
@@ -96,7 +100,8 @@ module _ (positions : PositionTable) (table : Table) (ground : AreGround table.c
               (numbers_from 0 function.parameters) (result_mark (marks_of_types table) f)
               (insert positions (lent_of positions f function) [] function.body) all_numbers
               (insert_marked (marks_of_types table) marked_variables (result_mark (marks_of_types table) f) positions
-              (lent_of positions f function) [] (below function.parameters) (result_mark (marks_of_types table) f) function.body fine
+              (lent_of positions f function) [] (below function.parameters)
+              (result_mark (marks_of_types table) f) function.body fine
               (λ y is. none_in _ y is)
               (subst (λ m. CoreMark (marks_of_types table) marked_variables (result_mark (marks_of_types table) f) m function.body)
               (sym result_is) core_marked)));
@@ -136,7 +141,8 @@ module _ (positions : PositionTable) (table : Table) (ground : AreGround table.c
             subst (IsMarked (marks_of_types table) (marked_at f (slice_get code.functions f) refl) f) (sym from.1.1)
             (each_marked f from.0 (slice_get code.functions f) refl from.1.0);
         main_there =
-            let main = function_there table code.functions table.functions code.main (record { parameters = []; result = _ }) typed.functions typed.main in (
+            let main = function_there table code.functions table.functions code.main
+            (record { parameters = []; result = _ }) typed.functions typed.main in (
               inserted_function positions code.main main.0,
               (inserted_there positions code.functions code.main main.0 main.1.0, main.1.1),
             );
@@ -149,13 +155,17 @@ map_twice : {A B C : Type 0} (f : A → B) (g : B → C) (xs : List A) → map g
 map_twice f g [] = refl
 map_twice f g (x ∷ xs) = ap (λ ys. g (f x) ∷ ys) (map_twice f g xs)
 
-pub tables_tell : (program : ProgramTree) (core : Core) → TellsCells program core → marks_of_core core ≡ marks_of_types (table_of program)
+pub tables_tell : (program : ProgramTree) (core : Core) → TellsCells program core → marks_of_core core ≡ marks_of_types
+    (table_of program)
 tables_tell program core tells =
     ap (λ (m : List (List Bool)). record (marks_of_core core) { parameters = m })
-    (tells.parameters ∙ sym (map_twice signature_of (λ (s : Signature). map (has_cells program.constructors) s.parameters) program.functions))
-    ∙ (ap (λ (m : List Bool). record (marks_of_core core) { parameters = (marks_of_types (table_of program)).parameters; results = m })
+    (tells.parameters ∙ sym (map_twice signature_of
+    (λ (s : Signature). map (has_cells program.constructors) s.parameters) program.functions))
+    ∙ (ap (λ (m : List Bool). record (marks_of_core core)
+    { parameters = (marks_of_types (table_of program)).parameters; results = m })
     (tells.results ∙ sym (map_twice signature_of (λ (s : Signature). has_cells program.constructors s.result) program.functions))
-    ∙ (ap (λ (m : List Bool). record (marks_of_types (table_of program)) { types = m; fields = (marks_of_core core).fields }) tells.types
+    ∙ (ap (λ (m : List Bool). record (marks_of_types (table_of program)) { types = m; fields = (marks_of_core core).fields })
+    tells.types
     ∙ ap (λ (m : List (List Bool)). record (marks_of_types (table_of program)) { fields = m }) tells.fields))
 
 pub grounds_are : (given : Ground) → AreGround (ground_program given).constructors

@@ -65,7 +65,8 @@ module _ (table : Table) where
   unit_none = none_any (λ c. makes_cells c unit_type) table.constructors (λ i x is. refl)
 
   pub bool_none : HasTruths table.constructors → cells bool ≡ false
-  bool_none truths = none_any (λ c. makes_cells c bool) table.constructors (λ c k there. each c k there (fields_of (Some k) 0 no_type) refl)
+  bool_none truths = none_any (λ c. makes_cells c bool) table.constructors
+      (λ c k there. each c k there (fields_of (Some k) 0 no_type) refl)
     where
       each : (c : ℕ) (k : ConstructorTree) → slice_get table.constructors c ≡ Some k → (found : Option (List TypeTree))
           → fields_of (Some k) 0 no_type ≡ found → has_any found ≡ false
@@ -98,7 +99,8 @@ module _ (table : Table) where
   has_some (type_variable of) u us c is = absurd (cc)
   has_some (named by arguments) u us c is = by_found (slice_get table.constructors c) refl is
     where
-      by_found : (found : Option ConstructorTree) → slice_get table.constructors c ≡ found → fields_of found by arguments ≡ Some (u ∷ us)
+      by_found : (found : Option ConstructorTree) → slice_get table.constructors c ≡ found → fields_of found by arguments ≡ Some
+          (u ∷ us)
           → cells (named by arguments) ≡ true
       by_found None there fields = absurd (cc)
       by_found (Some k) there fields =
@@ -111,7 +113,8 @@ module _ (table : Table) where
     fields : ts ≡ made.fields
     type : t ≡ made_type made
 
-  is_made : AreGround table.constructors → (t : TypeTree) (ts : List TypeTree) (c : ℕ) → field_types table.constructors t c ≡ Some ts
+  is_made : AreGround table.constructors → (t : TypeTree) (ts : List TypeTree) (c : ℕ)
+      → field_types table.constructors t c ≡ Some ts
       → IsMade t ts c
   is_made ground int32 ts c is = absurd (cc)
   is_made ground unit_type ts c is = absurd (cc)
@@ -128,7 +131,8 @@ module _ (table : Table) where
             there = there;
             fields = sym (ap (of_some (λ xs. xs) []) fields);
             type = ap (λ n. named n arguments) (sym of_type)
-                ∙ ap (λ us. named k.of_type us) (sym (ap (of_some (λ us. us) no_type) arguments_are ∙ all_same_only own arguments same_ones));
+                ∙ ap (λ us. named k.of_type us) (sym (ap (of_some (λ us. us) no_type) arguments_are
+                ∙ all_same_only own arguments same_ones));
           }
 
       by_type : (k : ConstructorTree) (own : TypeTrees) → slice_get table.constructors c ≡ Some k → k.arguments ≡ Some own
@@ -160,32 +164,41 @@ module _ (table : Table) where
   none_marked holds (x ∷ xs) [] have none = absurd have
   none_marked holds (x ∷ xs) (t ∷ ts) have none = (have.0 ∙ none.0, none_marked holds xs ts have.1 none.1)
 
-  pub field_marks_are : AreGround table.constructors → (t : TypeTree) (ts : List TypeTree) (c : ℕ) → field_types table.constructors t c ≡ Some ts
+  pub field_marks_are : AreGround table.constructors → (t : TypeTree) (ts : List TypeTree) (c : ℕ)
+      → field_types table.constructors t c ≡ Some ts
       → field_marks (marks_of_types table) c ≡ map cells ts
   field_marks_are ground t ts c is =
       let made = is_made ground t ts c is in
-      mapped_at (λ (k : ConstructorTree). map cells k.fields) table.constructors c made.made [] made.there ∙ ap (map cells) (sym made.fields)
+      mapped_at (λ (k : ConstructorTree). map cells k.fields) table.constructors c made.made [] made.there ∙ ap (map cells)
+      (sym made.fields)
 
   made_mark_is : AreGround table.constructors → (t : TypeTree) (ts : List TypeTree) (c : ℕ) (xs : List ℕ) (holds : ℕ → Bool)
-      → field_types table.constructors t c ≡ Some ts → HaveMarks holds xs (map cells ts) → cells t ≡ made_mark (marks_of_types table) c xs
+      → field_types table.constructors t c ≡ Some ts → HaveMarks holds xs (map cells ts) → cells t ≡ made_mark
+      (marks_of_types table) c xs
   made_mark_is ground t [] c [] holds is have =
       let made = is_made ground t [] c is in
-      ap cells made.type ∙ sym (mapped_at (λ (k : ConstructorTree). cells (made_type k)) table.constructors c made.made false made.there)
+      ap cells made.type ∙ sym (mapped_at (λ (k : ConstructorTree). cells (made_type k)) table.constructors c made.made false
+      made.there)
   made_mark_is ground t [] c (x ∷ xs) holds is have = absurd have
   made_mark_is ground t (u ∷ us) c [] holds is have = absurd have
   made_mark_is ground t (u ∷ us) c (x ∷ xs) holds is have = has_some t u us c is
 
-  pub parameter_marks_are : (f : ℕ) (ts : List TypeTree) (t : TypeTree) → slice_get table.functions f ≡ Some (record { parameters = ts; result = t })
+  pub parameter_marks_are : (f : ℕ) (ts : List TypeTree) (t : TypeTree) → slice_get table.functions f ≡ Some
+      (record { parameters = ts; result = t })
       → parameter_marks (marks_of_types table) f ≡ map cells ts
   parameter_marks_are f ts t is =
-      mapped_at (λ (signature : Signature). map cells signature.parameters) table.functions f (record { parameters = ts; result = t }) [] is
+      mapped_at (λ (signature : Signature). map cells signature.parameters) table.functions f
+      (record { parameters = ts; result = t }) [] is
 
-  pub result_mark_is : (f : ℕ) (ts : List TypeTree) (t : TypeTree) → slice_get table.functions f ≡ Some (record { parameters = ts; result = t })
+  pub result_mark_is : (f : ℕ) (ts : List TypeTree) (t : TypeTree) → slice_get table.functions f ≡ Some
+      (record { parameters = ts; result = t })
       → result_mark (marks_of_types table) f ≡ cells t
   result_mark_is f ts t is =
-      mapped_at (λ (signature : Signature). cells signature.result) table.functions f (record { parameters = ts; result = t }) false is
+      mapped_at (λ (signature : Signature). cells signature.result) table.functions f
+      (record { parameters = ts; result = t }) false is
 
-  pub form_marked : AreGround table.constructors → HasTruths table.constructors → (holds : ℕ → Bool) (x : ℕ) (form : Form) (xs : List ℕ)
+  pub form_marked : AreGround table.constructors → HasTruths table.constructors → (holds : ℕ → Bool) (x : ℕ) (form : Form)
+      (xs : List ℕ)
       (ts : List TypeTree) (t : TypeTree) → HaveMarks holds xs (map cells ts) → IsFormTyped table form ts t → holds x ≡ cells t
       → IsFormMarked (marks_of_types table) holds form xs (holds x)
   unfolding NoCells
@@ -197,10 +210,16 @@ module _ (table : Table) where
       (none_marked holds xs ts have (subst NoCells (sym is.0) tt), mark ∙ (ap cells is.1 ∙ int_none))
   form_marked ground truths holds x (PrintText form text) xs ts t have is mark =
       (none_marked holds xs ts have (subst NoCells (sym is.0) tt), mark ∙ (ap cells is.1 ∙ unit_none))
-  form_marked ground truths holds x (Unary operator) xs ts t have is mark =
-      (none_marked holds xs ts have (subst NoCells (sym is.0) (unary_none truths operator, tt)), mark ∙ (ap cells is.1 ∙ unary_none truths operator))
-  form_marked ground truths holds x (Binary operator) xs ts t have is mark =
-      (none_marked holds xs ts have (subst NoCells (sym is.0) (int_none, (int_none, tt))), mark ∙ (ap cells is.1 ∙ binary_none truths operator))
+  form_marked ground truths holds x (Unary operator) xs ts t have is mark = (
+    none_marked holds xs ts have (subst NoCells (sym is.0) (unary_none truths operator, tt)),
+    mark ∙
+        (ap cells is.1 ∙ unary_none truths operator),
+  )
+  form_marked ground truths holds x (Binary operator) xs ts t have is mark = (
+    none_marked holds xs ts have (subst NoCells (sym is.0) (int_none, (int_none, tt))),
+    mark ∙
+        (ap cells is.1 ∙ binary_none truths operator),
+  )
   form_marked ground truths holds x (Print form) xs ts t have is mark =
       (none_marked holds xs ts have (subst NoCells (sym is.0) (int_none, tt)), mark ∙ (ap cells is.1 ∙ unit_none))
   form_marked ground truths holds x (Construct c) xs ts t have is mark =

@@ -54,7 +54,8 @@ fields_marked low middle high (x ∷ xs) [] holds others many rise less alike = 
 fields_marked low middle high (x ∷ xs) (mark ∷ marks) holds others many rise less alike = (
   alike x rise.0 (omega (arith, rise_high (x + 1) xs middle rise.1, less)) ∙ mark_here x mark (with_fields xs marks others),
   fields_marked (x + 1) middle high xs marks holds others (omega (arith, many)) rise.1 less
-      (λ y least most. alike y (omega (arith, least, rise.0)) most ∙ mark_other x mark (with_fields xs marks others) y (omega (arith, least))),
+      (λ y least most. alike y (omega (arith, least, rise.0)) most ∙ mark_other x mark (with_fields xs marks others) y
+      (omega (arith, least))),
 )
 
 fields_others : (low middle : ℕ) (xs : List ℕ) (marks : List Bool) (others : ℕ → Bool) (y : ℕ) → Rise low xs middle → middle ≤ y
@@ -78,7 +79,8 @@ module _ (table : Table) (holds : ℕ → Bool) where
       → IsPatternOf (values_of table.constructors) t (outline_of pattern) → FactsFit (knowing x t pattern facts)
   knowing_fits facts x t pattern fit mark of_type y fact is = by_test (x == y) refl is
     where
-      by_test : (t' : Bool) → (x == y) ≡ t' → (if t' then Some (record { type = t; pattern = pattern }) else fact_in facts y) ≡ Some fact
+      by_test : (t' : Bool) → (x == y) ≡ t' → (if t' then Some (record { type = t; pattern = pattern }) else fact_in facts y) ≡ Some
+          fact
           → (holds y ≡ cells table fact.type) × IsPatternOf (values_of table.constructors) fact.type (outline_of fact.pattern)
       by_test false other is = fit y fact is
       by_test true here is =
@@ -86,9 +88,11 @@ module _ (table : Table) (holds : ℕ → Bool) where
         where
           OnFact : Option Fact → Type 0
           OnFact None = Unit {0}
-          OnFact (Some f) = (holds y ≡ cells table f.type) × IsPatternOf (values_of table.constructors) f.type (outline_of f.pattern)
+          OnFact (Some f) = (holds y ≡ cells table f.type) × IsPatternOf (values_of table.constructors) f.type
+              (outline_of f.pattern)
 
-  fields_fit : (facts : Facts) (xs : List ℕ) (ts : List TypeTree) (ps : Patterns) → FactsFit facts → HaveMarks holds xs (map (cells table) ts)
+  fields_fit : (facts : Facts) (xs : List ℕ) (ts : List TypeTree) (ps : Patterns) → FactsFit facts → HaveMarks holds xs
+      (map (cells table) ts)
       → ArePatternsOf (values_of table.constructors) ts (outlines_of ps) → FactsFit (knowing_fields xs ts ps facts)
   fields_fit facts [] ts ps fit have of_types = fit
   fields_fit facts (x ∷ xs) [] ps fit have of_types = fit
@@ -97,7 +101,8 @@ module _ (table : Table) (holds : ℕ → Bool) where
       fields_fit (knowing x t first facts) xs ts rest (knowing_fits facts x t first fit have.0 of_types.0) have.1 of_types.1
 
   pub parameters_fit : (next : ℕ) (ts : List TypeTree) (facts : Facts) → FactsFit facts
-      → ((i : ℕ) (t : TypeTree) → slice_get ts i ≡ Some t → holds (next + i) ≡ cells table t) → FactsFit (typing_parameters next ts facts)
+      → ((i : ℕ) (t : TypeTree) → slice_get ts i ≡ Some t → holds (next + i) ≡ cells table t) → FactsFit
+      (typing_parameters next ts facts)
   parameters_fit next [] facts fit each = fit
   parameters_fit next (t ∷ ts) facts fit each =
       parameters_fit (next + 1) ts (typing next t facts)
@@ -134,13 +139,15 @@ module _ (table : Table) (ground : AreGround table.constructors) (truths : HasTr
       → ArmsMark (marks_of_types table) holds result given arms)
 
   mutual
-    pub choose : (bound : List ℕ) (low high : ℕ) (tail : Bool) (facts : Facts) (t : TypeTree) (code : Code) → HasCodeType table tail facts code t
+    pub choose : (bound : List ℕ) (low high : ℕ) (tail : Bool) (facts : Facts) (t : TypeTree) (code : Code)
+        → HasCodeType table tail facts code t
         → Ordered bound low code high → (tail ≡ true → result ≡ cells table t) → Choice low high facts (cells table t) code
     choose bound low high tail facts t (give x) typed o whole = (λ y. false, λ holds fit alike. (fit x _ typed.1).0)
     choose bound low high tail facts t (tail_call f arguments) typed o whole = (
       λ y. false,
       λ holds fit alike. (
-        subst (HaveMarks holds arguments) (sym (parameter_marks_are table f typed.1 t typed.3)) (have_marks table holds facts arguments typed.1 fit typed.2),
+        subst (HaveMarks holds arguments) (sym (parameter_marks_are table f typed.1 t typed.3))
+            (have_marks table holds facts arguments typed.1 fit typed.2),
         result_mark_is table f typed.1 t typed.3 ∙ sym (whole typed.0),
       ),
     )
@@ -166,25 +173,31 @@ module _ (table : Table) (ground : AreGround table.constructors) (truths : HasTr
         let last : x + 1 ≤ high = ordered_high (x ∷ bound) (x + 1) rest high o.2 in (
           with_mark x (cells table typed.0) after.0,
           λ holds fit alike.
-              let mark : holds x ≡ cells table typed.0 = alike x o.1 (omega (arith, last)) ∙ mark_here x (cells table typed.0) after.0 in (
-                form_marked table ground truths holds x form arguments typed.1 typed.0 (have_marks table holds facts arguments typed.1 fit typed.2) typed.3 mark,
+              let mark : holds x ≡ cells table typed.0 = alike x o.1 (omega (arith, last)) ∙ mark_here x
+              (cells table typed.0) after.0 in (
+                form_marked table ground truths holds x form arguments typed.1 typed.0
+                    (have_marks table holds facts arguments typed.1 fit typed.2) typed.3 mark,
                 after.1 holds (knowing_fits table holds facts x typed.0 anything fit mark tt)
-                    (λ y least most. alike y (omega (arith, least, o.1)) most ∙ mark_other x (cells table typed.0) after.0 y (omega (arith, least))),
+                    (λ y least most. alike y (omega (arith, least, o.1)) most ∙ mark_other x (cells table typed.0) after.0 y
+                    (omega (arith, least))),
               ),
         )
     choose bound low high tail facts t (use_of x rest) typed o whole = choose bound low high tail facts t rest typed.2 o.1 whole
     choose bound low high tail facts t (unpack x c fields rest) typed o whole =
         let us = typed.1 in
-        let after = choose (fields ++ bound) o.0 high tail (knowing_fields fields us (part typed.2 typed.3) facts) t rest typed.7 o.3 whole in
+        let after = choose (fields ++ bound) o.0 high tail
+        (knowing_fields fields us (part typed.2 typed.3) facts) t rest typed.7 o.3 whole in
         let last : o.0 ≤ high = ordered_high (fields ++ bound) o.0 rest high o.3 in (
           with_fields fields (map (cells table) us) after.0,
           λ holds fit alike.
               let known = fit x _ typed.4 in
               let same_types : known.1.0 ≡ us = some_same known.1.0 us (sym known.1.1 ∙ typed.5) in
               let of_types : ArePatternsOf (values_of table.constructors) us (outlines_of (part typed.2 typed.3)) =
-              subst (λ ts. ArePatternsOf (values_of table.constructors) ts (outlines_of (part typed.2 typed.3))) same_types known.1.2 in
+              subst (λ ts. ArePatternsOf (values_of table.constructors) ts (outlines_of (part typed.2 typed.3))) same_types
+              known.1.2 in
               let have : HaveMarks holds fields (map (cells table) us) =
-              fields_marked low o.0 high fields (map (cells table) us) holds after.0 (typed.6 ∙ sym (length_cells us)) o.2 last alike in (
+              fields_marked low o.0 high fields (map (cells table) us) holds after.0
+              (typed.6 ∙ sym (length_cells us)) o.2 last alike in (
                 known.0 ∙ some_fields typed.0 us c typed.2 typed.3 typed.5 of_types,
                 (
                   subst (HaveMarks holds fields) (sym (field_marks_are table ground typed.0 us c typed.5)) have,
@@ -203,7 +216,8 @@ module _ (table : Table) (ground : AreGround table.constructors) (truths : HasTr
         length_cells [] = refl
         length_cells (u ∷ ts) = ap suc (length_cells ts)
 
-        some_fields : (u : TypeTree) (us : List TypeTree) (c : ℕ) (first : Pattern) (others : Patterns) → field_types table.constructors u c ≡ Some us
+        some_fields : (u : TypeTree) (us : List TypeTree) (c : ℕ) (first : Pattern) (others : Patterns)
+            → field_types table.constructors u c ≡ Some us
             → ArePatternsOf (values_of table.constructors) us (outlines_of (part first others)) → cells table u ≡ true
         some_fields u [] c first others is of_types = absurd of_types
         some_fields u (v ∷ vs) c first others is of_types = has_some table u v vs c is
@@ -219,7 +233,8 @@ module _ (table : Table) (ground : AreGround table.constructors) (truths : HasTr
               ∙ mark_here x (cells table typed.0) after.0) in (
                 subst (λ m. CoreMark (marks_of_types table) holds result m block) (sym mark)
                     (one.1 holds fit
-                    (λ y least most. alike y least (omega (arith, most, last)) ∙ split_low x one.0 (with_mark x (cells table typed.0) after.0) y most)),
+                    (λ y least most. alike y least (omega (arith, most, last)) ∙ split_low x one.0
+                    (with_mark x (cells table typed.0) after.0) y most)),
                 after.1 holds (knowing_fits table holds facts x typed.0 anything fit mark tt)
                     (λ y least most.
                     alike y (omega (arith, least, first)) most
