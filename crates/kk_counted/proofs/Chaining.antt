@@ -3,7 +3,7 @@ use Rattle.std.proofs.Common.{◌≡◌, ℕ, suc, ◌≤◌, ◌<◌, ◌==◌,
 use Rattle.std.specs.Prelude.{if◌then◌else◌}
 use Rattle.kk_syntax.specs.Shapes.{is_among}
 use Rattle.kk_counted.specs.Spending.{AreApart}
-use Rattle.kk_counted.specs.Tokens.{Slot, spent, null, token, is_unspent, is_token, Link, slots_with}
+use Rattle.kk_counted.specs.Tokens.{Slot, spent, null, token, is_unspent, is_token, is_linked, Link, slots_with}
 use Rattle.kk_counted.specs.TokenStates.{TokenFrame}
 use Rattle.kk_counted.specs.TokenKeeping.{links_of, chain_of, AreHeldFrames}
 use Rattle.kk_counted.proofs.Counting.{same, itself}
@@ -222,3 +222,45 @@ none_on_chain slots (held ∷ helds) (frame ∷ frames) are none f y less =
         → is_token (slots f y) ≡ false
     by_frame true test later = ap (λ g. is_token (slots g y)) (same f (length helds) test) ∙ by_value (slots (length helds) y) refl
     by_frame false test later = later (less_than test)
+
+-- ---- a slot that is not held is not on the chain
+
+row_unlinked : (slots : ℕ → Slot) (g : ℕ) (ys : List ℕ) (older : List Link) (f y : ℕ)
+    → ((x : ℕ) → is_among ys x ≡ true → ((g == f) && (x == y)) ≡ false) → is_linked f y older ≡ false
+    → is_linked f y (links_of slots g ys older) ≡ false
+row_unlinked slots g [] older f y apart none = none
+row_unlinked slots g (x ∷ ys) older f y apart none =
+    by_test (is_token (slots x)) (row_unlinked slots g ys older f y (λ z is. apart z (later z is (x == z))) none)
+  where
+    later : (z : ℕ) → is_among ys z ≡ true → (t : Bool) → (t || is_among ys z) ≡ true
+    later z is true = refl
+    later z is false = is
+
+    by_test : (t : Bool) → is_linked f y (links_of slots g ys older) ≡ false
+        → is_linked f y (if t then record { frame = g; slot = x } ∷ links_of slots g ys older else links_of slots g ys older) ≡ false
+    by_test true rest =
+        ap (λ b. b || is_linked f y (links_of slots g ys older)) (apart x (ap (λ b. b || is_among ys x) (itself x))) ∙ rest
+    by_test false rest = rest
+
+older_unlinked : (slots : ℕ → ℕ → Slot) (helds : List (List ℕ)) (f y : ℕ) → length helds ≤ f
+    → is_linked f y (chain_of slots helds) ≡ false
+older_unlinked slots [] f y far = refl
+older_unlinked slots (held ∷ helds) f y far =
+    row_unlinked (slots (length helds)) (length helds) held (chain_of slots helds) f y
+    (λ x is. ap (λ b. b && (x == y)) (other (length helds) far)) (older_unlinked slots helds f y (omega (arith, far)))
+  where
+    other : (n : ℕ) → suc n ≤ f → (n == f) ≡ false
+    other n less = grind arith
+
+pub not_linked : (slots : ℕ → ℕ → Slot) (held : List ℕ) (older : List (List ℕ)) (y : ℕ) → is_among held y ≡ false
+    → is_linked (length older) y (chain_of slots (held ∷ older)) ≡ false
+not_linked slots held older y fresh =
+    row_unlinked (slots (length older)) (length older) held (chain_of slots older) (length older) y
+    (λ x is. unlike x is (x == y) refl (length older == length older)) (older_unlinked slots older (length older) y (omega arith))
+  where
+    unlike : (x : ℕ) → is_among held x ≡ true → (t : Bool) → (x == y) ≡ t → (s : Bool) → (s && (x == y)) ≡ false
+    unlike x is true test s =
+        let clash : true ≡ false = sym is ∙ (ap (is_among held) (same x y test) ∙ fresh) in
+        absurd (cc)
+    unlike x is false test true = test
+    unlike x is false test false = refl

@@ -16,7 +16,7 @@ use Rattle.kk_core.specs.Decisions.{chosen}
 use Rattle.kk_counted.specs.Heaps.{Heap, count_at, cell_at, fields_held, dup_value, drop_value}
 use Rattle.kk_counted.specs.CountedMachine.{Named, cell_named, used_values, other_values, opened_heap, unique_heap}
 use Rattle.kk_counted.specs.TokenedCodes.{Tokened, TokenedFunction}
-use Rattle.kk_counted.specs.Tokens.{Slot, spent, null, token, Mark, plain, token_of, Tokens, marks_with, blanked, released, gained, opened_tokens, by_slot, by_token, freed, moved, held, unheld, tail_of, request, is_of, Link}
+use Rattle.kk_counted.specs.Tokens.{Link, Slot, spent, null, token, Mark, plain, token_of, Tokens, marks_with, blanked, released, gained, opened_tokens, by_slot, by_token, freed, moved, held, is_linked, unlinked, with_chain, hold_link, unheld, request, is_of}
 use Rattle.kk_counted.specs.TokenStates.{TokenSetting, TokenJoin, TokenFrame, TokenControl, TokenConfiguration}
 use Rattle.kk_counted.specs.TokenMachine.{at_code, bound_to, token_at_stuck, to_heap, to_tokens, in_body, tokened_arm_at, token_case_step, token_give_step, token_tail_step, token_read_step, to_opened, token_open_step, make_step, fill_step, filled, token_call_step, token_form_step, token_code_step}
 use Rattle.kk_counted.specs.TokenSpending.{AreSame, AtForm}
@@ -291,16 +291,33 @@ module _ (setting : TokenSetting) (environment : Environment) (joins : List Toke
   chain_grows (Some after) rest equal =
       stays refl (λ p alive. subst (λ marks. is_alive from.heap marks p ≡ true) (equal after refl) alive)
 
-  same_marks : (d y : ℕ) (slot : Slot) (links : List Link) (after : Tokens)
-      → by_slot None (Some from.tokens) (λ p. Some (record from.tokens { chain = links })) d y slot from.tokens.marks ≡ Some after
-      → after.marks ≡ from.tokens.marks
-  same_marks d y spent links after is = absurd (cc)
-  same_marks d y null links after is = let equal : from.tokens ≡ after = cc in sym (ap (λ (t : Tokens). t.marks) equal)
-  same_marks d y (token p) links after is = by_test (is_of d y (from.tokens.marks p)) is
+  -- what is made of the same tokens with another chain, if anything
+  abbrev SameMarks : Option Tokens → Type 0
+  SameMarks result = (after : Tokens) → result ≡ Some after → after.marks ≡ from.tokens.marks
+
+  other_chain : (links : List Link) → SameMarks (Some (record from.tokens { chain = links }))
+  other_chain links after is = let equal : record from.tokens { chain = links } ≡ after = cc in sym (ap (λ (t : Tokens). t.marks) equal)
+
+  hold_marks : (d y : ℕ) → SameMarks (hold_link d y from.tokens)
+  hold_marks d y = by_test (is_linked d y from.tokens.chain)
     where
-      by_test : (t : Bool) → (if t then Some (record from.tokens { chain = links }) else None) ≡ Some after
-          → after.marks ≡ from.tokens.marks
-      by_test true is = let equal : record from.tokens { chain = links } ≡ after = cc in sym (ap (λ (t : Tokens). t.marks) equal)
+      by_test : (t : Bool)
+          → SameMarks (if t then None else Some (record from.tokens { chain = record { frame = d; slot = y } ∷ from.tokens.chain }))
+      by_test true after is = absurd (cc)
+      by_test false after is = other_chain (record { frame = d; slot = y } ∷ from.tokens.chain) after is
+
+  chain_marks : (links : Option (List Link)) → SameMarks (with_chain from.tokens links)
+  chain_marks None after is = absurd (cc)
+  chain_marks (Some links) after is = other_chain links after is
+
+  same_marks : (d y : ℕ) (slot : Slot) (result : Option Tokens) → SameMarks result
+      → SameMarks (by_slot None (Some from.tokens) (λ p. result) d y slot from.tokens.marks)
+  same_marks d y spent result each after is = absurd (cc)
+  same_marks d y null result each after is = let equal : from.tokens ≡ after = cc in sym (ap (λ (t : Tokens). t.marks) equal)
+  same_marks d y (token p) result each after is = by_test (is_of d y (from.tokens.marks p)) is
+    where
+      by_test : (t : Bool) → (if t then result else None) ≡ Some after → after.marks ≡ from.tokens.marks
+      by_test true is = each after is
       by_test false is = absurd (cc)
 
   form_grows : (lists : Lists) (form : Form) (arguments others : List ℕ) (x : ℕ) (rest code : Tokened)
@@ -376,10 +393,12 @@ module _ (setting : TokenSetting) (environment : Environment) (joins : List Toke
       from.frames from.heap from.tokens judged.spends.0 judged) to of rest judged.spends.1.0
   step_grows lists (Tokened.hold y rest) judged =
       chain_grows (held (length from.frames) y from.tokens) rest
-      (same_marks (length from.frames) y (from.tokens.slots (length from.frames) y)
-      (record { frame = length from.frames; slot = y } ∷ from.tokens.chain))
+      (same_marks (length from.frames) y (from.tokens.slots (length from.frames) y) (hold_link (length from.frames) y from.tokens)
+      (hold_marks (length from.frames) y))
   step_grows lists (Tokened.unhold y rest) judged =
       chain_grows (unheld (length from.frames) y from.tokens) rest
-      (same_marks (length from.frames) y (from.tokens.slots (length from.frames) y) (tail_of from.tokens.chain))
+      (same_marks (length from.frames) y (from.tokens.slots (length from.frames) y)
+      (with_chain from.tokens (unlinked (length from.frames) y from.tokens.chain))
+      (chain_marks (unlinked (length from.frames) y from.tokens.chain)))
   step_grows lists (Tokened.compute x form arguments others rest) judged =
       form_grows lists form arguments others x rest (Tokened.compute x form arguments others rest) judged.spends.0 judged

@@ -3,7 +3,7 @@ use Rattle.std.proofs.Common.{◌≡◌, ℕ, suc, ◌+◌, ◌≤◌, ◌<◌, 
 use Rattle.std.specs.Prelude.{if◌then◌else◌, nat_le}
 use Rattle.kk_syntax.specs.Shapes.{is_among}
 use Rattle.kk_counted.specs.Heaps.{Heap, busy}
-use Rattle.kk_counted.specs.Tokens.{Slot, spent, null, token, is_unspent, is_token, Mark, plain, token_of, one_if_token, Link, Tokens, marked, slots_with, marks_with, released, first_token, taken, from_chain, from_tokens, request}
+use Rattle.kk_counted.specs.Tokens.{Slot, spent, null, token, is_unspent, is_token, Mark, plain, token_of, one_if_token, Link, Tokens, marked, slots_with, marks_with, released, first_token, taken, from_link, from_chain, from_tokens, request}
 use Rattle.kk_counted.specs.TokenStates.{TokenFrame}
 use Rattle.kk_counted.specs.TokenSpending.{AreSame}
 use Rattle.kk_counted.specs.TokenKeeping.{ArePooled, chain_of, AreTokens, AreUnspent, AreHeldFrames}
@@ -148,7 +148,7 @@ asked cells unspent others older frames heap tokens are waiting slots_are all =
     by_chain (link ∷ links) is filled none =
         let top = chain_top tokens.slots older link links (frames_apart tokens.slots older frames waiting) (sym older_chain ∙ is) in
         served (record (released link.frame link.slot top.cell null tokens) { chain = links })
-        (ap (λ slot. Some (record (taken link.frame link.slot slot tokens) { chain = links })) top.has)
+        (ap (λ slot. from_link link links slot tokens) top.has)
         (taken_served cells heap tokens ([] ∷ older) link.frame link.slot top.cell links top.has (omega (arith, top.below)) are
         top.rest)
 

@@ -6,13 +6,14 @@ use Rattle.kk_source.specs.State.{Environment}
 use Rattle.kk_source.specs.Actions.{Action, goes}
 use Rattle.kk_counted.specs.Spending.{AreApart}
 use Rattle.kk_counted.specs.TokenedCodes.{Tokened}
-use Rattle.kk_counted.specs.Tokens.{Slot, spent, null, is_token, plain, Link, Tokens, blanked, released, gained, freed, moved, held, unheld, tail_of}
+use Rattle.kk_counted.specs.Tokens.{Slot, spent, null, is_token, plain, Link, Tokens, blanked, released, gained, freed, moved, is_linked, unlinked, with_chain, hold_link, held, unheld}
 use Rattle.kk_counted.specs.TokenStates.{TokenSetting, TokenJoin, TokenControl, TokenConfiguration}
 use Rattle.kk_counted.specs.TokenMachine.{at_code, to_tokens, token_code_step}
 use Rattle.kk_counted.specs.TokenSpending.{SpendsTokens}
 use Rattle.kk_counted.specs.TokenKeeping.{links_of, chain_of, WaitTokens, IsJudged, Lists, ListsAfter, AreKeptByAt}
 use Rattle.kk_counted.proofs.Pooling.{mark_here, released_room, by_null, by_cell}
-use Rattle.kk_counted.proofs.Chaining.{frames_many}
+use Rattle.kk_counted.proofs.Counting.{itself}
+use Rattle.kk_counted.proofs.Chaining.{frames_many, not_linked}
 use Rattle.kk_counted.proofs.Requesting.{pooled_chain}
 use Rattle.kk_counted.proofs.TokenForms.{AreNow, Has, is_null, has_cell, unspent_has, nulled_now, spent_null_now, spent_now, gained_now}
 use Rattle.kk_counted.proofs.TokenSteps.{lists_of, judged_now, now_of}
@@ -217,7 +218,7 @@ module _ (setting : TokenSetting) (environment : Environment) (joins : List Toke
             (record from.tokens { chain = from.tokens.chain }) rest
             (ap (λ d. held d y from.tokens) (many (Tokened.hold y rest) judged)
             ∙ by_null setting.cells None (Some from.tokens)
-            (λ p. Some (record from.tokens { chain = record { frame = length older; slot = y } ∷ from.tokens.chain }))
+            (λ p. hold_link (length older) y from.tokens)
             (length older) y from.tokens is)
             (rechained (ListsAfter (Tokened.hold y rest) joins lists) (Tokened.hold y rest) rest from.tokens.chain (y ∷ held_slots)
             judged refl judged.spends.1.1 (judged.spends.1.0, judged.apart)
@@ -227,8 +228,11 @@ module _ (setting : TokenSetting) (environment : Environment) (joins : List Toke
             (record from.tokens { chain = record { frame = length older; slot = y } ∷ from.tokens.chain }) rest
             (ap (λ d. held d y from.tokens) (many (Tokened.hold y rest) judged)
             ∙ by_cell setting.cells None (Some from.tokens)
-            (λ p. Some (record from.tokens { chain = record { frame = length older; slot = y } ∷ from.tokens.chain }))
-            (length older) y p from.heap from.tokens judged.are.pooled is)
+            (λ p. hold_link (length older) y from.tokens)
+            (length older) y p from.heap from.tokens judged.are.pooled is
+            ∙ ap (λ t. if t then None else Some (record from.tokens { chain = record { frame = length older; slot = y } ∷ from.tokens.chain }))
+            (ap (is_linked (length older) y) judged.are.chain
+            ∙ not_linked from.tokens.slots held_slots older y judged.spends.1.0))
             (rechained (ListsAfter (Tokened.hold y rest) joins lists) (Tokened.hold y rest) rest
             (record { frame = length older; slot = y } ∷ from.tokens.chain) (y ∷ held_slots) judged refl judged.spends.1.1
             (judged.spends.1.0, judged.apart)
@@ -258,20 +262,22 @@ module _ (setting : TokenSetting) (environment : Environment) (joins : List Toke
             still_by (ListsAfter (Tokened.unhold y rest) joins lists) (unheld (length from.frames) y from.tokens)
             (record from.tokens { chain = from.tokens.chain }) rest
             (ap (λ d. unheld d y from.tokens) (many (Tokened.unhold y rest) judged)
-            ∙ by_null setting.cells None (Some from.tokens) (λ p. Some (record from.tokens { chain = tail_of from.tokens.chain }))
+            ∙ by_null setting.cells None (Some from.tokens) (λ p. with_chain from.tokens (unlinked (length older) y from.tokens.chain))
             (length older) y from.tokens is)
             (rechained (ListsAfter (Tokened.unhold y rest) joins lists) (Tokened.unhold y rest) rest from.tokens.chain others judged
             (ap (λ h. lists_of left unspent h older) judged.spends.1.0) judged.spends.1.1.1 apart.1
             (chain ∙ ap (row y others) is))
         by_has (has_cell p is) =
             still_by (ListsAfter (Tokened.unhold y rest) joins lists) (unheld (length from.frames) y from.tokens)
-            (record from.tokens { chain = tail_of from.tokens.chain }) rest
+            (record from.tokens { chain = links_of (from.tokens.slots (length older)) (length older) others (chain_of from.tokens.slots older) }) rest
             (ap (λ d. unheld d y from.tokens) (many (Tokened.unhold y rest) judged)
-            ∙ by_cell setting.cells None (Some from.tokens) (λ p. Some (record from.tokens { chain = tail_of from.tokens.chain }))
-            (length older) y p from.heap from.tokens judged.are.pooled is)
-            (rechained (ListsAfter (Tokened.unhold y rest) joins lists) (Tokened.unhold y rest) rest (tail_of from.tokens.chain)
-            others judged (ap (λ h. lists_of left unspent h older) judged.spends.1.0) judged.spends.1.1.1 apart.1
-            (ap tail_of (chain ∙ ap (row y others) is)))
+            ∙ by_cell setting.cells None (Some from.tokens) (λ p. with_chain from.tokens (unlinked (length older) y from.tokens.chain))
+            (length older) y p from.heap from.tokens judged.are.pooled is
+            ∙ (ap (λ links. with_chain from.tokens (unlinked (length older) y links)) (chain ∙ ap (row y others) is)
+            ∙ rw (itself (length older)) (rw (itself y) refl)))
+            (rechained (ListsAfter (Tokened.unhold y rest) joins lists) (Tokened.unhold y rest) rest
+            (links_of (from.tokens.slots (length older)) (length older) others (chain_of from.tokens.slots older))
+            others judged (ap (λ h. lists_of left unspent h older) judged.spends.1.0) judged.spends.1.1.1 apart.1 refl)
 
   pub free_still : (lists : Lists) (y : ℕ) (rest : Tokened)
       → IsJudged setting.cells lists.left lists.unspent lists.held lists.older (Tokened.free y rest) joins from.frames from.heap

@@ -70,7 +70,7 @@ end_alike TokenControl.stuck = refl
 spent_is_none : (p : ℕ) → spent ≡ token p → ⊥
 spent_is_none p is = absurd (cc)
 
-function_at : (functions : List TokenedFunction) (n : ℕ)
+pub function_at : (functions : List TokenedFunction) (n : ℕ)
     → slice_index_or (map bare_function functions) n no_function ≡ bare_function (slice_index_or functions n no_tokened)
 function_at [] n = refl
 function_at (function ∷ functions) zero = refl

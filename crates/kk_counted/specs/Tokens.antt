@@ -1,5 +1,5 @@
 -- Tokens: the slots of functions in which they stand, the marks of their cells, and the chain of those that are held.
-use Rattle.std.specs.Prelude.{ℕ, zero, suc, ◌+◌, ◌==◌, ◌&&◌, nat_le, Bool, true, false, List, [], ◌∷◌, length, Option, Some, None, if◌then◌else◌}
+use Rattle.std.specs.Prelude.{ℕ, zero, suc, ◌+◌, ◌==◌, ◌&&◌, ◌||◌, nat_le, Bool, true, false, List, [], ◌∷◌, length, Option, Some, None, if◌then◌else◌}
 use Rattle.kk_counted.specs.Heaps.{Heap, busy}
 
 -- what a slot has: no token, or one that is spent; a token that is null; or the cell of a token
@@ -97,18 +97,31 @@ moved f to from tokens =
     by_token None (Some (blanked f to null (blanked f from spent tokens)))
     (λ p. Some (gained f to p (released f from p spent tokens))) f from tokens
 
--- the token of a slot is put on the chain; one that is null is not
+-- whether a slot is on a chain
+abbrev pub is_linked : ℕ → ℕ → List Link → Bool
+is_linked f y [] = false
+is_linked f y (link ∷ links) = ((link.frame == f) && (link.slot == y)) || is_linked f y links
+
+-- a chain without its top, which is that slot; none where another slot is the top
+abbrev pub unlinked : ℕ → ℕ → List Link → Option (List Link)
+unlinked f y [] = None
+unlinked f y (link ∷ links) = if (link.frame == f) && (link.slot == y) then Some links else None
+
+abbrev pub with_chain : Tokens → Option (List Link) → Option Tokens
+with_chain tokens None = None
+with_chain tokens (Some links) = Some (record tokens { chain = links })
+
+-- The token of a slot is put on the chain; one that is null is not. None where it is on the chain already.
+abbrev pub hold_link : ℕ → ℕ → Tokens → Option Tokens
+hold_link f y tokens =
+    if is_linked f y tokens.chain then None else Some (record tokens { chain = record { frame = f; slot = y } ∷ tokens.chain })
+
 abbrev pub held : ℕ → ℕ → Tokens → Option Tokens
-held f y tokens =
-    by_token None (Some tokens) (λ p. Some (record tokens { chain = record { frame = f; slot = y } ∷ tokens.chain })) f y tokens
+held f y tokens = by_token None (Some tokens) (λ p. hold_link f y tokens) f y tokens
 
-abbrev pub tail_of : List Link → List Link
-tail_of [] = []
-tail_of (link ∷ links) = links
-
--- the token of a slot, if it is still there, is taken off the top of the chain
+-- The token of a slot, if it is still there, is taken off the top of the chain. None where another one is the top.
 abbrev pub unheld : ℕ → ℕ → Tokens → Option Tokens
-unheld f y tokens = by_token None (Some tokens) (λ p. Some (record tokens { chain = tail_of tokens.chain })) f y tokens
+unheld f y tokens = by_token None (Some tokens) (λ p. with_chain tokens (unlinked f y tokens.chain)) f y tokens
 
 -- ---- requests for a cell
 
@@ -122,10 +135,14 @@ abbrev pub taken : ℕ → ℕ → Slot → Tokens → Tokens
 taken f y (token p) tokens = released f y p null tokens
 taken f y _ tokens = tokens
 
+-- the token of the top of a chain; none where it has no token
+abbrev pub from_link : Link → List Link → Slot → Tokens → Option Tokens
+from_link link links (token p) tokens = Some (record (released link.frame link.slot p null tokens) { chain = links })
+from_link link links _ tokens = None
+
 abbrev pub from_chain : List Link → Tokens → Option Tokens
 from_chain [] tokens = None
-from_chain (link ∷ links) tokens =
-    Some (record (taken link.frame link.slot (tokens.slots link.frame link.slot) tokens) { chain = links })
+from_chain (link ∷ links) tokens = from_link link links (tokens.slots link.frame link.slot) tokens
 
 abbrev pub from_tokens : Option ℕ → ℕ → Tokens → Option Tokens
 from_tokens (Some y) f tokens = Some (taken f y (tokens.slots f y) tokens)

@@ -1,17 +1,17 @@
-ghost use Rattle.std.specs.Prelude.{◌≡◌, ◌↔◌, ◌+◌, ◌*◌, ◌≤◌, ℕ, true, false, List, [], ◌∷◌, map, length, Some, slice_get};
+ghost use Rattle.std.specs.Prelude.{◌≡◌, ◌↔◌, ◌+◌, ◌*◌, ◌^◌, ◌≤◌, ◌<◌, ℕ, suc, Bool, true, false, List, [], ◌∷◌, map, length, Some, slice_get};
 ghost use Rattle.kk_syntax.specs.Shapes.{is_among};
 ghost use Rattle.kk_syntax.specs.PositionsOf.{PositionTable};
 ghost use Rattle.kk_source.specs.State.{Value, place, Cell, Environment};
 ghost use Rattle.kk_source.specs.Live.{value_of, Reached, live};
 ghost use Rattle.kk_source.specs.Sound.{AllWithin};
 ghost use Rattle.kk_core.specs.Decisions.{NodeTree, chosen};
-ghost use Rattle.kk_counted.specs.CountedCodes.{Counted, CountedArms, give, case};
-ghost use Rattle.kk_counted.specs.CountedMachine.{opened_heap, unique_heap, counted_code_step, NotStuck};
-ghost use Rattle.kk_counted.specs.CountedStates.{CountedSetting, CountedJoin, CountedState, running};
+ghost use Rattle.kk_counted.specs.CountedCodes.{Counted, CountedArms, CountedFunction, give, case};
+ghost use Rattle.kk_counted.specs.CountedMachine.{opened_heap, unique_heap, counted_code_step, counted_step, NotStuck};
+ghost use Rattle.kk_counted.specs.CountedStates.{CountedSetting, CountedJoin, CountedState, running, counted_start};
 ghost use Rattle.kk_counted.specs.Heaps.{Heap, forwards, count_at, cell_at, fields_held, busy, weight, dup_value, drop_value};
 ghost use Rattle.kk_counted.specs.Keeping.{HasNoCell, uses, IsKept, counted_after, FitsAlways, HasShapeAlways};
 ghost use Rattle.kk_counted.specs.References.{refs, IsSound, IsCounted, cells_of, AreOlder, counted};
-ghost use Rattle.kk_counted.specs.Spending.{AreEven, IsSpent};
+ghost use Rattle.kk_counted.specs.Spending.{AreEven, SpendsParameters, IsSpent};
 ghost use Rattle.kk_counted.specs.Cost.{drop_turns, saved, opening_turns};
 ghost use Rattle.kk_source.specs.Actions.{builds};
 ghost use Rattle.kk_counted.specs.TokenedCodes.{Tokened};
@@ -21,6 +21,9 @@ ghost use Rattle.kk_counted.specs.TokenStates.{TokenSetting, TokenJoin, TokenCon
 ghost use Rattle.kk_counted.specs.TokenMachine.{at_code, token_code_step};
 ghost use Rattle.kk_counted.specs.TokenSpending.{AreTokensSpent};
 ghost use Rattle.kk_counted.specs.TokenKeeping.{ArePooled, IsJudged, AreKeptAt, AreKept, Lists, ListsAfter, FillsAt, FillsAlways, token_after};
+ghost use Rattle.kk_counted.specs.CountBounds.{SpendsAtMost, AllSpendAtMost, EachHasAnArm, gains};
+ghost use Rattle.kk_counted.specs.Marks.{CellMarks, field_marks, AreMarked};
+ghost use Rattle.kk_counted.specs.MarkKeeping.{FitsMark, RunFits, StateFits, numbers_after, numbers_in};
 ghost use Rattle.kk_counted.specs.NumberedPool.{IsPlaced, IsPool, Growth, Placing};
 ghost use Rattle.kk_counted.specs.TokenRuns.{is_quiet, bare_weight, AllLead, IsFollowed, IsUnseen, IsSameRun, TakesNoCell};
 
@@ -112,14 +115,22 @@ pub fn drops_pay_for_themselves()
 
 /// Code that spends its tokens does what its bare form does: it tells the same notes and ends alike, so with a full heap exactly
 /// where the counted cells fill it. In each state of its run each cell is free, a token or counted, a token belongs to one slot,
-/// and the chain lists the held slots that are not null; and it is never stuck. The bare run must not be stuck, and a
-/// construction may leave only fields that it would write as they are; one that leaves none does. It is a law, and does nothing.
+/// and the chain lists the held slots that are not null; and it is never stuck. Without its tokens the state is one of the bare
+/// run, so that what is true of each state of the bare run is true of it. The bare run must not be stuck, and a construction may
+/// leave only fields that it would write as they are; one that leaves none does. It is a law, and does nothing.
 pub fn tokens_keep_runs_the_same()
     ensures same { (weight : CountedState → ℕ) (setting : TokenSetting) (input : List ℕ)
         → AreTokensSpent setting.program
         → FillsAlways (bare_weight weight) setting input
         → ((n : ℕ) → NotStuck (counted_after weight (bare_setting setting) input n).control)
         → IsSameRun weight setting input }
+    ensures states { (weight : CountedState → ℕ) (setting : TokenSetting) (input : List ℕ)
+        → AreTokensSpent setting.program
+        → FillsAlways (bare_weight weight) setting input
+        → ((n : ℕ) → NotStuck (counted_after weight (bare_setting setting) input n).control)
+        → (n : ℕ) → (m : ℕ)
+        × (bare_configuration (token_after (bare_weight weight) setting input n)
+        ≡ counted_after weight (bare_setting setting) input m) }
     ensures written { (weight : TokenState → ℕ) (setting : TokenSetting) (input : List ℕ)
         → setting.leaves ≡ false → FillsAlways weight setting input }
 {}
@@ -159,8 +170,8 @@ pub fn reuse_takes_no_cell()
 
 /// A name in use, which is that of a counted cell or of a token, has a cell of the pool of its own; the other cells are free. The
 /// cells that are not free are as many as are counted or are tokens. A step leaves each name its cell; a new one may have any cell
-/// that is free when the step has spent or taken its token, and there is one. So in each state of a run all names in use are
-/// placed. It is a law, and does nothing.
+/// that is free when the step has spent or taken its token, and there is one. So a whole run has one assignment, which grows: in
+/// each state all names in use are placed, and a name that is there keeps its cell. It is a law, and does nothing.
 pub fn names_have_cells_of_a_pool()
     ensures pool { (cells : ℕ) (assigned : ℕ → ℕ) (heap : Heap) (tokens : Tokens) → ArePooled cells heap tokens
         → IsPlaced cells assigned heap tokens.marks → IsPool cells assigned heap tokens.marks }
@@ -173,6 +184,54 @@ pub fn names_have_cells_of_a_pool()
         → IsPlaced cells assigned from.heap from.tokens.marks → Growth cells from to → Placing cells assigned from to }
     ensures runs { (weight : TokenState → ℕ) (setting : TokenSetting) (input : List ℕ)
         → ((k : ℕ) → AreKept setting.cells (token_after weight setting input k))
-        → (n : ℕ) → (assigned : ℕ → ℕ) × IsPlaced setting.cells assigned (token_after weight setting input n).heap
-        (token_after weight setting input n).tokens.marks }
+        → (assigned : ℕ → ℕ → ℕ)
+        × (((n : ℕ) → IsPlaced setting.cells (assigned n) (token_after weight setting input n).heap
+        (token_after weight setting input n).tokens.marks)
+        × ((n p : ℕ) → p < length (token_after weight setting input n).heap → assigned (suc n) p ≡ assigned n p)) }
+{}
+
+/// Code that is marked by types keeps each value fit for its mark: in each state of a run a marked variable that is bound holds no
+/// number and no `()`, one that is not marked holds no place, and so it is of the fields of each cell. So a value is a place
+/// or not as the code shows, and nothing at run time has to tell a place from a number. It is a law, and does nothing.
+pub fn marked_code_keeps_its_marks()
+    ensures start { (marks : CellMarks) (holds : ℕ → ℕ → Bool) (setting : CountedSetting) → AreMarked marks holds setting.program
+        → StateFits marks holds (setting.program.main ∷ []) (counted_start setting) }
+    ensures steps { (marks : CellMarks) (holds : ℕ → ℕ → Bool) (setting : CountedSetting) → AreMarked marks holds setting.program
+        → (numbers : List ℕ) (s : CountedState) → StateFits marks holds numbers s.machine
+        → StateFits marks holds (numbers_after s.machine.control numbers) (counted_step setting s).1.machine }
+    ensures runs { (marks : CellMarks) (holds : ℕ → ℕ → Bool) (setting : CountedSetting) → AreMarked marks holds setting.program
+        → (weight : CountedState → ℕ) (input : List ℕ) (n : ℕ)
+        → StateFits marks holds (numbers_in weight setting input n) (counted_after weight setting input n) }
+    ensures bound { (marks : CellMarks) (holds : ℕ → Bool) (result : Bool) (code : Counted) (environment : Environment)
+        (joins : List CountedJoin) (fits : RunFits marks holds result code environment joins)
+        → (x : ℕ) → is_among fits.bound x ≡ true → FitsMark (holds x) (value_of environment x) }
+    ensures unmarked { (marks : CellMarks) (holds : ℕ → Bool) (result : Bool) (code : Counted) (environment : Environment)
+        (joins : List CountedJoin) → RunFits marks holds result code environment joins
+        → (x : ℕ) → holds x ≡ false → FitsMark false (value_of environment x) }
+{}
+
+/// Counts are narrow: where each function spends at most so many references on a path, no more functions stand than the stack has
+/// call frames, so a count is at most what all of them own and what the fields of counted cells name. In each state of a run that
+/// has not ended, within the limits of cells, call frames and code, a count and one more are below 2 ^ 32. It is a law, and does
+/// nothing.
+pub fn judged_code_keeps_counts_narrow()
+    ensures bounded { (positions : PositionTable) (marks : CellMarks) (holds : ℕ → ℕ → Bool) (setting : CountedSetting)
+        (weight : CountedState → ℕ) (input : List ℕ) (most fields : ℕ) → IsSpent positions setting.program
+        → FitsAlways weight setting input → AreMarked marks holds setting.program → AllSpendAtMost setting.program most
+        → ((c : ℕ) → length (field_marks marks c) ≤ fields) → 1 ≤ setting.depth
+        → (n : ℕ) (code : Counted) (environment : Environment) (joins : List CountedJoin)
+        → (counted_after weight setting input n).control ≡ running code environment joins
+        → (at : ℕ)
+        → count_at (counted_after weight setting input n).heap at ≤ setting.depth * most + fields * setting.cells }
+    ensures narrow { (positions : PositionTable) (marks : CellMarks) (holds : ℕ → ℕ → Bool) (setting : CountedSetting)
+        (weight : CountedState → ℕ) (input : List ℕ) (most : ℕ) → IsSpent positions setting.program
+        → FitsAlways weight setting input → AreMarked marks holds setting.program → AllSpendAtMost setting.program most
+        → most ≤ 65000 → ((c : ℕ) → length (field_marks marks c) ≤ 6) → 1 ≤ setting.depth → setting.depth ≤ 65536
+        → setting.cells ≤ 1048576
+        → (n : ℕ) (code : Counted) (environment : Environment) (joins : List CountedJoin)
+        → (counted_after weight setting input n).control ≡ running code environment joins
+        → (at : ℕ) → count_at (counted_after weight setting input n).heap at + 1 < 2 ^ 32 }
+    ensures spends { (positions : PositionTable) (functions : List CountedFunction) (f : ℕ) (function : CountedFunction)
+        → SpendsParameters positions functions f function → EachHasAnArm function.body
+        → SpendsAtMost function.body (function.parameters + gains function.body) }
 {}
