@@ -10,6 +10,8 @@ pub mod Standing
 pub mod Following
 pub mod Entering
 pub mod Needed
+pub mod Backwards
+pub mod CoreViews
 pub mod Calling
 pub mod Computing
 pub mod Simulating

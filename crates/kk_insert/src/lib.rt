@@ -2,6 +2,10 @@
 #![tactic(auto)]
 
 mod law;
+mod lending;
+mod passing;
+mod variables;
+mod writing;
 
 pub use law::{
     counted_cells_are_the_live_places, inserted_code_is_spent, inserted_code_keeps_meaning,
