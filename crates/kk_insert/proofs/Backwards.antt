@@ -6,7 +6,7 @@ use Rattle.kk_counted.specs.Spending.{at_positions}
 use Rattle.kk_counted.proofs.Listing.{next_one}
 use Rattle.kk_insert.specs.Insertion.{add, before, extra}
 
-pub last_one : (xs : List ℕ) (n d : ℕ) → 0 < n → n ≤ length xs → drop (n - 1) xs ≡ get_or xs (n - 1) d ∷ drop n xs
+pub last_one : {A : Type 0} (xs : List A) (n : ℕ) (d : A) → 0 < n → n ≤ length xs → drop (n - 1) xs ≡ get_or xs (n - 1) d ∷ drop n xs
 last_one xs n d some most =
     next_one xs (n - 1) d (omega (arith, some, most)) ∙ ap (λ i. get_or xs (n - 1) d ∷ drop i xs) {x = n - 1 + 1} {y = n} (omega (arith, some))
 

@@ -2,3 +2,4 @@ pub mod Insertion
 pub mod Meaning
 pub mod Promise
 pub mod Steps
+pub mod Parts
