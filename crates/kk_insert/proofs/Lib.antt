@@ -11,7 +11,7 @@ pub mod Following
 pub mod Entering
 pub mod Needed
 pub mod Backwards
-pub mod CoreViews
+pub mod Cases
 pub mod Calling
 pub mod Computing
 pub mod Simulating

@@ -1,9 +1,9 @@
 -- Arms with their dups and drops, and what each owns at its start.
-use Rattle.std.specs.Prelude.{ℕ, List, [], ◌∷◌}
+use Rattle.std.specs.Prelude.{ℕ, List, [], ◌∷◌, map}
 use Rattle.kk_syntax.specs.PositionsOf.{PositionTable}
 use Rattle.kk_core.specs.Codes.{ArmCode}
-use Rattle.kk_counted.specs.CountedCodes.{Counted, CountedArms, no_arm, arm}
-use Rattle.kk_counted.specs.CountedForms.{block_code}
+use Rattle.kk_counted.specs.CountedCodes.{Counted, CountedArms}
+use Rattle.kk_counted.specs.CountedForms.{block_code, arms_of}
 use Rattle.kk_insert.specs.declared.blocks.Part.{Part}
 use Rattle.kk_insert.specs.Insertion.{before, dropping, own, insert}
 
@@ -25,7 +25,9 @@ abbrev pub own_each : List ℕ → List PartCode → List ℕ
 own_each left [] = left
 own_each left (part ∷ parts) = before part.owned (own_each left parts)
 
--- the arms of a branch before which all of that is owned
+-- an arm of a branch before which all of that is owned, and the arms
+abbrev pub arm_in : List ℕ → PartCode → Counted
+arm_in all part = dropping all part.owned part.code
+
 abbrev pub insert_each : List ℕ → List PartCode → CountedArms
-insert_each all [] = no_arm
-insert_each all (part ∷ parts) = arm (dropping all part.owned part.code) (insert_each all parts)
+insert_each all parts = arms_of (map (arm_in all) parts)

@@ -6,7 +6,7 @@ ghost use Rattle.kk_counted.specs.CountedCodes.{branch, case};
 ghost use Rattle.kk_counted.specs.CountedForms.{block_code, last_code, decisions_of, arms_of};
 ghost use Rattle.kk_insert.specs.Insertion.{before, owns, wants, dups, own, insert, dropping};
 ghost use Rattle.kk_insert.specs.Steps.{own_before, insert_before};
-ghost use Rattle.kk_insert.specs.Parts.{own_each, insert_each, part_of, part_in};
+ghost use Rattle.kk_insert.specs.Parts.{own_each, insert_each, part_of, part_in, arm_in};
 
 use crate::passing::{lends, used};
 use crate::variables::{before, common, is_in, owns, wants, without};
@@ -160,7 +160,8 @@ impl<'a> Insertion<'a> {
             }
             kk_core::Last::Case(variable, decisions, arms) => {
                 let parts = self.arms(left, arms)?;
-                self.case(left, *variable, decisions, parts)
+                let part = self.case(left, *variable, decisions, parts)?;
+                Ok(part)
             }
         }
     }
@@ -201,16 +202,24 @@ impl<'a> Insertion<'a> {
     {
         let each = self.own_each(left, &parts)?;
         let owned = owns(self.alloc, self.lent, &[variable], &each)?;
-        let mut arms = Vec::new(self.alloc);
-        for part in parts {
-            arms.push(self.arm(&owned, part)?)?;
-        }
+        let arms = self.arms_behind(&owned, parts)?;
         let decisions = copied_decisions(self.alloc, decisions)?;
         let block = Block {
             steps: Vec::new(self.alloc),
             last: Last::Case(variable, decisions, arms),
         };
         Ok(Part { owned, block })
+    }
+
+    // The arms of a branch, where all of that is owned before it.
+    fn arms_behind(&self, all: &[u32], parts: Vec<Part>) -> Result<Vec<Block>, NoMemory>
+        ensures { IfOk result (λ arms. map block_code arms.items ≡ map (arm_in all.now) (map part_of parts.items)) }
+    {
+        let mut arms = Vec::new(self.alloc);
+        for part in parts {
+            arms.push(self.arm(all, part)?)?;
+        }
+        Ok(arms)
     }
 
     // An arm, where all of that is owned before its branch.
