@@ -49,5 +49,5 @@ module _ (positions : PositionTable) (lent left : List ℕ) where
       here ∙ ap (λ ps. Form.case x (decisions_of d) (insert_each owned ps)) each
       ∙ ap (Form.case x (decisions_of d)) (sym (insert_arms_each owned (map arm_code arms.items)))
       ∙ ap (λ xs. Form.case x (decisions_of d) (insert_arms positions lent left xs (arms_of (map arm_code arms.items))))
-          (case_own last x d arms parts owned is each all ∙ ap (own positions lent left) (core_case last x d arms is))
+      (case_own last x d arms parts owned is each all ∙ ap (own positions lent left) (core_case last x d arms is))
       ∙ ap (insert positions lent left) (sym (core_case last x d arms is))

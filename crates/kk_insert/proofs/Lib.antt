@@ -12,6 +12,8 @@ pub mod Entering
 pub mod Needed
 pub mod Backwards
 pub mod Cases
+pub mod Rows
+pub mod Instances
 pub mod Calling
 pub mod Computing
 pub mod Simulating

@@ -25,6 +25,7 @@ pub struct Part {
 }
 
 /// What the code of a function is inserted by: the positions of the program, and the function's lent variables.
+#[derive(Drop)]
 pub struct Insertion<'a> {
     pub alloc: Global,
     pub positions: &'a Positions,
@@ -63,7 +64,13 @@ impl<'a> Insertion<'a> {
         }
     }
 
-    fn compute(&self, variable: u32, form: Form, arguments: &[u32], rest: Part) -> Result<Part, NoMemory>
+    fn compute(
+        &self,
+        variable: u32,
+        form: Form,
+        arguments: &[u32],
+        rest: Part,
+    ) -> Result<Part, NoMemory>
         ensures owned { IfOk result (λ part. part.owned.items ≡ own_before (positions_of self.now.positions.now) self.now.lent.now (computes variable form arguments.now) rest.owned.items) }
         ensures code { IfOk result (λ part. block_code part.block ≡ insert_before (positions_of self.now.positions.now) self.now.lent.now (computes variable form arguments.now) rest.owned.items (block_code rest.block)) }
     {
@@ -196,7 +203,13 @@ impl<'a> Insertion<'a> {
         Ok(Part { owned, block })
     }
 
-    fn case(&self, left: &[u32], variable: u32, decisions: &Decisions, parts: Vec<Part>) -> Result<Part, NoMemory>
+    fn case(
+        &self,
+        left: &[u32],
+        variable: u32,
+        decisions: &Decisions,
+        parts: Vec<Part>,
+    ) -> Result<Part, NoMemory>
         ensures owned { IfOk result (λ part. part.owned.items ≡ owns self.now.lent.now (variable ∷ []) (own_each left.now (map part_of parts.items))) }
         ensures code { IfOk result (λ part. block_code part.block ≡ case variable (decisions_of decisions.now) (insert_each part.owned.items (map part_of parts.items))) }
     {

@@ -34,7 +34,12 @@ fn lent_step(alloc: Global, lent: Vec<u32>, step: &Step) -> Result<Vec<u32>, NoM
 }
 
 /// What is lent with the fields of a cell, where its variable is lent.
-fn lent_fields(alloc: Global, lent: Vec<u32>, variable: u32, fields: &[u32]) -> Result<Vec<u32>, NoMemory>
+fn lent_fields(
+    alloc: Global,
+    lent: Vec<u32>,
+    variable: u32,
+    fields: &[u32],
+) -> Result<Vec<u32>, NoMemory>
     ensures { IfOk result (λ found. found.items ≡ (if is_among lent.items variable then fields.now ++ lent.items else lent.items)) }
 {
     if !is_in(&lent, variable) {

@@ -2,9 +2,11 @@
 #![tactic(auto)]
 
 mod blocks;
+mod function;
 mod law;
 mod lending;
 mod passing;
+mod program;
 mod variables;
 mod writing;
 
@@ -12,3 +14,4 @@ pub use law::{
     counted_cells_are_the_live_places, inserted_code_is_spent, inserted_code_keeps_meaning,
     typed_code_is_insertable,
 };
+pub use program::inserted;

@@ -8,12 +8,20 @@ use kk_syntax::{Form, Position, Positions};
 use std::alloc::Global;
 
 /// The arguments of a function at its owned positions.
-fn at_owned(alloc: Global, positions: &Positions, function: u32, arguments: &[u32]) -> Result<Vec<u32>, NoMemory>
+pub fn at_owned(
+    alloc: Global,
+    positions: &Positions,
+    function: u32,
+    arguments: &[u32],
+) -> Result<Vec<u32>, NoMemory>
     ensures { IfOk result (λ found. found.items ≡ at_positions (is_owned (positions_of positions.now) [] function) 0 arguments.now) }
 {
     let mut found = Vec::new(alloc);
     for at in 0..arguments.len() {
-        let position = Position { function: function as usize, parameter: at };
+        let position = Position {
+            function: function as usize,
+            parameter: at,
+        };
         if !positions.is_lent(position) {
             found.push(arguments[at])?;
         }
@@ -22,12 +30,20 @@ fn at_owned(alloc: Global, positions: &Positions, function: u32, arguments: &[u3
 }
 
 /// The arguments of a function at its lent positions.
-fn at_lent(alloc: Global, positions: &Positions, function: u32, arguments: &[u32]) -> Result<Vec<u32>, NoMemory>
+pub fn at_lent(
+    alloc: Global,
+    positions: &Positions,
+    function: u32,
+    arguments: &[u32],
+) -> Result<Vec<u32>, NoMemory>
     ensures { IfOk result (λ found. found.items ≡ at_positions (is_lent (positions_of positions.now) function) 0 arguments.now) }
 {
     let mut found = Vec::new(alloc);
     for at in 0..arguments.len() {
-        let position = Position { function: function as usize, parameter: at };
+        let position = Position {
+            function: function as usize,
+            parameter: at,
+        };
         if positions.is_lent(position) {
             found.push(arguments[at])?;
         }
@@ -36,7 +52,12 @@ fn at_lent(alloc: Global, positions: &Positions, function: u32, arguments: &[u32
 }
 
 /// The arguments that a form uses up.
-pub fn used(alloc: Global, positions: &Positions, form: Form, arguments: &[u32]) -> Result<Vec<u32>, NoMemory>
+pub fn used(
+    alloc: Global,
+    positions: &Positions,
+    form: Form,
+    arguments: &[u32],
+) -> Result<Vec<u32>, NoMemory>
     ensures { IfOk result (λ found. found.items ≡ used (positions_of positions.now) form arguments.now) }
 {
     match form {
@@ -46,7 +67,12 @@ pub fn used(alloc: Global, positions: &Positions, form: Form, arguments: &[u32])
 }
 
 /// The arguments that a form is lent.
-pub fn lends(alloc: Global, positions: &Positions, form: Form, arguments: &[u32]) -> Result<Vec<u32>, NoMemory>
+pub fn lends(
+    alloc: Global,
+    positions: &Positions,
+    form: Form,
+    arguments: &[u32],
+) -> Result<Vec<u32>, NoMemory>
     ensures { IfOk result (λ found. found.items ≡ lends (positions_of positions.now) form arguments.now) }
 {
     match form {

@@ -74,7 +74,12 @@ fn extra(alloc: Global, variables: &[u32], after: &[u32]) -> Result<Vec<u32>, No
 }
 
 /// What is owned before variables are used up, where `after` is owned then.
-pub fn owns(alloc: Global, lent: &[u32], variables: &[u32], after: &[u32]) -> Result<Vec<u32>, NoMemory>
+pub fn owns(
+    alloc: Global,
+    lent: &[u32],
+    variables: &[u32],
+    after: &[u32],
+) -> Result<Vec<u32>, NoMemory>
     ensures { IfOk result (λ found. found.items ≡ owns lent.now variables.now after.now) }
 {
     let owned = without(alloc, lent, variables)?;
@@ -83,7 +88,12 @@ pub fn owns(alloc: Global, lent: &[u32], variables: &[u32], after: &[u32]) -> Re
 
 /// The uses that take a dup, where `after` is owned when all are done: those of lent variables, and those that are not the last
 /// ones.
-pub fn wants(alloc: Global, lent: &[u32], variables: &[u32], after: &[u32]) -> Result<Vec<u32>, NoMemory>
+pub fn wants(
+    alloc: Global,
+    lent: &[u32],
+    variables: &[u32],
+    after: &[u32],
+) -> Result<Vec<u32>, NoMemory>
     ensures { IfOk result (λ found. found.items ≡ wants lent.now variables.now after.now) }
 {
     let mut found = common(alloc, lent, variables)?;

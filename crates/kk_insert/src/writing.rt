@@ -41,7 +41,12 @@ fn put_drops(block: &mut Block, variables: &[u32]) -> Result<(), NoMemory>
 }
 
 /// Puts the drops before a block that owns `now`, where `all` is owned.
-pub fn put_dropping(alloc: Global, block: &mut Block, all: &[u32], now: &[u32]) -> Result<(), NoMemory>
+pub fn put_dropping(
+    alloc: Global,
+    block: &mut Block,
+    all: &[u32],
+    now: &[u32],
+) -> Result<(), NoMemory>
     ensures { OnOk result (block_code block.new ≡ dropping all.now now.now (block_code block.old)) }
 {
     let unused = without(alloc, now, all)?;

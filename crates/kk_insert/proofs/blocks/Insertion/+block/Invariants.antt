@@ -16,10 +16,10 @@ abbrev pub invariant-block-back : goal.invariant-block-back
 invariant-block-back l =
     (l.part.owned.items
     ≡ own (positions_of l.self.positions.now) l.self.lent.now l.left
-        (plug (map step_piece (drop l.count l.block.steps.items)) (core_last_code l.block.last)))
+    (plug (map step_piece (drop l.count l.block.steps.items)) (core_last_code l.block.last)))
     × ((block_code l.part.block
     ≡ insert (positions_of l.self.positions.now) l.self.lent.now l.left
-        (plug (map step_piece (drop l.count l.block.steps.items)) (core_last_code l.block.last)))
+    (plug (map step_piece (drop l.count l.block.steps.items)) (core_last_code l.block.last)))
     × (l.count ≤ length l.block.steps.items))
 
 abbrev pub decreases-block-back : goal.decreases-block-back
