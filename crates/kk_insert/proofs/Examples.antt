@@ -177,9 +177,6 @@ unfolding the_function
 only_function found function same = ap (λ (o : Option FunctionCode). the_function found o) same
 
 -- a function that is there has the parameters that it has
-as_many : (found : FunctionCode) (function : FunctionCode) → Some found ≡ Some function → function.parameters ≡ found.parameters
-as_many found function same = ap (λ (f : FunctionCode). f.parameters) (sym (only_function found function same))
-
 len_insertable : IsFunctionInsertable lent_first lendings 0 len
 len_insertable =
     record {
@@ -201,7 +198,7 @@ len_insertable =
         ),
       );
       small = omega arith;
-      tails = ((tt, tt), ((λ function there. as_many len function there, (tt, (tt, tt))), tt));
+      tails = ((tt, tt), (((len, (refl, refl)), (tt, (tt, tt))), tt));
     }
 
 main_insertable : IsFunctionInsertable lent_first lendings 1 two_lendings_main
@@ -249,7 +246,7 @@ main_insertable =
             tt,
             (
               tt,
-              (tt, (λ function there. as_many len function there, (λ function there. as_many len function there, (tt, (tt, tt))))),
+              (tt, ((len, (refl, refl)), ((len, (refl, refl)), (tt, (tt, tt))))),
             ),
           ),
         ),

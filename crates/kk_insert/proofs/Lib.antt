@@ -10,6 +10,10 @@ pub mod Standing
 pub mod Following
 pub mod Entering
 pub mod Needed
+pub mod Backwards
+pub mod Cases
+pub mod Rows
+pub mod Instances
 pub mod Calling
 pub mod Computing
 pub mod Simulating

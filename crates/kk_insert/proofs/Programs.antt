@@ -175,6 +175,10 @@ module _ (positions : PositionTable) where
       → slice_get (inserted_functions positions 0 source) f ≡ Some (inserted_function positions f function)
   inserted_there source f function there = inserted_at 0 source f f (omega arith) ∙ ap (inserted_if f) there
 
+  abbrev parameters_if : ℕ → Option FunctionCode → ℕ
+  parameters_if other None = other
+  parameters_if other (Some function) = function.parameters
+
   function_if : CountedFunction → Option CountedFunction → CountedFunction
   function_if other None = other
   function_if other (Some function) = function
@@ -196,7 +200,7 @@ module _ (positions : PositionTable) where
       → HasAsMany positions (inserted_functions positions 0 source) f arguments
   takes_as_many source f arguments takes result there =
       let from = from_there source f result there in ap (λ (function : CountedFunction). function.parameters) from.1.1
-      ∙ takes from.0 from.1.0
+      ∙ ap (λ (o : Option FunctionCode). parameters_if 0 o) (sym from.1.0 ∙ takes.1.0) ∙ takes.1.1
 
   pub inserted_is_spent : (code : ProgramCode) → IsInsertable positions code → IsSpent positions (inserted positions code)
   inserted_is_spent code promise =

@@ -63,11 +63,9 @@ module _ (positions : PositionTable) (table : Table) (source : List FunctionCode
     (typed : AreCodesTyped table source table.functions) where
   takes : (f : ℕ) (facts : Facts) (arguments : List ℕ) (ts : List TypeTree) (t : TypeTree) → HaveTypes facts arguments ts
       → slice_get table.functions f ≡ Some (record { parameters = ts; result = t }) → TakesAsMany positions source f arguments
-  takes f facts arguments ts t have is function there =
-      let signed = signature_there table source table.functions f function typed there in
-      sym signed.1.1.parameters
-      ∙ (ap (λ (o : Option Signature). elim o as (λ _. ℕ) [ None ↦ 0 | Some one ↦ length one.parameters ]) (sym signed.1.0 ∙ is)
-      ∙ same_length facts arguments ts have)
+  takes f facts arguments ts t have is =
+      let found = function_there table source table.functions f (record { parameters = ts; result = t }) typed is in
+      (found.0, (found.1.0, found.1.1 ∙ same_length facts arguments ts have))
 
   form_takes : (form : Form) (facts : Facts) (arguments : List ℕ) (ts : List TypeTree) (t : TypeTree) → HaveTypes facts arguments ts
       → IsFormTyped table form ts t → FormTakes positions source form arguments

@@ -2,3 +2,5 @@ pub mod Insertion
 pub mod MarkTables
 pub mod Meaning
 pub mod Promise
+pub mod Steps
+pub mod Parts

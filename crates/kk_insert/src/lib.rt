@@ -1,9 +1,17 @@
 //! The insertion of dups and drops: from the core form to the counted form. It is a function on code in specs/, with laws.
 #![tactic(auto)]
 
+mod blocks;
+mod function;
 mod law;
+mod lending;
+mod passing;
+mod program;
+mod variables;
+mod writing;
 
 pub use law::{
     counted_cells_are_the_live_places, inserted_code_is_spent, inserted_code_keeps_meaning,
     typed_code_is_insertable,
 };
+pub use program::inserted;

@@ -1,0 +1,15 @@
+use Rattle.std.proofs.Common.{sym, ap, ◌∙◌}
+use Rattle.kk_syntax.specs.PositionsOf.{is_lent, positions_of}
+use Rattle.kk_counted.specs.Spending.{at_positions}
+use Rattle.kk_insert.proofs.Backwards.{position_taken, position_left}
+use Rattle.kk_insert.proofs.passing.at_lent.Goals as goal
+use Rattle.kk_insert.proofs.passing.at_lent.Goals.{then-is_lent+in_ok-push, else-is_lent}
+
+pub loop-at-preserved : goal.loop-at-preserved
+loop-at-preserved c =
+    let takes = is_lent (positions_of c.args.positions.now) c.args.function in
+    let xs = c.args.arguments.now in
+    elim c.if-is_lent.branch [
+      | then-is_lent+in_ok-push w ↦ position_taken takes c.loop-at.found.items c.if-is_lent.found.items c.loop-at.at 0 xs (at_positions takes 0 xs) c.loop-at-test.true (sym c.is_lent.ensures ∙ w.if-is_lent.true) (ap (λ v. v.items) w.found-is ∙ w.in_ok-push.ensures.items) c.loop-at.invariant
+      | else-is_lent w ↦ position_left takes c.loop-at.found.items c.if-is_lent.found.items c.loop-at.at 0 xs (at_positions takes 0 xs) c.loop-at-test.true (sym c.is_lent.ensures ∙ w.if-is_lent.false) (ap (λ v. v.items) w.found-is) c.loop-at.invariant
+    ]
