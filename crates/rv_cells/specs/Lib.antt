@@ -3,3 +3,5 @@ pub mod Follows
 pub mod Steps
 pub mod CellLines
 pub mod CountedLines
+pub mod Sizes
+pub mod Written

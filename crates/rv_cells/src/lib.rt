@@ -2,6 +2,10 @@
 //! stores, duplications and drops do then.
 #![tactic(auto)]
 
+mod block;
+mod cells;
+mod decide;
+mod known;
 mod law;
 
 pub use law::{
