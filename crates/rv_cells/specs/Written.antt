@@ -1,19 +1,18 @@
 -- What was written of a function's assembler code, from its counted form.
-use Rattle.std.specs.Prelude.{◌≡◌, ℕ, ◌+◌, ◌*◌, ◌-◌, ◌^◌, ◌≤◌, Bool, false, not, List, [], ◌∷◌, ◌++◌, length, filter, slice_index_or}
+use Rattle.std.specs.Prelude.{◌≡◌, ℕ, ◌+◌, ◌-◌, ◌^◌, Bool, false, List, [], ◌∷◌, ◌++◌, slice_index_or}
 use Rattle.kk_syntax.specs.declared.program.Form.{Form}
-use Rattle.kk_syntax.specs.Shapes.{is_among}
 use Rattle.kk_counted.specs.CountedCodes.{Counted}
 use Rattle.kk_counted.specs.CountedForms.{Move, plug, arms_of}
-use Rattle.rv_isa.specs.declared.asm.Action.TheVariants.{Compute, Label, Jump, Branch}
+use Rattle.rv_isa.specs.declared.asm.Action.TheVariants.{Compute, Jump, Branch}
 use Rattle.rv_isa.specs.declared.asm.Condition.TheVariants.{NotEqual}
 use Rattle.rv_isa.specs.declared.asm.Operation.TheVariants as Op
 use Rattle.rv_isa.specs.declared.asm.ImmediateOperation.TheVariants.{Addi, Andi}
 use Rattle.rv_isa.specs.declared.immediate.Immediate.{Immediate}
 use Rattle.rv_isa.specs.AsmCode.{Line}
 use Rattle.rv_lower.specs.declared.lowering.Lowering.{Lowering}
-use Rattle.rv_lower.specs.Lines.{Texts, computes, sets, acts}
+use Rattle.rv_lower.specs.Lines.{computes, sets, acts}
 use Rattle.rv_lower.specs.Lowered.{Goal}
-use Rattle.rv_lower.specs.Written.{lines_written, texts_written, texts_of, Wrote, Grows}
+use Rattle.rv_lower.specs.Written.{lines_written, texts_written, texts_of, Grows}
 use Rattle.rv_cells.specs.declared.known.Known.{Known}
 use Rattle.rv_cells.specs.declared.decide.Targets.{Targets}
 use Rattle.rv_cells.specs.Layout.{Layout, layout_of}

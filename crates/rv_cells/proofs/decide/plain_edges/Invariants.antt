@@ -1,4 +1,4 @@
-use Rattle.std.proofs.Common.{◌≡◌, ◌++◌, not, drop}
+use Rattle.std.proofs.Common.{◌≡◌, ◌++◌, drop}
 use Rattle.std.specs.Prelude.{filter}
 use Rattle.rv_cells.specs.CountedLines.{is_plain}
 use Rattle.rv_cells.specs.Written.{layout_known}
