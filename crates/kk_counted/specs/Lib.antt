@@ -10,6 +10,7 @@ pub mod Emissions
 pub mod Emitting
 pub mod Heaps
 pub mod Keeping
+pub mod Marks
 pub mod NumberedPool
 pub mod Programs
 pub mod References
