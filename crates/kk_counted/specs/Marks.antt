@@ -6,6 +6,7 @@ use Rattle.kk_syntax.specs.declared.program.Form.{Form}
 use Rattle.kk_syntax.specs.declared.program.Form.TheVariants.{Construct, Call}
 use Rattle.kk_syntax.specs.Shapes.{is_among}
 use Rattle.kk_core.specs.declared.shape.ConstructorShape.{ConstructorShape}
+use Rattle.kk_core.specs.Sizes.{AreBound}
 use Rattle.kk_counted.specs.declared.shape.InstanceShape.{InstanceShape}
 use Rattle.kk_counted.specs.CountedCodes.{Counted, give, tail_call, branch, case, compute, inside, read, open_cell, if_unique, dup, drop, CountedArms, no_arm, arm, CountedFunction, CountedProgram}
 use Rattle.kk_counted.specs.Spending.{numbers_from}
@@ -46,7 +47,7 @@ marks_of instances constructors =
 
 -- ---- code, by the variables of its function that are marked
 
-module _ (marks : CellMarks) (holds : ℕ → Bool) where
+module _ (holds : ℕ → Bool) where
   -- variables have these marks, one after the other
   abbrev pub HaveMarks : List ℕ → List Bool → Type 0
   HaveMarks [] [] = Unit {0}
@@ -58,16 +59,16 @@ module _ (marks : CellMarks) (holds : ℕ → Bool) where
   AreUnmarked [] = Unit {0}
   AreUnmarked (x ∷ xs) = (holds x ≡ false) × AreUnmarked xs
 
-  -- variables are bound
-  abbrev pub AreBound : List ℕ → List ℕ → Type 0
-  AreBound bound [] = Unit {0}
-  AreBound bound (x ∷ xs) = (is_among bound x ≡ true) × AreBound bound xs
-
+module _ (marks : CellMarks) (holds : ℕ → Bool) where
   -- A form on variables gives a value of this mark. Operators and prints take and give no cells.
   abbrev pub IsFormMarked : Form → List ℕ → Bool → Type 0
-  IsFormMarked (Construct c) arguments mark = HaveMarks arguments (field_marks marks c) × (mark ≡ made_mark marks c arguments)
-  IsFormMarked (Call f) arguments mark = HaveMarks arguments (parameter_marks marks f) × (mark ≡ result_mark marks f)
-  IsFormMarked _ arguments mark = AreUnmarked arguments × (mark ≡ false)
+  IsFormMarked (Construct c) arguments mark = HaveMarks holds arguments (field_marks marks c) × (mark ≡ made_mark marks c arguments)
+  IsFormMarked (Call f) arguments mark = HaveMarks holds arguments (parameter_marks marks f) × (mark ≡ result_mark marks f)
+  IsFormMarked _ arguments mark = AreUnmarked holds arguments × (mark ≡ false)
+
+  -- variables take the fields of the cell of a variable, which is bound and marked
+  abbrev pub Opens : List ℕ → ℕ → ℕ → List ℕ → Type 0
+  Opens bound x c fields = (is_among bound x ≡ true) × ((holds x ≡ true) × HaveMarks holds fields (field_marks marks c))
 
   -- A code of a function whose result has the mark `result`, with these variables bound, gives a value of the mark `given`, which
   -- is the same where no block is around the code. Each variable that is used is bound, each one that takes a value has the mark
@@ -77,7 +78,7 @@ module _ (marks : CellMarks) (holds : ℕ → Bool) where
       pub HasMark : List ℕ → Bool → Counted → Type 0
       HasMark bound given (give x) = (is_among bound x ≡ true) × (holds x ≡ given)
       HasMark bound given (tail_call f arguments) =
-          AreBound bound arguments × (HaveMarks arguments (parameter_marks marks f) × (result_mark marks f ≡ result))
+          AreBound bound arguments × (HaveMarks holds arguments (parameter_marks marks f) × (result_mark marks f ≡ result))
       HasMark bound given (branch x positive negative) =
           (is_among bound x ≡ true) × ((holds x ≡ false) × (HasMark bound given positive × HasMark bound given negative))
       HasMark bound given (case x decisions arms) = (is_among bound x ≡ true) × HaveMark bound given arms
@@ -94,15 +95,11 @@ module _ (marks : CellMarks) (holds : ℕ → Bool) where
       HaveMark bound given no_arm = Unit {0}
       HaveMark bound given (arm body rest) = HasMark bound given body × HaveMark bound given rest
 
-      -- the fields of the cell of a variable are taken
-      pub Opens : List ℕ → ℕ → ℕ → List ℕ → Type 0
-      Opens bound x c fields = (is_among bound x ≡ true) × ((holds x ≡ true) × HaveMarks fields (field_marks marks c))
-
 -- ---- functions and programs
 
 -- A function by its number: its parameters are marked as the table tells, and its body gives a value of the mark of its result.
 pub record IsMarked (marks : CellMarks) (holds : ℕ → Bool) (f : ℕ) (function : CountedFunction) : Type 0 where
-  pub parameters_marked : HaveMarks marks holds (numbers_from 0 function.parameters) (parameter_marks marks f)
+  pub parameters_marked : HaveMarks holds (numbers_from 0 function.parameters) (parameter_marks marks f)
   pub body_marked : HasMark marks holds (result_mark marks f) (numbers_from 0 function.parameters) (result_mark marks f) function.body
 
 -- A program, by the variables of each function that are marked: each function is so, and `main`, which has no parameters, is there.

@@ -19,3 +19,5 @@ pub mod Walking
 pub mod Frames
 pub mod Calling
 pub mod Stepping
+pub mod Standing
+pub mod Blocks

@@ -3,3 +3,6 @@ pub mod Follows
 pub mod Steps
 pub mod CellLines
 pub mod CountedLines
+pub mod Marked
+pub mod Costs
+pub mod Fitting
