@@ -21,3 +21,4 @@ pub mod Calling
 pub mod Stepping
 pub mod Standing
 pub mod Blocks
+pub mod Celled

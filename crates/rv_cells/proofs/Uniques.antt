@@ -97,6 +97,14 @@ module _ (known : Known) (rest : List Line) (fs : List (Frame Line)) (s : Spot) 
   abbrev pub for_unique : List Line
   for_unique = loads ++ (drops ++ frees)
 
+  -- the lines before the label of the second way, and those behind it
+  abbrev pub head_lines : List Line
+  head_lines = uniques.0 ∷ sets 1 (known.base + 1) ∷ acts (Branch NotEqual shared) (known.base ∷ (known.base + 1) ∷ [])
+      ∷ for_unique
+
+  abbrev pub shared_lines : List Line
+  shared_lines = loads ++ lowers
+
   pub whole_lines : lines ++ rest ≡ tested ∷ sets 1 (known.base + 1) ∷ acts (Branch NotEqual shared)
       (known.base ∷ (known.base + 1) ∷ []) ∷ (for_unique ++ (for_shared ++ ending))
   whole_lines =
