@@ -21,3 +21,6 @@ pub mod Calling
 pub mod Stepping
 pub mod Written
 pub mod Grown
+pub mod Standing
+pub mod Blocks
+pub mod Celled

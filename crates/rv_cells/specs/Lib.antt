@@ -5,3 +5,6 @@ pub mod CellLines
 pub mod CountedLines
 pub mod Sizes
 pub mod Written
+pub mod Marked
+pub mod Costs
+pub mod Fitting
