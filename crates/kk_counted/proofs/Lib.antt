@@ -23,6 +23,7 @@ pub mod SoundSteps
 pub mod SoundRuns
 pub mod SoundUses
 pub mod Cost
+pub mod Marking
 pub mod Places
 pub mod Looks
 pub mod SoundGoing

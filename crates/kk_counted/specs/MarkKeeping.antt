@@ -1,5 +1,6 @@
 -- What is true of each state of a run of marked code: each value fits its variable's mark, and so do the fields of each cell.
 use Rattle.std.specs.Prelude.{◌≡◌, ℕ, zero, suc, Bool, true, false, List, [], ◌∷◌, map}
+use Rattle.kk_syntax.specs.declared.program.Form.{Form}
 use Rattle.kk_syntax.specs.declared.program.Form.TheVariants.{Call}
 use Rattle.kk_source.specs.State.{Value, integer, unit, place, Environment}
 use Rattle.kk_counted.specs.CountedCodes.{Counted, give, tail_call, compute}
@@ -70,7 +71,7 @@ module _ (marks : CellMarks) (holds : ℕ → Bool) (result : Bool) where
     pub values_fit : EnvironmentFits holds frame.environment
     pub joins_fit : JoinsFit frame.environment next frame.joins
 
--- ---- states, by the marked variables of each function, and by the numbers of the functions that run and wait, the newest one first
+-- ---- states, by the marked variables of each function, and by the numbers of the functions that run and wait, the newest first
 
 module _ (marks : CellMarks) (holds : ℕ → ℕ → Bool) where
   -- the functions that wait, the newest one for a value of a mark
@@ -81,15 +82,15 @@ module _ (marks : CellMarks) (holds : ℕ → ℕ → Bool) where
   FramesFit given (f ∷ numbers) (frame ∷ older) =
       FrameFits marks (holds f) (result_mark marks f) given frame × FramesFit (result_mark marks f) numbers older
 
-  abbrev pub ControlFits : List ℕ → CountedControl → List CountedFrame → Type 0
-  ControlFits [] (running code environment joins) frames = ⊥
-  ControlFits (f ∷ numbers) (running code environment joins) frames =
+  abbrev pub ControlFits : CountedControl → List ℕ → List CountedFrame → Type 0
+  ControlFits (running code environment joins) [] frames = ⊥
+  ControlFits (running code environment joins) (f ∷ numbers) frames =
       RunFits marks (holds f) (result_mark marks f) code environment joins × FramesFit (result_mark marks f) numbers frames
-  ControlFits numbers (stopped by) frames = Unit {0}
-  ControlFits numbers stuck frames = Unit {0}
+  ControlFits (stopped by) numbers frames = Unit {0}
+  ControlFits stuck numbers frames = Unit {0}
 
   abbrev pub StateFits : List ℕ → CountedConfiguration → Type 0
-  StateFits numbers c = CellsFit marks c.heap × ControlFits numbers c.control c.frames
+  StateFits numbers c = CellsFit marks c.heap × ControlFits c.control numbers c.frames
 
 -- ---- the functions that run and wait, after a step and after so many of a run
 
@@ -97,10 +98,18 @@ abbrev pub behind : List ℕ → List ℕ
 behind [] = []
 behind (f ∷ numbers) = numbers
 
+abbrev pub numbers_given : List CountedJoin → List ℕ → List ℕ
+numbers_given [] numbers = behind numbers
+numbers_given (join ∷ joins) numbers = numbers
+
+abbrev pub numbers_called : Form → List ℕ → List ℕ
+numbers_called (Call f) numbers = f ∷ numbers
+numbers_called _ numbers = numbers
+
 abbrev pub numbers_at : Counted → List CountedJoin → List ℕ → List ℕ
-numbers_at (give x) [] numbers = behind numbers
+numbers_at (give x) joins numbers = numbers_given joins numbers
 numbers_at (tail_call f arguments) joins numbers = f ∷ behind numbers
-numbers_at (compute x (Call f) arguments rest) joins numbers = f ∷ numbers
+numbers_at (compute x form arguments rest) joins numbers = numbers_called form numbers
 numbers_at _ joins numbers = numbers
 
 abbrev pub numbers_after : CountedControl → List ℕ → List ℕ

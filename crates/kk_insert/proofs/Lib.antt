@@ -14,3 +14,4 @@ pub mod Calling
 pub mod Computing
 pub mod Simulating
 pub mod Typed
+pub mod Marked
