@@ -24,3 +24,5 @@ pub mod Grown
 pub mod Standing
 pub mod Blocks
 pub mod Celled
+pub mod Marks
+pub mod Marking

@@ -8,3 +8,6 @@ pub mod Written
 pub mod Marked
 pub mod Costs
 pub mod Fitting
+pub mod Marking
+pub mod Tables
+pub mod Lowered
