@@ -221,26 +221,28 @@ arms_none facts goal label a = record { lines = []; grows = grows_none a; are = 
 more_arms : (setting : Setting) (goal : Goal) (label low middle high : ℕ) (each : List Counted) (body : Counted) (lines first : List Line)
     → ArmsLines setting goal label low (arms_of each) lines middle → CodeLines setting goal middle body first high
     → ArmsLines setting goal label low (arms_of (each ++ body ∷ [])) (lines ++ (acts (Label (label + length each)) [] ∷ first)) high
-more_arms setting goal label low middle high [] body lines first all one =
-    (
-      first, [], high, subst (λ l. CodeLines setting goal l body first high) (sym all.1) one, (refl, refl),
-      ap (λ (ls : List Line). ls ++ (acts (Label (label + 0)) [] ∷ first)) all.0
+more_arms setting goal label low middle high [] body lines first all one = (
+  first,
+  [],
+  high,
+  subst (λ l. CodeLines setting goal l body first high) (sym all.1) one,
+  (refl, refl),
+  ap (λ (ls : List Line). ls ++ (acts (Label (label + 0)) [] ∷ first)) all.0
       ∙ ap (λ (n : ℕ). acts (Label n) [] ∷ first) (zero_more label) ∙ ap (λ (ls : List Line). acts (Label label) [] ∷ ls) (sym (append-nil first)),
-    )
+)
   where
     zero_more : (n : ℕ) → n + 0 ≡ n
     zero_more n = omega arith
-more_arms setting goal label low middle high (other ∷ each) body lines first all one =
-    (
-      all.0,
-      all.1 ++ (acts (Label (label + 1 + length each)) [] ∷ first),
-      all.2,
-      all.3,
-      more_arms setting goal (label + 1) all.2 middle high each body all.1 first all.4 one,
-      ap (λ (ls : List Line). ls ++ (acts (Label (label + suc (length each))) [] ∷ first)) all.5
+more_arms setting goal label low middle high (other ∷ each) body lines first all one = (
+  all.0,
+  all.1 ++ (acts (Label (label + 1 + length each)) [] ∷ first),
+  all.2,
+  all.3,
+  more_arms setting goal (label + 1) all.2 middle high each body all.1 first all.4 one,
+  ap (λ (ls : List Line). ls ++ (acts (Label (label + suc (length each))) [] ∷ first)) all.5
       ∙ ap (λ (ls : List Line). acts (Label label) [] ∷ ls) (append_assoc all.0 all.1 (acts (Label (label + suc (length each))) [] ∷ first))
       ∙ ap (λ (n : ℕ). acts (Label label) [] ∷ (all.0 ++ (all.1 ++ (acts (Label n) [] ∷ first)))) (one_more label (length each)),
-    )
+)
   where
     one_more : (n m : ℕ) → n + suc m ≡ n + 1 + m
     one_more n m = omega arith
@@ -277,9 +279,9 @@ code_cases {a} {b} {c} {d} facts goal x decisions arms targets took choice bodie
     targets.nodes,
     took.second ∙ ap (λ (n : ℕ). a.next_label + n) (sym (count_of_arms arms)),
     subst (λ n. NodesLines facts.layout a.base targets.nodes n x 0 decisions choice.lines) took.first
-    (subst (λ n. NodesLines facts.layout n targets.nodes targets.arms x 0 decisions choice.lines) took.took.base choice.are),
+        (subst (λ n. NodesLines facts.layout n targets.nodes targets.arms x 0 decisions choice.lines) took.took.base choice.are),
     arms_same facts goal a.next_label (arms_of arms) bodies.lines d.next_label (choice.wrote.base ∙ took.took.base) refl low_is
-    (subst (λ n. ArmsLines (setting_in facts c.base (texts_written d ++ later)) goal n c.next_label (arms_of arms) bodies.lines d.next_label) took.first (bodies.are later)),
+        (subst (λ n. ArmsLines (setting_in facts c.base (texts_written d ++ later)) goal n c.next_label (arms_of arms) bodies.lines d.next_label) took.first (bodies.are later)),
     refl,
   );
 }

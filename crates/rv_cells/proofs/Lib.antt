@@ -26,3 +26,4 @@ pub mod Blocks
 pub mod Celled
 pub mod Marks
 pub mod Marking
+pub mod Lowered

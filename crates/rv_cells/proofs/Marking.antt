@@ -1,15 +1,15 @@
 -- The marks that are found are those of a function whose variables are marked: so it is marked by them.
-use Rattle.std.proofs.Common.{◌≡◌, ◌≢◌, ℕ, zero, suc, ◌+◌, ◌<◌, ◌≤◌, ◌==◌, ◌||◌, ◌⊎◌, inl, inr, Bool, true, false, List, [], ◌∷◌, ◌++◌, length, Option, Some, None, refl, sym, ap, subst, ◌∙◌, arith}
+use Rattle.std.proofs.Common.{◌≡◌, ℕ, zero, suc, ◌<◌, ◌≤◌, ◌==◌, ◌⊎◌, inl, inr, Bool, true, false, List, [], ◌∷◌, ◌++◌, length, Option, Some, None, refl, sym, ap, subst, ◌∙◌, arith, append_assoc, append-nil, length-append}
 use Rattle.std.proofs.lemmas.Bool.{or_cases, or_left, or_right, eqb-true, cases_eq, eq-eqb, false≢true}
 use Rattle.kk_core.specs.Sizes.{AreBound}
 use Rattle.kk_syntax.specs.Shapes.{is_among}
 use Rattle.kk_syntax.specs.declared.program.Form.{Form}
 use Rattle.kk_syntax.specs.declared.program.Form.TheVariants.{Number, Unit as Nothing, ReadByte, PrintText, Unary, Binary, Print, Construct, Call}
-use Rattle.kk_counted.specs.CountedCodes.{Counted, give, tail_call, branch, case, compute, inside, read, open_cell, if_unique, dup, drop, CountedArms, no_arm, arm}
-use Rattle.kk_counted.specs.Marks.{CellMarks, parameter_marks, result_mark, field_marks, made_mark, HaveMarks, AreUnmarked, IsFormMarked, HasMark, HaveMark, Opens, IsMarked}
+use Rattle.kk_counted.specs.CountedCodes.{Counted, give, tail_call, branch, case, compute, inside, read, open_cell, if_unique, dup, drop, CountedArms, no_arm, arm, CountedFunction}
+use Rattle.kk_counted.specs.Marks.{CellMarks, parameter_marks, result_mark, field_marks, HaveMarks, AreUnmarked, IsFormMarked, HasMark, HaveMark, Opens, IsMarked}
 use Rattle.kk_counted.specs.Spending.{numbers_from}
-use Rattle.rv_cells.specs.Marked.{AreBelow, AreFieldsNumbered, AreNumbered, AreArmsNumbered}
-use Rattle.rv_cells.specs.Marking.{marked, all_marked, first_of, given_by, given_by_arms, mark_given, mark_of_form, marks_behind, marks_behind_arms, BlocksGive, BlocksOfArmsGive}
+use Rattle.rv_cells.specs.Marked.{AreBelow, AreNumbered, AreArmsNumbered}
+use Rattle.rv_cells.specs.Marking.{marked, all_marked, first_of, given_by, given_by_arms, mark_given, mark_of_form, marks_behind, marks_behind_arms, BlocksGive, BlocksOfArmsGive, IsLowerable, function_marks}
 use Rattle.rv_cells.specs.Written.{holds_in}
 
 -- ---- one mark
@@ -185,7 +185,6 @@ module _ (holds : ℕ → Bool) where
             (found body bound given marks has.0 gives.0 right)
             (λ keeps. found_arms rest bound given (marks_behind table body marks) has.1 gives.1 (right_keeps marks (marks_behind table body marks) bound keeps right))
 
-
   -- ---- code by the marks at last
 
   module _ (last : List Bool) where
@@ -251,8 +250,7 @@ module _ (holds : ℕ → Bool) where
             let keeps_there : Keeps there last = keeps_then there (marks_behind table rest there) last after.keeps keeps in
             let later = behind right_there in
             let all : AllRight fields = right_of_first fields bound (right_keeps there last (fields ++ bound) keeps_there right_there) in
-            let cell : IsRight last x = keeps_there.1 x ((fields_keep table fields each marks opens.1.1).1 x (right x opens.0)) in
-            (
+            let cell : IsRight last x = keeps_there.1 x ((fields_keep table fields each marks opens.1.1).1 x (right x opens.0)) in (
               ((opens.0, (cell.1 ∙ opens.1.0, have_same fields each all opens.1.1)), later.0),
               λ base is. ((below_all fields all, is.0.1), later.1 base is.1),
             )
@@ -319,3 +317,60 @@ module _ (holds : ℕ → Bool) where
               let one = now body bound given marks has.0 gives.0 right (keeps_then middle (marks_behind_arms table rest middle) last second.keeps keeps) in
               let others = now_arms rest bound given middle has.1 gives.1 right_there keeps in
               ((one.0, others.0), λ base is. (one.1 base is.0, others.1 base is.1))
+
+-- ---- functions
+
+holds_at : (before : List Bool) (mark : Bool) (behind : List Bool) → holds_in (before ++ mark ∷ behind) (length before) ≡ mark
+holds_at [] mark behind = refl
+holds_at (first ∷ before) mark behind = holds_at before mark behind
+
+params_right : (holds : ℕ → Bool) (before each : List Bool) (k n : ℕ) → length before ≡ k → HaveMarks holds (numbers_from k n) each
+    → AreRight holds (before ++ each) (numbers_from k n) × (n ≡ length each)
+params_right holds before [] k zero is have = ((λ y among. absurd (false≢true among)), refl)
+params_right holds before (mark ∷ each) k zero is have = absurd have
+params_right holds before [] k (suc n) is have = absurd have
+params_right holds before (mark ∷ each) k (suc n) is have =
+    let more = params_right holds (before ++ mark ∷ []) each (suc k) n (length-append before (mark ∷ []) ∙ omega (arith, is)) have.1 in
+    let whole : (before ++ mark ∷ []) ++ each ≡ before ++ mark ∷ each = append_assoc before (mark ∷ []) each in (
+      right_more holds (before ++ mark ∷ each) k (numbers_from (suc k) n)
+          (omega (arith, is, length-append before (mark ∷ each)), subst (λ y. holds_in (before ++ mark ∷ each) y ≡ mark) is (holds_at before mark each) ∙ sym have.0)
+          (subst (λ ms. AreRight holds ms (numbers_from (suc k) n)) whole more.0),
+      ap suc more.1,
+    )
+
+-- A function that can be lowered is marked by what is found, and its variables are numbered below its temporaries.
+pub record IsKnown (table : CellMarks) (f : ℕ) (function : CountedFunction) (marks : List Bool) : Type 0 where
+  pub marked : IsMarked table (holds_in marks) f function
+  pub few : function.parameters ≤ length marks
+  pub numbered : AreNumbered (length marks) (numbers_from 0 function.parameters) function.body
+
+pub known : (table : CellMarks) (f : ℕ) (function : CountedFunction) → IsLowerable table f function → IsKnown table f function (function_marks table f function)
+known table f function is = record {
+  marked = record {
+    parameters_marked = have_same is.holds last params each (right_of_first is.holds last params [] (subst (λ xs. AreRight is.holds last xs) (sym (append-nil params)) (right_keeps is.holds each last params behind.keeps right.0))) is.marked.parameters_marked;
+    body_marked = at_last.0;
+  };
+  few = omega (arith, right.1, behind.keeps.0);
+  numbered = at_last.1 is.base is.numbered;
+}
+  where
+    params : List ℕ
+    params = numbers_from 0 function.parameters
+
+    each : List Bool
+    each = parameter_marks table f
+
+    last : List Bool
+    last = function_marks table f function
+
+    result : Bool
+    result = result_mark table f
+
+    right : AreRight is.holds each params × (function.parameters ≡ length each)
+    right = params_right is.holds [] each 0 function.parameters refl is.marked.parameters_marked
+
+    behind : Found is.holds table result result (given_by function.body) each last
+    behind = found is.holds table result function.body params result each is.marked.body_marked is.gives right.0
+
+    at_last : IsNow is.holds last table result params result function.body
+    at_last = now is.holds last table result function.body params result each is.marked.body_marked is.gives right.0 (keeps_all is.holds last)

@@ -33,27 +33,25 @@ more_loads : (cell i x : ℕ) (xs : List ℕ) (lines : List Line) (line : Line) 
     → AllLoads cell i (xs ++ x ∷ []) (lines ++ line ∷ [])
 more_loads cell i x [] lines line all one =
     (line, [], subst (λ n. Loads cell n x line) (omega arith) one, refl, ap (λ ls. ls ++ line ∷ []) all)
-more_loads cell i x (y ∷ xs) lines line all one =
-    (
-      all.0,
-      all.1 ++ line ∷ [],
-      all.2,
-      more_loads cell (suc i) x xs all.1 line all.3 (subst (λ n. Loads cell n x line) (omega arith) one),
-      ap (λ ls. ls ++ line ∷ []) all.4,
-    )
+more_loads cell i x (y ∷ xs) lines line all one = (
+  all.0,
+  all.1 ++ line ∷ [],
+  all.2,
+  more_loads cell (suc i) x xs all.1 line all.3 (subst (λ n. Loads cell n x line) (omega arith) one),
+  ap (λ ls. ls ++ line ∷ []) all.4,
+)
 
 more_stores : (cell i x : ℕ) (xs : List ℕ) (lines : List Line) (line : Line) → AllStores cell i xs lines → Stores cell (i + length xs) x line
     → AllStores cell i (xs ++ x ∷ []) (lines ++ line ∷ [])
 more_stores cell i x [] lines line all one =
     (line, [], subst (λ n. Stores cell n x line) (omega arith) one, refl, ap (λ ls. ls ++ line ∷ []) all)
-more_stores cell i x (y ∷ xs) lines line all one =
-    (
-      all.0,
-      all.1 ++ line ∷ [],
-      all.2,
-      more_stores cell (suc i) x xs all.1 line all.3 (subst (λ n. Stores cell n x line) (omega arith) one),
-      ap (λ ls. ls ++ line ∷ []) all.4,
-    )
+more_stores cell i x (y ∷ xs) lines line all one = (
+  all.0,
+  all.1 ++ line ∷ [],
+  all.2,
+  more_stores cell (suc i) x xs all.1 line all.3 (subst (λ n. Stores cell n x line) (omega arith) one),
+  ap (λ ls. ls ++ line ∷ []) all.4,
+)
 
 pub loads_more : (cell n index : ℕ) (xs : List ℕ) (lines : List Line) (line : Line) → n < length xs → index ≡ 2 + n
     → AllLoads cell 2 (take n xs) lines → Loads cell index (get_or xs n 0) line → AllLoads cell 2 (take (n + 1) xs) (lines ++ line ∷ [])
@@ -99,11 +97,19 @@ module _ {holds : ℕ → Bool} {x : ℕ} {fields used : List ℕ} where
     grows = grows_more (omega arith) (grows_then (grows_took first) (grows_then (grows_took second) (grows_of whole)));
     label = whole.label ∙ second.next ∙ ap (λ n. n + 1) first.next ∙ two a.next_label;
     are = subst (λ n. UniqueLines a.base holds a.next_label n x fields used lines) (second.is ∙ first.next)
-        (subst (λ n. UniqueLines a.base holds n behind x fields used lines) first.is
-        (
-          test_own.0, loads, less_own.0, less_own.1, less_own.2, test_own.1, all, less_own.3, less_own.4, less_own.5,
+        (subst (λ n. UniqueLines a.base holds n behind x fields used lines) first.is (
+          test_own.0,
+          loads,
+          less_own.0,
+          less_own.1,
+          less_own.2,
+          test_own.1,
+          all,
+          less_own.3,
+          less_own.4,
+          less_own.5,
           ap (λ (ls : List Line). ls ++ ((loads ++ (dropped ++ free_lines x behind)) ++ ((acts (Label shared) [] ∷ (loads ++ (less.lines ++ dupped))) ++ (acts (Label behind) [] ∷ [])))) test_own.2
-          ∙ ap (λ (ls : List Line). tested ++ ((loads ++ (dropped ++ free_lines x behind)) ++ ((acts (Label shared) [] ∷ (loads ++ (ls ++ dupped))) ++ (acts (Label behind) [] ∷ [])))) less_own.6,
+              ∙ ap (λ (ls : List Line). tested ++ ((loads ++ (dropped ++ free_lines x behind)) ++ ((acts (Label shared) [] ∷ (loads ++ (ls ++ dupped))) ++ (acts (Label behind) [] ∷ [])))) less_own.6,
         ));
   }
     where
@@ -161,11 +167,15 @@ tag_lines layout value tag nodes (edge ∷ edges) otherwise odd loads some is od
   where
     by : LoadsTag value (value + 1) loads
         → TagLines layout value nodes (edge ∷ edges) otherwise (odd ++ (loads ++ number_tests (answer_tag layout) (value + 1) nodes (edge ∷ edges)))
-    by here =
-        (
-          odd, here.0, here.1, odds, here.2, here.3,
-          ap (λ (ls : List Line). odd ++ (ls ++ number_tests (answer_tag layout) (value + 1) nodes (edge ∷ edges))) here.4,
-        )
+    by here = (
+      odd,
+      here.0,
+      here.1,
+      odds,
+      here.2,
+      here.3,
+      ap (λ (ls : List Line). odd ++ (ls ++ number_tests (answer_tag layout) (value + 1) nodes (edge ∷ edges))) here.4,
+    )
 
 pub tags_written : {tag : ℕ} {a b c d : Lowering} (layout : Layout) (nodes : ℕ) (edges : List Edge) (otherwise : Option ℕ) → (edges ≡ [] → ⊥)
     → tag ≡ a.base + 1 → WroteLines (OddLines a.base nodes otherwise) a b → WroteLines (LoadsTag a.base tag) b c
@@ -199,25 +209,26 @@ tests_written {plain} {others} {a} {b} {c} {d} {e} {f} layout nodes arms x at ed
 more_nodes : (layout : Layout) (base nodes arms x k : ℕ) (each : List NodeTree) (node : NodeTree) (lines first : List Line) → NodesLines layout base nodes arms x k each lines
     → NodeLines layout base nodes arms x node first
     → NodesLines layout base nodes arms x k (each ++ node ∷ []) (lines ++ (acts (Label (nodes + (k + length each))) [] ∷ first))
-more_nodes layout base nodes arms x k [] node lines first all one =
-    (
-      first, [], one, refl,
-      ap (λ (ls : List Line). ls ++ (acts (Label (nodes + (k + 0))) [] ∷ first)) all
+more_nodes layout base nodes arms x k [] node lines first all one = (
+  first,
+  [],
+  one,
+  refl,
+  ap (λ (ls : List Line). ls ++ (acts (Label (nodes + (k + 0))) [] ∷ first)) all
       ∙ ap (λ (n : ℕ). acts (Label n) [] ∷ first) (zero_more nodes k) ∙ ap (λ (ls : List Line). acts (Label (nodes + k)) [] ∷ ls) (sym (append-nil first)),
-    )
+)
   where
     zero_more : (n m : ℕ) → n + (m + 0) ≡ n + m
     zero_more n m = omega arith
-more_nodes layout base nodes arms x k (other ∷ each) node lines first all one =
-    (
-      all.0,
-      all.1 ++ (acts (Label (nodes + (suc k + length each))) [] ∷ first),
-      all.2,
-      more_nodes layout base nodes arms x (suc k) each node all.1 first all.3 one,
-      ap (λ (ls : List Line). ls ++ (acts (Label (nodes + (k + suc (length each)))) [] ∷ first)) all.4
+more_nodes layout base nodes arms x k (other ∷ each) node lines first all one = (
+  all.0,
+  all.1 ++ (acts (Label (nodes + (suc k + length each))) [] ∷ first),
+  all.2,
+  more_nodes layout base nodes arms x (suc k) each node all.1 first all.3 one,
+  ap (λ (ls : List Line). ls ++ (acts (Label (nodes + (k + suc (length each)))) [] ∷ first)) all.4
       ∙ ap (λ (ls : List Line). acts (Label (nodes + k)) [] ∷ ls) (append_assoc all.0 all.1 (acts (Label (nodes + (k + suc (length each)))) [] ∷ first))
       ∙ ap (λ (n : ℕ). acts (Label (nodes + k)) [] ∷ (all.0 ++ (all.1 ++ (acts (Label (nodes + n)) [] ∷ first)))) (one_more k (length each)),
-    )
+)
   where
     one_more : (n m : ℕ) → n + suc m ≡ suc n + m
     one_more n m = omega arith

@@ -5,7 +5,9 @@ ghost use Rattle.kk_counted.specs.CountedForms.{block_code, last_code, step_move
 ghost use Rattle.rv_lower.specs.Written.{goal_of};
 ghost use Rattle.rv_cells.specs.Written.{facts_of, TookLabels, TookTargets, WroteValue, WroteCode, WroteArms, WroteSteps};
 
-use crate::cells::{write_construction, write_drop, write_dup, write_opening, write_reading, write_unique};
+use crate::cells::{
+    write_construction, write_drop, write_dup, write_opening, write_reading, write_unique,
+};
 use crate::decide::{Targets, write_nodes};
 use crate::known::Known;
 use kk_base::NoMemory;

@@ -15,7 +15,9 @@ use std::alloc::Global;
 
 /// The word of a cell that has its count, that which has its header, and the first one of its fields.
 const COUNT: u32 = 0;
+
 const HEADER: u32 = 1;
+
 const FIELDS: u32 = 2;
 
 /// The offset of a word of a cell. One that no line can name would want more memory than there is.

@@ -108,7 +108,13 @@ fn cell_edges(alloc: Global, known: &Known<'_>, edges: &[Edge]) -> Result<Vec<Ed
 }
 
 /// Tests of the word of a value.
-fn write_word_tests(lowering: &mut Lowering, known: &Known<'_>, value: u32, nodes: u32, edges: &[Edge]) -> Result<(), NoMemory>
+fn write_word_tests(
+    lowering: &mut Lowering,
+    known: &Known<'_>,
+    value: u32,
+    nodes: u32,
+    edges: &[Edge],
+) -> Result<(), NoMemory>
     ensures { OnOk result (Wrote (number_tests (answer_word (layout_known known.now)) value nodes edges.now) lowering.old lowering.new) }
 {
     for edge in edges {
@@ -119,7 +125,13 @@ fn write_word_tests(lowering: &mut Lowering, known: &Known<'_>, value: u32, node
 }
 
 /// Tests of the tag of a cell.
-fn write_tag_tests(lowering: &mut Lowering, known: &Known<'_>, value: u32, nodes: u32, edges: &[Edge]) -> Result<(), NoMemory>
+fn write_tag_tests(
+    lowering: &mut Lowering,
+    known: &Known<'_>,
+    value: u32,
+    nodes: u32,
+    edges: &[Edge],
+) -> Result<(), NoMemory>
     ensures { OnOk result (Wrote (number_tests (answer_tag (layout_known known.now)) value nodes edges.now) lowering.old lowering.new) }
 {
     for edge in edges {
@@ -130,7 +142,12 @@ fn write_tag_tests(lowering: &mut Lowering, known: &Known<'_>, value: u32, nodes
 }
 
 /// Where a value that is no cell goes on otherwise.
-fn write_odd(lowering: &mut Lowering, value: u32, nodes: u32, otherwise: Option<u32>) -> Result<(), NoMemory>
+fn write_odd(
+    lowering: &mut Lowering,
+    value: u32,
+    nodes: u32,
+    otherwise: Option<u32>,
+) -> Result<(), NoMemory>
     ensures { OnOk result (WroteLines (OddLines value nodes otherwise) lowering.old lowering.new) }
 {
     let Some(node) = otherwise else {
@@ -140,10 +157,7 @@ fn write_odd(lowering: &mut Lowering, value: u32, nodes: u32, otherwise: Option<
     let lowest = Operation::Immediate(ImmediateOperation::Andi, Immediate::new(1));
     lowering.write(&[
         unary(lowest, value, odd),
-        act(
-            Action::Branch(Condition::NotEqual, label),
-            Reads::One(odd),
-        ),
+        act(Action::Branch(Condition::NotEqual, label), Reads::One(odd)),
     ])
 }
 
@@ -176,7 +190,11 @@ fn write_tags(
 }
 
 /// To the node that is next otherwise.
-fn write_otherwise(lowering: &mut Lowering, nodes: u32, otherwise: Option<u32>) -> Result<(), NoMemory>
+fn write_otherwise(
+    lowering: &mut Lowering,
+    nodes: u32,
+    otherwise: Option<u32>,
+) -> Result<(), NoMemory>
     ensures { OnOk result (Wrote (otherwise_lines nodes otherwise) lowering.old lowering.new) }
 {
     match otherwise {

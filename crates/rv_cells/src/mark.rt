@@ -13,7 +13,12 @@ use kk_syntax::Form;
 use std::alloc::Global;
 
 /// The marks of the variables of a function, by their numbers: whether a variable's type has cells.
-pub fn marks_of(alloc: Global, shape: &Shape, number: usize, function: &CountedFun) -> Result<Vec<bool>, NoMemory>
+pub fn marks_of(
+    alloc: Global,
+    shape: &Shape,
+    number: usize,
+    function: &CountedFun,
+) -> Result<Vec<bool>, NoMemory>
     ensures { IfOk result (λ marks. marks.items ≡ function_marks (table_of shape.now) number (function_of function.now)) }
 {
     let mut marks = parameters_of(alloc, shape, number)?;

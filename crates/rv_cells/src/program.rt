@@ -67,7 +67,14 @@ pub fn lower(alloc: Global, counted: &Counted, texts: &[StringLiteral]) -> Resul
     let mut constants = Vec::new(alloc);
     let mut number = 0;
     for function in counted.functions() {
-        let (lowered, more) = lower_function(alloc, counted.shape(), texts, number, function, constants)?;
+        let (lowered, more) = lower_function(
+            alloc,
+            counted.shape(),
+            texts,
+            number,
+            function,
+            constants,
+        )?;
         constants = more;
         functions.push(lowered)?;
         number += 1;

@@ -1,4 +1,4 @@
-use Rattle.std.proofs.Common.{List, Bool, map, sym, ap, ◌∙◌}
+use Rattle.std.proofs.Common.{map, sym, ap, ◌∙◌}
 use Rattle.std.proofs.lemmas.Result.{on_ok_weaker}
 use Rattle.kk_counted.proofs.FormViews.{block_is}
 use Rattle.kk_counted.specs.CountedForms.{last_code, step_move}

@@ -1,4 +1,4 @@
-use Rattle.std.proofs.Common.{List, Bool, ap, ◌∙◌, arith}
+use Rattle.std.proofs.Common.{ap, ◌∙◌, arith}
 use Rattle.rv_cells.specs.Marking.{marked}
 use Rattle.rv_cells.proofs.Marks.{marked_longer, marked_set}
 use Rattle.rv_cells.proofs.mark.set_mark.Goals as goal
