@@ -1,11 +1,11 @@
 -- The lines of what blocks end with, of branches and of blocks inside do the steps of the counted machine.
-use Rattle.std.proofs.Common.{◌≡◌, ℕ, suc, ◌+◌, ◌*◌, ◌<◌, ◌≤◌, Bool, true, false, not, nat_eq, List, [], ◌∷◌, ◌++◌, length, Some, All, refl, sym, ◌∙◌, ap, subst, arith, append_assoc}
+use Rattle.std.proofs.Common.{◌≡◌, ◌≢◌, ℕ, suc, ◌+◌, ◌*◌, ◌<◌, ◌≤◌, Bool, true, false, not, nat_eq, List, [], ◌∷◌, ◌++◌, length, Option, Some, None, All, refl, sym, ◌∙◌, ap, subst, arith, append_assoc}
 use Rattle.std.specs.Prelude.{if◌then◌else◌}
 use Rattle.std.specs.Prelude.{◌==◌}
 use Rattle.std.proofs.lemmas.Bool.{or_right}
 use Rattle.kk_base.specs.Trace.{Event}
 use Rattle.kk_syntax.specs.Shapes.{is_among}
-use Rattle.kk_source.specs.State.{Value, Environment}
+use Rattle.kk_source.specs.State.{Value, Environment, ended as run_ended}
 use Rattle.kk_source.specs.Live.{value_of}
 use Rattle.kk_source.specs.FormEffects.{truth, is_true}
 use Rattle.kk_counted.specs.CountedCodes.{Counted, give, branch, inside}
@@ -21,18 +21,20 @@ use Rattle.rv_isa.specs.Primitives.{ended}
 use Rattle.rv_isa.specs.WellFormed.{AreLinesFormed}
 use Rattle.rv_world.specs.World.{World}
 use Rattle.rv_lower.specs.Lines.{acts, copies_to, sets, constant_word}
-use Rattle.rv_lower.specs.Lowered.{Goal, returns, joins, test_lines}
+use Rattle.rv_lower.specs.Lowered.{Goal, returns, joins, goal_lines, test_lines}
+use Rattle.rv_lower.proofs.Labels.{found_label}
 use Rattle.rv_lower.proofs.Performing.{put_same, put_other}
 use Rattle.rv_lower.proofs.Orders.{split_at}
 use Rattle.rv_cells.specs.Layout.{word_in, FitsField}
 use Rattle.rv_cells.specs.Follows.{NoneInHand}
 use Rattle.rv_cells.specs.Costs.{forms}
-use Rattle.rv_cells.proofs.Values.{HasValues, has_bound, has_temporary}
+use Rattle.rv_cells.specs.Fitting.{IsTruth}
+use Rattle.rv_cells.proofs.Values.{HasValues, among_by, has_bound, has_temporary}
 use Rattle.rv_cells.proofs.Runs.{turn_of, Runs, runs_none, runs_then}
 use Rattle.rv_cells.proofs.Acting.{put_in, copy_runs, sets_runs, label_runs, jump_runs, falls_runs, branch_runs}
 use Rattle.rv_cells.proofs.Calling.{return_runs, last_return_runs}
 use Rattle.rv_cells.proofs.Spots.{Spot, Here, saved}
-use Rattle.rv_cells.proofs.Standing.{Lowering, AreWithin, target, upper, known_of, Placed, Continues, continues_more, AllWait, At, IsFitFrom, Follow, by_lines, finds, has_fewer}
+use Rattle.rv_cells.proofs.Standing.{Lowering, AreWithin, target, upper, known_of, Placed, Joined, Continues, continues_more, AllWait, At, IsFitFrom, Follow, by_lines, finds, has_fewer}
 
 pub within_itself : (xs : List ℕ) → AreWithin xs xs
 within_itself xs = λ z is. is

@@ -1,42 +1,49 @@
 -- The lines of the forms that touch cells do the steps of the counted machine.
-use Rattle.std.proofs.Common.{◌≡◌, ℕ, suc, ◌+◌, ◌*◌, ◌<◌, ◌≤◌, ◌⊎◌, inl, inr, Bool, true, false, List, [], ◌∷◌, ◌++◌, length, map, filter, Option, Some, None, flat_map, refl, sym, ◌∙◌, ap, subst, arith, append_assoc}
-use Rattle.std.specs.Prelude.{◌==◌, if◌then◌else◌}
+use Rattle.std.proofs.Common.{◌≡◌, ◌≢◌, ℕ, zero, suc, ◌+◌, ◌*◌, ◌^◌, ◌<◌, ◌≤◌, ◌⊎◌, inl, inr, Bool, true, false, List, [], ◌∷◌, ◌++◌, length, map, filter, Option, Some, None, nat_le, All, flat_map, refl, sym, ◌∙◌, ap, subst, arith, append_assoc}
+use Rattle.std.specs.Prelude.{◌||◌, ◌==◌, if◌then◌else◌}
 use Rattle.std.proofs.lemmas.Bool.{or_right, or_left}
+use Rattle.std.proofs.lemmas.Bool.Decides.{nat_tests}
 use Rattle.std.proofs.lemmas.List.{length-map}
 use Rattle.kk_base.specs.Trace.{Event}
 use Rattle.kk_syntax.specs.Shapes.{is_among}
-use Rattle.kk_source.specs.State.{Environment}
+use Rattle.kk_syntax.specs.declared.program.Form.TheVariants.{Construct}
+use Rattle.kk_source.specs.State.{Value, Environment, heap_full}
 use Rattle.kk_source.specs.Live.{value_of}
 use Rattle.kk_source.specs.Sound.{AllWithin}
 use Rattle.kk_source.specs.Notes.{events_of}
 use Rattle.kk_source.specs.Actions.{Action, goes, builds, performed}
 use Rattle.kk_core.specs.Sizes.{AreBound}
 use Rattle.kk_core.specs.CoreMachine.{bind_fields}
-use Rattle.kk_counted.specs.CountedCodes.{Counted, read, open_cell, if_unique, dup, drop}
-use Rattle.kk_counted.specs.CountedStates.{CountedJoin, CountedFrame, running, CountedConfiguration, CountedState}
-use Rattle.kk_counted.specs.CountedMachine.{at_counted, Named, cell_named, open_step, NotStuck, used_values, other_values, opened_heap, unique_heap}
-use Rattle.kk_counted.specs.Heaps.{Heap, count_at, fields_held}
+use Rattle.kk_counted.specs.CountedCodes.{Counted, compute, read, open_cell, if_unique, dup, drop}
+use Rattle.kk_counted.specs.CountedStates.{CountedJoin, CountedFrame, CountedControl, running, stopped, CountedConfiguration, CountedState}
+use Rattle.kk_counted.specs.CountedMachine.{at_counted, at_end, with_heap, Named, cell_named, open_step, NotStuck, used_values, other_values, opened_heap, unique_heap}
+use Rattle.kk_counted.specs.Heaps.{Heap, busy, count_at, fields_held}
 use Rattle.kk_counted.specs.Keeping.{values_of}
 use Rattle.kk_counted.specs.Spending.{AllAmong}
 use Rattle.kk_counted.specs.Marks.{field_marks, HaveMarks, HasMark}
 use Rattle.rv_isa.specs.declared.asm.Action.TheVariants.{Label}
 use Rattle.rv_isa.specs.AsmCode.{Line}
+use Rattle.rv_isa.specs.AsmMachine.{AsmTurn}
 use Rattle.rv_isa.specs.Frames.{Frame, top, top_in}
+use Rattle.rv_isa.specs.Primitives.{ended}
+use Rattle.rv_isa.specs.Processor.{exited}
 use Rattle.rv_isa.specs.WellFormed.{AreLinesFormed}
 use Rattle.rv_lower.specs.Lines.{acts}
+use Rattle.rv_lower.specs.Lowered.{Goal}
 use Rattle.rv_lower.proofs.Orders.{split_at}
 use Rattle.rv_cells.specs.Layout.{FitsField, FitFields}
 use Rattle.rv_cells.specs.Marked.{AreBelow, bound_list, AreNumbered}
 use Rattle.rv_cells.specs.Costs.{row_cost, forms, code_cost}
-use Rattle.rv_cells.proofs.Values.{among_by}
+use Rattle.rv_cells.proofs.Values.{HasValues, among_by, Carries}
 use Rattle.rv_cells.proofs.Runs.{turn_of, Runs}
-use Rattle.rv_cells.proofs.Spots.{Spot, Here, saved}
+use Rattle.rv_cells.proofs.Spots.{Spot, Known, Here, AreSmall, saved}
 use Rattle.rv_cells.proofs.Rows.{IsReading}
 use Rattle.rv_cells.proofs.Openings.{bound_older}
+use Rattle.rv_cells.proofs.Constructing.{IsMaking, full_did}
 use Rattle.rv_cells.proofs.Uniques.{head_lines, shared_lines, for_shared, whole_lines}
-use Rattle.rv_cells.proofs.Stepping.{Steps, there_is, dup_steps, drop_steps, read_steps, open_steps, unique_steps}
-use Rattle.rv_cells.proofs.Standing.{Lowering, AreWithin, target, texts, setting, upper, known_of, Placed, Continues, continues_more, AllWait, waits_carried, At, IsFitFrom, by_lines, finds, has_fewer}
-use Rattle.rv_cells.proofs.Blocks.{within_itself, counted_at, Does, does_by}
+use Rattle.rv_cells.proofs.Stepping.{Steps, there_is, dup_steps, drop_steps, read_steps, open_steps, construct_steps, unique_steps}
+use Rattle.rv_cells.proofs.Standing.{Lowering, AreWithin, target, texts, setting, upper, known_of, Placed, Continues, continues_more, AllWait, waits_carried, At, IsFitFrom, Follow, by_lines, finds, has_fewer}
+use Rattle.rv_cells.proofs.Blocks.{within_itself, within_one, counted_at, Does, does_by}
 
 -- ---- bound variables
 

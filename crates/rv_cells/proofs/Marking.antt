@@ -1,20 +1,26 @@
 -- The marks that are found are those of a function whose variables are marked: so it is marked by them.
-use Rattle.std.proofs.Common.{◌≡◌, ℕ, zero, suc, ◌<◌, ◌≤◌, ◌==◌, ◌⊎◌, inl, inr, Bool, true, false, List, [], ◌∷◌, ◌++◌, length, Option, Some, None, refl, sym, ap, subst, ◌∙◌, arith, append_assoc, append-nil, length-append}
+use Rattle.std.proofs.Common.{◌≡◌, ℕ, zero, suc, ◌<◌, ◌≤◌, ◌==◌, ◌⊎◌, inl, inr, Bool, true, false, List, [], ◌∷◌, ◌++◌, length,
+    Option, Some, None, refl, sym, ap, subst, ◌∙◌, arith, append_assoc, append-nil, length-append}
 use Rattle.std.proofs.lemmas.Bool.{or_cases, or_left, or_right, eqb-true, cases_eq, eq-eqb, false≢true}
 use Rattle.kk_core.specs.Sizes.{AreBound}
 use Rattle.kk_syntax.specs.Shapes.{is_among}
 use Rattle.kk_syntax.specs.declared.program.Form.{Form}
-use Rattle.kk_syntax.specs.declared.program.Form.TheVariants.{Number, Unit as Nothing, ReadByte, PrintText, Unary, Binary, Print, Construct, Call}
-use Rattle.kk_counted.specs.CountedCodes.{Counted, give, tail_call, branch, case, compute, inside, read, open_cell, if_unique, dup, drop, CountedArms, no_arm, arm, CountedFunction}
-use Rattle.kk_counted.specs.Marks.{CellMarks, parameter_marks, result_mark, field_marks, HaveMarks, AreUnmarked, IsFormMarked, HasMark, HaveMark, Opens, IsMarked}
+use Rattle.kk_syntax.specs.declared.program.Form.TheVariants.{Number, Unit as Nothing, ReadByte, PrintText, Unary, Binary, Print,
+    Construct, Call}
+use Rattle.kk_counted.specs.CountedCodes.{Counted, give, tail_call, branch, case, compute, inside, read, open_cell, if_unique, dup,
+    drop, CountedArms, no_arm, arm, CountedFunction}
+use Rattle.kk_counted.specs.Marks.{CellMarks, parameter_marks, result_mark, field_marks, HaveMarks, AreUnmarked, IsFormMarked,
+    HasMark, HaveMark, Opens, IsMarked}
 use Rattle.kk_counted.specs.Spending.{numbers_from}
 use Rattle.rv_cells.specs.Marked.{AreBelow, AreNumbered, AreArmsNumbered}
-use Rattle.rv_cells.specs.Marking.{marked, all_marked, first_of, given_by, given_by_arms, mark_given, mark_of_form, marks_behind, marks_behind_arms, BlocksGive, BlocksOfArmsGive, IsLowerable, function_marks}
+use Rattle.rv_cells.specs.Marking.{marked, all_marked, first_of, given_by, given_by_arms, mark_given, mark_of_form, marks_behind,
+    marks_behind_arms, BlocksGive, BlocksOfArmsGive, IsLowerable, function_marks}
 use Rattle.rv_cells.specs.Written.{holds_in}
 
 -- ---- one mark
 
-pub marked_length : (x : ℕ) (mark : Bool) (marks : List Bool) → (length marks ≤ length (marked x mark marks)) × (x < length (marked x mark marks))
+pub marked_length : (x : ℕ) (mark : Bool) (marks : List Bool)
+    → (length marks ≤ length (marked x mark marks)) × (x < length (marked x mark marks))
 marked_length zero mark [] = (omega arith, omega arith)
 marked_length zero mark (old ∷ marks) = (omega arith, omega arith)
 marked_length (suc x) mark [] = let more = marked_length x mark [] in (omega arith, omega (arith, more.1))
@@ -84,11 +90,13 @@ module _ (holds : ℕ → Bool) where
 
   -- fields get their marks
   module _ (table : CellMarks) where
-    fields_keep : (xs : List ℕ) (each : List Bool) (marks : List Bool) → HaveMarks holds xs each → Keeps marks (all_marked xs each marks)
+    fields_keep : (xs : List ℕ) (each : List Bool) (marks : List Bool) → HaveMarks holds xs each
+        → Keeps marks (all_marked xs each marks)
     fields_keep [] each marks have = keeps_all marks
     fields_keep (x ∷ xs) [] marks have = absurd have
     fields_keep (x ∷ xs) (mark ∷ each) marks have =
-        keeps_then marks (marked x mark marks) (all_marked xs each (marked x mark marks)) (keeps_marked x mark marks (sym have.0)) (fields_keep xs each (marked x mark marks) have.1)
+        keeps_then marks (marked x mark marks) (all_marked xs each (marked x mark marks)) (keeps_marked x mark marks (sym have.0))
+            (fields_keep xs each (marked x mark marks) have.1)
 
     fields_right : (xs bound : List ℕ) (each : List Bool) (marks : List Bool) → HaveMarks holds xs each → AreRight marks bound
         → AreRight (all_marked xs each marks) (xs ++ bound)
@@ -100,7 +108,8 @@ module _ (holds : ℕ → Bool) where
         (fields_right xs bound each (marked x mark marks) have.1
         (right_keeps marks (marked x mark marks) bound (keeps_marked x mark marks (sym have.0)) right))
 
-    form_mark : (form : Form) (arguments : List ℕ) (mark : Bool) → IsFormMarked table holds form arguments mark → mark_of_form table form arguments ≡ mark
+    form_mark : (form : Form) (arguments : List ℕ) (mark : Bool) → IsFormMarked table holds form arguments mark
+        → mark_of_form table form arguments ≡ mark
     form_mark (Construct c) arguments mark is = sym is.1
     form_mark (Call f) arguments mark is = sym is.1
     form_mark (Number n) arguments mark is = sym is.1
@@ -120,70 +129,101 @@ module _ (holds : ℕ → Bool) where
       none_is : (v : ℕ) → None ≡ Some v → ⊥
       none_is v is = grind (arith, is)
 
-      given_mark : (marks : List Bool) (from : Option ℕ) {mark : Bool} (v : ℕ) → from ≡ Some v → IsRight marks v → holds v ≡ mark → mark_given from marks ≡ mark
+      given_mark : (marks : List Bool) (from : Option ℕ) {mark : Bool} (v : ℕ) → from ≡ Some v → IsRight marks v → holds v ≡ mark
+          → mark_given from marks ≡ mark
       given_mark marks from {mark} v is right same = subst (λ o. mark_given o marks ≡ mark) (sym is) (right.1 ∙ same)
 
-      both : (first second : Option ℕ) (given : Bool) (a b c : List Bool) → Found given first a b → (Keeps a b → Found given second b c) → Found given (first_of first second) a c
+      both : (first second : Option ℕ) (given : Bool) (a b c : List Bool) → Found given first a b
+          → (Keeps a b → Found given second b c) → Found given (first_of first second) a c
       both (Some x) second given a b c one other = record {
         keeps = keeps_then a b c one.keeps (other one.keeps).keeps;
         tells = λ v is. let known = one.tells v is in ((other one.keeps).keeps.1 v known.0, known.1);
       }
-      both None second given a b c one other = record { keeps = keeps_then a b c one.keeps (other one.keeps).keeps; tells = (other one.keeps).tells }
+      both None second given a b c one other = record { keeps = keeps_then a b c one.keeps (other one.keeps).keeps; tells =
+          (other one.keeps).tells }
 
-      behind_mark : (given : Bool) (from : Option ℕ) (x : ℕ) (mark : Bool) (a c : List Bool) → mark ≡ holds x → Found given from (marked x mark a) c → Found given from a c
-      behind_mark given from x mark a c is later = record { keeps = keeps_then a (marked x mark a) c (keeps_marked x mark a is) later.keeps; tells = later.tells }
+      behind_mark : (given : Bool) (from : Option ℕ) (x : ℕ) (mark : Bool) (a c : List Bool) → mark ≡ holds x
+          → Found given from (marked x mark a) c → Found given from a c
+      behind_mark given from x mark a c is later = record { keeps = keeps_then a (marked x mark a) c (keeps_marked x mark a is)
+          later.keeps; tells = later.tells }
 
-      behind_fields : (given : Bool) (from : Option ℕ) (xs : List ℕ) (each : List Bool) (a c : List Bool) → HaveMarks holds xs each → Found given from (all_marked xs each a) c → Found given from a c
-      behind_fields given from xs each a c have later = record { keeps = keeps_then a (all_marked xs each a) c (fields_keep xs each a have) later.keeps; tells = later.tells }
+      behind_fields : (given : Bool) (from : Option ℕ) (xs : List ℕ) (each : List Bool) (a c : List Bool) → HaveMarks holds xs each
+          → Found given from (all_marked xs each a) c → Found given from a c
+      behind_fields given from xs each a c have later = record
+          { keeps = keeps_then a (all_marked xs each a) c (fields_keep xs each a have) later.keeps; tells = later.tells }
 
       mutual
-        found : (code : Counted) (bound : List ℕ) (given : Bool) (marks : List Bool) → HasMark table holds result bound given code → BlocksGive code → AreRight marks bound
+        found : (code : Counted) (bound : List ℕ) (given : Bool) (marks : List Bool) → HasMark table holds result bound given code
+            → BlocksGive code → AreRight marks bound
             → Found given (given_by code) marks (marks_behind table code marks)
         found (give x) bound given marks has gives right = record {
           keeps = keeps_all marks;
-          tells = λ v is. let same : x ≡ v = grind (arith, is) in subst (λ z. IsRight marks z × (holds z ≡ given)) same (right x has.0, has.1);
+          tells = λ v is. let same : x ≡ v = grind (arith, is) in subst (λ z. IsRight marks z × (holds z ≡ given)) same
+              (right x has.0, has.1);
         }
-        found (tail_call f arguments) bound given marks has gives right = record { keeps = keeps_all marks; tells = λ v is. absurd (none_is v is) }
+        found (tail_call f arguments) bound given marks has gives right = record
+            { keeps = keeps_all marks; tells = λ v is. absurd (none_is v is) }
         found (branch x positive negative) bound given marks has gives right =
-            both (given_by positive) (given_by negative) given marks (marks_behind table positive marks) (marks_behind table negative (marks_behind table positive marks))
+            both (given_by positive) (given_by negative) given marks (marks_behind table positive marks)
+                (marks_behind table negative (marks_behind table positive marks))
             (found positive bound given marks has.1.1.0 gives.0 right)
-            (λ keeps. found negative bound given (marks_behind table positive marks) has.1.1.1 gives.1 (right_keeps marks (marks_behind table positive marks) bound keeps right))
+            (λ keeps. found negative bound given (marks_behind table positive marks) has.1.1.1 gives.1
+                (right_keeps marks (marks_behind table positive marks) bound keeps right))
         found (case x decisions arms) bound given marks has gives right = found_arms arms bound given marks has.1 gives right
         found (compute x form arguments rest) bound given marks has gives right =
-            behind_mark given (given_by rest) x (mark_of_form table form arguments) marks (marks_behind table rest (marked x (mark_of_form table form arguments) marks)) (form_mark form arguments (holds x) has.1.0)
+            behind_mark given (given_by rest) x (mark_of_form table form arguments) marks
+                (marks_behind table rest (marked x (mark_of_form table form arguments) marks))
+                (form_mark form arguments (holds x) has.1.0)
             (found rest (x ∷ bound) given (marked x (mark_of_form table form arguments) marks) has.1.1 gives
-            (right_more (marked x (mark_of_form table form arguments) marks) x bound (right_marked x (mark_of_form table form arguments) marks (form_mark form arguments (holds x) has.1.0))
-            (right_keeps marks (marked x (mark_of_form table form arguments) marks) bound (keeps_marked x (mark_of_form table form arguments) marks (form_mark form arguments (holds x) has.1.0)) right)))
+            (right_more (marked x (mark_of_form table form arguments) marks) x bound
+                (right_marked x (mark_of_form table form arguments) marks (form_mark form arguments (holds x) has.1.0))
+            (right_keeps marks (marked x (mark_of_form table form arguments) marks) bound
+                (keeps_marked x (mark_of_form table form arguments) marks (form_mark form arguments (holds x) has.1.0)) right)))
         found (inside x block rest) bound given marks has gives right =
             let inner : List Bool = marks_behind table block marks in
             let mark : Bool = mark_given (given_by block) inner in
             let part = found block bound (holds x) marks has.0 gives.1.1.0 right in
-            let is : mark ≡ holds x = given_mark inner (given_by block) gives.0 gives.1.0 (part.tells gives.0 gives.1.0).0 (part.tells gives.0 gives.1.0).1 in
+            let is : mark ≡ holds x = given_mark inner (given_by block) gives.0 gives.1.0 (part.tells gives.0 gives.1.0).0
+                (part.tells gives.0 gives.1.0).1 in
             let right_there : AreRight inner bound = right_keeps marks inner bound part.keeps right in
-            let after = found rest (x ∷ bound) given (marked x mark inner) has.1 gives.1.1.1 (right_more (marked x mark inner) x bound (right_marked x mark inner is) (right_keeps inner (marked x mark inner) bound (keeps_marked x mark inner is) right_there)) in
+            let after = found rest (x ∷ bound) given (marked x mark inner) has.1 gives.1.1.1
+                (right_more (marked x mark inner) x bound (right_marked x mark inner is)
+                (right_keeps inner (marked x mark inner) bound (keeps_marked x mark inner is) right_there)) in
             record {
-              keeps = keeps_then marks inner (marks_behind table rest (marked x mark inner)) part.keeps (keeps_then inner (marked x mark inner) (marks_behind table rest (marked x mark inner)) (keeps_marked x mark inner is) after.keeps);
+              keeps = keeps_then marks inner (marks_behind table rest (marked x mark inner)) part.keeps
+                  (keeps_then inner (marked x mark inner) (marks_behind table rest (marked x mark inner))
+                  (keeps_marked x mark inner is) after.keeps);
               tells = after.tells;
             }
         found (read x c fields rest) bound given marks has gives right =
-            behind_fields given (given_by rest) fields (field_marks table c) marks (marks_behind table rest (all_marked fields (field_marks table c) marks)) has.0.1.1
-            (found rest (fields ++ bound) given (all_marked fields (field_marks table c) marks) has.1 gives (fields_right fields bound (field_marks table c) marks has.0.1.1 right))
+            behind_fields given (given_by rest) fields (field_marks table c) marks
+                (marks_behind table rest (all_marked fields (field_marks table c) marks)) has.0.1.1
+            (found rest (fields ++ bound) given (all_marked fields (field_marks table c) marks) has.1 gives
+                (fields_right fields bound (field_marks table c) marks has.0.1.1 right))
         found (open_cell x c fields used rest) bound given marks has gives right =
-            behind_fields given (given_by rest) fields (field_marks table c) marks (marks_behind table rest (all_marked fields (field_marks table c) marks)) has.0.1.1
-            (found rest (fields ++ bound) given (all_marked fields (field_marks table c) marks) has.1 gives (fields_right fields bound (field_marks table c) marks has.0.1.1 right))
+            behind_fields given (given_by rest) fields (field_marks table c) marks
+                (marks_behind table rest (all_marked fields (field_marks table c) marks)) has.0.1.1
+            (found rest (fields ++ bound) given (all_marked fields (field_marks table c) marks) has.1 gives
+                (fields_right fields bound (field_marks table c) marks has.0.1.1 right))
         found (if_unique x c fields used rest) bound given marks has gives right =
-            behind_fields given (given_by rest) fields (field_marks table c) marks (marks_behind table rest (all_marked fields (field_marks table c) marks)) has.0.1.1
-            (found rest (fields ++ bound) given (all_marked fields (field_marks table c) marks) has.1 gives (fields_right fields bound (field_marks table c) marks has.0.1.1 right))
+            behind_fields given (given_by rest) fields (field_marks table c) marks
+                (marks_behind table rest (all_marked fields (field_marks table c) marks)) has.0.1.1
+            (found rest (fields ++ bound) given (all_marked fields (field_marks table c) marks) has.1 gives
+                (fields_right fields bound (field_marks table c) marks has.0.1.1 right))
         found (dup x rest) bound given marks has gives right = found rest bound given marks has.1 gives right
         found (drop x rest) bound given marks has gives right = found rest bound given marks has.1 gives right
 
-        found_arms : (arms : CountedArms) (bound : List ℕ) (given : Bool) (marks : List Bool) → HaveMark table holds result bound given arms → BlocksOfArmsGive arms → AreRight marks bound
+        found_arms : (arms : CountedArms) (bound : List ℕ) (given : Bool) (marks : List Bool)
+            → HaveMark table holds result bound given arms → BlocksOfArmsGive arms → AreRight marks bound
             → Found given (given_by_arms arms) marks (marks_behind_arms table arms marks)
-        found_arms no_arm bound given marks has gives right = record { keeps = keeps_all marks; tells = λ v is. absurd (none_is v is) }
+        found_arms no_arm bound given marks has gives right = record
+            { keeps = keeps_all marks; tells = λ v is. absurd (none_is v is) }
         found_arms (arm body rest) bound given marks has gives right =
-            both (given_by body) (given_by_arms rest) given marks (marks_behind table body marks) (marks_behind_arms table rest (marks_behind table body marks))
+            both (given_by body) (given_by_arms rest) given marks (marks_behind table body marks)
+                (marks_behind_arms table rest (marks_behind table body marks))
             (found body bound given marks has.0 gives.0 right)
-            (λ keeps. found_arms rest bound given (marks_behind table body marks) has.1 gives.1 (right_keeps marks (marks_behind table body marks) bound keeps right))
+            (λ keeps. found_arms rest bound given (marks_behind table body marks) has.1 gives.1
+                (right_keeps marks (marks_behind table body marks) bound keeps right))
 
   -- ---- code by the marks at last
 
@@ -199,7 +239,8 @@ module _ (holds : ℕ → Bool) where
     right_of_first : (xs bound : List ℕ) → AreRight last (xs ++ bound) → AllRight xs
     right_of_first [] bound right = tt
     right_of_first (x ∷ xs) bound right =
-        (right x (or_left (x == x) (is_among (xs ++ bound) x) (eq-eqb x x refl)), right_of_first xs bound (λ y among. right y (or_right (x == y) (is_among (xs ++ bound) y) among)))
+        (right x (or_left (x == x) (is_among (xs ++ bound) x) (eq-eqb x x refl)), right_of_first xs bound
+            (λ y among. right y (or_right (x == y) (is_among (xs ++ bound) y) among)))
 
     have_same : (xs : List ℕ) (each : List Bool) → AllRight xs → HaveMarks holds xs each → HaveMarks (holds_in last) xs each
     have_same [] [] right have = tt
@@ -216,10 +257,13 @@ module _ (holds : ℕ → Bool) where
     below_all (x ∷ xs) right = (right.0.0, below_all xs right.1)
 
     module _ (table : CellMarks) where
-      form_same : (form : Form) (arguments : List ℕ) (mark mark_too : Bool) → mark ≡ mark_too → AllRight arguments → IsFormMarked table holds form arguments mark
+      form_same : (form : Form) (arguments : List ℕ) (mark mark_too : Bool) → mark ≡ mark_too → AllRight arguments
+          → IsFormMarked table holds form arguments mark
           → IsFormMarked table (holds_in last) form arguments mark_too
-      form_same (Construct c) arguments mark mark_too same right is = (have_same arguments (field_marks table c) right is.0, sym same ∙ is.1)
-      form_same (Call f) arguments mark mark_too same right is = (have_same arguments (parameter_marks table f) right is.0, sym same ∙ is.1)
+      form_same (Construct c) arguments mark mark_too same right is =
+          (have_same arguments (field_marks table c) right is.0, sym same ∙ is.1)
+      form_same (Call f) arguments mark mark_too same right is =
+          (have_same arguments (parameter_marks table f) right is.0, sym same ∙ is.1)
       form_same (Number n) arguments mark mark_too same right is = (unmarked_same arguments right is.0, sym same ∙ is.1)
       form_same Nothing arguments mark mark_too same right is = (unmarked_same arguments right is.0, sym same ∙ is.1)
       form_same ReadByte arguments mark mark_too same right is = (unmarked_same arguments right is.0, sym same ∙ is.1)
@@ -231,13 +275,16 @@ module _ (holds : ℕ → Bool) where
       module _ (result : Bool) where
         -- the code is marked by them, and its variables are numbered below their number
         abbrev IsNow : List ℕ → Bool → Counted → Type 0
-        IsNow bound given code = HasMark table (holds_in last) result bound given code × ((base : ℕ) → AreNumbered base bound code → AreNumbered (length last) bound code)
+        IsNow bound given code = HasMark table (holds_in last) result bound given code ×
+            ((base : ℕ) → AreNumbered base bound code → AreNumbered (length last) bound code)
 
         abbrev AreNow : List ℕ → Bool → CountedArms → Type 0
-        AreNow bound given arms = HaveMark table (holds_in last) result bound given arms × ((base : ℕ) → AreArmsNumbered base bound arms → AreArmsNumbered (length last) bound arms)
+        AreNow bound given arms = HaveMark table (holds_in last) result bound given arms ×
+            ((base : ℕ) → AreArmsNumbered base bound arms → AreArmsNumbered (length last) bound arms)
 
         -- the fields of a cell are taken
-        now_fields : (x c : ℕ) (fields : List ℕ) (rest : Counted) (bound : List ℕ) (given : Bool) (marks : List Bool) → Opens table holds bound x c fields
+        now_fields : (x c : ℕ) (fields : List ℕ) (rest : Counted) (bound : List ℕ) (given : Bool) (marks : List Bool)
+            → Opens table holds bound x c fields
             → HasMark table holds result (fields ++ bound) given rest → BlocksGive rest → AreRight marks bound
             → Keeps (marks_behind table rest (all_marked fields (field_marks table c) marks)) last
             → (AreRight (all_marked fields (field_marks table c) marks) (fields ++ bound) → IsNow (fields ++ bound) given rest)
@@ -249,64 +296,84 @@ module _ (holds : ℕ → Bool) where
             let after = found table result rest (fields ++ bound) given there has gives right_there in
             let keeps_there : Keeps there last = keeps_then there (marks_behind table rest there) last after.keeps keeps in
             let later = behind right_there in
-            let all : AllRight fields = right_of_first fields bound (right_keeps there last (fields ++ bound) keeps_there right_there) in
+            let all : AllRight fields = right_of_first fields bound
+                (right_keeps there last (fields ++ bound) keeps_there right_there) in
             let cell : IsRight last x = keeps_there.1 x ((fields_keep table fields each marks opens.1.1).1 x (right x opens.0)) in (
               ((opens.0, (cell.1 ∙ opens.1.0, have_same fields each all opens.1.1)), later.0),
               λ base is. ((below_all fields all, is.0.1), later.1 base is.1),
             )
 
         mutual
-          now : (code : Counted) (bound : List ℕ) (given : Bool) (marks : List Bool) → HasMark table holds result bound given code → BlocksGive code → AreRight marks bound
+          now : (code : Counted) (bound : List ℕ) (given : Bool) (marks : List Bool) → HasMark table holds result bound given code
+              → BlocksGive code → AreRight marks bound
               → Keeps (marks_behind table code marks) last → IsNow bound given code
           now (give x) bound given marks has gives right keeps = ((has.0, (keeps.1 x (right x has.0)).1 ∙ has.1), λ base is. is)
           now (tail_call f arguments) bound given marks has gives right keeps =
-              ((has.0, (have_same arguments (parameter_marks table f) (right_of_bound bound arguments (right_keeps marks last bound keeps right) has.0) has.1.0, has.1.1)), λ base is. is)
+              ((has.0, (have_same arguments (parameter_marks table f)
+                  (right_of_bound bound arguments (right_keeps marks last bound keeps right) has.0) has.1.0, has.1.1)), λ base is.
+                  is)
           now (branch x positive negative) bound given marks has gives right keeps =
               let first = found table result positive bound given marks has.1.1.0 gives.0 right in
               let middle : List Bool = marks_behind table positive marks in
               let right_there : AreRight middle bound = right_keeps marks middle bound first.keeps right in
               let second = found table result negative bound given middle has.1.1.1 gives.1 right_there in
-              let keeps_there : Keeps middle last = keeps_then middle (marks_behind table negative middle) last second.keeps keeps in
+              let keeps_there : Keeps middle last = keeps_then middle (marks_behind table negative middle) last second.keeps
+                  keeps in
               let yes = now positive bound given marks has.1.1.0 gives.0 right keeps_there in
               let no = now negative bound given middle has.1.1.1 gives.1 right_there keeps in
-              ((has.0, ((keeps_there.1 x (right_there x has.0)).1 ∙ has.1.0, (yes.0, no.0))), λ base is. (yes.1 base is.0, no.1 base is.1))
+              ((has.0, ((keeps_there.1 x (right_there x has.0)).1 ∙ has.1.0, (yes.0, no.0))), λ base is.
+                  (yes.1 base is.0, no.1 base is.1))
           now (case x decisions arms) bound given marks has gives right keeps =
               let all = now_arms arms bound given marks has.1 gives right keeps in ((has.0, all.0), all.1)
           now (compute x form arguments rest) bound given marks has gives right keeps =
               let mark : Bool = mark_of_form table form arguments in
               let is_mark : mark ≡ holds x = form_mark table form arguments (holds x) has.1.0 in
               let there : List Bool = marked x mark marks in
-              let right_there : AreRight there (x ∷ bound) = right_more there x bound (right_marked x mark marks is_mark) (right_keeps marks there bound (keeps_marked x mark marks is_mark) right) in
+              let right_there : AreRight there (x ∷ bound) = right_more there x bound (right_marked x mark marks is_mark)
+                  (right_keeps marks there bound (keeps_marked x mark marks is_mark) right) in
               let after = found table result rest (x ∷ bound) given there has.1.1 gives right_there in
               let keeps_there : Keeps there last = keeps_then there (marks_behind table rest there) last after.keeps keeps in
               let later = now rest (x ∷ bound) given there has.1.1 gives right_there keeps in
               let one : IsRight last x = keeps_there.1 x (right_marked x mark marks is_mark) in
-              let all : AllRight arguments = right_of_bound bound arguments (λ y among. keeps_there.1 y (right_keeps marks there bound (keeps_marked x mark marks is_mark) right y among)) has.0 in
-              ((has.0, (form_same form arguments (holds x) (holds_in last x) (sym one.1) all has.1.0, later.0)), λ base is. (one.0, (is.1.0, later.1 base is.1.1)))
+              let all : AllRight arguments = right_of_bound bound arguments
+                  (λ y among. keeps_there.1 y (right_keeps marks there bound (keeps_marked x mark marks is_mark) right y among))
+                  has.0 in
+              ((has.0, (form_same form arguments (holds x) (holds_in last x) (sym one.1) all has.1.0, later.0)), λ base is.
+                  (one.0, (is.1.0, later.1 base is.1.1)))
           now (inside x block rest) bound given marks has gives right keeps =
               let inner : List Bool = marks_behind table block marks in
               let mark : Bool = mark_given (given_by block) inner in
               let part = found table result block bound (holds x) marks has.0 gives.1.1.0 right in
-              let is_mark : mark ≡ holds x = given_mark table result inner (given_by block) gives.0 gives.1.0 (part.tells gives.0 gives.1.0).0 (part.tells gives.0 gives.1.0).1 in
+              let is_mark : mark ≡ holds x = given_mark table result inner (given_by block) gives.0 gives.1.0
+                  (part.tells gives.0 gives.1.0).0 (part.tells gives.0 gives.1.0).1 in
               let there : List Bool = marked x mark inner in
               let right_inner : AreRight inner bound = right_keeps marks inner bound part.keeps right in
-              let right_there : AreRight there (x ∷ bound) = right_more there x bound (right_marked x mark inner is_mark) (right_keeps inner there bound (keeps_marked x mark inner is_mark) right_inner) in
+              let right_there : AreRight there (x ∷ bound) = right_more there x bound (right_marked x mark inner is_mark)
+                  (right_keeps inner there bound (keeps_marked x mark inner is_mark) right_inner) in
               let after = found table result rest (x ∷ bound) given there has.1 gives.1.1.1 right_there in
               let keeps_there : Keeps there last = keeps_then there (marks_behind table rest there) last after.keeps keeps in
               let keeps_inner : Keeps inner last = keeps_then inner there last (keeps_marked x mark inner is_mark) keeps_there in
               let one : IsRight last x = keeps_there.1 x (right_marked x mark inner is_mark) in
               let own = now block bound (holds x) marks has.0 gives.1.1.0 right keeps_inner in
               let later = now rest (x ∷ bound) given there has.1 gives.1.1.1 right_there keeps in
-              ((subst (λ m. HasMark table (holds_in last) result bound m block) (sym one.1) own.0, later.0), λ base is. (one.0, (own.1 base is.1.0, later.1 base is.1.1)))
-          now (read x c fields rest) bound given marks has gives right keeps = now_fields x c fields rest bound given marks has.0 has.1 gives right keeps (λ there. now rest (fields ++ bound) given (all_marked fields (field_marks table c) marks) has.1 gives there keeps)
-          now (open_cell x c fields used rest) bound given marks has gives right keeps = now_fields x c fields rest bound given marks has.0 has.1 gives right keeps (λ there. now rest (fields ++ bound) given (all_marked fields (field_marks table c) marks) has.1 gives there keeps)
-          now (if_unique x c fields used rest) bound given marks has gives right keeps = now_fields x c fields rest bound given marks has.0 has.1 gives right keeps (λ there. now rest (fields ++ bound) given (all_marked fields (field_marks table c) marks) has.1 gives there keeps)
+              ((subst (λ m. HasMark table (holds_in last) result bound m block) (sym one.1) own.0, later.0), λ base is.
+                  (one.0, (own.1 base is.1.0, later.1 base is.1.1)))
+          now (read x c fields rest) bound given marks has gives right keeps = now_fields x c fields rest bound given marks has.0
+              has.1 gives right keeps (λ there. now rest (fields ++ bound) given (all_marked fields (field_marks table c) marks)
+              has.1 gives there keeps)
+          now (open_cell x c fields used rest) bound given marks has gives right keeps = now_fields x c fields rest bound given
+              marks has.0 has.1 gives right keeps (λ there. now rest (fields ++ bound) given
+              (all_marked fields (field_marks table c) marks) has.1 gives there keeps)
+          now (if_unique x c fields used rest) bound given marks has gives right keeps = now_fields x c fields rest bound given
+              marks has.0 has.1 gives right keeps (λ there. now rest (fields ++ bound) given
+              (all_marked fields (field_marks table c) marks) has.1 gives there keeps)
           now (dup x rest) bound given marks has gives right keeps =
               let later = now rest bound given marks has.1 gives right keeps in ((has.0, later.0), later.1)
           now (drop x rest) bound given marks has gives right keeps =
               let later = now rest bound given marks has.1 gives right keeps in ((has.0, later.0), later.1)
 
-          now_arms : (arms : CountedArms) (bound : List ℕ) (given : Bool) (marks : List Bool) → HaveMark table holds result bound given arms → BlocksOfArmsGive arms → AreRight marks bound
+          now_arms : (arms : CountedArms) (bound : List ℕ) (given : Bool) (marks : List Bool)
+              → HaveMark table holds result bound given arms → BlocksOfArmsGive arms → AreRight marks bound
               → Keeps (marks_behind_arms table arms marks) last → AreNow bound given arms
           now_arms no_arm bound given marks has gives right keeps = (tt, λ base is. is)
           now_arms (arm body rest) bound given marks has gives right keeps =
@@ -314,7 +381,8 @@ module _ (holds : ℕ → Bool) where
               let middle : List Bool = marks_behind table body marks in
               let right_there : AreRight middle bound = right_keeps marks middle bound first.keeps right in
               let second = found_arms table result rest bound given middle has.1 gives.1 right_there in
-              let one = now body bound given marks has.0 gives.0 right (keeps_then middle (marks_behind_arms table rest middle) last second.keeps keeps) in
+              let one = now body bound given marks has.0 gives.0 right
+                  (keeps_then middle (marks_behind_arms table rest middle) last second.keeps keeps) in
               let others = now_arms rest bound given middle has.1 gives.1 right_there keeps in
               ((one.0, others.0), λ base is. (one.1 base is.0, others.1 base is.1))
 
@@ -330,10 +398,12 @@ params_right holds before [] k zero is have = ((λ y among. absurd (false≢true
 params_right holds before (mark ∷ each) k zero is have = absurd have
 params_right holds before [] k (suc n) is have = absurd have
 params_right holds before (mark ∷ each) k (suc n) is have =
-    let more = params_right holds (before ++ mark ∷ []) each (suc k) n (length-append before (mark ∷ []) ∙ omega (arith, is)) have.1 in
+    let more = params_right holds (before ++ mark ∷ []) each (suc k) n (length-append before (mark ∷ []) ∙ omega (arith, is))
+        have.1 in
     let whole : (before ++ mark ∷ []) ++ each ≡ before ++ mark ∷ each = append_assoc before (mark ∷ []) each in (
       right_more holds (before ++ mark ∷ each) k (numbers_from (suc k) n)
-          (omega (arith, is, length-append before (mark ∷ each)), subst (λ y. holds_in (before ++ mark ∷ each) y ≡ mark) is (holds_at before mark each) ∙ sym have.0)
+          (omega (arith, is, length-append before (mark ∷ each)), subst (λ y. holds_in (before ++ mark ∷ each) y ≡ mark) is
+              (holds_at before mark each) ∙ sym have.0)
           (subst (λ ms. AreRight holds ms (numbers_from (suc k) n)) whole more.0),
       ap suc more.1,
     )
@@ -344,10 +414,13 @@ pub record IsKnown (table : CellMarks) (f : ℕ) (function : CountedFunction) (m
   pub few : function.parameters ≤ length marks
   pub numbered : AreNumbered (length marks) (numbers_from 0 function.parameters) function.body
 
-pub known : (table : CellMarks) (f : ℕ) (function : CountedFunction) → IsLowerable table f function → IsKnown table f function (function_marks table f function)
+pub known : (table : CellMarks) (f : ℕ) (function : CountedFunction) → IsLowerable table f function
+    → IsKnown table f function (function_marks table f function)
 known table f function is = record {
   marked = record {
-    parameters_marked = have_same is.holds last params each (right_of_first is.holds last params [] (subst (λ xs. AreRight is.holds last xs) (sym (append-nil params)) (right_keeps is.holds each last params behind.keeps right.0))) is.marked.parameters_marked;
+    parameters_marked = have_same is.holds last params each (right_of_first is.holds last params []
+        (subst (λ xs. AreRight is.holds last xs) (sym (append-nil params))
+        (right_keeps is.holds each last params behind.keeps right.0))) is.marked.parameters_marked;
     body_marked = at_last.0;
   };
   few = omega (arith, right.1, behind.keeps.0);
@@ -373,4 +446,5 @@ known table f function is = record {
     behind = found is.holds table result function.body params result each is.marked.body_marked is.gives right.0
 
     at_last : IsNow is.holds last table result params result function.body
-    at_last = now is.holds last table result function.body params result each is.marked.body_marked is.gives right.0 (keeps_all is.holds last)
+    at_last = now is.holds last table result function.body params result each is.marked.body_marked is.gives right.0
+        (keeps_all is.holds last)

@@ -5,7 +5,8 @@ use Rattle.kk_counted.specs.CountedForms.{Move, computes, runs, reads, opens, op
 use Rattle.kk_counted.specs.Marks.{CellMarks}
 use Rattle.rv_cells.specs.Marking.{marked, given_by, marks_behind, marks_after, marks_after_all}
 
-pub marked_longer : (x : ℕ) (mark : Bool) (marks : List Bool) → length marks ≤ x → marked x mark (marks ++ false ∷ []) ≡ marked x mark marks
+pub marked_longer : (x : ℕ) (mark : Bool) (marks : List Bool) → length marks ≤ x
+    → marked x mark (marks ++ false ∷ []) ≡ marked x mark marks
 marked_longer zero mark [] less = refl
 marked_longer zero mark (old ∷ marks) less = absurd (omega (arith, less))
 marked_longer (suc x) mark [] less = refl
@@ -30,10 +31,13 @@ plug_given (drops x ∷ moves) last = plug_given moves last
 pub plug_marks : (table : CellMarks) (moves : List Move) (last : Counted) (marks : List Bool)
     → marks_behind table (plug moves last) marks ≡ marks_behind table last (marks_after_all table moves marks)
 plug_marks table [] last marks = refl
-plug_marks table (computes x form arguments ∷ moves) last marks = plug_marks table moves last (marks_after table (computes x form arguments) marks)
+plug_marks table (computes x form arguments ∷ moves) last marks = plug_marks table moves last
+    (marks_after table (computes x form arguments) marks)
 plug_marks table (runs x block ∷ moves) last marks = plug_marks table moves last (marks_after table (runs x block) marks)
 plug_marks table (reads x c fields ∷ moves) last marks = plug_marks table moves last (marks_after table (reads x c fields) marks)
-plug_marks table (opens x c fields used ∷ moves) last marks = plug_marks table moves last (marks_after table (opens x c fields used) marks)
-plug_marks table (opens_unique x c fields used ∷ moves) last marks = plug_marks table moves last (marks_after table (opens_unique x c fields used) marks)
+plug_marks table (opens x c fields used ∷ moves) last marks = plug_marks table moves last
+    (marks_after table (opens x c fields used) marks)
+plug_marks table (opens_unique x c fields used ∷ moves) last marks = plug_marks table moves last
+    (marks_after table (opens_unique x c fields used) marks)
 plug_marks table (dups x ∷ moves) last marks = plug_marks table moves last marks
 plug_marks table (drops x ∷ moves) last marks = plug_marks table moves last marks

@@ -1,8 +1,10 @@
--- The marks of a function's variables, as its binders are met: a list by the variable's number. Behind the last a variable has none.
+-- The marks of a function's variables, as its binders are met: a list by the variable's number. Behind the last a variable has
+-- none.
 use Rattle.std.specs.Prelude.{◌≡◌, ℕ, zero, suc, Bool, false, List, [], ◌∷◌, Option, Some, None, slice_get}
 use Rattle.kk_syntax.specs.declared.program.Form.{Form}
 use Rattle.kk_syntax.specs.declared.program.Form.TheVariants.{Construct, Call}
-use Rattle.kk_counted.specs.CountedCodes.{Counted, give, tail_call, branch, case, compute, inside, read, open_cell, if_unique, dup, drop, CountedArms, no_arm, arm, CountedFunction}
+use Rattle.kk_counted.specs.CountedCodes.{Counted, give, tail_call, branch, case, compute, inside, read, open_cell, if_unique, dup,
+    drop, CountedArms, no_arm, arm, CountedFunction}
 use Rattle.kk_counted.specs.CountedForms.{Move, computes, runs, reads, opens, opens_unique, dups, drops}
 use Rattle.kk_counted.specs.Marks.{CellMarks, parameter_marks, result_mark, field_marks, made_mark, IsMarked}
 use Rattle.kk_counted.specs.Spending.{numbers_from}
@@ -113,7 +115,8 @@ abbrev mutual
   BlocksOfArmsGive no_arm = Unit {0}
   BlocksOfArmsGive (arm body rest) = BlocksGive body × BlocksOfArmsGive rest
 
--- A function by its number can be lowered: some variables of it are marked as types tell, they are numbered in order, and each block
+-- A function by its number can be lowered: some variables of it are marked as types tell, they are numbered in order, and each
+-- block
 -- inside gives a value.
 pub record IsLowerable (table : CellMarks) (f : ℕ) (function : CountedFunction) : Type 0 where
   pub holds : ℕ → Bool
@@ -123,4 +126,5 @@ pub record IsLowerable (table : CellMarks) (f : ℕ) (function : CountedFunction
   pub gives : BlocksGive function.body
 
 abbrev pub AreLowerable : CellMarks → List CountedFunction → Type 0
-AreLowerable table functions = (f : ℕ) (function : CountedFunction) → slice_get functions f ≡ Some function → IsLowerable table f function
+AreLowerable table functions = (f : ℕ) (function : CountedFunction) → slice_get functions f ≡ Some function
+    → IsLowerable table f function

@@ -5,7 +5,8 @@ use Rattle.rv_cells.specs.Written.{facts_of, WroteArms, WroteSteps}
 use Rattle.rv_cells.proofs.block.+lower.Given as goal
 
 abbrev pub invariant-write_steps-loop-step : goal.invariant-write_steps-loop-step
-invariant-write_steps-loop-step l = WroteSteps (facts_of l.known) (map step_move (take l.step-index l.steps)) l.fn.lowering l.lowering
+invariant-write_steps-loop-step l = WroteSteps (facts_of l.known) (map step_move (take l.step-index l.steps)) l.fn.lowering
+    l.lowering
 
 abbrev pub invariant-write_arms-loop-arm : goal.invariant-write_arms-loop-arm
 invariant-write_arms-loop-arm l = record {

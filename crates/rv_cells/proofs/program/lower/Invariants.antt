@@ -7,5 +7,6 @@ use Rattle.rv_cells.proofs.program.lower.Given as goal
 abbrev pub invariant-loop-function : goal.invariant-loop-function
 invariant-loop-function l = record {
   number : l.number ≡ l.function-index;
-  lowered : LoweredFunctions l.counted.shape l.texts (map function_of (take l.function-index l.counted.functions.items)) (map lines_of l.functions.items) l.constants.items;
+  lowered : LoweredFunctions l.counted.shape l.texts (map function_of (take l.function-index l.counted.functions.items))
+      (map lines_of l.functions.items) l.constants.items;
 }
