@@ -1,25 +1,74 @@
 -- Code that grows: the lines and the texts of parts make those of the whole.
-use Rattle.std.proofs.Common.{◌≡◌, ℕ, suc, ◌+◌, ◌<◌, List, [], ◌∷◌, ◌++◌, length, map, take, get_or, Option, refl, sym, ap, subst,
-    ◌∙◌, arith, append_assoc, append-nil}
+use Rattle.std.proofs.Common.{
+  ◌≡◌,
+  ℕ,
+  suc,
+  ◌+◌,
+  ◌<◌,
+  List,
+  [],
+  ◌∷◌,
+  ◌++◌,
+  length,
+  map,
+  take,
+  get_or,
+  Option,
+  refl,
+  sym,
+  ap,
+  subst,
+  ◌∙◌,
+  arith,
+  append_assoc,
+  append-nil,
+}
 use Rattle.std.proofs.lemmas.List.{length-map, length-take-le, map-append, take_more}
 use Rattle.kk_syntax.specs.declared.program.Form.{Form}
-use Rattle.kk_syntax.specs.declared.program.Form.TheVariants.{Number, Unit as Nothing, ReadByte, PrintText, Unary, Binary, Print,
-    Construct, Call}
+use Rattle.kk_syntax.specs.declared.program.Form.TheVariants.{
+  Number,
+  Unit as Nothing,
+  ReadByte,
+  PrintText,
+  Unary,
+  Binary,
+  Print,
+  Construct,
+  Call,
+}
 use Rattle.kk_core.specs.Decisions.{NodeTree, node_tree, tests}
 use Rattle.kk_core.specs.declared.decisions.Decisions.{Decisions}
 use Rattle.kk_core.specs.declared.decisions.Edge.{Edge}
 use Rattle.kk_core.specs.declared.decisions.Node.{Node}
 use Rattle.kk_core.specs.declared.decisions.Node.TheVariants.{Test}
+use Rattle.kk_counted.proofs.FormViews as Views
 use Rattle.kk_counted.specs.CountedCodes.{Counted, give, tail_call, branch, case, inside, CountedArms}
-use Rattle.kk_counted.specs.CountedForms.{Move, computes, runs, reads, opens, opens_unique, dups, drops, put, plug, arms_of,
-    decisions_of, last_step, step_step, block_step, block_code, last_code, step_move}
+use Rattle.kk_counted.specs.CountedForms.{
+  Move,
+  computes,
+  runs,
+  reads,
+  opens,
+  opens_unique,
+  dups,
+  drops,
+  put,
+  plug,
+  arms_of,
+  decisions_of,
+  last_step,
+  step_step,
+  block_step,
+  block_code,
+  last_code,
+  step_move,
+}
 use Rattle.kk_counted.specs.declared.form.Block.{Block}
 use Rattle.kk_counted.specs.declared.form.Last.{Last}
-use Rattle.kk_counted.specs.declared.form.Last.TheVariants.{If, Case, rolls-If, rolls-Case}
+use Rattle.kk_counted.specs.declared.form.Last.TheVariants.{If, Case, rolls-If}
 use Rattle.kk_counted.specs.declared.form.Last.TheFolds.{fold-roll-Last, fold-roll-Step}
 use Rattle.kk_counted.specs.declared.form.Step.{Step}
-use Rattle.kk_counted.specs.declared.form.Step.TheVariants.{Inside, Read, Open, IfUnique, Dup, Drop, rolls-Inside, rolls-Read,
-    rolls-Open, rolls-IfUnique, rolls-Dup, rolls-Drop}
+use Rattle.kk_counted.specs.declared.form.Step.TheVariants.{Inside, Read, Open, IfUnique, Dup, Drop, rolls-IfUnique}
 use Rattle.rv_isa.specs.declared.asm.Action.TheVariants.{Label}
 use Rattle.rv_isa.specs.AsmCode.{Line}
 use Rattle.rv_lower.specs.declared.lowering.Lowering.{Lowering}
@@ -55,8 +104,14 @@ arms_same facts {base} {base_too} {texts} {texts_too} {low} {low_too} goal label
 -- ---- steps
 
 pub steps_none : (facts : Facts) (a : Lowering) → WroteSteps facts [] a a
-steps_none facts a = record { lines = []; n = 0; grows = grows_none a; counted = λ rest. zero_plus (forms rest); are = λ later goal
-    rest more high is. is }
+steps_none facts a = record {
+  lines = [];
+  n = 0;
+  grows = grows_none a;
+  counted = λ rest. zero_plus (forms rest);
+  are = λ later goal
+      rest more high is. is;
+}
   where
     zero_plus : (n : ℕ) → n ≡ 0 + n
     zero_plus n = omega arith
@@ -76,11 +131,11 @@ steps_then {a} {b} {c} facts moves move wrote one = record {
       (one.counted rest);
   are = λ later goal rest more high is.
       subst (λ (code : Counted). CodeLines (setting_in facts a.base (texts_written c ++ later)) goal a.next_label code
-          ((wrote.lines ++ one.lines) ++ more) high) (sym (plug_more moves move rest))
+      ((wrote.lines ++ one.lines) ++ more) high) (sym (plug_more moves move rest))
       (subst (λ (lines : List Line). CodeLines (setting_in facts a.base (texts_written c ++ later)) goal a.next_label
-          (plug moves (put move rest)) lines high) (sym (append_assoc wrote.lines one.lines more))
+      (plug moves (put move rest)) lines high) (sym (append_assoc wrote.lines one.lines more))
       (code_same facts goal (plug moves (put move rest)) (wrote.lines ++ (one.lines ++ more)) high refl
-          (later_texts one.grows later) refl
+      (later_texts one.grows later) refl
       (wrote.are (one.grows.more ++ later) goal (put move rest) (one.lines ++ more) high
       (code_same facts goal (put move rest) (one.lines ++ more) high wrote.grows.base (sym (later_texts one.grows later)) refl
       (one.are later goal rest more high (code_same facts goal rest more high (sym wrote.grows.base) refl refl is))))));
@@ -100,8 +155,14 @@ step_computes {a} {b} facts x form arguments wrote = record {
   n = 1;
   grows = wrote.grows;
   counted = λ rest. one_form (forms rest);
-  are = λ later goal rest more high is. (wrote.lines, more, wrote.are later, code_same facts goal rest more high refl refl
-      wrote.label is, refl);
+  are = λ later goal rest more high is. (
+    wrote.lines,
+    more,
+    wrote.are later,
+    code_same facts goal rest more high refl refl
+        wrote.label is,
+    refl,
+  );
 }
 
 -- a block inside: its label is taken first, and stands behind it
@@ -115,15 +176,15 @@ step_runs {a} {b} {c} {d} {label} facts x block took part labelled = record {
   counted = λ rest. plus (forms block) (forms rest);
   are = λ later goal rest more high is. subst (λ (low : ℕ). CodeLines (setting_in facts a.base (texts_written d ++ later)) goal low
       (inside x block rest) ((part.lines ++ (acts (Label label) [] ∷ [])) ++ more) high) took.is (
-    part.lines,
-    more,
-    c.next_label,
-    code_same facts (joins x label) block part.lines c.next_label took.base
-        (ap (λ (texts : List (List ℕ)). texts ++ later) (sym labelled.texts)) (took.next ∙ ap (λ (l : ℕ). l + 1) (sym took.is))
-        (part.are later),
-    code_same facts goal rest more high refl refl labelled.label is,
-    append_assoc part.lines (acts (Label label) [] ∷ []) more,
-  );
+        part.lines,
+        more,
+        c.next_label,
+        code_same facts (joins x label) block part.lines c.next_label took.base
+            (ap (λ (texts : List (List ℕ)). texts ++ later) (sym labelled.texts)) (took.next ∙ ap (λ (l : ℕ). l + 1) (sym took.is))
+            (part.are later),
+        code_same facts goal rest more high refl refl labelled.label is,
+        append_assoc part.lines (acts (Label label) [] ∷ []) more,
+      );
 }
   where
     plus : (n m : ℕ) → n + m + 1 ≡ n + 1 + m
@@ -136,8 +197,14 @@ step_reads {a} {b} facts x c fields wrote = record {
   n = 1;
   grows = grows_more (omega arith) (grows_of wrote.wrote);
   counted = λ rest. one_form (forms rest);
-  are = λ later goal rest more high is. (wrote.lines, more, wrote.are, code_same facts goal rest more high refl refl
-      wrote.wrote.label is, refl);
+  are = λ later goal rest more high is. (
+    wrote.lines,
+    more,
+    wrote.are,
+    code_same facts goal rest more high refl refl
+        wrote.wrote.label is,
+    refl,
+  );
 }
 
 pub step_opens : {a b : Lowering} (facts : Facts) (x c : ℕ) (fields used : List ℕ)
@@ -148,8 +215,14 @@ step_opens {a} {b} facts x c fields used wrote = record {
   n = 1;
   grows = grows_more (omega arith) (grows_of wrote.wrote);
   counted = λ rest. one_form (forms rest);
-  are = λ later goal rest more high is. (wrote.lines, more, wrote.are, code_same facts goal rest more high refl refl
-      wrote.wrote.label is, refl);
+  are = λ later goal rest more high is. (
+    wrote.lines,
+    more,
+    wrote.are,
+    code_same facts goal rest more high refl refl
+        wrote.wrote.label is,
+    refl,
+  );
 }
 
 pub step_opens_unique : {a b : Lowering} (facts : Facts) (x c : ℕ) (fields used : List ℕ)
@@ -160,8 +233,14 @@ step_opens_unique {a} {b} facts x c fields used wrote = record {
   n = 1;
   grows = grows_more (omega arith) wrote.grows;
   counted = λ rest. one_form (forms rest);
-  are = λ later goal rest more high is. (wrote.lines, more, wrote.are, code_same facts goal rest more high refl refl wrote.label
-      is, refl);
+  are = λ later goal rest more high is. (
+    wrote.lines,
+    more,
+    wrote.are,
+    code_same facts goal rest more high refl refl wrote.label
+        is,
+    refl,
+  );
 }
 
 pub step_dups : {a b : Lowering} (facts : Facts) (x : ℕ) → Wrote (dup_lines facts.holds x) a b → WroteSteps facts (dups x ∷ []) a b
@@ -220,8 +299,12 @@ code_steps {facts} {goal} {moves} {last} {a} {b} {c} steps end = record {
 
 pub code_gives : {facts : Facts} {goal : Goal} {x : ℕ} {a b : Lowering} → Wrote (goal_lines goal x) a b
     → WroteCode facts goal (give x) a b
-code_gives {facts} {goal} {x} {a} {b} wrote = record { lines = goal_lines goal x; grows = grows_more (omega arith)
-    (grows_of wrote); are = λ later. (refl, sym wrote.label) }
+code_gives {facts} {goal} {x} {a} {b} wrote = record {
+  lines = goal_lines goal x;
+  grows = grows_more (omega arith)
+      (grows_of wrote);
+  are = λ later. (refl, sym wrote.label);
+}
 
 pub code_tail_calls : {facts : Facts} {goal : Goal} {f : ℕ} {arguments : List ℕ} {a b : Lowering}
     → Wrote (tail_lines a.base f arguments) a b
@@ -236,7 +319,7 @@ code_tail_calls {facts} {goal} {f} {arguments} {a} {b} wrote = record {
 pub code_branches : {facts : Facts} {goal : Goal} {x label : ℕ} {positive negative : Counted} {a b c d e f : Lowering}
     → TookLabel label a b → Wrote (test_lines b.base x label) b c
     → WroteCode facts goal positive c d → Wrote (acts (Label label) [] ∷ []) d e → WroteCode facts goal negative e f
-        → WroteCode facts goal (branch x positive negative) a f
+    → WroteCode facts goal (branch x positive negative) a f
 code_branches {facts} {goal} {x} {label} {positive} {negative} {a} {b} {c} {d} {e} {f} took test first labelled second = record {
   lines = test_lines b.base x label ++ (first.lines ++ (acts (Label label) [] ∷ second.lines));
   grows = grows_more (omega arith) (grows_then (grows_took took)
@@ -244,15 +327,15 @@ code_branches {facts} {goal} {x} {label} {positive} {negative} {a} {b} {c} {d} {
   are = λ later. subst (λ (low : ℕ). CodeLines (setting_in facts a.base (texts_written f ++ later)) goal low
       (branch x positive negative) (test_lines b.base x label ++ (first.lines ++ (acts (Label label) [] ∷ second.lines)))
       f.next_label) took.is (
-    first.lines,
-    second.lines,
-    d.next_label,
-    code_same facts goal positive first.lines d.next_label (test.base ∙ took.base) (positive_texts later)
-        (test.label ∙ took.next ∙ ap (λ (l : ℕ). l + 1) (sym took.is)) (first.are (second.grows.more ++ later)),
-    code_same facts goal negative second.lines f.next_label (labelled.base ∙ first.grows.base ∙ test.base ∙ took.base) refl
-        labelled.label (second.are later),
-    ap (λ (base : ℕ). test_lines base x label ++ (first.lines ++ (acts (Label label) [] ∷ second.lines))) took.base,
-  );
+        first.lines,
+        second.lines,
+        d.next_label,
+        code_same facts goal positive first.lines d.next_label (test.base ∙ took.base) (positive_texts later)
+            (test.label ∙ took.next ∙ ap (λ (l : ℕ). l + 1) (sym took.is)) (first.are (second.grows.more ++ later)),
+        code_same facts goal negative second.lines f.next_label (labelled.base ∙ first.grows.base ∙ test.base ∙ took.base) refl
+            labelled.label (second.are later),
+        ap (λ (base : ℕ). test_lines base x label ++ (first.lines ++ (acts (Label label) [] ∷ second.lines))) took.base,
+      );
 }
   where
     positive_texts : (later : List (List ℕ)) → texts_written d ++ (second.grows.more ++ later) ≡ texts_written f ++ later
@@ -276,7 +359,7 @@ more_arms setting goal label low middle high [] body lines first all one = (
   (refl, refl),
   ap (λ (ls : List Line). ls ++ (acts (Label (label + 0)) [] ∷ first)) all.0
       ∙ ap (λ (n : ℕ). acts (Label n) [] ∷ first) (zero_more label)
-          ∙ ap (λ (ls : List Line). acts (Label label) [] ∷ ls) (sym (append-nil first)),
+      ∙ ap (λ (ls : List Line). acts (Label label) [] ∷ ls) (sym (append-nil first)),
 )
   where
     zero_more : (n : ℕ) → n + 0 ≡ n
@@ -289,7 +372,7 @@ more_arms setting goal label low middle high (other ∷ each) body lines first a
   more_arms setting goal (label + 1) all.2 middle high each body all.1 first all.4 one,
   ap (λ (ls : List Line). ls ++ (acts (Label (label + suc (length each))) [] ∷ first)) all.5
       ∙ ap (λ (ls : List Line). acts (Label label) [] ∷ ls) (append_assoc all.0 all.1
-          (acts (Label (label + suc (length each))) [] ∷ first))
+      (acts (Label (label + suc (length each))) [] ∷ first))
       ∙ ap (λ (n : ℕ). acts (Label label) [] ∷ (all.0 ++ (all.1 ++ (acts (Label n) [] ∷ first)))) (one_more label (length each)),
 )
   where
@@ -304,18 +387,18 @@ forms_of_more (other ∷ each) body = omega (arith, forms_of_more each body)
 pub arms_then : {a b c d : Lowering} {here : ℕ} (facts : Facts) (goal : Goal) (label : ℕ) (each : List Counted) (body : Counted)
     → here ≡ label + length each
     → WroteArms facts goal label each a b → Wrote (acts (Label here) [] ∷ []) b c → WroteCode facts goal body c d
-        → WroteArms facts goal label (each ++ body ∷ []) a d
+    → WroteArms facts goal label (each ++ body ∷ []) a d
 arms_then {a} {b} {c} {d} {here} facts goal label each body is wrote labelled one = record {
   lines = wrote.lines ++ (acts (Label (label + length each)) [] ∷ one.lines);
   grows = subst (λ n. Grows n (wrote.lines ++ (acts (Label (label + length each)) [] ∷ one.lines)) a d)
       (sym (forms_of_more each body))
       (grows_more (omega arith) (grows_then wrote.grows (grows_then
-          (grows_of (subst (λ n. Wrote (acts (Label n) [] ∷ []) b c) is labelled)) one.grows)));
+      (grows_of (subst (λ n. Wrote (acts (Label n) [] ∷ []) b c) is labelled)) one.grows)));
   are = λ later. more_arms (setting_in facts a.base (texts_written d ++ later)) goal label a.next_label b.next_label d.next_label
       each body wrote.lines one.lines
       (arms_same facts goal label (arms_of each) wrote.lines b.next_label refl
-          (ap (λ (texts : List (List ℕ)). texts ++ (one.grows.more ++ later)) (sym labelled.texts) ∙ later_texts one.grows later)
-          refl (wrote.are (one.grows.more ++ later)))
+      (ap (λ (texts : List (List ℕ)). texts ++ (one.grows.more ++ later)) (sym labelled.texts) ∙ later_texts one.grows later)
+      refl (wrote.are (one.grows.more ++ later)))
       (code_same facts goal body one.lines d.next_label (labelled.base ∙ wrote.grows.base) refl labelled.label (one.are later));
 }
 
@@ -327,7 +410,7 @@ count_of_arms (body ∷ each) = ap suc (count_of_arms each)
 pub code_cases : {a b c d : Lowering} (facts : Facts) (goal : Goal) (x : ℕ) (decisions : List NodeTree) (arms : List Counted)
     (targets : Targets)
     → TookTargets (length arms) (length decisions) targets a b
-        → WroteLines (NodesLines facts.layout b.base targets.nodes targets.arms x 0 decisions) b c
+    → WroteLines (NodesLines facts.layout b.base targets.nodes targets.arms x 0 decisions) b c
     → WroteArms facts goal targets.arms arms c d → WroteCode facts goal (case x decisions (arms_of arms)) a d
 code_cases {a} {b} {c} {d} facts goal x decisions arms targets took choice bodies = record {
   lines = choice.lines ++ bodies.lines;
@@ -341,7 +424,7 @@ code_cases {a} {b} {c} {d} facts goal x decisions arms targets took choice bodie
         (subst (λ n. NodesLines facts.layout n targets.nodes targets.arms x 0 decisions choice.lines) took.took.base choice.are),
     arms_same facts goal a.next_label (arms_of arms) bodies.lines d.next_label (choice.wrote.base ∙ took.took.base) refl low_is
         (subst (λ n. ArmsLines (setting_in facts c.base (texts_written d ++ later)) goal n c.next_label (arms_of arms) bodies.lines
-            d.next_label) took.first (bodies.are later)),
+        d.next_label) took.first (bodies.are later)),
     refl,
   );
 }
@@ -363,17 +446,12 @@ code_cases {a} {b} {c} {d} facts goal x decisions arms targets took choice bodie
 last_if : (x : ℕ) (p n : _) → last_code (If x p n) ≡ branch x (block_code p.value) (block_code n.value)
 last_if x p n = ap last_code (sym (rolls-If x p n)) ∙ fold-roll-Last Counted Move Counted last_step step_step block_step _
 
-pub last_case : (x : ℕ) (decisions : Decisions) (arms : _) → last_code (Case x decisions arms) ≡ case x (decisions_of decisions)
-    (arms_of (map block_code arms.items))
-last_case x decisions arms = ap last_code (sym (rolls-Case x decisions arms))
-    ∙ fold-roll-Last Counted Move Counted last_step step_step block_step _
-
 pub code_of_if : (last : Last) (x : ℕ) (p n : _) (positive negative : Block) → last ≡ If x p n → positive ≡ p.value
     → negative ≡ n.value
     → branch x (block_code positive) (block_code negative) ≡ last_code last
 code_of_if last x p n positive negative is first second =
     ap (λ (b : Block). branch x (block_code b) (block_code negative)) first
-        ∙ ap (λ (b : Block). branch x (block_code p.value) (block_code b)) second
+    ∙ ap (λ (b : Block). branch x (block_code p.value) (block_code b)) second
     ∙ sym (last_if x p n) ∙ ap last_code (sym is)
 
 pub steps_more : (steps : List Step) (i : ℕ) (step : Step) → i < length steps → get_or steps i step ≡ step
@@ -409,19 +487,19 @@ node_is node at edges otherwise way tested is first second =
 pub cases_written : {a b c d : Lowering} (facts : Facts) (goal : Goal) (last : Last) (x : ℕ) (decisions : Decisions) (arms : _)
     (targets : Targets)
     (nodes : List Node) (first second : List Block) → last ≡ Case x decisions arms → nodes ≡ decisions.nodes.items
-        → first ≡ arms.items → second ≡ arms.items
+    → first ≡ arms.items → second ≡ arms.items
     → TookTargets (length first) (length decisions.nodes.items) targets a b
     → WroteLines (NodesLines facts.layout b.base targets.nodes targets.arms x 0 (map node_tree nodes)) b c
     → WroteArms facts goal targets.arms (map block_code second) c d → WroteCode facts goal (last_code last) a d
 cases_written {a} {b} {c} {d} facts goal last x decisions arms targets nodes first second is nodes_is first_is second_is took
     choice bodies =
-    subst (λ (code : Counted). WroteCode facts goal code a d) (sym (last_case x decisions arms) ∙ ap last_code (sym is))
+    subst (λ (code : Counted). WroteCode facts goal code a d) (sym (Views.case_code x decisions arms) ∙ ap last_code (sym is))
     (code_cases facts goal x (decisions_of decisions) (map block_code arms.items) targets
     (subst (λ n. TookTargets n (length (decisions_of decisions)) targets a b)
-        (ap length first_is ∙ sym (length_all block_code arms.items))
+    (ap length first_is ∙ sym (length_all block_code arms.items))
     (subst (λ n. TookTargets (length first) n targets a b) (sym (length_all node_tree decisions.nodes.items)) took))
     (subst (λ ns. WroteLines (NodesLines facts.layout b.base targets.nodes targets.arms x 0 (map node_tree ns)) b c) nodes_is
-        choice)
+    choice)
     (subst (λ bs. WroteArms facts goal targets.arms (map block_code bs) c d) second_is bodies))
   where
     length_all : {A B : Type 0} (f : A → B) (xs : List A) → length (map f xs) ≡ length xs
@@ -433,23 +511,20 @@ step_is step same move is of = sym of ∙ ap step_move (sym is)
 
 pub step_inside : (step : Step) (x : ℕ) (block : Block) → step ≡ Inside x block → runs x (block_code block) ≡ step_move step
 step_inside step x block is =
-    step_is step _ _ is (ap step_move (sym (rolls-Inside x block))
-        ∙ fold-roll-Step Counted Move Counted last_step step_step block_step _)
+    step_is step _ _ is (Views.step_inside x block)
 
 pub step_read : (step : Step) (x c : ℕ) (fields : _) (taken : List ℕ) → step ≡ Read x c fields → taken ≡ fields.items
     → reads x c taken ≡ step_move step
 step_read step x c fields taken is same =
     ap (λ (xs : List ℕ). reads x c xs) same
-    ∙ step_is step _ _ is (ap step_move (sym (rolls-Read x c fields))
-        ∙ fold-roll-Step Counted Move Counted last_step step_step block_step _)
+    ∙ step_is step _ _ is (Views.step_read x c fields)
 
 pub step_open : (step : Step) (x c : ℕ) (fields used : _) (taken kept : List ℕ) → step ≡ Open x c fields used
     → taken ≡ fields.items → kept ≡ used.items
     → opens x c taken kept ≡ step_move step
 step_open step x c fields used taken kept is same same_too =
     ap (λ (xs : List ℕ). opens x c xs kept) same ∙ ap (λ (xs : List ℕ). opens x c fields.items xs) same_too
-    ∙ step_is step _ _ is (ap step_move (sym (rolls-Open x c fields used))
-        ∙ fold-roll-Step Counted Move Counted last_step step_step block_step _)
+    ∙ step_is step _ _ is (Views.step_open x c fields used)
 
 pub step_unique : (step : Step) (x c : ℕ) (fields used : _) (taken kept : List ℕ) → step ≡ IfUnique x c fields used
     → taken ≡ fields.items → kept ≡ used.items
@@ -457,12 +532,10 @@ pub step_unique : (step : Step) (x c : ℕ) (fields used : _) (taken kept : List
 step_unique step x c fields used taken kept is same same_too =
     ap (λ (xs : List ℕ). opens_unique x c xs kept) same ∙ ap (λ (xs : List ℕ). opens_unique x c fields.items xs) same_too
     ∙ step_is step _ _ is (ap step_move (sym (rolls-IfUnique x c fields used))
-        ∙ fold-roll-Step Counted Move Counted last_step step_step block_step _)
+    ∙ fold-roll-Step Counted Move Counted last_step step_step block_step _)
 
 pub step_dup : (step : Step) (x : ℕ) → step ≡ Dup x → dups x ≡ step_move step
-step_dup step x is = step_is step _ _ is (ap step_move (sym (rolls-Dup x))
-    ∙ fold-roll-Step Counted Move Counted last_step step_step block_step _)
+step_dup step x is = step_is step _ _ is (Views.step_dup x)
 
 pub step_drop : (step : Step) (x : ℕ) → step ≡ Drop x → drops x ≡ step_move step
-step_drop step x is = step_is step _ _ is (ap step_move (sym (rolls-Drop x))
-    ∙ fold-roll-Step Counted Move Counted last_step step_step block_step _)
+step_drop step x is = step_is step _ _ is (Views.step_drop x)

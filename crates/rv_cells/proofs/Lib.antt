@@ -27,3 +27,4 @@ pub mod Celled
 pub mod Marks
 pub mod Marking
 pub mod Lowered
+pub mod CellForms

@@ -1,6 +1,35 @@
 -- The functions of a program that were lowered, one after the other.
-use Rattle.std.proofs.Common.{◌≡◌, ◌⊎◌, inl, inr, Bool, ℕ, zero, suc, ◌+◌, ◌<◌, ◌≤◌, List, [], ◌∷◌, ◌++◌, length, map, take, Some,
-    get_or, refl, sym, ap, subst, ◌∙◌, arith, append_assoc, append-nil, length-append}
+use Rattle.std.proofs.Common.{
+  ◌≡◌,
+  ◌⊎◌,
+  inl,
+  inr,
+  Bool,
+  ℕ,
+  zero,
+  suc,
+  ◌+◌,
+  ◌<◌,
+  ◌≤◌,
+  List,
+  [],
+  ◌∷◌,
+  ◌++◌,
+  length,
+  map,
+  take,
+  Some,
+  get_or,
+  refl,
+  sym,
+  ap,
+  subst,
+  ◌∙◌,
+  arith,
+  append_assoc,
+  append-nil,
+  length-append,
+}
 use Rattle.std.specs.Prelude.{slice_get}
 use Rattle.std.proofs.lemmas.List.{map-append, take_more, take_all}
 use Rattle.kk_core.specs.declared.shape.ConstructorShape.{ConstructorShape}
@@ -28,37 +57,37 @@ pub function_written : {a b : Lowering} (shape : Shape) (literals : List (List �
     (params : List ℕ) (count base : ℕ) (marks : List Bool)
     → WroteCode (record { literals = literals; layout = layout_of constructors; holds = holds_in marks }) returns body a b
     → constructors ≡ shape.constructors.items → marks ≡ function_marks (table_of shape) f function → body ≡ function.body
-        → lines_written a ≡ [] → a.next_label ≡ 0
+    → lines_written a ≡ [] → a.next_label ≡ 0
     → a.base ≡ length marks → params ≡ from_to 0 count → count ≡ function.parameters
     → LoweredFunction shape literals f function (record { params = params; code = lines_written b }) (texts_written a)
-        (texts_written b)
+    (texts_written b)
 function_written {a} {b} shape literals f function constructors body params count base marks wrote constructors_are marks_are
     body_is empty first at params_are count_is = record {
-  more = there.grows.more;
-  texts = there.grows.texts;
-  few = there.grows.few;
-  is = λ later. record {
-    params = params_are ∙ ap (from_to 0) count_is;
-    labels = b.next_label;
-    code =
-        subst (λ n. CodeLines (setting_in (facts_for shape literals f function) n (texts_written b ++ later)) returns 0
+      more = there.grows.more;
+      texts = there.grows.texts;
+      few = there.grows.few;
+      is = λ later. record {
+        params = params_are ∙ ap (from_to 0) count_is;
+        labels = b.next_label;
+        code =
+            subst (λ n. CodeLines (setting_in (facts_for shape literals f function) n (texts_written b ++ later)) returns 0
             function.body (lines_written b) b.next_label) (at ∙ ap length marks_are)
-        (subst (λ n. CodeLines (setting_in (facts_for shape literals f function) a.base (texts_written b ++ later)) returns n
+            (subst (λ n. CodeLines (setting_in (facts_for shape literals f function) a.base (texts_written b ++ later)) returns n
             function.body (lines_written b) b.next_label) first
-        (subst (λ (lines : List Line). CodeLines (setting_in (facts_for shape literals f function) a.base
+            (subst (λ (lines : List Line). CodeLines (setting_in (facts_for shape literals f function) a.base
             (texts_written b ++ later)) returns a.next_label function.body lines b.next_label)
-        (sym (there.grows.code ∙ ap (λ (lines : List Line). lines ++ there.lines) empty)) (there.are later)));
-  };
-}
+            (sym (there.grows.code ∙ ap (λ (lines : List Line). lines ++ there.lines) empty)) (there.are later)));
+      };
+    }
   where
     there : WroteCode (facts_for shape literals f function) returns function.body a b
     there =
         subst (λ ms. WroteCode (record { literals = literals; layout = layout_in shape; holds = holds_in ms }) returns
-            function.body a b) marks_are
+        function.body a b) marks_are
         (subst (λ cs. WroteCode (record { literals = literals; layout = layout_of cs; holds = holds_in marks }) returns
-            function.body a b) constructors_are
+        function.body a b) constructors_are
         (subst (λ code. WroteCode (record { literals = literals; layout = layout_of constructors; holds = holds_in marks }) returns
-            code a b) body_is wrote))
+        code a b) body_is wrote))
 
 -- ---- functions
 
@@ -92,19 +121,25 @@ all_forms_more (first ∷ functions) function = omega (arith, all_forms_more fun
 pub functions_then : (shape : Shape) (literals : List (List ℕ)) (functions : List CountedFunction) (each : List Lines) (f : ℕ)
     (function : CountedFunction) (lines : Lines)
     (old new : List (List ℕ)) → f ≡ length functions → LoweredFunctions shape literals functions each old
-        → LoweredFunction shape literals f function lines old new
+    → LoweredFunction shape literals f function lines old new
     → LoweredFunctions shape literals (functions ++ function ∷ []) (each ++ lines ∷ []) new
 functions_then shape literals functions each f function lines old new f_is are one = record {
   as_many = length-append each (lines ∷ []) ∙ omega (arith, are.as_many, length-append functions (function ∷ []));
-  few = omega (arith, ap (λ ts. length (all_bytes ts)) one.texts, all_bytes_append old one.more, all_forms_more functions function,
-      are.few, one.few);
+  few = omega (
+    arith,
+    ap (λ ts. length (all_bytes ts)) one.texts,
+    all_bytes_append old one.more,
+    all_forms_more functions function,
+    are.few,
+    one.few,
+  );
   are = λ later k other is. by later k other (get_push functions function other k is);
 }
   where
     by : (later : List (List ℕ)) (k : ℕ) (other : CountedFunction)
         → (slice_get functions k ≡ Some other) ⊎ ((k ≡ length functions) × (function ≡ other))
         → (found : Lines) × ((slice_get (each ++ lines ∷ []) k ≡ Some found) × IsWritten shape literals (new ++ later) k other
-            found)
+        found)
     by later k other (inl there) =
         let own = are.are (one.more ++ later) k other there in (
           own.0,

@@ -1,20 +1,99 @@
 -- The marks that are found are those of a function whose variables are marked: so it is marked by them.
-use Rattle.std.proofs.Common.{◌≡◌, ℕ, zero, suc, ◌<◌, ◌≤◌, ◌==◌, ◌⊎◌, inl, inr, Bool, true, false, List, [], ◌∷◌, ◌++◌, length,
-    Option, Some, None, refl, sym, ap, subst, ◌∙◌, arith, append_assoc, append-nil, length-append}
+use Rattle.std.proofs.Common.{
+  ◌≡◌,
+  ℕ,
+  zero,
+  suc,
+  ◌<◌,
+  ◌≤◌,
+  ◌==◌,
+  ◌⊎◌,
+  inl,
+  inr,
+  Bool,
+  true,
+  false,
+  List,
+  [],
+  ◌∷◌,
+  ◌++◌,
+  length,
+  Option,
+  Some,
+  None,
+  refl,
+  sym,
+  ap,
+  subst,
+  ◌∙◌,
+  arith,
+  append_assoc,
+  append-nil,
+  length-append,
+}
 use Rattle.std.proofs.lemmas.Bool.{or_cases, or_left, or_right, eqb-true, cases_eq, eq-eqb, false≢true}
 use Rattle.kk_core.specs.Sizes.{AreBound}
 use Rattle.kk_syntax.specs.Shapes.{is_among}
 use Rattle.kk_syntax.specs.declared.program.Form.{Form}
-use Rattle.kk_syntax.specs.declared.program.Form.TheVariants.{Number, Unit as Nothing, ReadByte, PrintText, Unary, Binary, Print,
-    Construct, Call}
-use Rattle.kk_counted.specs.CountedCodes.{Counted, give, tail_call, branch, case, compute, inside, read, open_cell, if_unique, dup,
-    drop, CountedArms, no_arm, arm, CountedFunction}
-use Rattle.kk_counted.specs.Marks.{CellMarks, parameter_marks, result_mark, field_marks, HaveMarks, AreUnmarked, IsFormMarked,
-    HasMark, HaveMark, Opens, IsMarked}
+use Rattle.kk_syntax.specs.declared.program.Form.TheVariants.{
+  Number,
+  Unit as Nothing,
+  ReadByte,
+  PrintText,
+  Unary,
+  Binary,
+  Print,
+  Construct,
+  Call,
+}
+use Rattle.kk_counted.specs.CountedCodes.{
+  Counted,
+  give,
+  tail_call,
+  branch,
+  case,
+  compute,
+  inside,
+  read,
+  open_cell,
+  if_unique,
+  dup,
+  drop,
+  CountedArms,
+  no_arm,
+  arm,
+  CountedFunction,
+}
+use Rattle.kk_counted.specs.Marks.{
+  CellMarks,
+  parameter_marks,
+  result_mark,
+  field_marks,
+  HaveMarks,
+  AreUnmarked,
+  IsFormMarked,
+  HasMark,
+  HaveMark,
+  Opens,
+  IsMarked,
+}
 use Rattle.kk_counted.specs.Spending.{numbers_from}
 use Rattle.rv_cells.specs.Marked.{AreBelow, AreNumbered, AreArmsNumbered}
-use Rattle.rv_cells.specs.Marking.{marked, all_marked, first_of, given_by, given_by_arms, mark_given, mark_of_form, marks_behind,
-    marks_behind_arms, BlocksGive, BlocksOfArmsGive, IsLowerable, function_marks}
+use Rattle.rv_cells.specs.Marking.{
+  marked,
+  all_marked,
+  first_of,
+  given_by,
+  given_by_arms,
+  mark_given,
+  mark_of_form,
+  marks_behind,
+  marks_behind_arms,
+  BlocksGive,
+  BlocksOfArmsGive,
+  IsLowerable,
+  function_marks,
+}
 use Rattle.rv_cells.specs.Written.{holds_in}
 
 -- ---- one mark
@@ -96,7 +175,7 @@ module _ (holds : ℕ → Bool) where
     fields_keep (x ∷ xs) [] marks have = absurd have
     fields_keep (x ∷ xs) (mark ∷ each) marks have =
         keeps_then marks (marked x mark marks) (all_marked xs each (marked x mark marks)) (keeps_marked x mark marks (sym have.0))
-            (fields_keep xs each (marked x mark marks) have.1)
+        (fields_keep xs each (marked x mark marks) have.1)
 
     fields_right : (xs bound : List ℕ) (each : List Bool) (marks : List Bool) → HaveMarks holds xs each → AreRight marks bound
         → AreRight (all_marked xs each marks) (xs ++ bound)
@@ -139,13 +218,19 @@ module _ (holds : ℕ → Bool) where
         keeps = keeps_then a b c one.keeps (other one.keeps).keeps;
         tells = λ v is. let known = one.tells v is in ((other one.keeps).keeps.1 v known.0, known.1);
       }
-      both None second given a b c one other = record { keeps = keeps_then a b c one.keeps (other one.keeps).keeps; tells =
-          (other one.keeps).tells }
+      both None second given a b c one other = record {
+        keeps = keeps_then a b c one.keeps (other one.keeps).keeps;
+        tells =
+            (other one.keeps).tells;
+      }
 
       behind_mark : (given : Bool) (from : Option ℕ) (x : ℕ) (mark : Bool) (a c : List Bool) → mark ≡ holds x
           → Found given from (marked x mark a) c → Found given from a c
-      behind_mark given from x mark a c is later = record { keeps = keeps_then a (marked x mark a) c (keeps_marked x mark a is)
-          later.keeps; tells = later.tells }
+      behind_mark given from x mark a c is later = record {
+        keeps = keeps_then a (marked x mark a) c (keeps_marked x mark a is)
+            later.keeps;
+        tells = later.tells;
+      }
 
       behind_fields : (given : Bool) (from : Option ℕ) (xs : List ℕ) (each : List Bool) (a c : List Bool) → HaveMarks holds xs each
           → Found given from (all_marked xs each a) c → Found given from a c
@@ -165,30 +250,30 @@ module _ (holds : ℕ → Bool) where
             { keeps = keeps_all marks; tells = λ v is. absurd (none_is v is) }
         found (branch x positive negative) bound given marks has gives right =
             both (given_by positive) (given_by negative) given marks (marks_behind table positive marks)
-                (marks_behind table negative (marks_behind table positive marks))
+            (marks_behind table negative (marks_behind table positive marks))
             (found positive bound given marks has.1.1.0 gives.0 right)
             (λ keeps. found negative bound given (marks_behind table positive marks) has.1.1.1 gives.1
-                (right_keeps marks (marks_behind table positive marks) bound keeps right))
+            (right_keeps marks (marks_behind table positive marks) bound keeps right))
         found (case x decisions arms) bound given marks has gives right = found_arms arms bound given marks has.1 gives right
         found (compute x form arguments rest) bound given marks has gives right =
             behind_mark given (given_by rest) x (mark_of_form table form arguments) marks
-                (marks_behind table rest (marked x (mark_of_form table form arguments) marks))
-                (form_mark form arguments (holds x) has.1.0)
+            (marks_behind table rest (marked x (mark_of_form table form arguments) marks))
+            (form_mark form arguments (holds x) has.1.0)
             (found rest (x ∷ bound) given (marked x (mark_of_form table form arguments) marks) has.1.1 gives
             (right_more (marked x (mark_of_form table form arguments) marks) x bound
-                (right_marked x (mark_of_form table form arguments) marks (form_mark form arguments (holds x) has.1.0))
+            (right_marked x (mark_of_form table form arguments) marks (form_mark form arguments (holds x) has.1.0))
             (right_keeps marks (marked x (mark_of_form table form arguments) marks) bound
-                (keeps_marked x (mark_of_form table form arguments) marks (form_mark form arguments (holds x) has.1.0)) right)))
+            (keeps_marked x (mark_of_form table form arguments) marks (form_mark form arguments (holds x) has.1.0)) right)))
         found (inside x block rest) bound given marks has gives right =
             let inner : List Bool = marks_behind table block marks in
             let mark : Bool = mark_given (given_by block) inner in
             let part = found block bound (holds x) marks has.0 gives.1.1.0 right in
             let is : mark ≡ holds x = given_mark inner (given_by block) gives.0 gives.1.0 (part.tells gives.0 gives.1.0).0
-                (part.tells gives.0 gives.1.0).1 in
+            (part.tells gives.0 gives.1.0).1 in
             let right_there : AreRight inner bound = right_keeps marks inner bound part.keeps right in
             let after = found rest (x ∷ bound) given (marked x mark inner) has.1 gives.1.1.1
-                (right_more (marked x mark inner) x bound (right_marked x mark inner is)
-                (right_keeps inner (marked x mark inner) bound (keeps_marked x mark inner is) right_there)) in
+            (right_more (marked x mark inner) x bound (right_marked x mark inner is)
+            (right_keeps inner (marked x mark inner) bound (keeps_marked x mark inner is) right_there)) in
             record {
               keeps = keeps_then marks inner (marks_behind table rest (marked x mark inner)) part.keeps
                   (keeps_then inner (marked x mark inner) (marks_behind table rest (marked x mark inner))
@@ -197,19 +282,19 @@ module _ (holds : ℕ → Bool) where
             }
         found (read x c fields rest) bound given marks has gives right =
             behind_fields given (given_by rest) fields (field_marks table c) marks
-                (marks_behind table rest (all_marked fields (field_marks table c) marks)) has.0.1.1
+            (marks_behind table rest (all_marked fields (field_marks table c) marks)) has.0.1.1
             (found rest (fields ++ bound) given (all_marked fields (field_marks table c) marks) has.1 gives
-                (fields_right fields bound (field_marks table c) marks has.0.1.1 right))
+            (fields_right fields bound (field_marks table c) marks has.0.1.1 right))
         found (open_cell x c fields used rest) bound given marks has gives right =
             behind_fields given (given_by rest) fields (field_marks table c) marks
-                (marks_behind table rest (all_marked fields (field_marks table c) marks)) has.0.1.1
+            (marks_behind table rest (all_marked fields (field_marks table c) marks)) has.0.1.1
             (found rest (fields ++ bound) given (all_marked fields (field_marks table c) marks) has.1 gives
-                (fields_right fields bound (field_marks table c) marks has.0.1.1 right))
+            (fields_right fields bound (field_marks table c) marks has.0.1.1 right))
         found (if_unique x c fields used rest) bound given marks has gives right =
             behind_fields given (given_by rest) fields (field_marks table c) marks
-                (marks_behind table rest (all_marked fields (field_marks table c) marks)) has.0.1.1
+            (marks_behind table rest (all_marked fields (field_marks table c) marks)) has.0.1.1
             (found rest (fields ++ bound) given (all_marked fields (field_marks table c) marks) has.1 gives
-                (fields_right fields bound (field_marks table c) marks has.0.1.1 right))
+            (fields_right fields bound (field_marks table c) marks has.0.1.1 right))
         found (dup x rest) bound given marks has gives right = found rest bound given marks has.1 gives right
         found (drop x rest) bound given marks has gives right = found rest bound given marks has.1 gives right
 
@@ -220,10 +305,10 @@ module _ (holds : ℕ → Bool) where
             { keeps = keeps_all marks; tells = λ v is. absurd (none_is v is) }
         found_arms (arm body rest) bound given marks has gives right =
             both (given_by body) (given_by_arms rest) given marks (marks_behind table body marks)
-                (marks_behind_arms table rest (marks_behind table body marks))
+            (marks_behind_arms table rest (marks_behind table body marks))
             (found body bound given marks has.0 gives.0 right)
             (λ keeps. found_arms rest bound given (marks_behind table body marks) has.1 gives.1
-                (right_keeps marks (marks_behind table body marks) bound keeps right))
+            (right_keeps marks (marks_behind table body marks) bound keeps right))
 
   -- ---- code by the marks at last
 
@@ -238,9 +323,11 @@ module _ (holds : ℕ → Bool) where
 
     right_of_first : (xs bound : List ℕ) → AreRight last (xs ++ bound) → AllRight xs
     right_of_first [] bound right = tt
-    right_of_first (x ∷ xs) bound right =
-        (right x (or_left (x == x) (is_among (xs ++ bound) x) (eq-eqb x x refl)), right_of_first xs bound
-            (λ y among. right y (or_right (x == y) (is_among (xs ++ bound) y) among)))
+    right_of_first (x ∷ xs) bound right = (
+      right x (or_left (x == x) (is_among (xs ++ bound) x) (eq-eqb x x refl)),
+      right_of_first xs bound
+          (λ y among. right y (or_right (x == y) (is_among (xs ++ bound) y) among)),
+    )
 
     have_same : (xs : List ℕ) (each : List Bool) → AllRight xs → HaveMarks holds xs each → HaveMarks (holds_in last) xs each
     have_same [] [] right have = tt
@@ -297,7 +384,7 @@ module _ (holds : ℕ → Bool) where
             let keeps_there : Keeps there last = keeps_then there (marks_behind table rest there) last after.keeps keeps in
             let later = behind right_there in
             let all : AllRight fields = right_of_first fields bound
-                (right_keeps there last (fields ++ bound) keeps_there right_there) in
+            (right_keeps there last (fields ++ bound) keeps_there right_there) in
             let cell : IsRight last x = keeps_there.1 x ((fields_keep table fields each marks opens.1.1).1 x (right x opens.0)) in (
               ((opens.0, (cell.1 ∙ opens.1.0, have_same fields each all opens.1.1)), later.0),
               λ base is. ((below_all fields all, is.0.1), later.1 base is.1),
@@ -308,21 +395,31 @@ module _ (holds : ℕ → Bool) where
               → BlocksGive code → AreRight marks bound
               → Keeps (marks_behind table code marks) last → IsNow bound given code
           now (give x) bound given marks has gives right keeps = ((has.0, (keeps.1 x (right x has.0)).1 ∙ has.1), λ base is. is)
-          now (tail_call f arguments) bound given marks has gives right keeps =
-              ((has.0, (have_same arguments (parameter_marks table f)
-                  (right_of_bound bound arguments (right_keeps marks last bound keeps right) has.0) has.1.0, has.1.1)), λ base is.
-                  is)
+          now (tail_call f arguments) bound given marks has gives right keeps = (
+            (
+              has.0,
+              (
+                have_same arguments (parameter_marks table f)
+                    (right_of_bound bound arguments (right_keeps marks last bound keeps right) has.0) has.1.0,
+                has.1.1,
+              ),
+            ),
+            λ base is.
+                is,
+          )
           now (branch x positive negative) bound given marks has gives right keeps =
               let first = found table result positive bound given marks has.1.1.0 gives.0 right in
               let middle : List Bool = marks_behind table positive marks in
               let right_there : AreRight middle bound = right_keeps marks middle bound first.keeps right in
               let second = found table result negative bound given middle has.1.1.1 gives.1 right_there in
               let keeps_there : Keeps middle last = keeps_then middle (marks_behind table negative middle) last second.keeps
-                  keeps in
+              keeps in
               let yes = now positive bound given marks has.1.1.0 gives.0 right keeps_there in
-              let no = now negative bound given middle has.1.1.1 gives.1 right_there keeps in
-              ((has.0, ((keeps_there.1 x (right_there x has.0)).1 ∙ has.1.0, (yes.0, no.0))), λ base is.
-                  (yes.1 base is.0, no.1 base is.1))
+              let no = now negative bound given middle has.1.1.1 gives.1 right_there keeps in (
+                (has.0, ((keeps_there.1 x (right_there x has.0)).1 ∙ has.1.0, (yes.0, no.0))),
+                λ base is.
+                    (yes.1 base is.0, no.1 base is.1),
+              )
           now (case x decisions arms) bound given marks has gives right keeps =
               let all = now_arms arms bound given marks has.1 gives right keeps in ((has.0, all.0), all.1)
           now (compute x form arguments rest) bound given marks has gives right keeps =
@@ -330,34 +427,38 @@ module _ (holds : ℕ → Bool) where
               let is_mark : mark ≡ holds x = form_mark table form arguments (holds x) has.1.0 in
               let there : List Bool = marked x mark marks in
               let right_there : AreRight there (x ∷ bound) = right_more there x bound (right_marked x mark marks is_mark)
-                  (right_keeps marks there bound (keeps_marked x mark marks is_mark) right) in
+              (right_keeps marks there bound (keeps_marked x mark marks is_mark) right) in
               let after = found table result rest (x ∷ bound) given there has.1.1 gives right_there in
               let keeps_there : Keeps there last = keeps_then there (marks_behind table rest there) last after.keeps keeps in
               let later = now rest (x ∷ bound) given there has.1.1 gives right_there keeps in
               let one : IsRight last x = keeps_there.1 x (right_marked x mark marks is_mark) in
               let all : AllRight arguments = right_of_bound bound arguments
-                  (λ y among. keeps_there.1 y (right_keeps marks there bound (keeps_marked x mark marks is_mark) right y among))
-                  has.0 in
-              ((has.0, (form_same form arguments (holds x) (holds_in last x) (sym one.1) all has.1.0, later.0)), λ base is.
-                  (one.0, (is.1.0, later.1 base is.1.1)))
+              (λ y among. keeps_there.1 y (right_keeps marks there bound (keeps_marked x mark marks is_mark) right y among))
+              has.0 in (
+                (has.0, (form_same form arguments (holds x) (holds_in last x) (sym one.1) all has.1.0, later.0)),
+                λ base is.
+                    (one.0, (is.1.0, later.1 base is.1.1)),
+              )
           now (inside x block rest) bound given marks has gives right keeps =
               let inner : List Bool = marks_behind table block marks in
               let mark : Bool = mark_given (given_by block) inner in
               let part = found table result block bound (holds x) marks has.0 gives.1.1.0 right in
               let is_mark : mark ≡ holds x = given_mark table result inner (given_by block) gives.0 gives.1.0
-                  (part.tells gives.0 gives.1.0).0 (part.tells gives.0 gives.1.0).1 in
+              (part.tells gives.0 gives.1.0).0 (part.tells gives.0 gives.1.0).1 in
               let there : List Bool = marked x mark inner in
               let right_inner : AreRight inner bound = right_keeps marks inner bound part.keeps right in
               let right_there : AreRight there (x ∷ bound) = right_more there x bound (right_marked x mark inner is_mark)
-                  (right_keeps inner there bound (keeps_marked x mark inner is_mark) right_inner) in
+              (right_keeps inner there bound (keeps_marked x mark inner is_mark) right_inner) in
               let after = found table result rest (x ∷ bound) given there has.1 gives.1.1.1 right_there in
               let keeps_there : Keeps there last = keeps_then there (marks_behind table rest there) last after.keeps keeps in
               let keeps_inner : Keeps inner last = keeps_then inner there last (keeps_marked x mark inner is_mark) keeps_there in
               let one : IsRight last x = keeps_there.1 x (right_marked x mark inner is_mark) in
               let own = now block bound (holds x) marks has.0 gives.1.1.0 right keeps_inner in
-              let later = now rest (x ∷ bound) given there has.1 gives.1.1.1 right_there keeps in
-              ((subst (λ m. HasMark table (holds_in last) result bound m block) (sym one.1) own.0, later.0), λ base is.
-                  (one.0, (own.1 base is.1.0, later.1 base is.1.1)))
+              let later = now rest (x ∷ bound) given there has.1 gives.1.1.1 right_there keeps in (
+                (subst (λ m. HasMark table (holds_in last) result bound m block) (sym one.1) own.0, later.0),
+                λ base is.
+                    (one.0, (own.1 base is.1.0, later.1 base is.1.1)),
+              )
           now (read x c fields rest) bound given marks has gives right keeps = now_fields x c fields rest bound given marks has.0
               has.1 gives right keeps (λ there. now rest (fields ++ bound) given (all_marked fields (field_marks table c) marks)
               has.1 gives there keeps)
@@ -382,7 +483,7 @@ module _ (holds : ℕ → Bool) where
               let right_there : AreRight middle bound = right_keeps marks middle bound first.keeps right in
               let second = found_arms table result rest bound given middle has.1 gives.1 right_there in
               let one = now body bound given marks has.0 gives.0 right
-                  (keeps_then middle (marks_behind_arms table rest middle) last second.keeps keeps) in
+              (keeps_then middle (marks_behind_arms table rest middle) last second.keeps keeps) in
               let others = now_arms rest bound given middle has.1 gives.1 right_there keeps in
               ((one.0, others.0), λ base is. (one.1 base is.0, others.1 base is.1))
 
@@ -399,11 +500,13 @@ params_right holds before (mark ∷ each) k zero is have = absurd have
 params_right holds before [] k (suc n) is have = absurd have
 params_right holds before (mark ∷ each) k (suc n) is have =
     let more = params_right holds (before ++ mark ∷ []) each (suc k) n (length-append before (mark ∷ []) ∙ omega (arith, is))
-        have.1 in
+    have.1 in
     let whole : (before ++ mark ∷ []) ++ each ≡ before ++ mark ∷ each = append_assoc before (mark ∷ []) each in (
-      right_more holds (before ++ mark ∷ each) k (numbers_from (suc k) n)
-          (omega (arith, is, length-append before (mark ∷ each)), subst (λ y. holds_in (before ++ mark ∷ each) y ≡ mark) is
-              (holds_at before mark each) ∙ sym have.0)
+      right_more holds (before ++ mark ∷ each) k (numbers_from (suc k) n) (
+        omega (arith, is, length-append before (mark ∷ each)),
+        subst (λ y. holds_in (before ++ mark ∷ each) y ≡ mark) is
+            (holds_at before mark each) ∙ sym have.0,
+      )
           (subst (λ ms. AreRight holds ms (numbers_from (suc k) n)) whole more.0),
       ap suc more.1,
     )

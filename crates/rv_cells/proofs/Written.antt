@@ -1,6 +1,30 @@
 -- Lines that were written one after the other are those of the forms that touch cells.
-use Rattle.std.proofs.Common.{◌≡◌, ℕ, suc, ◌+◌, ◌<◌, Bool, not, List, [], ◌∷◌, ◌++◌, length, take, get_or, Option, Some, refl, sym,
-    ap, subst, ◌∙◌, arith, append-nil, append_assoc}
+use Rattle.std.proofs.Common.{
+  ◌≡◌,
+  ℕ,
+  suc,
+  ◌+◌,
+  ◌<◌,
+  Bool,
+  not,
+  List,
+  [],
+  ◌∷◌,
+  ◌++◌,
+  length,
+  take,
+  get_or,
+  Option,
+  Some,
+  refl,
+  sym,
+  ap,
+  subst,
+  ◌∙◌,
+  arith,
+  append-nil,
+  append_assoc,
+}
 use Rattle.std.specs.Prelude.{filter}
 use Rattle.std.proofs.lemmas.List.{length-take-le, take_more}
 use Rattle.kk_syntax.specs.Shapes.{is_among}
@@ -19,8 +43,17 @@ use Rattle.rv_lower.proofs.Written.{wrote_then}
 use Rattle.rv_lower.proofs.Grown.{grows_of, grows_took, grows_then, grows_more}
 use Rattle.rv_cells.specs.Layout.{Layout}
 use Rattle.rv_cells.specs.CellLines.{Loads, Stores, AllLoads, AllStores, Walks, dups_lines, drops_lines, UniqueLines}
-use Rattle.rv_cells.specs.CountedLines.{is_plain, answer_word, answer_tag, number_tests, otherwise_lines, OddLines, TagLines,
-    NodeLines, NodesLines}
+use Rattle.rv_cells.specs.CountedLines.{
+  is_plain,
+  answer_word,
+  answer_tag,
+  number_tests,
+  otherwise_lines,
+  OddLines,
+  TagLines,
+  NodeLines,
+  NodesLines,
+}
 use Rattle.rv_cells.specs.Written.{TestsCount, free_lines, LowersCount, LoadsTag, WroteUnique}
 
 pub three_same : {a b c d e f : Line} → a ≡ b → c ≡ d → e ≡ f → a ∷ c ∷ e ∷ [] ≡ b ∷ d ∷ f ∷ []
@@ -59,7 +92,7 @@ more_stores cell i x (y ∷ xs) lines line all one = (
 
 pub loads_more : (cell n index : ℕ) (xs : List ℕ) (lines : List Line) (line : Line) → n < length xs → index ≡ 2 + n
     → AllLoads cell 2 (take n xs) lines → Loads cell index (get_or xs n 0) line
-        → AllLoads cell 2 (take (n + 1) xs) (lines ++ line ∷ [])
+    → AllLoads cell 2 (take (n + 1) xs) (lines ++ line ∷ [])
 loads_more cell n index xs lines line less is all one =
     subst (λ ys. AllLoads cell 2 ys (lines ++ line ∷ [])) (sym (take_more xs n 0 less))
     (more_loads cell 2 (get_or xs n 0) (take n xs) lines line all
@@ -67,7 +100,7 @@ loads_more cell n index xs lines line less is all one =
 
 pub stores_more : (cell n index : ℕ) (xs : List ℕ) (lines : List Line) (line : Line) → n < length xs → index ≡ 2 + n
     → AllStores cell 2 (take n xs) lines → Stores cell index (get_or xs n 0) line
-        → AllStores cell 2 (take (n + 1) xs) (lines ++ line ∷ [])
+    → AllStores cell 2 (take (n + 1) xs) (lines ++ line ∷ [])
 stores_more cell n index xs lines line less is all one =
     subst (λ ys. AllStores cell 2 ys (lines ++ line ∷ [])) (sym (take_more xs n 0 less))
     (more_stores cell 2 (get_or xs n 0) (take n xs) lines line all
@@ -102,27 +135,27 @@ module _ {holds : ℕ → Bool} {x : ℕ} {fields used : List ℕ} where
       → WroteUnique holds x fields used a l
   unique_written {shared} {behind} {loads} {a} {b} {c} {d} {e} {f} {g} {h} {i} {j} {k} {l} first second all test one drops free
       label again less dups last = record {
-    lines = lines;
-    grows = grows_more (omega arith) (grows_then (grows_took first) (grows_then (grows_took second) (grows_of whole)));
-    label = whole.label ∙ second.next ∙ ap (λ n. n + 1) first.next ∙ two a.next_label;
-    are = subst (λ n. UniqueLines a.base holds a.next_label n x fields used lines) (second.is ∙ first.next)
-        (subst (λ n. UniqueLines a.base holds n behind x fields used lines) first.is (
-          test_own.0,
-          loads,
-          less_own.0,
-          less_own.1,
-          less_own.2,
-          test_own.1,
-          all,
-          less_own.3,
-          less_own.4,
-          less_own.5,
-          ap (λ (ls : List Line). ls ++ ((loads ++ (dropped ++ free_lines x behind)) ++
-              ((acts (Label shared) [] ∷ (loads ++ (less.lines ++ dupped))) ++ (acts (Label behind) [] ∷ [])))) test_own.2
-              ∙ ap (λ (ls : List Line). tested ++ ((loads ++ (dropped ++ free_lines x behind)) ++
+        lines = lines;
+        grows = grows_more (omega arith) (grows_then (grows_took first) (grows_then (grows_took second) (grows_of whole)));
+        label = whole.label ∙ second.next ∙ ap (λ n. n + 1) first.next ∙ two a.next_label;
+        are = subst (λ n. UniqueLines a.base holds a.next_label n x fields used lines) (second.is ∙ first.next)
+            (subst (λ n. UniqueLines a.base holds n behind x fields used lines) first.is (
+              test_own.0,
+              loads,
+              less_own.0,
+              less_own.1,
+              less_own.2,
+              test_own.1,
+              all,
+              less_own.3,
+              less_own.4,
+              less_own.5,
+              ap (λ (ls : List Line). ls ++ ((loads ++ (dropped ++ free_lines x behind)) ++
+                  ((acts (Label shared) [] ∷ (loads ++ (less.lines ++ dupped))) ++ (acts (Label behind) [] ∷ [])))) test_own.2
+                  ∙ ap (λ (ls : List Line). tested ++ ((loads ++ (dropped ++ free_lines x behind)) ++
                   ((acts (Label shared) [] ∷ (loads ++ (ls ++ dupped))) ++ (acts (Label behind) [] ∷ [])))) less_own.6,
-        ));
-  }
+            ));
+      }
     where
       two : (n : ℕ) → n + 1 + 1 ≡ n + 2
       two n = omega arith
@@ -159,7 +192,7 @@ module _ {holds : ℕ → Bool} {x : ℕ} {fields used : List ℕ} where
       whole =
           wrote_then test.wrote
           (wrote_then (wrote_then one (wrote_then (subst (λ n. Wrote
-              (drops_lines n holds (filter (λ y. not (is_among used y)) fields)) e f) at_e drops) free))
+          (drops_lines n holds (filter (λ y. not (is_among used y)) fields)) e f) at_e drops) free))
           (wrote_then (wrote_then label (wrote_then again (wrote_then less.wrote dups))) last))
 
 -- ---- tests
@@ -170,7 +203,7 @@ pub odd_lines : (value nodes node odd label : ℕ) (otherwise : Option ℕ) (one
     → second ≡ acts (Branch NotEqual label) (odd ∷ []) → OddLines value nodes otherwise (first ∷ second ∷ [])
 odd_lines value nodes node odd label otherwise one first second is odd_is label_is word first_is second_is =
     subst (λ other. OddLines value nodes other (first ∷ second ∷ [])) (sym is)
-        (one, word, cc (odd_is, label_is, first_is, second_is))
+    (one, word, cc (odd_is, label_is, first_is, second_is))
 
 pub tag_lines : (layout : Layout) (value tag nodes : ℕ) (edges : List Edge) (otherwise : Option ℕ) (odd loads : List Line)
     → (edges ≡ [] → ⊥)
@@ -179,12 +212,12 @@ pub tag_lines : (layout : Layout) (value tag nodes : ℕ) (edges : List Edge) (o
 tag_lines layout value tag nodes [] otherwise odd loads some is odds loaded = absurd (some refl)
 tag_lines layout value tag nodes (edge ∷ edges) otherwise odd loads some is odds loaded =
     subst (λ t. TagLines layout value nodes (edge ∷ edges) otherwise
-        (odd ++ (loads ++ number_tests (answer_tag layout) t nodes (edge ∷ edges)))) (sym is)
+    (odd ++ (loads ++ number_tests (answer_tag layout) t nodes (edge ∷ edges)))) (sym is)
     (by (subst (λ t. LoadsTag value t loads) is loaded))
   where
     by : LoadsTag value (value + 1) loads
         → TagLines layout value nodes (edge ∷ edges) otherwise
-            (odd ++ (loads ++ number_tests (answer_tag layout) (value + 1) nodes (edge ∷ edges)))
+        (odd ++ (loads ++ number_tests (answer_tag layout) (value + 1) nodes (edge ∷ edges)))
     by here = (
       odd,
       here.0,
@@ -208,25 +241,25 @@ tags_written {tag} {a} {b} {c} {d} layout nodes edges otherwise some is odd load
 pub tests_written : {plain others : List Edge} {a b c d e f : Lowering} (layout : Layout) (nodes arms x : ℕ) (at : List ℕ)
     (edges : List Edge) (otherwise : Option ℕ)
     → Wrote (copies_to x a.base ∷ []) a b → WroteLines (Walks a.base at) b c
-        → plain ≡ filter (λ edge. is_plain layout edge.found) edges
+    → plain ≡ filter (λ edge. is_plain layout edge.found) edges
     → others ≡ filter (λ edge. not (is_plain layout edge.found)) edges
-        → Wrote (number_tests (answer_word layout) a.base nodes plain) c d
+    → Wrote (number_tests (answer_word layout) a.base nodes plain) c d
     → WroteLines (TagLines layout d.base nodes others otherwise) d e → Wrote (otherwise_lines nodes otherwise) e f
     → WroteLines (NodeLines layout a.base nodes arms x (tests at edges otherwise)) a f
 tests_written {plain} {others} {a} {b} {c} {d} {e} {f} layout nodes arms x at edges otherwise copied walk plain_is others_is words
     tags last = record {
-  lines = copies_to x a.base ∷ (walk.lines ++ (worded ++ (tags.lines ++ otherwise_lines nodes otherwise)));
-  wrote = wrote_then copied (wrote_then walk.wrote (wrote_then
-      (subst (λ es. Wrote (number_tests (answer_word layout) a.base nodes es) c d) plain_is words) (wrote_then tags.wrote last)));
-  are = (
-    walk.lines,
-    tags.lines,
-    walk.are,
-    subst (λ es. TagLines layout a.base nodes es otherwise tags.lines) others_is
-        (subst (λ n. TagLines layout n nodes others otherwise tags.lines) (words.base ∙ walk.wrote.base ∙ copied.base) tags.are),
-    refl,
-  );
-}
+      lines = copies_to x a.base ∷ (walk.lines ++ (worded ++ (tags.lines ++ otherwise_lines nodes otherwise)));
+      wrote = wrote_then copied (wrote_then walk.wrote (wrote_then
+          (subst (λ es. Wrote (number_tests (answer_word layout) a.base nodes es) c d) plain_is words) (wrote_then tags.wrote last)));
+      are = (
+        walk.lines,
+        tags.lines,
+        walk.are,
+        subst (λ es. TagLines layout a.base nodes es otherwise tags.lines) others_is
+            (subst (λ n. TagLines layout n nodes others otherwise tags.lines) (words.base ∙ walk.wrote.base ∙ copied.base) tags.are),
+        refl,
+      );
+    }
   where
     worded : List Line
     worded = number_tests (answer_word layout) a.base nodes (filter (λ edge. is_plain layout edge.found) edges)
@@ -242,7 +275,7 @@ more_nodes layout base nodes arms x k [] node lines first all one = (
   refl,
   ap (λ (ls : List Line). ls ++ (acts (Label (nodes + (k + 0))) [] ∷ first)) all
       ∙ ap (λ (n : ℕ). acts (Label n) [] ∷ first) (zero_more nodes k)
-          ∙ ap (λ (ls : List Line). acts (Label (nodes + k)) [] ∷ ls) (sym (append-nil first)),
+      ∙ ap (λ (ls : List Line). acts (Label (nodes + k)) [] ∷ ls) (sym (append-nil first)),
 )
   where
     zero_more : (n m : ℕ) → n + (m + 0) ≡ n + m
@@ -254,9 +287,9 @@ more_nodes layout base nodes arms x k (other ∷ each) node lines first all one 
   more_nodes layout base nodes arms x (suc k) each node all.1 first all.3 one,
   ap (λ (ls : List Line). ls ++ (acts (Label (nodes + (k + suc (length each)))) [] ∷ first)) all.4
       ∙ ap (λ (ls : List Line). acts (Label (nodes + k)) [] ∷ ls)
-          (append_assoc all.0 all.1 (acts (Label (nodes + (k + suc (length each)))) [] ∷ first))
+      (append_assoc all.0 all.1 (acts (Label (nodes + (k + suc (length each)))) [] ∷ first))
       ∙ ap (λ (n : ℕ). acts (Label (nodes + k)) [] ∷ (all.0 ++ (all.1 ++ (acts (Label (nodes + n)) [] ∷ first))))
-          (one_more k (length each)),
+      (one_more k (length each)),
 )
   where
     one_more : (n m : ℕ) → n + suc m ≡ suc n + m
@@ -266,7 +299,7 @@ pub nodes_more : {label : ℕ} {a b c d : Lowering} (layout : Layout) (nodes arm
     → label ≡ nodes + length each
     → WroteLines (NodesLines layout a.base nodes arms x 0 each) a b → Wrote (acts (Label label) [] ∷ []) b c
     → WroteLines (NodeLines layout c.base nodes arms x node) c d
-        → WroteLines (NodesLines layout a.base nodes arms x 0 (each ++ node ∷ [])) a d
+    → WroteLines (NodesLines layout a.base nodes arms x 0 (each ++ node ∷ [])) a d
 nodes_more {label} {a} {b} {c} {d} layout nodes arms x each node is wrote labelled one = record {
   lines = wrote.lines ++ (acts (Label (nodes + (0 + length each))) [] ∷ one.lines);
   wrote = wrote_then wrote.wrote (wrote_then (subst (λ n. Wrote (acts (Label n) [] ∷ []) b c)

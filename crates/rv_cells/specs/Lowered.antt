@@ -23,12 +23,12 @@ facts_for shape literals f function = record {
 
 -- The lines of the function of a number, by its marks, with its temporaries from their number on, where these constant bytes stand.
 pub record IsWritten (shape : Shape) (literals texts : List (List ℕ)) (f : ℕ) (function : CountedFunction) (lines : Lines) : Type 0
-    where
-  pub params : lines.params ≡ from_to 0 function.parameters
-  pub labels : ℕ
-  pub code : CodeLines (setting_in (facts_for shape literals f function) (length (function_marks (table_of shape) f function))
-      texts)
-      returns 0 function.body lines.code labels
+  where
+    pub params : lines.params ≡ from_to 0 function.parameters
+    pub labels : ℕ
+    pub code : CodeLines (setting_in (facts_for shape literals f function) (length (function_marks (table_of shape) f function))
+        texts)
+        returns 0 function.body lines.code labels
 
 -- a function was lowered, and texts were added behind those that stood there
 pub record LoweredFunction (shape : Shape) (literals : List (List ℕ)) (f : ℕ) (function : CountedFunction) (lines : Lines)

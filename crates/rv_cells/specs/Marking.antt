@@ -3,8 +3,24 @@
 use Rattle.std.specs.Prelude.{◌≡◌, ℕ, zero, suc, Bool, false, List, [], ◌∷◌, Option, Some, None, slice_get}
 use Rattle.kk_syntax.specs.declared.program.Form.{Form}
 use Rattle.kk_syntax.specs.declared.program.Form.TheVariants.{Construct, Call}
-use Rattle.kk_counted.specs.CountedCodes.{Counted, give, tail_call, branch, case, compute, inside, read, open_cell, if_unique, dup,
-    drop, CountedArms, no_arm, arm, CountedFunction}
+use Rattle.kk_counted.specs.CountedCodes.{
+  Counted,
+  give,
+  tail_call,
+  branch,
+  case,
+  compute,
+  inside,
+  read,
+  open_cell,
+  if_unique,
+  dup,
+  drop,
+  CountedArms,
+  no_arm,
+  arm,
+  CountedFunction,
+}
 use Rattle.kk_counted.specs.CountedForms.{Move, computes, runs, reads, opens, opens_unique, dups, drops}
 use Rattle.kk_counted.specs.Marks.{CellMarks, parameter_marks, result_mark, field_marks, made_mark, IsMarked}
 use Rattle.kk_counted.specs.Spending.{numbers_from}

@@ -1,8 +1,24 @@
 -- How long a counted code is.
 use Rattle.std.specs.Prelude.{ℕ, ◌+◌, List, [], ◌∷◌, length}
 use Rattle.kk_core.specs.Decisions.{NodeTree, chooses, tests}
-use Rattle.kk_counted.specs.CountedCodes.{Counted, give, tail_call, branch, case, compute, inside, read, open_cell, if_unique, dup,
-    drop, CountedArms, no_arm, arm, CountedFunction}
+use Rattle.kk_counted.specs.CountedCodes.{
+  Counted,
+  give,
+  tail_call,
+  branch,
+  case,
+  compute,
+  inside,
+  read,
+  open_cell,
+  if_unique,
+  dup,
+  drop,
+  CountedArms,
+  no_arm,
+  arm,
+  CountedFunction,
+}
 
 -- a node of decisions: the fields of its way, and its tests
 abbrev pub node_parts : NodeTree → ℕ

@@ -117,7 +117,7 @@ pub record WroteArms (facts : Facts) (goal : Goal) (label : ℕ) (arms : List Co
   pub grows : Grows (forms_of_arms (arms_of arms)) lines old new
   pub are : (later : List (List ℕ))
       → ArmsLines (setting_in facts old.base (texts_written new ++ later)) goal label old.next_label (arms_of arms) lines
-          new.next_label
+      new.next_label
 
 -- the lines of steps were written: those of any code that follows stand behind them
 pub record WroteSteps (facts : Facts) (moves : List Move) (old new : Lowering) : Type 0 where
@@ -128,4 +128,4 @@ pub record WroteSteps (facts : Facts) (moves : List Move) (old new : Lowering) :
   pub are : (later : List (List ℕ)) (goal : Goal) (rest : Counted) (more : List Line) (high : ℕ)
       → CodeLines (setting_in facts old.base (texts_written new ++ later)) goal new.next_label rest more high
       → CodeLines (setting_in facts old.base (texts_written new ++ later)) goal old.next_label (plug moves rest) (lines ++ more)
-          high
+      high

@@ -118,7 +118,8 @@ fn take_targets(
     decisions: &Decisions,
     arms: &[Block],
 ) -> Result<Targets, NoMemory>
-    ensures { IfOk result (λ targets. TookTargets (length arms.now) (length decisions.now.nodes.items) targets lowering.old lowering.new) }
+    ensures { IfOk result (λ targets. TookTargets (length arms.now) (length decisions.now.nodes.items) targets lowering.old
+        lowering.new) }
 {
     let first = take_labels(lowering, arms.len())?;
     let nodes = take_labels(lowering, decisions.nodes().len())?;

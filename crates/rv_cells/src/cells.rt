@@ -137,7 +137,8 @@ fn write_dups(
     fields: &[u32],
     used: &[u32],
 ) -> Result<(), NoMemory>
-    ensures { OnOk result (Wrote (dups_lines (holds_known known.now) (filter (is_among used.now) fields.now)) lowering.old lowering.new) }
+    ensures { OnOk result (Wrote (dups_lines (holds_known known.now) (filter (is_among used.now) fields.now)) lowering.old
+        lowering.new) }
 {
     for field in fields {
         if used.contains(field) {
@@ -154,7 +155,8 @@ fn write_drops(
     fields: &[u32],
     used: &[u32],
 ) -> Result<(), NoMemory>
-    ensures { OnOk result (Wrote (drops_lines lowering.old.base (holds_known known.now) (filter (λ y. not (is_among used.now y)) fields.now)) lowering.old lowering.new) }
+    ensures { OnOk result (Wrote (drops_lines lowering.old.base (holds_known known.now)
+        (filter (λ y. not (is_among used.now y)) fields.now)) lowering.old lowering.new) }
 {
     for field in fields {
         if !used.contains(field) {
@@ -172,7 +174,8 @@ pub fn write_opening(
     fields: &[u32],
     used: &[u32],
 ) -> Result<(), NoMemory>
-    ensures { OnOk result (WroteLines (OpenLines lowering.old.base (holds_known known.now) cell fields.now used.now) lowering.old lowering.new) }
+    ensures { OnOk result (WroteLines (OpenLines lowering.old.base (holds_known known.now) cell fields.now used.now) lowering.old
+        lowering.new) }
 {
     write_reading(lowering, cell, fields)?;
     write_dups(lowering, known, fields, used)?;

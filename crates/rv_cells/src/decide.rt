@@ -6,7 +6,8 @@ ghost use Rattle.rv_isa.specs.declared.asm.Action.TheVariants.{Jump};
 ghost use Rattle.rv_lower.specs.Lines.{acts};
 ghost use Rattle.rv_lower.specs.Written.{Wrote, WroteLines};
 ghost use Rattle.rv_cells.specs.CellLines.{Walks, equal_lines};
-ghost use Rattle.rv_cells.specs.CountedLines.{is_plain, answer_word, answer_tag, number_tests, otherwise_lines, OddLines, TagLines, NodeLines, NodesLines};
+ghost use Rattle.rv_cells.specs.CountedLines.{is_plain, answer_word, answer_tag, number_tests};
+ghost use Rattle.rv_cells.specs.CountedLines.{otherwise_lines, OddLines, TagLines, NodeLines, NodesLines};
 ghost use Rattle.rv_cells.specs.Written.{layout_known, LoadsTag};
 
 use crate::cells::load;
@@ -115,7 +116,8 @@ fn write_word_tests(
     nodes: u32,
     edges: &[Edge],
 ) -> Result<(), NoMemory>
-    ensures { OnOk result (Wrote (number_tests (answer_word (layout_known known.now)) value nodes edges.now) lowering.old lowering.new) }
+    ensures { OnOk result (Wrote (number_tests (answer_word (layout_known known.now)) value nodes edges.now) lowering.old
+        lowering.new) }
 {
     for edge in edges {
         let word = word_of_answer(known, edge.found)?;
@@ -132,7 +134,8 @@ fn write_tag_tests(
     nodes: u32,
     edges: &[Edge],
 ) -> Result<(), NoMemory>
-    ensures { OnOk result (Wrote (number_tests (answer_tag (layout_known known.now)) value nodes edges.now) lowering.old lowering.new) }
+    ensures { OnOk result (Wrote (number_tests (answer_tag (layout_known known.now)) value nodes edges.now) lowering.old
+        lowering.new) }
 {
     for edge in edges {
         let tag = tag_of_answer(known, edge.found);
@@ -178,7 +181,8 @@ fn write_tags(
     edges: &[Edge],
     otherwise: Option<u32>,
 ) -> Result<(), NoMemory>
-    ensures { OnOk result (WroteLines (TagLines (layout_known known.now) lowering.old.base nodes edges.now otherwise) lowering.old lowering.new) }
+    ensures { OnOk result (WroteLines (TagLines (layout_known known.now) lowering.old.base nodes edges.now otherwise) lowering.old
+        lowering.new) }
 {
     if edges.is_empty() {
         return Ok(());
@@ -219,7 +223,8 @@ fn write_tests(
     edges: &[Edge],
     otherwise: Option<u32>,
 ) -> Result<(), NoMemory>
-    ensures { (arms : ℕ) → OnOk result (WroteLines (NodeLines (layout_known known.now) lowering.old.base nodes arms variable (tests at.now edges.now otherwise)) lowering.old lowering.new) }
+    ensures { (arms : ℕ) → OnOk result (WroteLines (NodeLines (layout_known known.now) lowering.old.base nodes arms variable
+        (tests at.now edges.now otherwise)) lowering.old lowering.new) }
 {
     let value = lowering.base;
     let plain = plain_edges(lowering.alloc, known, edges)?;
@@ -239,7 +244,8 @@ fn write_node(
     variable: u32,
     node: &Node,
 ) -> Result<(), NoMemory>
-    ensures { OnOk result (WroteLines (NodeLines (layout_known known.now) lowering.old.base targets.nodes targets.arms variable (node_tree node.now)) lowering.old lowering.new) }
+    ensures { OnOk result (WroteLines (NodeLines (layout_known known.now) lowering.old.base targets.nodes targets.arms variable
+        (node_tree node.now)) lowering.old lowering.new) }
 {
     match node {
         Node::Choose(row) => write_jump(lowering, sum(targets.arms, *row)?),
@@ -263,7 +269,8 @@ pub fn write_nodes(
     variable: u32,
     nodes: &[Node],
 ) -> Result<(), NoMemory>
-    ensures { OnOk result (WroteLines (NodesLines (layout_known known.now) lowering.old.base targets.nodes targets.arms variable 0 (map node_tree nodes.now)) lowering.old lowering.new) }
+    ensures { OnOk result (WroteLines (NodesLines (layout_known known.now) lowering.old.base targets.nodes targets.arms variable 0
+        (map node_tree nodes.now)) lowering.old lowering.new) }
 {
     let mut label = targets.nodes;
     for node in nodes {

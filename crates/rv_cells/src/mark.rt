@@ -4,7 +4,8 @@ ghost use Rattle.std.specs.Prelude.{◌≡◌, [], ◌∷◌, map, OnOk, IfOk};
 ghost use Rattle.kk_counted.specs.CountedForms.{block_code, last_code, step_move, arms_of};
 ghost use Rattle.kk_counted.specs.Marks.{parameter_marks, result_mark, field_marks, made_mark};
 ghost use Rattle.kk_counted.specs.Programs.{function_of};
-ghost use Rattle.rv_cells.specs.Marking.{marked, all_marked, given_by, given_by_arms, mark_given, mark_of_form, marks_behind, marks_behind_arms, marks_after, marks_after_all, function_marks};
+ghost use Rattle.rv_cells.specs.Marking.{marked, all_marked, given_by, given_by_arms, mark_given};
+ghost use Rattle.rv_cells.specs.Marking.{mark_of_form, marks_behind, marks_behind_arms, marks_after, marks_after_all, function_marks};
 ghost use Rattle.rv_cells.specs.Tables.{table_of};
 
 use kk_base::NoMemory;
@@ -235,7 +236,8 @@ fn mark_last(marks: &mut Vec<bool>, shape: &Shape, last: &Last) -> Result<(), No
 
 #[cycle(mark)]
 fn mark_arms(marks: &mut Vec<bool>, shape: &Shape, arms: &[Block]) -> Result<(), NoMemory>
-    ensures { OnOk result (marks.new.items ≡ marks_behind_arms (table_of shape.now) (arms_of (map block_code arms.now)) marks.old.items) }
+    ensures { OnOk result (marks.new.items ≡ marks_behind_arms (table_of shape.now) (arms_of (map block_code arms.now))
+        marks.old.items) }
 {
     for arm in arms {
         mark_block(marks, shape, arm)?;

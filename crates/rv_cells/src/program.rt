@@ -27,7 +27,8 @@ fn lower_function(
     function: &CountedFun,
     texts: Vec<Text>,
 ) -> Result<(AsmFunction, Vec<Text>), NoMemory>
-    ensures { IfOk result (λ r. LoweredFunction shape.now literals.now number (function_of function.now) (lines_of r.0) texts.items r.1.items) }
+    ensures { IfOk result (λ r. LoweredFunction shape.now literals.now number (function_of function.now) (lines_of r.0) texts.items
+        r.1.items) }
 {
     let marks = marks_of(alloc, shape, number, function)?;
     let known = Known {
@@ -61,7 +62,8 @@ fn first_temporary(marks: &[bool]) -> Result<u32, NoMemory>
 /// The assembler code of a program in counted form, with these string literals.
 pub fn lower(alloc: Global, counted: &Counted, texts: &[StringLiteral]) -> Result<Asm, NoMemory>
     requires { AreLowerable (table_of counted.now.shape) (map function_of counted.now.functions.items) }
-    ensures { IfOk result (λ asm. IsLoweredForm counted.now.shape texts.now (map function_of counted.now.functions.items) (asm_functions asm) (asm_constants asm)) }
+    ensures { IfOk result (λ asm. IsLoweredForm counted.now.shape texts.now (map function_of counted.now.functions.items)
+        (asm_functions asm) (asm_constants asm)) }
 {
     let mut functions = Vec::new(alloc);
     let mut constants = Vec::new(alloc);

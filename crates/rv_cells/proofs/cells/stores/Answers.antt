@@ -12,9 +12,9 @@ loop-field-preserved c = record {
   lines =
       subst (λ (lines : List Line). AllStores c.args.cell 2 (take (c.loop-field.field-index + 1) c.args.fields.now) lines)
       (sym (ap (map short_line) c.in_ok-push.ensures.items ∙ map-append short_line c.loop-field.lines.items
-          (c.in_ok-line.line ∷ [])))
+      (c.in_ok-line.line ∷ [])))
       (stores_more c.args.cell c.loop-field.field-index c.loop-field.index c.args.fields.now
-          (map short_line c.loop-field.lines.items)
+      (map short_line c.loop-field.lines.items)
       (short_line c.in_ok-line.line) c.loop-field-test.true c.loop-field.invariant.index c.loop-field.invariant.lines
-          c.in_ok-line.ensures);
+      c.in_ok-line.ensures);
 }

@@ -12,7 +12,7 @@ invariant-loop-field l = record {
   code : lines_written l.lowering ++ drops_lines l.fn.lowering.base (holds_known l.known)
       (filter (λ y. not (is_among l.used y)) (drop l.field-index l.fields))
       ≡ lines_written l.fn.lowering ++ drops_lines l.fn.lowering.base (holds_known l.known)
-          (filter (λ y. not (is_among l.used y)) l.fields);
+      (filter (λ y. not (is_among l.used y)) l.fields);
   texts : texts_written l.lowering ≡ texts_written l.fn.lowering;
   base : l.lowering.base ≡ l.fn.lowering.base;
   label : l.lowering.next_label ≡ l.fn.lowering.next_label;

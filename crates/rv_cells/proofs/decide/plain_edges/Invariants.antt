@@ -7,4 +7,4 @@ use Rattle.rv_cells.proofs.decide.plain_edges.Given as goal
 abbrev pub invariant-loop-edge : goal.invariant-loop-edge
 invariant-loop-edge l =
     l.plain.items ++ filter (λ edge. is_plain (layout_known l.known) edge.found) (drop l.edge-index l.edges) ≡ filter
-        (λ edge. is_plain (layout_known l.known) edge.found) l.edges
+    (λ edge. is_plain (layout_known l.known) edge.found) l.edges

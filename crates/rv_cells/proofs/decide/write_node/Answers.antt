@@ -11,7 +11,7 @@ pub returns-in-Test : goal.returns-in-Test
 returns-in-Test c =
     on_ok_weaker c.write_tests.result
     (λ wrote. subst (λ (node : NodeTree). WroteLines (NodeLines (layout_known c.args.known.now) c.args.lowering.now.base
-        c.args.targets.nodes c.args.targets.arms c.args.variable node) c.args.lowering.now c.write_tests.new.lowering)
+    c.args.targets.nodes c.args.targets.arms c.args.variable node) c.args.lowering.now c.write_tests.new.lowering)
     (node_is c.args.node.now c.in-Test.at c.in-Test.edges c.in-Test.otherwise c.deref.result.now c.deref-in-Test.result.now
-        c.in-Test.is c.deref.ensures.value c.deref-in-Test.ensures.value) wrote)
+    c.in-Test.is c.deref.ensures.value c.deref-in-Test.ensures.value) wrote)
     (c.write_tests.ensures c.args.targets.arms)

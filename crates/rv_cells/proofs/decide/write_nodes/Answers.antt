@@ -12,11 +12,11 @@ loop-node-preserved c = record {
   label = omega (arith, c.in_ok-label.ensures, c.loop-node.invariant.label);
   wrote =
       subst (λ (each : List NodeTree). WroteLines (NodesLines (layout_known c.args.known.now) c.args.lowering.now.base
-          c.args.targets.nodes c.args.targets.arms c.args.variable 0 each) c.args.lowering.now c.write_node.new.lowering)
+      c.args.targets.nodes c.args.targets.arms c.args.variable 0 each) c.args.lowering.now c.write_node.new.lowering)
       (nodes_taken c.args.nodes.now c.loop-node.node-index c.node-item.result c.loop-node-test.true (sym c.node-item.is))
       (nodes_more (layout_known c.args.known.now) c.args.targets.nodes c.args.targets.arms c.args.variable
-          (map node_tree (take c.loop-node.node-index c.args.nodes.now)) (node_tree c.node-item.result)
+      (map node_tree (take c.loop-node.node-index c.args.nodes.now)) (node_tree c.node-item.result)
       (c.loop-node.invariant.label ∙ ap (λ n. c.args.targets.nodes + n)
-          (sym (length_mapped node_tree c.args.nodes.now c.loop-node.node-index c.loop-node-test.true)))
+      (sym (length_mapped node_tree c.args.nodes.now c.loop-node.node-index c.loop-node-test.true)))
       c.loop-node.invariant.wrote c.in_ok-write_label.ensures c.in_ok-write_node.ensures);
 }

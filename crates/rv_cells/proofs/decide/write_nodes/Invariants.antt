@@ -10,6 +10,6 @@ invariant-loop-node l = record {
   label : l.label ≡ l.targets.nodes + l.node-index;
   wrote : WroteLines
       (NodesLines (layout_known l.known) l.fn.lowering.base l.targets.nodes l.targets.arms l.variable 0
-          (map node_tree (take l.node-index l.nodes)))
+      (map node_tree (take l.node-index l.nodes)))
       l.fn.lowering l.lowering;
 }

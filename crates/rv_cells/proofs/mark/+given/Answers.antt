@@ -8,4 +8,4 @@ use Rattle.rv_cells.proofs.mark.+given.Goals as goal
 pub given-returns : goal.given-returns
 given-returns t c =
     c.given_at.ensures ∙ sym (plug_given (map step_move c.args.block.now.steps.items) (last_code c.args.block.now.last))
-        ∙ ap given_by (sym (block_is c.args.block.now))
+    ∙ ap given_by (sym (block_is c.args.block.now))

@@ -7,9 +7,9 @@ pub loop-marks-preserved : goal.loop-marks-preserved
 loop-marks-preserved c =
     ap (marked c.args.variable c.args.mark) c.in_ok-push.ensures.items
     ∙ marked_longer c.args.variable c.args.mark c.loop-marks.marks.items (omega (arith, c.loop-marks-test.true, c.len.ensures))
-        ∙ c.loop-marks.invariant
+    ∙ c.loop-marks.invariant
 
 pub returns : goal.returns
 returns c =
     marked_set c.args.variable c.args.mark c.loop-marks.marks.items (omega (arith, c.loop-marks-test.false, c.len.ensures))
-        ∙ c.loop-marks.invariant
+    ∙ c.loop-marks.invariant
