@@ -1,6 +1,33 @@
 -- The lines of forms that touch cells: no label stands in them, they are few, and before well-formed code they are well formed.
-use Rattle.std.proofs.Common.{◌≡◌, ℕ, suc, ◌+◌, ◌*◌, ◌<◌, ◌≤◌, ◌==◌, ◌⊎◌, inl, inr, Bool, true, false, List, [], ◌∷◌, ◌++◌, length, None, Some, refl, sym, subst, ◌∙◌, arith}
-use Rattle.std.specs.Prelude.{if◌then◌else◌}
+use Rattle.std.proofs.Common.{
+  ◌≡◌,
+  ℕ,
+  suc,
+  ◌+◌,
+  ◌*◌,
+  ◌<◌,
+  ◌≤◌,
+  ◌==◌,
+  ◌⊎◌,
+  inl,
+  inr,
+  Bool,
+  true,
+  false,
+  List,
+  [],
+  ◌∷◌,
+  ◌++◌,
+  length,
+  None,
+  Some,
+  refl,
+  sym,
+  subst,
+  ◌∙◌,
+  arith,
+}
+use Rattle.std.specs.Prelude.{filter, if◌then◌else◌}
 use Rattle.std.proofs.lemmas.Bool.{eq-eqb, false≢true, or_cases, or_left, or_right}
 use Rattle.std.proofs.lemmas.List.Elements.{All-nil}
 use Rattle.kk_core.specs.Sizes.{AreBound}
@@ -30,7 +57,7 @@ use Rattle.rv_lower.proofs.Formed.{
 }
 use Rattle.rv_lower.proofs.Operations.{Leads, leads_then, leads_weaker, next_temporary, only_bound}
 use Rattle.rv_cells.specs.CellLines.{Loads, Stores, AllLoads, AllStores, dup_lines, drop_lines, dups_lines, drops_lines}
-use Rattle.rv_cells.specs.CellLines.{ConstructLines}
+use Rattle.rv_cells.specs.CellLines.{ConstructLines, OpenLines}
 use Rattle.rv_cells.specs.Marked.{AreBelow, bound_list}
 
 -- an operation that gives no value
@@ -257,3 +284,57 @@ module _ (base : ℕ) where
 
       here : is_bound (x ∷ bound) x ≡ true
       here = or_left (x == x) (is_bound bound x) (eq-eqb x x refl)
+
+  -- what is bound behind fields
+  pub room_list : (bound xs : List ℕ) → HasRoom base bound → AreBelow base xs → HasRoom base (bound_list xs bound)
+  room_list bound [] has below = has
+  room_list bound (x ∷ xs) has below = room_list (x ∷ bound) xs (room_more base bound x has below.0) below.1
+
+kept_list : (bound xs : List ℕ) (y : ℕ) → is_bound bound y ≡ true → is_bound (bound_list xs bound) y ≡ true
+kept_list bound [] y is = is
+kept_list bound (x ∷ xs) y is = kept_list (x ∷ bound) xs y (or_right (x == y) (is_bound bound y) is)
+
+pub bound_fields : (bound xs : List ℕ) → AreBound (bound_list xs bound) xs
+bound_fields bound [] = tt
+bound_fields bound (x ∷ xs) =
+    (kept_list (x ∷ bound) xs x (or_left (x == x) (is_bound bound x) (eq-eqb x x refl)), bound_fields (x ∷ bound) xs)
+
+pub bound_filter : (bound : List ℕ) (p : ℕ → Bool) (xs : List ℕ) → AreBound bound xs
+    → AreBound bound (filter p xs) × (length (filter p xs) ≤ length xs)
+bound_filter bound p [] are = (tt, omega arith)
+bound_filter bound p (x ∷ xs) are = by (p x) (bound_filter bound p xs are.1)
+  where
+    by : (t : Bool) → AreBound bound (filter p xs) × (length (filter p xs) ≤ length xs)
+        → AreBound bound (if t then x ∷ filter p xs else filter p xs)
+        × (length (if t then x ∷ filter p xs else filter p xs) ≤ suc (length xs))
+    by true more = ((are.0, more.0), omega (arith, more.1))
+    by false more = (more.0, omega (arith, more.1))
+
+-- an opening
+pub open_leads : (base : ℕ) (bound : List ℕ) (holds : ℕ → Bool) (x : ℕ) (fields used : List ℕ) (lines : List Line)
+    → HasRoom base bound
+    → is_bound bound x ≡ true → AreBelow base fields → OpenLines base holds x fields used lines
+    → Leads (Readable base base bound) (Readable base base (bound_list fields bound)) (2 * length fields + 2) lines
+open_leads base bound holds x fields used lines has is below own =
+    subst (Leads (Readable base base bound) (Readable base base (bound_list fields bound)) (2 * length fields + 2)) (sym own.2)
+    (leads_weaker (Readable base base bound) (Readable base base bound) (Readable base base (bound_list fields bound))
+    (Readable base base (bound_list fields bound)) (length fields + (length (filter (is_bound used) fields) + 2))
+    (2 * length fields + 2) (own.0 ++ (dups_lines holds (filter (is_bound used) fields) ++ drop_lines base holds x)) (λ v is. is)
+    (λ v is. is)
+    (omega (arith, few.1))
+    (leads_then (Readable base base bound) (Readable base base (bound_list fields bound))
+    (Readable base base (bound_list fields bound)) (length fields) (length (filter (is_bound used) fields) + 2) own.0
+    (dups_lines holds (filter (is_bound used) fields) ++ drop_lines base holds x)
+    (loads_lead base bound x 2 fields own.0 has is below own.1)
+    (leads_then (Readable base base (bound_list fields bound)) (Readable base base (bound_list fields bound))
+    (Readable base base (bound_list fields bound)) (length (filter (is_bound used) fields)) 2
+    (dups_lines holds (filter (is_bound used) fields)) (drop_lines base holds x)
+    (dups_lead base (bound_list fields bound) holds (filter (is_bound used) fields) room few.0)
+    (drop_leads base (bound_list fields bound) holds x room (kept_list bound fields x is)))))
+  where
+    few : AreBound (bound_list fields bound) (filter (is_bound used) fields) ×
+        (length (filter (is_bound used) fields) ≤ length fields)
+    few = bound_filter (bound_list fields bound) (is_bound used) fields (bound_fields bound fields)
+
+    room : HasRoom base (bound_list fields bound)
+    room = room_list base bound fields has below
