@@ -19,3 +19,12 @@ pub mod Walking
 pub mod Frames
 pub mod Calling
 pub mod Stepping
+pub mod Written
+pub mod Grown
+pub mod Standing
+pub mod Blocks
+pub mod Celled
+pub mod Marks
+pub mod Marking
+pub mod Lowered
+pub mod CellForms

@@ -15,9 +15,11 @@ use Rattle.rv_isa.specs.Frames.{Frame}
 use Rattle.cell_heap.specs.Blocks.{Cells}
 use Rattle.rv_cells.specs.Follows.{Owner}
 use Rattle.rv_cells.specs.CellLines.{OpenLines, drop_lines, dups_lines}
-use Rattle.rv_cells.proofs.Values.{bound_list, value_same, named_made}
+use Rattle.rv_cells.specs.Marked.{bound_list}
+use Rattle.rv_cells.proofs.Values.{value_same, named_made}
 use Rattle.rv_cells.proofs.Spots.{AreSmall, Spot, Known, Here, Did, did_then, with_heap, drop_did}
-use Rattle.rv_cells.proofs.Rows.{row_cost, then_some, with_fields, IsReading, read_did, dups_did}
+use Rattle.rv_cells.specs.Costs.{row_cost}
+use Rattle.rv_cells.proofs.Rows.{then_some, with_fields, IsReading, read_did, dups_did}
 
 -- ---- which values the variables of fields have
 

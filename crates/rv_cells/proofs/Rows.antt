@@ -1,4 +1,5 @@
 -- Rows of loads, dups and drops; readings and openings.
+use Rattle.rv_cells.specs.Costs.{row_cost}
 use Rattle.std.proofs.Common.{◌≡◌, ◌≤◌, ℕ, zero, suc, ◌+◌, ◌*◌, true, false, inl, inr, List, [], ◌∷◌, ◌++◌, length, map, Option, Some, None, refl, sym, ◌∙◌, ap, subst, arith}
 use Rattle.std.proofs.lemmas.Bool.{cases_eq}
 use Rattle.std.proofs.lemmas.List.{length-map}
@@ -23,16 +24,12 @@ use Rattle.rv_cells.specs.CellLines.{AllLoads, ReadLines, dup_lines, drop_lines,
 use Rattle.rv_cells.proofs.Held.{some-is, held_within, held_other, held_count, held_fields}
 use Rattle.rv_cells.proofs.Words.{all_within_more, load_own, cell_named as cell_of_name}
 use Rattle.rv_lower.proofs.Performing.{put_other}
-use Rattle.rv_cells.proofs.Values.{bound_list, put_list, AreBelow, among_none, has_list, named_made}
+use Rattle.rv_cells.specs.Marked.{bound_list, AreBelow}
+use Rattle.rv_cells.proofs.Values.{put_list, among_none, has_list, named_made}
 use Rattle.rv_cells.proofs.Drops.{fits_length}
 use Rattle.rv_cells.proofs.Runs.{Target, turn_of, Runs, runs_none, runs_then}
 use Rattle.rv_cells.proofs.Acting.{put_in, load_runs}
 use Rattle.rv_cells.proofs.Spots.{Spot, Known, Here, Did, did_none, did_then, with_heap, AreSmall, Changed, dup_did, drop_did}
-
--- so much for each
-abbrev pub row_cost : List ℕ → ℕ → ℕ
-row_cost [] cost = 0
-row_cost (x ∷ xs) cost = cost + row_cost xs cost
 
 pub then_some : {A B : Type 0} (o : Option A) (f : A → Option B) (b : B) → and_then o f ≡ Some b → (a : A) × (o ≡ Some a)
     × (f a ≡ Some b)

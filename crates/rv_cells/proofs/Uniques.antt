@@ -36,7 +36,8 @@ use Rattle.rv_cells.proofs.Values.{HasValues, has_temporary, MadeBy, named_made}
 use Rattle.rv_cells.proofs.Runs.{turn_of, Runs, runs_then}
 use Rattle.rv_cells.proofs.Acting.{put_in, load_runs, sets_runs, store_runs, addi_runs, free_runs, label_runs, jump_runs, falls_runs, branch_runs}
 use Rattle.rv_cells.proofs.Spots.{AreSmall, Spot, Known, Here, Did}
-use Rattle.rv_cells.proofs.Rows.{row_cost, with_fields, IsReading, read_did, dups_did, drops_did}
+use Rattle.rv_cells.specs.Costs.{row_cost}
+use Rattle.rv_cells.proofs.Rows.{with_fields, IsReading, read_did, dups_did, drops_did}
 use Rattle.rv_cells.proofs.Openings.{where_values, bound_older, bound_fields, opened_spot}
 
 abbrev pub others_of : List ℕ → List ℕ → List ℕ
@@ -69,19 +70,19 @@ module _ (known : Known) (rest : List Line) (fs : List (Frame Line)) (s : Spot) 
     (lines : List Line) (named : Named) (next : Heap)
     (here : Here known s) (reads : IsReading known s x c fields named) (apart : AreApart fields)
     (uniques : UniqueLines known.base known.holds shared behind x fields used lines) where
-  abbrev tested : Line
+  abbrev pub tested : Line
   tested = uniques.0
 
   abbrev pub loads : List Line
   loads = uniques.1
 
-  abbrev drops : List Line
+  abbrev pub drops : List Line
   drops = drops_lines known.base known.holds (others_of used fields)
 
   abbrev pub dups : List Line
   dups = dups_lines known.holds (filter (is_among used) fields)
 
-  abbrev ending : List Line
+  abbrev pub ending : List Line
   ending = acts (Label behind) [] ∷ rest
 
   abbrev pub lowers : List Line
@@ -90,13 +91,21 @@ module _ (known : Known) (rest : List Line) (fs : List (Frame Line)) (s : Spot) 
   abbrev pub for_shared : List Line
   for_shared = acts (Label shared) [] ∷ (loads ++ lowers)
 
-  abbrev frees : List Line
+  abbrev pub frees : List Line
   frees = acts (Compute Op.Free) (x ∷ []) ∷ acts (Jump behind) [] ∷ []
 
-  abbrev for_unique : List Line
+  abbrev pub for_unique : List Line
   for_unique = loads ++ (drops ++ frees)
 
-  whole_lines : lines ++ rest ≡ tested ∷ sets 1 (known.base + 1) ∷ acts (Branch NotEqual shared)
+  -- the lines before the label of the second way, and those behind it
+  abbrev pub head_lines : List Line
+  head_lines = uniques.0 ∷ sets 1 (known.base + 1) ∷ acts (Branch NotEqual shared) (known.base ∷ (known.base + 1) ∷ [])
+      ∷ for_unique
+
+  abbrev pub shared_lines : List Line
+  shared_lines = loads ++ lowers
+
+  pub whole_lines : lines ++ rest ≡ tested ∷ sets 1 (known.base + 1) ∷ acts (Branch NotEqual shared)
       (known.base ∷ (known.base + 1) ∷ []) ∷ (for_unique ++ (for_shared ++ ending))
   whole_lines =
       ap (λ ls. ls ++ rest) uniques.10

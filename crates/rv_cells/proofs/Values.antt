@@ -14,6 +14,7 @@ use Rattle.rv_isa.specs.Frames.{put}
 use Rattle.rv_lower.proofs.Performing.{put_same, put_other}
 use Rattle.rv_cells.specs.Layout.{Layout, word_in, words_in, FitsField, FitFields}
 use Rattle.rv_cells.specs.Follows.{assign}
+use Rattle.rv_cells.specs.Marked.{AreBelow, bound_list}
 use Rattle.rv_cells.proofs.Words.{value_older, within_more}
 
 -- Each bound variable is below the temporaries, and has the word of its value; it is of a type with cells or not as its value is;
@@ -28,19 +29,10 @@ pub record HasValues (layout : Layout) (address : ℕ → ℕ) (holds : ℕ → 
 
 -- ---- values that are written
 
--- a list of variables more, in their order
-abbrev pub bound_list : List ℕ → List ℕ → List ℕ
-bound_list [] bound = bound
-bound_list (x ∷ xs) bound = bound_list xs (x ∷ bound)
-
 abbrev pub put_list : List ℕ → List ℕ → (ℕ → Option ℕ) → ℕ → Option ℕ
 put_list [] words values = values
 put_list (x ∷ xs) [] values = values
 put_list (x ∷ xs) (word ∷ words) values = put_list xs words (put x (Some word) values)
-
-abbrev pub AreBelow : ℕ → List ℕ → Type 0
-AreBelow base [] = Unit {0}
-AreBelow base (x ∷ xs) = (x < base) × AreBelow base xs
 
 -- ---- bound variables
 
@@ -113,6 +105,17 @@ module _ {layout : Layout} {address : ℕ → ℕ} {holds : ℕ → Bool} {base 
     fits = has.fits;
     older = λ x among. within_more next (suc next) (value_of environment x) (omega arith) (has.older x among);
   }
+
+-- values and names of cells are carried on: what words frames have they keep
+abbrev pub Carries : Layout → (ℕ → ℕ) → ℕ → (ℕ → ℕ) → ℕ → Type 0
+Carries layout address next later more =
+    (holds : ℕ → Bool) (base : ℕ) (bound : List ℕ) (environment : Environment) (values : ℕ → Option ℕ)
+    → HasValues layout address holds base next bound environment values
+    → HasValues layout later holds base more bound environment values
+
+pub carries_same : (layout : Layout) (address : ℕ → ℕ) (next more : ℕ) → more ≡ next → Carries layout address next address more
+carries_same layout address next more same = λ holds base bound environment values has.
+    subst (λ n. HasValues layout address holds base n bound environment values) (sym same) has
 
 -- a list of variables more
 pub has_list : {layout : Layout} {address : ℕ → ℕ} {holds : ℕ → Bool} {base next : ℕ} (xs : List ℕ)

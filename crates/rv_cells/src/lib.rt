@@ -2,10 +2,17 @@
 //! stores, duplications and drops do then.
 #![tactic(auto)]
 
+mod block;
+mod cells;
+mod decide;
+mod known;
 mod law;
+mod mark;
+mod program;
 
 pub use law::{
     cells_in_hand_are_counted, cells_in_hand_are_released, counts_are_stored,
     references_are_dropped, references_are_duplicated, requests_find_free_cells,
     unique_cells_are_opened, unused_cells_hold_no_heap, words_in_hand_are_stored,
 };
+pub use program::lower;
