@@ -90,7 +90,7 @@ marks_are holds [] (mark ∷ marks) have = absurd have
 marks_are holds (x ∷ xs) [] have = absurd have
 marks_are holds (x ∷ xs) (mark ∷ marks) have = ap (λ m. m ∷ map holds xs) have.0 ∙ ap (λ ms. mark ∷ ms) (marks_are holds xs marks have.1)
 
-below_among : (x : ℕ) (bound : List ℕ) (z : ℕ) → AreBelow x bound → is_among bound z ≡ true → z < x
+pub below_among : (x : ℕ) (bound : List ℕ) (z : ℕ) → AreBelow x bound → is_among bound z ≡ true → z < x
 below_among x [] z below is = cc
 below_among x (y ∷ ys) z below is =
     elim (among_by y ys z is) [
@@ -123,7 +123,7 @@ named_there (Some named) heap fields rest environment inner from input going = (
 
 module _ (program : Lowering) where
   -- fields have values of their marks
-  arguments_fit : (s : Spot) (holds : ℕ → Bool) (base : ℕ) → Here (known_of program holds base) s → (xs : List ℕ) (marks : List Bool)
+  pub arguments_fit : (s : Spot) (holds : ℕ → Bool) (base : ℕ) → Here (known_of program holds base) s → (xs : List ℕ) (marks : List Bool)
       → AllAmong xs s.bound → HaveMarks holds xs marks → FitFields marks (values_of s.environment xs)
   arguments_fit s holds base here [] [] all have = tt
   arguments_fit s holds base here [] (mark ∷ marks) all have = absurd have
@@ -153,7 +153,7 @@ module _ (program : Lowering) where
   seen_action action input = (flat_map events_of (performed action input).0, (performed action input).1)
 
   -- one that the world does not see
-  abbrev IsQuiet : (CountedConfiguration → Action CountedConfiguration) → Type 0
+  abbrev pub IsQuiet : (CountedConfiguration → Action CountedConfiguration) → Type 0
   IsQuiet tells =
       (to : CountedConfiguration) (input : List ℕ)
       → seen_action (tells to) input ≡ ([], record { machine = to; input = input })
@@ -161,10 +161,10 @@ module _ (program : Lowering) where
   module _ (code rest : Counted) (idle : ℕ) (inner : List CountedJoin) (frames : List CountedFrame) (input : List ℕ) (s : Spot)
       (fs : List (Frame Line)) (left : List Line) (at : At program code inner frames input s fs left)
       (fit : IsFitFrom program (counted_at program code s.environment inner frames s.heap input)) where
-    abbrev state_at : CountedState
+    abbrev pub state_at : CountedState
     state_at = counted_at program code s.environment inner frames s.heap input
 
-    goes_on : (most : ℕ) (tells : CountedConfiguration → Action CountedConfiguration) (bound later : List ℕ)
+    pub goes_on : (most : ℕ) (tells : CountedConfiguration → Action CountedConfiguration) (bound later : List ℕ)
         → (steps : Steps (known_of program at.holds at.base) (setting program) (texts program) at.goal at.placed.high most tells code rest
         inner state_at.machine at.placed.own at.placed.after fs s bound)
         → IsQuiet tells → most ≤ (upper program).weight state_at
@@ -239,7 +239,7 @@ module _ (program : Lowering) where
   quiet_goes : IsQuiet goes
   quiet_goes to input = refl
 
-  quiet_builds : (n : ℕ) → IsQuiet (builds n)
+  pub quiet_builds : (n : ℕ) → IsQuiet (builds n)
   quiet_builds n to input = refl
 
   -- ---- references

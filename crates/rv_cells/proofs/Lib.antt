@@ -22,3 +22,5 @@ pub mod Stepping
 pub mod Standing
 pub mod Blocks
 pub mod Celled
+pub mod Computing
+pub mod Entering

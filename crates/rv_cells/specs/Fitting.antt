@@ -23,7 +23,7 @@ use Rattle.rv_cells.specs.CountedLines.{is_plain}
 -- ---- numbers
 
 abbrev pub IsInt32 : Value → Type 0
-IsInt32 v = (word : ℕ) × ((v ≡ integer (signed word)) × (word < 2 ^ 32))
+IsInt32 v = (word : ℕ) × (v ≡ integer (signed word)) × (word < 2 ^ 32)
 
 abbrev pub IsTruth : Value → Type 0
 IsTruth v = (b : Bool) × (v ≡ truth b)

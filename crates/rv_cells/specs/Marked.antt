@@ -62,4 +62,4 @@ pub record IsFunctionOf (layout : Layout) (texts : Texts) (marks : CellMarks) (f
 abbrev pub AreFunctionsOf : Layout → Texts → CellMarks → List CountedFunction → List Lines → Type 0
 AreFunctionsOf layout texts marks functions each =
     (f : ℕ) (function : CountedFunction) → slice_get functions f ≡ Some function
-    → (lines : Lines) × ((slice_get each f ≡ Some lines) × IsFunctionOf layout texts marks f function lines)
+    → (lines : Lines) × (slice_get each f ≡ Some lines) × IsFunctionOf layout texts marks f function lines
