@@ -24,3 +24,4 @@ pub mod Blocks
 pub mod Celled
 pub mod Computing
 pub mod Entering
+pub mod Telling
