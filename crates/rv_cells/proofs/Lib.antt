@@ -25,3 +25,4 @@ pub mod Celled
 pub mod Computing
 pub mod Entering
 pub mod Telling
+pub mod Testing
