@@ -76,7 +76,7 @@ word_signed a fits =
     same_word (word_of (signed a)) a (word_fits (signed a)) fits (word_wraps (signed a) ∙ int_wrap_fits w32 (signed a) (signed_fits a fits))
 
 -- values of other words of the same variables
-has_same : {layout : Layout} {address : ℕ → ℕ} {holds : ℕ → Bool} {base next : ℕ} {bound : List ℕ} {environment : Environment}
+pub has_same : {layout : Layout} {address : ℕ → ℕ} {holds : ℕ → Bool} {base next : ℕ} {bound : List ℕ} {environment : Environment}
     {values : ℕ → Option ℕ} → HasValues layout address holds base next bound environment values → (later : ℕ → Option ℕ)
     → ((z : ℕ) → is_among bound z ≡ true → later z ≡ values z) → HasValues layout address holds base next bound environment later
 has_same has later same = record {

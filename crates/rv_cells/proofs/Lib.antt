@@ -26,3 +26,4 @@ pub mod Computing
 pub mod Entering
 pub mod Telling
 pub mod Testing
+pub mod Deciding
