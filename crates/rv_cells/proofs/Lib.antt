@@ -27,3 +27,4 @@ pub mod Entering
 pub mod Telling
 pub mod Testing
 pub mod Deciding
+pub mod Simulating

@@ -6,3 +6,4 @@ pub mod CountedLines
 pub mod Marked
 pub mod Costs
 pub mod Fitting
+pub mod Meaning
