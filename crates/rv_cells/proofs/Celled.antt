@@ -251,7 +251,7 @@ module _ (program : Lowering) where
       → Does program idle (counted_at program (dup x rest) s.environment inner frames s.heap input) (turn_of left s.frame fs s.world)
   at_dup x idle rest inner frames input s fs left idle_is at fit =
       let p = at.placed in
-      let counts = (fit 0).counts in
+      let counts = (fit 0).counts (dup x rest) s.environment inner refl in
       let few = p.short in
       let c = (counted_at program (dup x rest) s.environment inner frames s.heap input).machine in
       let steps = dup_steps (known_of program at.holds at.base) (setting program) (texts program) at.goal p.low p.high x rest inner c
@@ -330,7 +330,7 @@ module _ (program : Lowering) where
   at_open x c idle fields used rest inner frames input s fs left idle_is at fit =
       let p = at.placed in
       let few = p.short in
-      let counts = (fit 0).counts in
+      let counts = (fit 0).counts (open_cell x c fields used rest) s.environment inner refl in
       let m = (counted_at program (open_cell x c fields used rest) s.environment inner frames s.heap input).machine in
       let opens = λ (n : Named). opened_heap n.at (used_values used fields n.fields) s.heap in
       let named = named_there (cell_named c (length fields) s.heap (value_of s.environment x)) opens fields rest
@@ -361,7 +361,7 @@ module _ (program : Lowering) where
   at_unique x c idle fields used rest inner frames input s fs left idle_is at fit =
       let p = at.placed in
       let few = p.short in
-      let counts = (fit 0).counts in
+      let counts = (fit 0).counts (if_unique x c fields used rest) s.environment inner refl in
       let known = known_of program at.holds at.base in
       let m = (counted_at program (if_unique x c fields used rest) s.environment inner frames s.heap input).machine in
       let opens = λ (n : Named). unique_heap (count_at s.heap n.at) n.at (used_values used fields n.fields)
