@@ -23,6 +23,11 @@ pub mod SoundSteps
 pub mod SoundRuns
 pub mod SoundUses
 pub mod Cost
+pub mod Marking
+pub mod OwnedBounds
+pub mod CountSteps
+pub mod NarrowCounts
+pub mod GainBounds
 pub mod Places
 pub mod Looks
 pub mod SoundGoing

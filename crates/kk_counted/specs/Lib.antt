@@ -1,6 +1,7 @@
 pub mod Arms
 pub mod BareForms
 pub mod Cost
+pub mod CountBounds
 pub mod CountedCodes
 pub mod CountedForms
 pub mod CountedMachine
@@ -10,6 +11,7 @@ pub mod Emissions
 pub mod Emitting
 pub mod Heaps
 pub mod Keeping
+pub mod MarkKeeping
 pub mod Marks
 pub mod NumberedPool
 pub mod Programs

@@ -100,9 +100,12 @@ module _ (marks : CellMarks) (holds : ℕ → Bool) where
 -- A function by its number: its parameters are marked as the table tells, and its body gives a value of the mark of its result.
 pub record IsMarked (marks : CellMarks) (holds : ℕ → Bool) (f : ℕ) (function : CountedFunction) : Type 0 where
   pub parameters_marked : HaveMarks holds (numbers_from 0 function.parameters) (parameter_marks marks f)
-  pub body_marked : HasMark marks holds (result_mark marks f) (numbers_from 0 function.parameters) (result_mark marks f) function.body
+  pub body_marked : HasMark marks holds (result_mark marks f) (numbers_from 0 function.parameters) (result_mark marks f)
+      function.body
 
 -- A program, by the variables of each function that are marked: each function is so, and `main`, which has no parameters, is there.
 pub record AreMarked (marks : CellMarks) (holds : ℕ → ℕ → Bool) (program : CountedProgram) : Type 0 where
-  pub each : (f : ℕ) (function : CountedFunction) → slice_get program.functions f ≡ Some function → IsMarked marks (holds f) f function
-  pub main_there : (function : CountedFunction) × ((slice_get program.functions program.main ≡ Some function) × (function.parameters ≡ 0))
+  pub each : (f : ℕ) (function : CountedFunction) → slice_get program.functions f ≡ Some function
+      → IsMarked marks (holds f) f function
+  pub main_there : (function : CountedFunction) × ((slice_get program.functions program.main ≡ Some function)
+      × (function.parameters ≡ 0))

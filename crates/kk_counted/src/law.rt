@@ -1,17 +1,17 @@
-ghost use Rattle.std.specs.Prelude.{◌≡◌, ◌↔◌, ◌+◌, ◌*◌, ◌≤◌, ℕ, true, false, List, [], ◌∷◌, map, length, Some, slice_get};
+ghost use Rattle.std.specs.Prelude.{◌≡◌, ◌↔◌, ◌+◌, ◌*◌, ◌^◌, ◌≤◌, ◌<◌, ℕ, Bool, true, false, List, [], ◌∷◌, map, length, Some, slice_get};
 ghost use Rattle.kk_syntax.specs.Shapes.{is_among};
 ghost use Rattle.kk_syntax.specs.PositionsOf.{PositionTable};
 ghost use Rattle.kk_source.specs.State.{Value, place, Cell, Environment};
 ghost use Rattle.kk_source.specs.Live.{value_of, Reached, live};
 ghost use Rattle.kk_source.specs.Sound.{AllWithin};
 ghost use Rattle.kk_core.specs.Decisions.{NodeTree, chosen};
-ghost use Rattle.kk_counted.specs.CountedCodes.{Counted, CountedArms, give, case};
-ghost use Rattle.kk_counted.specs.CountedMachine.{opened_heap, unique_heap, counted_code_step, NotStuck};
-ghost use Rattle.kk_counted.specs.CountedStates.{CountedSetting, CountedJoin, CountedState, running};
+ghost use Rattle.kk_counted.specs.CountedCodes.{Counted, CountedArms, CountedFunction, give, case};
+ghost use Rattle.kk_counted.specs.CountedMachine.{opened_heap, unique_heap, counted_code_step, counted_step, NotStuck};
+ghost use Rattle.kk_counted.specs.CountedStates.{CountedSetting, CountedJoin, CountedState, running, counted_start};
 ghost use Rattle.kk_counted.specs.Heaps.{Heap, forwards, count_at, cell_at, fields_held, busy, weight, dup_value, drop_value};
 ghost use Rattle.kk_counted.specs.Keeping.{HasNoCell, uses, IsKept, counted_after, FitsAlways, HasShapeAlways};
 ghost use Rattle.kk_counted.specs.References.{refs, IsSound, IsCounted, cells_of, AreOlder, counted};
-ghost use Rattle.kk_counted.specs.Spending.{AreEven, IsSpent};
+ghost use Rattle.kk_counted.specs.Spending.{AreEven, SpendsParameters, IsSpent};
 ghost use Rattle.kk_counted.specs.Cost.{drop_turns, saved, opening_turns};
 ghost use Rattle.kk_source.specs.Actions.{builds};
 ghost use Rattle.kk_counted.specs.TokenedCodes.{Tokened};
@@ -21,6 +21,9 @@ ghost use Rattle.kk_counted.specs.TokenStates.{TokenSetting, TokenJoin, TokenCon
 ghost use Rattle.kk_counted.specs.TokenMachine.{at_code, token_code_step};
 ghost use Rattle.kk_counted.specs.TokenSpending.{AreTokensSpent};
 ghost use Rattle.kk_counted.specs.TokenKeeping.{ArePooled, IsJudged, AreKeptAt, AreKept, Lists, ListsAfter, FillsAt, FillsAlways, token_after};
+ghost use Rattle.kk_counted.specs.CountBounds.{SpendsAtMost, AllSpendAtMost, EachHasAnArm, gains};
+ghost use Rattle.kk_counted.specs.Marks.{CellMarks, field_marks, AreMarked};
+ghost use Rattle.kk_counted.specs.MarkKeeping.{FitsMark, RunFits, StateFits, numbers_after, numbers_in};
 ghost use Rattle.kk_counted.specs.NumberedPool.{IsPlaced, IsPool, Growth, Placing};
 ghost use Rattle.kk_counted.specs.TokenRuns.{is_quiet, bare_weight, AllLead, IsFollowed, IsUnseen, IsSameRun, TakesNoCell};
 
@@ -175,4 +178,50 @@ pub fn names_have_cells_of_a_pool()
         → ((k : ℕ) → AreKept setting.cells (token_after weight setting input k))
         → (n : ℕ) → (assigned : ℕ → ℕ) × IsPlaced setting.cells assigned (token_after weight setting input n).heap
         (token_after weight setting input n).tokens.marks }
+{}
+
+/// Code that is marked by types keeps each value fit for its mark: in each state of a run a marked variable that is bound holds no
+/// number and no `()`, one that is not marked holds no place, and so it is of the fields of each cell. So a value is a place
+/// or not as the code shows, and nothing at run time has to tell a place from a number. It is a law, and does nothing.
+pub fn marked_code_keeps_its_marks()
+    ensures start { (marks : CellMarks) (holds : ℕ → ℕ → Bool) (setting : CountedSetting) → AreMarked marks holds setting.program
+        → StateFits marks holds (setting.program.main ∷ []) (counted_start setting) }
+    ensures steps { (marks : CellMarks) (holds : ℕ → ℕ → Bool) (setting : CountedSetting) → AreMarked marks holds setting.program
+        → (numbers : List ℕ) (s : CountedState) → StateFits marks holds numbers s.machine
+        → StateFits marks holds (numbers_after s.machine.control numbers) (counted_step setting s).1.machine }
+    ensures runs { (marks : CellMarks) (holds : ℕ → ℕ → Bool) (setting : CountedSetting) → AreMarked marks holds setting.program
+        → (weight : CountedState → ℕ) (input : List ℕ) (n : ℕ)
+        → StateFits marks holds (numbers_in weight setting input n) (counted_after weight setting input n) }
+    ensures bound { (marks : CellMarks) (holds : ℕ → Bool) (result : Bool) (code : Counted) (environment : Environment)
+        (joins : List CountedJoin) (fits : RunFits marks holds result code environment joins)
+        → (x : ℕ) → is_among fits.bound x ≡ true → FitsMark (holds x) (value_of environment x) }
+    ensures unmarked { (marks : CellMarks) (holds : ℕ → Bool) (result : Bool) (code : Counted) (environment : Environment)
+        (joins : List CountedJoin) → RunFits marks holds result code environment joins
+        → (x : ℕ) → holds x ≡ false → FitsMark false (value_of environment x) }
+{}
+
+/// Counts are narrow: where each function spends at most so many references on a path, no more functions stand than the stack has
+/// call frames, so a count is at most what all of them own and what the fields of counted cells name. In each state of a run that
+/// has not ended, within the limits of cells, call frames and code, a count and one more are below 2 ^ 32. It is a law, and does
+/// nothing.
+pub fn judged_code_keeps_counts_narrow()
+    ensures bounded { (positions : PositionTable) (marks : CellMarks) (holds : ℕ → ℕ → Bool) (setting : CountedSetting)
+        (weight : CountedState → ℕ) (input : List ℕ) (most fields : ℕ) → IsSpent positions setting.program
+        → FitsAlways weight setting input → AreMarked marks holds setting.program → AllSpendAtMost setting.program most
+        → ((c : ℕ) → length (field_marks marks c) ≤ fields) → 1 ≤ setting.depth
+        → (n : ℕ) (code : Counted) (environment : Environment) (joins : List CountedJoin)
+        → (counted_after weight setting input n).control ≡ running code environment joins
+        → (at : ℕ)
+        → count_at (counted_after weight setting input n).heap at ≤ setting.depth * most + fields * setting.cells }
+    ensures narrow { (positions : PositionTable) (marks : CellMarks) (holds : ℕ → ℕ → Bool) (setting : CountedSetting)
+        (weight : CountedState → ℕ) (input : List ℕ) (most : ℕ) → IsSpent positions setting.program
+        → FitsAlways weight setting input → AreMarked marks holds setting.program → AllSpendAtMost setting.program most
+        → most ≤ 65000 → ((c : ℕ) → length (field_marks marks c) ≤ 6) → 1 ≤ setting.depth → setting.depth ≤ 65536
+        → setting.cells ≤ 1048576
+        → (n : ℕ) (code : Counted) (environment : Environment) (joins : List CountedJoin)
+        → (counted_after weight setting input n).control ≡ running code environment joins
+        → (at : ℕ) → count_at (counted_after weight setting input n).heap at + 1 < 2 ^ 32 }
+    ensures spends { (positions : PositionTable) (functions : List CountedFunction) (f : ℕ) (function : CountedFunction)
+        → SpendsParameters positions functions f function → EachHasAnArm function.body
+        → SpendsAtMost function.body (function.parameters + gains function.body) }
 {}

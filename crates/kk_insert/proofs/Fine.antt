@@ -43,7 +43,7 @@ one_below x n y xs below le is = either (or_cases (x == y) (is_among xs y) is)
     either (inl here) = omega (arith, same x y here)
     either (inr there) = omega (arith, below y there, le)
 
-rise_high : (low : ℕ) (xs : List ℕ) (high : ℕ) → Rise low xs high → low ≤ high
+pub rise_high : (low : ℕ) (xs : List ℕ) (high : ℕ) → Rise low xs high → low ≤ high
 rise_high low [] high rise = rise
 rise_high low (x ∷ xs) high rise = omega (arith, rise.0, rise_high (x + 1) xs high rise.1)
 
@@ -64,7 +64,7 @@ rise_apart low (x ∷ xs) high rise = (
 )
 
 mutual
-  ordered_high : (bound : List ℕ) (low : ℕ) (code : Code) (high : ℕ) → Ordered bound low code high → low ≤ high
+  pub ordered_high : (bound : List ℕ) (low : ℕ) (code : Code) (high : ℕ) → Ordered bound low code high → low ≤ high
   ordered_high bound low (give x) high o = o.1
   ordered_high bound low (tail_call f arguments) high o = o.1
   ordered_high bound low (branch x positive negative) high o =
@@ -77,7 +77,7 @@ mutual
   ordered_high bound low (inside x block rest) high o =
       omega (arith, ordered_high bound low block x o.0, ordered_high (x ∷ bound) (x + 1) rest high o.1)
 
-  arms_high : (bound : List ℕ) (low : ℕ) (arms : Arms) (high : ℕ) → OrderedArms bound low arms high → low ≤ high
+  pub arms_high : (bound : List ℕ) (low : ℕ) (arms : Arms) (high : ℕ) → OrderedArms bound low arms high → low ≤ high
   arms_high bound low no_arm high o = o
   arms_high bound low (arm pattern body rest) high o =
       omega (arith, ordered_high bound low body o.0 o.1, arms_high bound o.0 rest high o.2)

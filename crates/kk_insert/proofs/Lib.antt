@@ -14,3 +14,7 @@ pub mod Calling
 pub mod Computing
 pub mod Simulating
 pub mod Typed
+pub mod Marked
+pub mod TypeMarks
+pub mod TypedMarks
+pub mod MarkedPrograms

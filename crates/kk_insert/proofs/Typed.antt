@@ -20,7 +20,7 @@ same_length facts (x ∷ xs) [] have = absurd have
 same_length facts (x ∷ xs) (t ∷ ts) have = ap suc (same_length facts xs ts have.1)
 
 -- a function and its signature
-signature_there : (table : Table) (functions : List FunctionCode) (signatures : List Signature) (f : ℕ) (function : FunctionCode)
+pub signature_there : (table : Table) (functions : List FunctionCode) (signatures : List Signature) (f : ℕ) (function : FunctionCode)
     → AreCodesTyped table functions signatures → slice_get functions f ≡ Some function
     → (signature : Signature) × ((slice_get signatures f ≡ Some signature) × IsCodeTyped table function signature)
 signature_there table [] signatures f function typed there = absurd (cc)
@@ -34,7 +34,7 @@ signature_there table (first ∷ functions) (signature ∷ signatures) zero func
 signature_there table (first ∷ functions) (signature ∷ signatures) (suc f) function typed there =
     signature_there table functions signatures f function typed.1 there
 
-function_there : (table : Table) (functions : List FunctionCode) (signatures : List Signature) (f : ℕ) (signature : Signature)
+pub function_there : (table : Table) (functions : List FunctionCode) (signatures : List Signature) (f : ℕ) (signature : Signature)
     → AreCodesTyped table functions signatures → slice_get signatures f ≡ Some signature
     → (function : FunctionCode) × ((slice_get functions f ≡ Some function) × (function.parameters ≡ length signature.parameters))
 function_there table [] [] f signature typed there = absurd (cc)

@@ -1,3 +1,4 @@
 pub mod Insertion
+pub mod MarkTables
 pub mod Meaning
 pub mod Promise

@@ -1,13 +1,19 @@
-ghost use Rattle.std.specs.Prelude.{ℕ, List};
+ghost use Rattle.std.specs.Prelude.{◌≡◌, ℕ, Bool, List};
 ghost use Rattle.kk_syntax.specs.PositionsOf.{PositionTable};
-ghost use Rattle.kk_syntax.specs.Programs.{ConstructorTree};
-ghost use Rattle.kk_syntax.specs.GroundTyping.{Table};
+ghost use Rattle.kk_syntax.specs.Programs.{ConstructorTree, ProgramTree};
+ghost use Rattle.kk_syntax.specs.GroundTyping.{Table, table_of};
+ghost use Rattle.kk_syntax.specs.GroundPrograms.{ground_program};
+ghost use Rattle.kk_syntax.specs.declared.ground.Ground.{Ground};
+ghost use Rattle.kk_core.specs.CellTypes.{TellsCells};
+ghost use Rattle.kk_core.specs.declared.form.Core.{Core};
 ghost use Rattle.kk_core.specs.Codes.{ProgramCode};
 ghost use Rattle.kk_core.specs.CoreStates.{CoreSetting, CoreState};
 ghost use Rattle.kk_core.specs.CoreTyping.{IsCoreTyped, IsSmall};
 ghost use Rattle.kk_core.specs.NeverStuck.{NeverStuck};
+ghost use Rattle.kk_counted.specs.Marks.{AreMarked};
 ghost use Rattle.kk_counted.specs.Spending.{IsSpent};
 ghost use Rattle.kk_insert.specs.Insertion.{inserted};
+ghost use Rattle.kk_insert.specs.MarkTables.{marks_of_types, marks_of_core, AreGround};
 ghost use Rattle.kk_insert.specs.Meaning.{KeepsMeaning, FindsAsMany};
 ghost use Rattle.kk_insert.specs.Promise.{IsInsertable, TailsLendOn};
 
@@ -41,4 +47,16 @@ pub fn counted_cells_are_the_live_places()
         → IsInsertable setting.positions setting.code
         → NeverStuck constructors weight setting input
         → FindsAsMany setting input }
+{}
+
+/// The insertion of a typed program of ground types is marked: a variable is marked exactly where its type has cells. So no
+/// variable that is left unmarked ever names a cell. The marks that a core form tells are those of its types. It is a law,
+/// and does nothing.
+pub fn typed_code_is_marked()
+    ensures marked { (positions : PositionTable) (table : Table) (code : ProgramCode)
+        → IsCoreTyped table code → AreGround table.constructors
+        → (holds : ℕ → ℕ → Bool) × AreMarked (marks_of_types table) holds (inserted positions code) }
+    ensures tables { (program : ProgramTree) (core : Core) → TellsCells program core
+        → marks_of_core core ≡ marks_of_types (table_of program) }
+    ensures ground { (given : Ground) → AreGround (ground_program given).constructors }
 {}

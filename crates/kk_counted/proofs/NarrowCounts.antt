@@ -1,0 +1,45 @@
+-- In each state of a run each count is narrow.
+use Rattle.std.proofs.Common.{◌≡◌, ℕ, ◌+◌, ◌*◌, ◌^◌, ◌≤◌, ◌<◌, Bool, List, length, arith}
+use Rattle.std.proofs.Math.Nat.{mul-le-mul_left, mul-le-mul_right}
+use Rattle.kk_syntax.specs.PositionsOf.{PositionTable}
+use Rattle.kk_source.specs.State.{Environment}
+use Rattle.kk_counted.proofs.CountSteps.{always_bounded}
+use Rattle.kk_counted.proofs.Marking.{always_fit}
+use Rattle.kk_counted.proofs.OwnedBounds.{count_few}
+use Rattle.kk_counted.proofs.SoundRuns.{keeps_sound}
+use Rattle.kk_counted.specs.CountBounds.{AllSpendAtMost}
+use Rattle.kk_counted.specs.CountedCodes.{Counted}
+use Rattle.kk_counted.specs.CountedStates.{CountedSetting, CountedJoin, CountedState, running}
+use Rattle.kk_counted.specs.Heaps.{count_at}
+use Rattle.kk_counted.specs.Keeping.{FitsAlways, counted_after}
+use Rattle.kk_counted.specs.Marks.{CellMarks, field_marks, AreMarked}
+use Rattle.kk_counted.specs.Spending.{IsSpent}
+
+pub counts_few : (positions : PositionTable) (marks : CellMarks) (holds : ℕ → ℕ → Bool) (setting : CountedSetting)
+    (weight : CountedState → ℕ) (input : List ℕ) (most fields : ℕ) → IsSpent positions setting.program
+    → FitsAlways weight setting input → AreMarked marks holds setting.program → AllSpendAtMost setting.program most
+    → ((c : ℕ) → length (field_marks marks c) ≤ fields) → 1 ≤ setting.depth
+    → (n : ℕ) (code : Counted) (environment : Environment) (joins : List CountedJoin)
+    → (counted_after weight setting input n).control ≡ running code environment joins
+    → (at : ℕ) → count_at (counted_after weight setting input n).heap at ≤ setting.depth * most + fields * setting.cells
+counts_few positions marks holds setting weight input most fields spent fits marked spends few deep n code environment joins here at =
+    count_few positions setting marks most fields few (counted_after weight setting input n) code environment joins
+    (keeps_sound positions setting weight input spent fits n)
+    (always_bounded setting most spends deep spent.main.0 spent.main.1.0 weight input n)
+    (always_fit marks holds setting marked weight input n).0 here at
+
+pub counts_narrow : (positions : PositionTable) (marks : CellMarks) (holds : ℕ → ℕ → Bool) (setting : CountedSetting)
+    (weight : CountedState → ℕ) (input : List ℕ) (most : ℕ) → IsSpent positions setting.program
+    → FitsAlways weight setting input → AreMarked marks holds setting.program → AllSpendAtMost setting.program most → most ≤ 65000
+    → ((c : ℕ) → length (field_marks marks c) ≤ 6) → 1 ≤ setting.depth → setting.depth ≤ 65536 → setting.cells ≤ 1048576
+    → (n : ℕ) (code : Counted) (environment : Environment) (joins : List CountedJoin)
+    → (counted_after weight setting input n).control ≡ running code environment joins
+    → (at : ℕ) → count_at (counted_after weight setting input n).heap at + 1 < 2 ^ 32
+counts_narrow positions marks holds setting weight input most spent fits marked spends small few deep shallow cells n code environment joins here at =
+    omega (
+      arith,
+      counts_few positions marks holds setting weight input most 6 spent fits marked spends few deep n code environment joins here at,
+      mul-le-mul_right most shallow,
+      mul-le-mul_left 65536 small,
+      cells,
+    )
