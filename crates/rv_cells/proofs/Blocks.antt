@@ -58,7 +58,8 @@ module _ (program : Lowering) where
       → (IsFitFrom program next → Follow program ((upper program).weight s) (saved s.machine.heap) idle (events, next) t)
       → Does idle s t
   does_by idle s next events t is fit follows =
-      subst (λ (to : List Event × CountedState). Follow program ((upper program).weight s) (saved s.machine.heap) idle to t) (sym is)
+      subst (λ (to : List Event × CountedState). Follow program ((upper program).weight s) (saved s.machine.heap) idle to t)
+          (sym is)
       (follows (subst (λ (to : List Event × CountedState). IsFitFrom program to.1) is (λ n. fit (suc n))))
 
   -- ---- the value of a code
@@ -100,16 +101,19 @@ module _ (program : Lowering) where
         let runs : Runs (target program) ((m + 2) + ((m + 2) + (m + 0))) (1 + (1 + 1)) t0 t3
         = runs_then (target program) (m + 2) ((m + 2) + (m + 0)) 1 (1 + 1) t0 t1 t3 first
         (runs_then (target program) (m + 2) (m + 0) 1 1 t1 t2 t3 second third) in
-        let fits : FitsField (holds y) given_value = subst (λ b. FitsField b given_value) (placed.marked.1 ∙ sym j.kind) (here.values.fits x bound) in
+        let fits : FitsField (holds y) given_value = subst (λ b. FitsField b given_value) (placed.marked.1 ∙ sym j.kind)
+            (here.values.fits x bound) in
         let to : Spot = record s {
           bound = y ∷ j.older;
           environment = record { variable = y; value = given_value } ∷ s.environment;
           frame = f;
         } in
-        subst (λ ls. Does idle (counted_at (give x) s.environment (join ∷ outer) frames s.heap input) (turn_of ls s.frame fs s.world))
+        subst (λ ls. Does idle (counted_at (give x) s.environment (join ∷ outer) frames s.heap input)
+            (turn_of ls s.frame fs s.world))
         (sym is)
         (by_lines program (1 + (1 + 1)) ((m + 2) + ((m + 2) + (m + 0))) (3 * m + 4) (saved s.heap) idle
-        (counted_at join.rest (record { variable = join.variable; value = given_value } ∷ s.environment) outer frames s.heap input) t0 t3 runs
+        (counted_at join.rest (record { variable = join.variable; value = given_value } ∷ s.environment) outer frames s.heap input)
+            t0 t3 runs
         (omega arith) (let few = j.placed.short in omega arith) (λ n. fit (suc n))
         (record {
           spot = to;
@@ -175,7 +179,8 @@ module _ (program : Lowering) where
         let g = record f { cells = values } in
         let t0 = turn_of (acts Return (x ∷ []) ∷ placed.after) s.frame (f ∷ fs) s.world in
         let t1 = turn_of f.code g fs s.world in
-        let gets : received f.into (Some given_word) f.cells ≡ Some values = ap (λ o. received o (Some given_word) f.cells) w.into in
+        let gets : received f.into (Some given_word) f.cells
+            ≡ Some values = ap (λ o. received o (Some given_word) f.cells) w.into in
         let fits : FitsField (w.holds waiting.variable) given_value
         = subst (λ b. FitsField b given_value) (placed.marked.1 ∙ same ∙ sym w.kind) (here.values.fits x bound) in
         let to : Spot = record s {
@@ -186,7 +191,8 @@ module _ (program : Lowering) where
         subst (λ ls. Does idle (counted_at (give x) s.environment [] (waiting ∷ frames) s.heap input)
         (turn_of ls s.frame (f ∷ fs) s.world)) (sym is)
         (by_lines program 1 (m + 3) (3 * m + 4) (saved s.heap) idle
-        (counted_at waiting.rest (record { variable = waiting.variable; value = given_value } ∷ waiting.environment) waiting.joins frames s.heap
+        (counted_at waiting.rest (record { variable = waiting.variable; value = given_value } ∷ waiting.environment) waiting.joins
+            frames s.heap
         input) t0 t1
         (return_runs (target program) s.frame f fs s.world placed.after x given_word values (here.values.words x bound) held gets)
         (omega arith) (let few = w.placed.short in omega (arith, some)) (λ n. fit (suc n))
@@ -234,7 +240,8 @@ module _ (program : Lowering) where
       → IsFitFrom program (counted_at (give x) s.environment inner frames s.heap input)
       → Does idle (counted_at (give x) s.environment inner frames s.heap input) (turn_of left s.frame fs s.world)
   at_give x idle inner frames input s fs left some at fit =
-      by_goal x idle s at.holds at.base at.result at.given left input at.here at.none at.held at.formed at.input_is at.bytes some at.goal
+      by_goal x idle s at.holds at.base at.result at.given left input at.here at.none at.held at.formed at.input_is at.bytes some
+          at.goal
       inner frames fs at.placed at.continues at.waits fit
 
   -- ---- blocks inside
@@ -363,7 +370,8 @@ module _ (program : Lowering) where
 
     -- the frame behind the copies of the test
     abbrev tested : Frame Line
-    tested = put_in (at.base + 1) (constant_word 1) (put_in at.base (word_in program.layout s.address (value_of s.environment x)) s.frame)
+    tested = put_in (at.base + 1) (constant_word 1) (put_in at.base
+        (word_in program.layout s.address (value_of s.environment x)) s.frame)
 
     abbrev branching : List Line
     branching = acts (Branch NotEqual at.placed.low) (at.base ∷ (at.base + 1) ∷ []) ∷ behind
@@ -398,12 +406,14 @@ module _ (program : Lowering) where
         → cost ≤ 4 * program.moves + 7 → suc (forms code) ≤ idle
         → (upper program).step (counted_at (branch x positive negative) s.environment inner frames s.heap input)
         ≡ ([], counted_at code s.environment inner frames s.heap input)
-        → Does idle (counted_at (branch x positive negative) s.environment inner frames s.heap input) (turn_of left s.frame fs s.world)
+        → Does idle (counted_at (branch x positive negative) s.environment inner frames s.heap input)
+            (turn_of left s.frame fs s.world)
     side code there n cost placed runs cheap few is =
         does_by idle (counted_at (branch x positive negative) s.environment inner frames s.heap input)
         (counted_at code s.environment inner frames s.heap input) [] (turn_of left s.frame fs s.world) is fit
         (λ later. by_lines program n cost (4 * program.moves + 7) (saved s.heap) idle
-        (counted_at code s.environment inner frames s.heap input) (turn_of left s.frame fs s.world) (turn_of there tested fs s.world)
+        (counted_at code s.environment inner frames s.heap input) (turn_of left s.frame fs s.world)
+            (turn_of there tested fs s.world)
         runs (omega (arith, cheap)) (omega (arith, few)) later
         (record {
           spot = to;
@@ -431,13 +441,15 @@ module _ (program : Lowering) where
         }))
 
     by_truth : (b : Bool) → value_of s.environment x ≡ truth b
-        → Does idle (counted_at (branch x positive negative) s.environment inner frames s.heap input) (turn_of left s.frame fs s.world)
+        → Does idle (counted_at (branch x positive negative) s.environment inner frames s.heap input)
+            (turn_of left s.frame fs s.world)
     by_truth true is =
         let m = program.moves in
         let few = at.placed.short in
         let word_is : word ≡ 3
         = ap (word_in program.layout s.address) is ∙ ap (λ t. 2 * t + 1) program.truth_is in
-        let falls = falls_runs (target program) behind tested fs s.world NotEqual low base (base + 1) word (constant_word 1) first_word
+        let falls = falls_runs (target program) behind tested fs s.world NotEqual low base (base + 1) word
+            (constant_word 1) first_word
         second_word (ap (λ w. not (nat_eq w 3)) word_is) in
         let runs = runs_then (target program) ((m + 2) + (m + 2)) (m + 3) (1 + 1) 1 (turn_of (test ++ behind) s.frame fs s.world)
         (turn_of branching tested fs s.world) (turn_of behind tested fs s.world) copied falls in
@@ -487,7 +499,8 @@ module _ (program : Lowering) where
           numbered = at.placed.numbered.1;
           short = omega arith;
         })
-        (subst (λ ls. Runs (target program) ((m + 2) + (m + 2) + ((m + 3) + (m + 0))) (1 + 1 + (1 + 1)) (turn_of ls s.frame fs s.world)
+        (subst (λ ls. Runs (target program) ((m + 2) + (m + 2) + ((m + 3) + (m + 0))) (1 + 1 + (1 + 1))
+            (turn_of ls s.frame fs s.world)
         (turn_of there tested fs s.world)) (sym (left_parts ∙ append_assoc test (yes ++ (label ∷ no)) at.placed.after)) runs)
         (omega arith) (omega (arith, idle_is))
         (ap (λ (v : Value). ([], counted_at (if is_true v then positive else negative) s.environment inner frames s.heap input)) is)

@@ -73,7 +73,8 @@ word_wraps z = refl
 
 pub word_signed : (a : ℕ) → a < 2 ^ 32 → word_of (signed a) ≡ a
 word_signed a fits =
-    same_word (word_of (signed a)) a (word_fits (signed a)) fits (word_wraps (signed a) ∙ int_wrap_fits w32 (signed a) (signed_fits a fits))
+    same_word (word_of (signed a)) a (word_fits (signed a)) fits
+        (word_wraps (signed a) ∙ int_wrap_fits w32 (signed a) (signed_fits a fits))
 
 -- values of other words of the same variables
 pub has_same : {layout : Layout} {address : ℕ → ℕ} {holds : ℕ → Bool} {base next : ℕ} {bound : List ℕ} {environment : Environment}
@@ -120,7 +121,8 @@ module _ (program : Lowering) where
             apart = apart_above x (a ∷ more) s.bound at.placed.numbered.1.0 all;
             holds = at.placed.marked.1.0.1;
             fits = subst (λ marks. FitFields marks (values_of s.environment (a ∷ more))) (sym (program.fields_are c))
-                (arguments_fit program s at.holds at.base at.here (a ∷ more) (field_marks program.marks c) all at.placed.marked.1.0.0);
+                (arguments_fit program s at.holds at.base at.here (a ∷ more)
+                    (field_marks program.marks c) all at.placed.marked.1.0.0);
             older = (fit 0).sound.older;
             none = at.none;
           }
@@ -134,7 +136,8 @@ module _ (program : Lowering) where
       by_room false test =
           let p = at.placed in
           let few = p.short in
-          let steps = construct_steps (known_of program at.holds at.base) (setting program) (texts program) at.goal p.low p.high x c a
+          let steps = construct_steps (known_of program at.holds at.base) (setting program)
+              (texts program) at.goal p.low p.high x c a
           more rest inner m p.own p.after fs s at.here making p.lines refl test in
           goes_on program (compute x (Construct c) (a ∷ more) rest) rest idle inner frames input s fs left at fit
           (5 * program.moves + 18 + row_cost (a ∷ more) (program.moves + 2) + (52 + 8 * length (a ∷ more))) (builds (busy s.heap))
@@ -143,7 +146,8 @@ module _ (program : Lowering) where
           (within_itself (x ∷ s.bound)) (within_one x s.bound) p.marked.1.1 p.numbered.1.1
       by_room true test =
           let p = at.placed in
-          let st : CountedState = counted_at program (compute x (Construct c) (a ∷ more) rest) s.environment inner frames s.heap input in
+          let st : CountedState = counted_at program (compute x (Construct c) (a ∷ more) rest) s.environment inner frames s.heap
+              input in
           let made : CountedConfiguration = record (bound_then x (place (length s.heap)) rest s.environment inner m) {
             heap = record { count = 1; cell = record { made_by = c; fields = values_of s.environment (a ∷ more) } } ∷ s.heap;
           } in
@@ -196,38 +200,35 @@ module _ (program : Lowering) where
   -- the word of a value of a type, which holds no cell
   word_follows : (address : ℕ → ℕ) (next : ℕ) (t : TypeTree) (v : Value) (word : ℕ) → IsWordOf t v word
       → (word_in program.layout address v ≡ word) × FitsField false v × Within next v
-  word_follows address next int32 v word is =
-      (
-        ap (word_in program.layout address) is.0 ∙ word_signed word is.1,
-        subst (FitsField false) (sym is.0) tt,
-        subst (Within next) (sym is.0) tt,
-      )
-  word_follows address next unit_type v word is =
-      (
-        ap (word_in program.layout address) is.0 ∙ sym is.1,
-        subst (FitsField false) (sym is.0) tt,
-        subst (Within next) (sym is.0) tt,
-      )
+  word_follows address next int32 v word is = (
+    ap (word_in program.layout address) is.0 ∙ word_signed word is.1,
+    subst (FitsField false) (sym is.0) tt,
+    subst (Within next) (sym is.0) tt,
+  )
+  word_follows address next unit_type v word is = (
+    ap (word_in program.layout address) is.0 ∙ sym is.1,
+    subst (FitsField false) (sym is.0) tt,
+    subst (Within next) (sym is.0) tt,
+  )
   word_follows address next (type_variable of) v word is = absurd is
   word_follows address next (named by arguments) v word is = by_truth is.0 is.1 is.2
     where
       by_truth : (b : Bool) → v ≡ truth b → word ≡ truth_word b
           → (word_in program.layout address v ≡ word) × FitsField false v × Within next v
-      by_truth true v_is word_is =
-          (
-            ap (word_in program.layout address) v_is ∙ ap (λ t. 2 * t + 1) program.truth_is ∙ sym word_is,
-            subst (FitsField false) (sym v_is) tt,
-            subst (Within next) (sym v_is) tt,
-          )
-      by_truth false v_is word_is =
-          (
-            ap (word_in program.layout address) v_is ∙ ap (λ t. 2 * t + 1) program.falsity ∙ sym word_is,
-            subst (FitsField false) (sym v_is) tt,
-            subst (Within next) (sym v_is) tt,
-          )
+      by_truth true v_is word_is = (
+        ap (word_in program.layout address) v_is ∙ ap (λ t. 2 * t + 1) program.truth_is ∙ sym word_is,
+        subst (FitsField false) (sym v_is) tt,
+        subst (Within next) (sym v_is) tt,
+      )
+      by_truth false v_is word_is = (
+        ap (word_in program.layout address) v_is ∙ ap (λ t. 2 * t + 1) program.falsity ∙ sym word_is,
+        subst (FitsField false) (sym v_is) tt,
+        subst (Within next) (sym v_is) tt,
+      )
 
   module _ (x idle : ℕ) (form : Form) (arguments : List ℕ) (rest : Counted) (inner : List CountedJoin) (frames : List CountedFrame)
-      (input : List ℕ) (s : Spot) (fs : List (Frame Line)) (left : List Line) (idle_is : idle ≡ forms (compute x form arguments rest))
+      (input : List ℕ) (s : Spot) (fs : List (Frame Line)) (left : List Line)
+          (idle_is : idle ≡ forms (compute x form arguments rest))
       (at : At program (compute x form arguments rest) inner frames input s fs left)
       (fit : IsFitFrom program (counted_at program (compute x form arguments rest) s.environment inner frames s.heap input)) where
     abbrev pub form_state : CountedState
@@ -265,7 +266,8 @@ module _ (program : Lowering) where
         = turns_are form_rest f fs world at.held in
         let ran : NumberRuns.Runs numbers_target n events (turn_of left s.frame fs s.world) (turn_of form_rest f fs world)
         = subst (λ u. NumberRuns.Runs numbers_target n events (turn_of left s.frame fs s.world) u) last
-        (subst (λ t. NumberRuns.Runs numbers_target n events t (turn_at s.frame.whole form_rest cells s.frame.into fs world)) first run) in
+        (subst (λ t. NumberRuns.Runs numbers_target n events t (turn_at s.frame.whole form_rest cells s.frame.into fs world)) first
+            run) in
         let place : s.frame.whole ≡ (p.before ++ form_own) ++ form_rest
         = p.place ∙ ap (λ ls. p.before ++ ls) parts ∙ sym (append_assoc p.before form_own form_rest) in
         let values = has_same (has_bound at.here.values x v p.numbered.0 fits within) cells
@@ -276,7 +278,8 @@ module _ (program : Lowering) where
               kept z low ∙ sym (put_other x z w s.frame.cells (λ e. omega (arith, e, low)))
         ]) in
         does_by program idle form_state next events (turn_of left s.frame fs s.world) is fit
-        (λ later. arrives program n (10 * line_cost program.moves) ((upper program).weight form_state) (saved s.heap) idle events next
+        (λ later. arrives program n (10 * line_cost program.moves) ((upper program).weight form_state)
+            (saved s.heap) idle events next
         (turn_of left s.frame fs s.world) (turn_of form_rest f fs world)
         (omega (arith, ran.within, mul-le-mul_right (line_cost program.moves) few)) ran.events_are ran.passes ran.arrives
         (omega arith) (omega (arith, idle_is)) later
@@ -312,7 +315,8 @@ module _ (program : Lowering) where
               short = omega arith;
             };
             here = record {
-              follows = subst (λ c. Follows program.pool program.layout s.address s.owners s.heap c) (sym cells_are) at.here.follows;
+              follows = subst (λ c. Follows program.pool program.layout s.address s.owners s.heap c)
+                  (sym cells_are) at.here.follows;
               values = values;
             };
             none = at.none;
@@ -371,9 +375,12 @@ module _ (program : Lowering) where
   reads : (x : ℕ) (arguments : List ℕ) (rest : Counted) (environment : Environment) (inner : List CountedJoin)
       (frames : List CountedFrame) (heap : Heap) (input : List ℕ)
       → (upper program).step (counted_at program (compute x ReadByte arguments rest) environment inner frames heap input)
-      ≡ (Performing.read_events numbers_target input,
-      counted_at program rest (record { variable = x; value = byte_value (Performing.got numbers_target input) } ∷ environment) inner
-      frames heap (Performing.left_behind numbers_target input))
+      ≡ (
+        Performing.read_events numbers_target input,
+        counted_at program rest (record { variable = x; value = byte_value (Performing.got numbers_target input) } ∷ environment)
+            inner
+            frames heap (Performing.left_behind numbers_target input),
+      )
   reads x arguments rest environment inner frames heap [] = refl
   reads x arguments rest environment inner frames heap (byte ∷ bytes) = refl
 
@@ -386,8 +393,10 @@ module _ (program : Lowering) where
   at_plain x (Number n) arguments plain idle rest inner frames input s fs left idle_is at fit =
       let own = at.placed.lines.0 in
       let lines = at.placed.lines.2 in
-      performed_value x idle (Number n) arguments rest inner frames input s fs left idle_is at fit int32 (integer n) [] s.world input
-      (Performing.sets_performs numbers_target x lines.0 int32 (integer n) own s.frame.cells s.world (ap integer (sym lines.1), lines.2)
+      performed_value x idle (Number n) arguments rest inner frames input s fs left idle_is at fit int32
+          (integer n) [] s.world input
+      (Performing.sets_performs numbers_target x lines.0 int32 (integer n) own s.frame.cells s.world
+          (ap integer (sym lines.1), lines.2)
       lines.3) at.placed.marked.1.0.1 refl at.input_is refl at.bytes
   at_plain x Nothing arguments plain idle rest inner frames input s fs left idle_is at fit =
       performed_value x idle Nothing arguments rest inner frames input s fs left idle_is at fit unit_type unit [] s.world input
@@ -397,14 +406,17 @@ module _ (program : Lowering) where
       performed_value x idle ReadByte arguments rest inner frames input s fs left idle_is at fit int32
       (byte_value (Performing.got numbers_target input)) (Performing.read_events numbers_target input)
       (Performing.world_behind numbers_target input s.world) (Performing.left_behind numbers_target input)
-      (Performing.read_performs numbers_target x input at.placed.lines.0 s.frame.cells s.world at.input_is at.bytes at.placed.lines.2)
-      at.placed.marked.1.0.1 (reads x arguments rest s.environment inner frames s.heap input) refl refl (bytes_behind input at.bytes)
+      (Performing.read_performs numbers_target x input at.placed.lines.0 s.frame.cells s.world at.input_is at.bytes
+          at.placed.lines.2)
+      at.placed.marked.1.0.1 (reads x arguments rest s.environment inner frames s.heap input) refl refl
+          (bytes_behind input at.bytes)
   at_plain x (PrintText how text) arguments plain idle rest inner frames input s fs left idle_is at fit =
       let piece : List ℕ = piece_of how (text_at program.code.texts text) in
       let lines = at.placed.lines.2 in
       let to : CountedConfiguration
       = (counted_at program rest (record { variable = x; value = unit } ∷ s.environment) inner frames s.heap input).machine in
-      performed_value x idle (PrintText how text) arguments rest inner frames input s fs left idle_is at fit unit_type unit (put_of piece)
+      performed_value x idle (PrintText how text) arguments rest inner frames input s fs left idle_is at fit unit_type unit
+          (put_of piece)
       (told_more (put_of piece) s.world) input
       (Performing.print_text_performs numbers_target at.base x piece lines.0 at.placed.lines.0 s.frame.cells s.world
       at.placed.numbered.0 lines.1 lines.2) at.placed.marked.1.0.1 (print_is piece to input) at.input_is refl at.bytes
@@ -455,9 +467,11 @@ module _ (program : Lowering) where
       performed_value x idle (Binary operator) (a ∷ b ∷ []) rest inner frames input s fs left idle_is at fit (binary_type operator)
       (binary_result operator (value_of s.environment a) (value_of s.environment b)) [] s.world input
       (subst (λ v. Performing.Performs numbers_target p.lines.0 x (binary_type operator) v s.frame.cells s.world s.world []) same
-      (Performing.binary_performs numbers_target at.base x operator a b first.0 second.0 p.lines.0 s.frame.cells s.world p.numbered.0
+      (Performing.binary_performs numbers_target at.base x operator a b first.0 second.0 p.lines.0 s.frame.cells s.world
+          p.numbered.0
       (below_among x s.bound a p.numbered.1.0 bound_a) (below_among x s.bound b p.numbered.1.0 bound_b)
-      (number_word s at.holds at.base a at.here bound_a first) (number_word s at.holds at.base b at.here bound_b second) first.2 second.2
+      (number_word s at.holds at.base a at.here bound_a first)
+          (number_word s at.holds at.base b at.here bound_b second) first.2 second.2
       p.lines.2))
       p.marked.1.0.1 refl at.input_is refl at.bytes
   at_plain x (Print how) [] plain idle rest inner frames input s fs left idle_is at fit = absurd (fit 0).fits
@@ -489,7 +503,8 @@ module _ (program : Lowering) where
       (subst (λ own. NumberRuns.Runs numbers_target 1 []
       (turn_at s.frame.whole (own ++ (p.lines.1 ++ p.after)) s.frame.cells s.frame.into fs s.world)
       (turn_at s.frame.whole (p.lines.1 ++ p.after) (put x (Some word) s.frame.cells) s.frame.into fs s.world)) (sym p.lines.2)
-      (NumberRuns.compute_runs numbers_target s.frame.whole (Op.Li word) [] x (p.lines.1 ++ p.after) s.frame.cells s.frame.into fs s.world
+      (NumberRuns.compute_runs numbers_target s.frame.whole (Op.Li word) [] x
+          (p.lines.1 ++ p.after) s.frame.cells s.frame.into fs s.world
       [] word refl refl))
       (λ z less. put_other x z word s.frame.cells (λ e. omega (arith, e, less))) (put_same x word s.frame.cells)
       (fits_constant (at.holds x) c) tt refl at.input_is refl at.bytes

@@ -67,7 +67,8 @@ node_at layout base nodes arms x k (suc j) (one ∷ more) lines node are is =
       before = head ++ later.before;
       first = later.first;
       rest = later.rest;
-      is = are.4 ∙ ap (λ ls. head ++ ls) (later.is ∙ ap (λ l. later.before ++ (acts (Label l) [] ∷ (later.first ++ later.rest))) there)
+      is = are.4 ∙ ap (λ ls. head ++ ls) (later.is ∙ ap (λ l. later.before ++ (acts (Label l) [] ∷ (later.first ++ later.rest)))
+          there)
           ∙ sym (append_assoc head later.before (acts (Label (nodes + (k + suc j))) [] ∷ (later.first ++ later.rest)));
       node_lines = later.node_lines;
     }
@@ -116,7 +117,8 @@ arm_stands setting goal label low high (suc row) (arm one more) lines body are i
       rest = later.rest;
       low = later.low;
       high = later.high;
-      is = are.5 ∙ ap (λ ls. head ++ ls) (later.is ∙ ap (λ l. later.before ++ (acts (Label l) [] ∷ (later.first ++ later.rest))) there)
+      is = are.5 ∙ ap (λ ls. head ++ ls) (later.is ∙ ap (λ l. later.before ++ (acts (Label l) [] ∷ (later.first ++ later.rest)))
+          there)
           ∙ sym (append_assoc head later.before (acts (Label (label + suc row)) [] ∷ (later.first ++ later.rest)));
       code = later.code;
     }
@@ -200,7 +202,8 @@ module _ (program : Lowering) (x idle : ℕ) (decisions : List NodeTree) (arms :
       ∙ ap (λ ls. at.placed.before ++ ls) (append_assoc stands.before inner_lines tail
       ∙ ap (λ ls. stands.before ++ (acts (Label (nodes + k)) [] ∷ ls)) (append_assoc stands.first stands.rest tail))
       ∙ sym (append_assoc at.placed.before stands.before (node_from k node stands)) in
-      finds program (nodes + k) s.frame.whole (at.placed.before ++ stands.before) (stands.first ++ (stands.rest ++ tail)) at.formed place
+      finds program (nodes + k) s.frame.whole (at.placed.before ++ stands.before)
+          (stands.first ++ (stands.rest ++ tail)) at.formed place
 
   stands_of : (k : ℕ) (node : NodeTree) → slice_get decisions k ≡ Some node → StandsAt k node
   stands_of k node is =
@@ -256,7 +259,8 @@ module _ (program : Lowering) (x idle : ℕ) (decisions : List NodeTree) (arms :
       let m = program.moves in
       let behind = chosen_from (cell_at s.heap) v decisions steps in
       let row_by = sym (ap (row_at (cell_at s.heap) v behind) is) ∙ row_is in
-      let first = then_some (found_at (cell_at s.heap) way v) (λ found. and_then (next_by edges otherwise found) behind) row row_by in
+      let first = then_some (found_at (cell_at s.heap) way v)
+          (λ found. and_then (next_by edges otherwise found) behind) row row_by in
       let found = first.0 in
       let value = then_some (value_at (cell_at s.heap) way v) (answer_of (cell_at s.heap)) found first.1 in
       let next = then_some (next_by edges otherwise found) behind row first.2 in
@@ -278,14 +282,16 @@ module _ (program : Lowering) (x idle : ℕ) (decisions : List NodeTree) (arms :
         kept = λ z less. refl;
       } in
       let test = tests_lead known s fs at.here at.base nodes edges otherwise found next.0 rest goal
-      (node_found next.0 later.0 stands_later) next.1 it.1.0 low x way v value.0 stands.first values stands.node_lines has value.1 value.2
+      (node_found next.0 later.0 stands_later) next.1 it.1.0 low x way v value.0 stands.first values stands.node_lines has value.1
+          value.2
       it.0 in
       let below = at.here.values.below x at.placed.marked.0 in
       let onward = node_leads steps next.0 row later.0 stands_later there test.later later.1 next.2 (it.1.1 next.0 next.1) found_arm
       (test.kept x below ∙ has) in
       let cheap = cost_within m k decisions (tests way edges otherwise) is in
       let rest_cost = decisions_cost m steps each in
-      leads_more known s fs at.here at.base at.base ((m + 0) + (cost + rest_cost)) (decisions_cost m (suc steps) each) from there values
+      leads_more known s fs at.here at.base at.base ((m + 0) + (cost + rest_cost))
+          (decisions_cost m (suc steps) each) from there values
       (omega (arith, cheap)) (omega arith)
       (leads_then known s fs at.here at.base (m + 0) (cost + rest_cost) from (stands.first ++ rest) there values label
       (leads_then known s fs at.here at.base cost rest_cost (stands.first ++ rest) goal there values test onward))
@@ -304,14 +310,14 @@ module _ (program : Lowering) (x idle : ℕ) (decisions : List NodeTree) (arms :
     where
       starts : (some : List NodeTree) → NodesLines program.layout at.base at.placed.lines.2 at.placed.low x 0 some at.placed.lines.0
           → (node : NodeTree) → slice_get some 0 ≡ Some node
-          → (stands : NodeAt program.layout at.base at.placed.lines.2 at.placed.low x (at.placed.lines.2 + 0) node at.placed.lines.0)
+          → (stands : NodeAt program.layout at.base at.placed.lines.2 at.placed.low x
+              (at.placed.lines.2 + 0) node at.placed.lines.0)
           × (at.placed.lines.0 ++ (at.placed.lines.1 ++ at.placed.after)
           ≡ acts (Label (at.placed.lines.2 + 0)) [] ∷ (stands.first ++ (stands.rest ++ (at.placed.lines.1 ++ at.placed.after))))
       starts [] are node is = cc
       starts (one ∷ more) are node is =
           let same : one ≡ node = cc is in
-          let behind = at.placed.lines.1 ++ at.placed.after in
-          (
+          let behind = at.placed.lines.1 ++ at.placed.after in (
             record {
               before = [];
               first = are.0;
@@ -320,7 +326,7 @@ module _ (program : Lowering) (x idle : ℕ) (decisions : List NodeTree) (arms :
               node_lines = subst (λ n. NodeLines program.layout at.base at.placed.lines.2 at.placed.low x n are.0) same are.2;
             },
             ap (λ ls. ls ++ behind) are.4
-            ∙ ap (λ ls. acts (Label (at.placed.lines.2 + 0)) [] ∷ ls) (append_assoc are.0 are.1 behind),
+                ∙ ap (λ ls. acts (Label (at.placed.lines.2 + 0)) [] ∷ ls) (append_assoc are.0 are.1 behind),
           )
 
   pub at_case : Does program idle (counted_at program (case x decisions arms) s.environment inner frames s.heap input)

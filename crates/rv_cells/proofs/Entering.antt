@@ -146,13 +146,14 @@ module _ (program : Lowering) where
         let made = has_parameters program.layout s.address of.lowered.holds of.lowered.base (length s.heap) vs (omega arith)
         (λ i v is. (
           (let same : 0 + i ≡ i = omega arith in
-          subst (λ z. FitsField (of.lowered.holds z) v) same
-          (parameter_fits of.lowered.holds 0 n i (parameter_marks program.marks f) vs v of.marked.parameters_marked fits is)),
+              subst (λ z. FitsField (of.lowered.holds z) v) same
+              (parameter_fits of.lowered.holds 0 n i (parameter_marks program.marks f) vs v of.marked.parameters_marked fits is)),
           within_index (length s.heap) i vs v older is,
         )) in
         record {
           values = made.0;
-          is = ap (λ params. entry_bound params (words_in program.layout s.address vs)) (of.lowered.params ∙ ap (from_to 0) (sym many))
+          is = ap (λ params. entry_bound params (words_in program.layout s.address vs))
+              (of.lowered.params ∙ ap (from_to 0) (sym many))
               ∙ made.1;
           has = subst (λ k. HasValues program.layout s.address of.lowered.holds of.lowered.base (length s.heap) (numbers_from 0 k)
               (bind_parameters 0 vs []) made.0) many made.2;
@@ -166,7 +167,8 @@ module _ (program : Lowering) where
     }
 
     -- its body is at its lines
-    body_at : (there : slice_get program.functions f ≡ Some lines) (function_is : slice_get program.code.functions f ≡ Some function)
+    body_at : (there : slice_get program.functions f ≡ Some lines)
+        (function_is : slice_get program.code.functions f ≡ Some function)
         → (frames : List CountedFrame) (input : List ℕ) (fs : List (Frame Line))
         → NoneInHand s.owners → AllWait program s.address (length s.heap) frames fs (result_mark program.marks f)
         → s.world.left ≡ input → All (λ byte. byte < 256) input
@@ -203,7 +205,8 @@ module _ (program : Lowering) where
 
   -- ---- tail calls
 
-  pub at_tail : (f idle : ℕ) (arguments : List ℕ) (inner : List CountedJoin) (frames : List CountedFrame) (input : List ℕ) (s : Spot)
+  pub at_tail : (f idle : ℕ) (arguments : List ℕ) (inner : List CountedJoin) (frames : List CountedFrame) (input : List ℕ)
+      (s : Spot)
       (fs : List (Frame Line)) (left : List Line) → 1 ≤ idle → At program (tail_call f arguments) inner frames input s fs left
       → IsFitFrom program (counted_at program (tail_call f arguments) s.environment inner frames s.heap input)
       → Does program idle (counted_at program (tail_call f arguments) s.environment inner frames s.heap input)
@@ -238,7 +241,8 @@ module _ (program : Lowering) where
       let is : left ≡ copies at.base arguments ++ (line ∷ p.after)
       = p.left_is ∙ ap (λ own. own ++ p.after) p.lines.0 ∙ append_assoc (copies at.base arguments) (line ∷ []) p.after in
       let runs : Runs (target program) (row_cost arguments (m + 2) + (m + 2)) (length arguments + 1) t0 t2
-      = subst (λ ls. Runs (target program) (row_cost arguments (m + 2) + (m + 2)) (length arguments + 1) (turn_of ls s.frame fs s.world) t2)
+      = subst (λ ls. Runs (target program) (row_cost arguments (m + 2) + (m + 2)) (length arguments + 1)
+          (turn_of ls s.frame fs s.world) t2)
       (sym is)
       (runs_then (target program) (row_cost arguments (m + 2)) (m + 2) (length arguments) 1
       (turn_of (copies at.base arguments ++ (line ∷ p.after)) s.frame fs s.world) t1 t2 copied called) in
@@ -246,7 +250,8 @@ module _ (program : Lowering) where
       let paces : 1 * pace program ≤ (length arguments + 1) * pace program = mul-le-mul_right (pace program) (omega arith) in
       does_by program idle st next [] t0
       (ap (λ o. seen_action program (tail_step o vs st.machine) input) there.1) fit
-      (λ later. by_lines program (length arguments + 1) (row_cost arguments (m + 2) + (m + 2)) ((upper program).weight st) (saved s.heap)
+      (λ later. by_lines program (length arguments + 1) (row_cost arguments (m + 2) + (m + 2)) ((upper program).weight st)
+          (saved s.heap)
       idle next t0 t2 runs (omega arith) (omega (arith, some, few, paces)) later
       (record {
         spot = to;
@@ -278,7 +283,8 @@ module _ (program : Lowering) where
           let m = program.moves in
           let args : List Value = values_of s.environment arguments in
           let ws = words_in program.layout s.address args in
-          let start : CountedState = counted_at program (compute x (Call f) arguments rest) s.environment inner frames s.heap input in
+          let start : CountedState = counted_at program (compute x (Call f) arguments rest) s.environment inner frames s.heap input
+              in
           let waiting : CountedFrame = record { variable = x; rest = rest; joins = inner; environment = s.environment } in
           let all = all_among arguments s.bound p.marked.0 in
           let there = call_there program (slice_get program.code.functions f) args waiting start.machine input (fit 1).going in
@@ -304,7 +310,8 @@ module _ (program : Lowering) where
           ∙ append_assoc (copies at.base arguments ++ (line ∷ [])) p.lines.1 p.after
           ∙ append_assoc (copies at.base arguments) (line ∷ []) behind in
           let depth_is : nat_le program.depth (length (f1 ∷ fs)) ≡ full
-          = ap (λ n. nat_le program.depth (suc n)) (as_many_wait program s.address (length s.heap) frames fs at.result at.waits) ∙ test in
+          = ap (λ n. nat_le program.depth (suc n)) (as_many_wait program s.address (length s.heap) frames fs at.result at.waits)
+              ∙ test in
           let place : s.frame.whole ≡ (p.before ++ p.lines.0) ++ behind
           = split_at s.frame.whole p.before left p.lines.0 p.lines.1 p.after p.place
           (p.left_is ∙ ap (λ own. own ++ p.after) p.lines.4) in
@@ -336,7 +343,8 @@ module _ (program : Lowering) where
                 short = omega arith;
               };
               values = has_row at.here.values ws;
-              continues = continues_more program at.holds at.base at.result s.frame.whole inner at.goal at.given s.bound (x ∷ s.bound)
+              continues = continues_more program at.holds at.base at.result s.frame.whole inner at.goal at.given s.bound
+                  (x ∷ s.bound)
                   (within_one x s.bound) at.continues;
             },
             at.waits,
@@ -350,7 +358,8 @@ module _ (program : Lowering) where
           → (upper program).step start
           ≡ seen_action program (calls (suc (length frames)) (if b then at_end stack_full start.machine else entered)) input
           = λ b e. ap (λ o. seen_action program (call_step (setting program) o args waiting start.machine) input) there.1
-          ∙ ap (λ c. seen_action program (calls (suc (length frames)) (if c then at_end stack_full start.machine else entered)) input) e in
+          ∙ ap (λ c. seen_action program (calls (suc (length frames)) (if c then at_end stack_full start.machine else entered))
+              input) e in
           let cost = row_cost arguments (m + 2) + (m + 7) in
           let whole_run : (u : AsmTurn World Ending) → Runs (target program) (m + 7) 1 t1 u
           → Runs (target program) cost (length arguments + 1) t0 u
@@ -364,7 +373,8 @@ module _ (program : Lowering) where
                 let u : AsmTurn World Ending = ended (exited (number_of OfEnding.StackFull)) s.world in
                 does_by program idle start next [] t0 (step_is true e) fit
                 (λ later. by_lines program (length arguments + 1) cost ((upper program).weight start) (saved s.heap) idle next t0 u
-                (whole_run u (full_call_runs (target program) f1 fs s.world f (temporaries at.base arguments) ws lines entry_at.values behind
+                (whole_run u (full_call_runs (target program) f1 fs s.world f
+                    (temporaries at.base arguments) ws lines entry_at.values behind
                 reads low.1 entry_at.is x d))
                 (omega arith) (omega (arith, paces)) later
                 (record {
@@ -381,7 +391,8 @@ module _ (program : Lowering) where
                 let u = turn_of lines.code to.frame (f2 ∷ fs) s.world in
                 does_by program idle start next [] t0 (step_is false e) fit
                 (λ later. by_lines program (length arguments + 1) cost ((upper program).weight start) (saved s.heap) idle next t0 u
-                (whole_run u (call_runs (target program) f1 fs s.world f (temporaries at.base arguments) ws lines entry_at.values behind
+                (whole_run u (call_runs (target program) f1 fs s.world f
+                    (temporaries at.base arguments) ws lines entry_at.values behind
                 reads low.1 entry_at.is x d))
                 (omega arith) (omega (arith, few, paces)) later
                 (record {

@@ -28,3 +28,4 @@ pub mod Telling
 pub mod Testing
 pub mod Deciding
 pub mod Simulating
+pub mod Fits

@@ -118,11 +118,14 @@ module _ (program : Lowering) where
 
   steps_by : (control : CountedControl) (frames : List CountedFrame) (heap : Heap) (input : List ℕ) (credit idle : ℕ)
       (t : AsmTurn World Ending)
-      → Related program credit idle (record { machine = record { control = control; frames = frames; heap = heap }; input = input }) t
-      → (upper program).ending (record { machine = record { control = control; frames = frames; heap = heap }; input = input }) ≡ None
+      → Related program credit idle (record { machine = record { control = control; frames = frames; heap = heap }; input = input
+          }) t
+      → (upper program).ending (record { machine = record { control = control; frames = frames; heap = heap }; input = input })
+          ≡ None
       → Follows_from credit idle (record { machine = record { control = control; frames = frames; heap = heap }; input = input }) t
   steps_by (running code environment inner) frames heap input credit idle t related goes =
-      stands_step code environment inner frames heap input credit idle t related.credit_is related.idle_is related.fit related.stands
+      stands_step code environment inner frames heap input credit idle t related.credit_is related.idle_is related.fit
+          related.stands
   steps_by (stopped by) frames heap input credit idle t related goes = cc goes
   steps_by stuck frames heap input credit idle t related goes = absurd related.stands
 
@@ -154,7 +157,8 @@ module _ (program : Lowering) where
       simulates_until_ended (upper program) (lower program) (Related program) (Passing program) (pace program) (omega arith)
       (λ credit idle s t related. ends_alike s.machine.control s.machine.frames s.machine.heap s.input t related.stands)
       (λ credit idle s t related. passes s.machine.control s.machine.frames s.machine.heap s.input t related.stands)
-      (λ credit idle s t related goes. steps_by s.machine.control s.machine.frames s.machine.heap s.input credit idle t related goes)
+      (λ credit idle s t related goes. steps_by s.machine.control s.machine.frames s.machine.heap s.input credit idle t related
+          goes)
 
   -- ---- the start
 
@@ -199,7 +203,8 @@ module _ (program : Lowering) where
           };
           here = record {
             follows = begins program.pool program.layout (λ name. 0) program.aligned;
-            values = subst (λ n. HasValues program.layout (λ name. 0) of.lowered.holds of.lowered.base 0 (numbers_from 0 n) [] empty)
+            values = subst (λ n. HasValues program.layout (λ name. 0) of.lowered.holds of.lowered.base 0
+                (numbers_from 0 n) [] empty)
                 (sym alone)
                 (record { below = λ x is. cc; words = λ x is. cc; fits = λ x is. cc; older = λ x is. cc });
           };
@@ -337,7 +342,8 @@ module _ (layout : Layout) (marks : CellMarks) (code : CountedProgram) (constant
 
   related : Related lowering 0 (forms lowered.main.body) start turn
   related = starts lowering lowered.main lowered.main_is lowered.main_alone lowered.main_lines lowered.lines_are input bytes
-      (λ n. subst (λ (s : CountedState). IsFit layout s.machine) (sym (state_mapped moves (setting_on code pool depth) n start)) (fits n))
+      (λ n. subst (λ (s : CountedState). IsFit layout s.machine) (sym (state_mapped moves (setting_on code pool depth) n start))
+          (fits n))
 
   last_free : (n : ℕ) (by : End) (s : CountedState) (t : AsmTurn World Ending) → s.machine.control ≡ stopped by
       → StandsFor lowering s.machine.control s.machine.frames s.machine.heap s.input t
@@ -345,7 +351,8 @@ module _ (layout : Layout) (marks : CellMarks) (code : CountedProgram) (constant
   last_free n by s t is stands =
       let end : HasEnded lowering by s.machine.heap t
       = subst (λ control. StandsFor lowering control s.machine.frames s.machine.heap s.input t) is stands in
-      (end.world, end.turn_is, λ none. all_free pool layout end.address end.owners s.machine.heap end.world.cells end.follows end.none none)
+      (end.world, end.turn_is, λ none. all_free pool layout end.address end.owners s.machine.heap end.world.cells end.follows
+          end.none none)
 
   -- the assembler's machine and the counted machine run the same
   pub runs_the_same : RunsTheSame code constants functions lowered.main_lines pool depth first moves input
@@ -353,7 +360,8 @@ module _ (layout : Layout) (marks : CellMarks) (code : CountedProgram) (constant
       record {
         agrees = (
           (λ m. m * pace lowering + forms lowered.main.body + 1),
-          simulates_agree (upper lowering) (lower lowering) (Related lowering) (Passing lowering) (pace lowering) (simulates lowering) 0
+          simulates_agree (upper lowering) (lower lowering) (Related lowering) (Passing lowering) (pace lowering)
+              (simulates lowering) 0
               (forms lowered.main.body) start turn related,
         );
         ends = λ n by stops.
@@ -362,8 +370,7 @@ module _ (layout : Layout) (marks : CellMarks) (code : CountedProgram) (constant
             let same = state_mapped moves (setting_on code pool depth) n start in
             let s : CountedState = state (upper lowering) n start in
             let end = last_free n by s (state (lower lowering) reaches.steps turn)
-            (ap (λ (u : CountedState). u.machine.control) same ∙ stops) reaches.related.stands in
-            (
+            (ap (λ (u : CountedState). u.machine.control) same ∙ stops) reaches.related.stands in (
               reaches.steps,
               end.0,
               end.1,

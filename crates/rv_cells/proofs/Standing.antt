@@ -242,13 +242,13 @@ module _ (program : Lowering) where
     pub given : Bool
     pub placed : Placed holds base result goal given s.bound s.frame.whole code left
     pub here : Here (record {
-        target = target;
-        layout = program.layout;
-        holds = holds;
-        base = base;
-        aligned = program.aligned;
-        narrow = program.narrow;
-      }) s
+      target = target;
+      layout = program.layout;
+      holds = holds;
+      base = base;
+      aligned = program.aligned;
+      narrow = program.narrow;
+    }) s
     pub none : NoneInHand s.owners
     pub held : s.frame.held ≡ []
     pub formed : AreLinesFormed s.frame.whole

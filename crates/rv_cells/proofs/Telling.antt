@@ -57,7 +57,8 @@ next_keeps keeps [] otherwise found kept = refl
 next_keeps keeps (edge ∷ edges) otherwise found kept =
     by (next_keeps keeps edges otherwise found kept) (is_answer edge.found found) (keeps edge) refl refl
   where
-    by : next_by edges otherwise found ≡ next_by (filter keeps edges) otherwise found → (a b : Bool) → is_answer edge.found found ≡ a → keeps edge ≡ b
+    by : next_by edges otherwise found ≡ next_by (filter keeps edges) otherwise found → (a b : Bool)
+        → is_answer edge.found found ≡ a → keeps edge ≡ b
         → (if is_answer edge.found found then Some edge.next else next_by edges otherwise found)
         ≡ next_by (cond (keeps edge) (edge ∷ filter keeps edges) (filter keeps edges)) otherwise found
     by later true b is k =
@@ -96,7 +97,8 @@ split_cost moves keeps [] = omega arith
 split_cost moves keeps (edge ∷ edges) = by (keeps edge) (split_cost moves keeps edges)
   where
     by : (b : Bool)
-        → edges_cost moves (filter keeps edges) + edges_cost moves (filter (λ edge. not (keeps edge)) edges) ≤ edges_cost moves edges
+        → edges_cost moves (filter keeps edges) + edges_cost moves
+            (filter (λ edge. not (keeps edge)) edges) ≤ edges_cost moves edges
         → edges_cost moves (cond b (edge ∷ filter keeps edges) (filter keeps edges))
         + edges_cost moves (cond (not b) (edge ∷ filter (λ edge. not (keeps edge)) edges) (filter (λ edge. not (keeps edge)) edges))
         ≤ (3 * moves + 7) + edges_cost moves edges

@@ -165,7 +165,8 @@ module _ (known : Known) (s : Spot) (fs : List (Frame Line)) (here : Here known 
                 (record {
                   steps = 3;
                   later = put (value + 1 + 1) (Some (number edge.found)) (put (value + 1) (Some v) values);
-                  runs = test_jumps known.target (number_tests number value nodes edges ++ rest) (record s.frame { cells = values }) fs
+                  runs = test_jumps known.target (number_tests number value nodes edges ++ rest)
+                      (record s.frame { cells = values }) fs
                       s.world value (number edge.found) (value + 1) (nodes + edge.next) v has there same finds;
                   kept = λ z less. put_other (value + 1 + 1) z (number edge.found) (put (value + 1) (Some v) values)
                       (λ e. omega (arith, e, less))
@@ -258,13 +259,15 @@ module _ (known : Known) (s : Spot) (fs : List (Frame Line)) (here : Here known 
   finish number value nodes limit found edges otherwise k rest there values le finds next (inl none) =
       let from = number_tests number value nodes edges ++ (otherwise_lines nodes otherwise ++ rest) in
       let mid = otherwise_lines nodes otherwise ++ rest in
-      let first = leads_more (value + 1) limit (edges_cost moves edges) (edges_cost moves edges) from mid values (omega arith) le none.1 in
+      let first = leads_more (value + 1) limit (edges_cost moves edges) (edges_cost moves edges) from mid values
+          (omega arith) le none.1 in
       leads_then limit (edges_cost moves edges) (moves + 2) from mid there values first
       (jumps_out nodes limit otherwise k there rest first.later (sym (next_other edges otherwise found none.0) ∙ next) finds)
   finish number value nodes limit found edges otherwise k rest there values le finds next (inr taken) =
       let from = number_tests number value nodes edges ++ (otherwise_lines nodes otherwise ++ rest) in
       let same : taken.0 ≡ k = some-is (sym (next_some edges otherwise found taken.0 taken.1) ∙ next) in
-      leads_more (value + 1) limit (edges_cost moves edges) (edges_cost moves edges + (moves + 2)) from there values (omega arith) le
+      leads_more (value + 1) limit (edges_cost moves edges) (edges_cost moves edges + (moves + 2)) from there values
+          (omega arith) le
       (taken.2 there (ap (λ n. found_label (nodes + n) s.frame.whole) same ∙ finds))
 
   -- ---- the cell of a value
@@ -376,7 +379,8 @@ module _ (known : Known) (s : Spot) (fs : List (Frame Line)) (here : Here known 
         let out = otherwise_lines nodes otherwise ++ rest in
         subst (λ ls. Leads base (tags_cost (edge ∷ more)) ls there values)
         (sym (ap (λ ls. ls ++ out) lines.6 ∙ append_assoc lines.0 behind out))
-        (leads_more (base + 1) base (2 * moves + 5) (tags_cost (edge ∷ more)) (lines.0 ++ (behind ++ out)) there values (omega arith)
+        (leads_more (base + 1) base (2 * moves + 5) (tags_cost (edge ∷ more)) (lines.0 ++ (behind ++ out)) there values
+            (omega arith)
         (omega arith) (odd_jumps base nodes w otherwise k lines.0 (behind ++ out) there values lines.3 is finds has odd))
 
     -- a cell is told by its tag
@@ -409,7 +413,8 @@ module _ (known : Known) (s : Spot) (fs : List (Frame Line)) (here : Here known 
         let word_is : word ≡ known.layout.tag c
         = ap (bit_and header) lines.5 ∙ and_mask header 8 ∙ omega (arith, low) in
         let second = leads_put (base + 1) (m + 2) (base + 1) header r1 r2 v1 (omega arith)
-        (load_runs known.target r2 (record s.frame { cells = v1 }) fs s.world base 1 (base + 1) (s.address name) header lines.1 lines.4
+        (load_runs known.target r2 (record s.frame { cells = v1 }) fs s.world base 1 (base + 1)
+            (s.address name) header lines.1 lines.4
         has1 (load_own s.world.cells (s.address name) 1 header shows.words shows.block (omega arith)
         (shows.header ∙ ap (λ d. Some (header_of known.layout d)) same_maker))) in
         let third = leads_put (base + 1) (m + 2) (base + 1) word r2 r3 v2 (omega arith)
@@ -478,18 +483,22 @@ module _ (known : Known) (s : Spot) (fs : List (Frame Line)) (here : Here known 
         → values base ≡ Some (word_in known.layout s.address w)
         → Tested (answer_word known.layout) base nodes found plain (tags ++ (otherwise_lines nodes otherwise ++ rest)) values
         → Leads base (edges_cost known.target.moves plain + tags_cost tagged)
-        (number_tests (answer_word known.layout) base nodes plain ++ (tags ++ (otherwise_lines nodes otherwise ++ rest))) there values
+        (number_tests (answer_word known.layout) base nodes plain ++ (tags ++ (otherwise_lines nodes otherwise ++ rest))) there
+            values
     word_outcome w tags values answer shows lines has (inl none) =
-        let from = number_tests (answer_word known.layout) base nodes plain ++ (tags ++ (otherwise_lines nodes otherwise ++ rest)) in
+        let from = number_tests (answer_word known.layout) base nodes plain ++
+            (tags ++ (otherwise_lines nodes otherwise ++ rest)) in
         let mid = tags ++ (otherwise_lines nodes otherwise ++ rest) in
         let first = leads_more (base + 1) base (edges_cost moves plain) (edges_cost moves plain) from mid values (omega arith)
         (omega arith) none.1 in
         leads_then base (edges_cost moves plain) (tags_cost tagged) from mid there values first
         (tags_run w tags first.later answer shows none.0 lines (none.1.kept base (omega arith) ∙ has))
     word_outcome w tags values answer shows lines has (inr taken) =
-        let from = number_tests (answer_word known.layout) base nodes plain ++ (tags ++ (otherwise_lines nodes otherwise ++ rest)) in
+        let from = number_tests (answer_word known.layout) base nodes plain ++
+            (tags ++ (otherwise_lines nodes otherwise ++ rest)) in
         let same : taken.0 ≡ k = taken_is w answer shows in
-        leads_more (base + 1) base (edges_cost moves plain) (edges_cost moves plain + tags_cost tagged) from there values (omega arith)
+        leads_more (base + 1) base (edges_cost moves plain) (edges_cost moves plain + tags_cost tagged) from there values
+            (omega arith)
         (omega arith) (taken.2 there (ap (λ n. found_label (nodes + n) s.frame.whole) same ∙ finds))
       where
         plain_taken : is_plain known.layout found ≡ true → taken.0 ≡ k
