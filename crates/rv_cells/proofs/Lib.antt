@@ -29,3 +29,4 @@ pub mod Testing
 pub mod Deciding
 pub mod Simulating
 pub mod Fits
+pub mod Examples

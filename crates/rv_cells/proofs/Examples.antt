@@ -1,0 +1,246 @@
+-- The assembler lines of a program of two functions, by hand: one adds 1 to each number of a list, in the cells that the list has
+-- where they are its own; `main` makes a list of two cells and calls it.
+use Rattle.std.proofs.Common.{◌≡◌, ℕ, ◌+◌, ◌*◌, ◌^◌, ◌-◌, ◌<◌, ◌≤◌, pos, Bool, true, false, List, [], ◌∷◌, ◌++◌, Option, Some, None, refl, lit<, lit≤, arith}
+use Rattle.std.specs.Prelude.{slice_get, slice_index_or}
+use Rattle.kk_syntax.specs.Shapes.{is_among}
+use Rattle.kk_syntax.specs.declared.program.Form.TheVariants as OfForm
+use Rattle.kk_syntax.specs.declared.operator.BinaryOperator.TheVariants.{Add}
+use Rattle.kk_counted.specs.CountedCodes.{give, compute}
+use Rattle.kk_counted.specs.Marks.{CellMarks, IsMarked, AreMarked}
+use Rattle.kk_counted.proofs.Examples.{inc, by_count, two_cells, unique, program}
+use Rattle.rv_isa.specs.declared.asm.Action.TheVariants.{Compute, Label, Jump, Branch, Call, Return, Routine as Calls}
+use Rattle.rv_isa.specs.declared.asm.Condition.TheVariants.{Equal, NotEqual}
+use Rattle.rv_isa.specs.declared.asm.Operation.TheVariants as Op
+use Rattle.rv_isa.specs.declared.asm.RegisterOperation.TheVariants as Register
+use Rattle.rv_isa.specs.declared.asm.ImmediateOperation.TheVariants.{Addi, Andi}
+use Rattle.rv_isa.specs.declared.immediate.Immediate.{Immediate}
+use Rattle.rv_isa.specs.declared.routine.Routine.TheVariants.{Take, Drop}
+use Rattle.rv_isa.specs.AsmCode.{Line, Lines}
+use Rattle.rv_lower.specs.Lines.{Texts, computes, sets, copies_to, acts}
+use Rattle.rv_lower.specs.Lowered.{returns}
+use Rattle.rv_cells.specs.Layout.{Layout}
+use Rattle.rv_cells.specs.CellLines.{ConstructLines, AllLoads, UniqueLines}
+use Rattle.rv_cells.specs.CountedLines.{Setting, CodeLines, IsFunctionLowered}
+use Rattle.rv_cells.specs.Marked.{AreNumbered, IsFunctionOf, AreFunctionsOf}
+
+-- `False`, `True`, `Nil` and `Cons`
+abbrev layout : Layout
+layout = record {
+  tag = λ c. slice_index_or (0 ∷ 1 ∷ 0 ∷ 1 ∷ []) c 0;
+  fields = λ c. slice_index_or ([] ∷ [] ∷ [] ∷ (false ∷ true ∷ []) ∷ []) c [];
+}
+
+abbrev marks : CellMarks
+marks = record {
+  parameters = (true ∷ []) ∷ [] ∷ [];
+  results = true ∷ false ∷ [];
+  types = false ∷ false ∷ true ∷ true ∷ [];
+  fields = [] ∷ [] ∷ [] ∷ (false ∷ true ∷ []) ∷ [];
+}
+
+abbrev immediate_0 : Immediate
+immediate_0 = record { word = 0; in_range = (lit< tt, lit< tt) }
+
+abbrev immediate_4 : Immediate
+immediate_4 = record { word = 4; in_range = (lit< tt, lit< tt) }
+
+abbrev immediate_8 : Immediate
+immediate_8 = record { word = 8; in_range = (lit< tt, lit< tt) }
+
+abbrev immediate_12 : Immediate
+immediate_12 = record { word = 12; in_range = (lit< tt, lit< tt) }
+
+abbrev immediate_255 : Immediate
+immediate_255 = record { word = 255; in_range = (lit< tt, lit< tt) }
+
+abbrev minus_one : Immediate
+minus_one = record { word = 2 ^ 32 - 1; in_range = (lit< tt, lit< tt) }
+
+abbrev loads : Immediate → ℕ → ℕ → Line
+loads offset cell into = computes (Op.Lw offset) (cell ∷ []) into
+
+abbrev stores : Immediate → ℕ → ℕ → Line
+stores offset cell from = acts (Compute (Op.Sw offset)) (cell ∷ from ∷ [])
+
+-- a cell of Cons, whose header has tag 1 and says that the second field can hold cells
+abbrev makes_cons : ℕ → ℕ → ℕ → List Line
+makes_cons x head rest =
+    record { action = Calls Take; args = []; into = Some x } ∷ sets 513 7 ∷ stores immediate_4 x 7 ∷ stores immediate_8 x head
+    ∷ stores immediate_12 x rest ∷ sets 1 7 ∷ stores immediate_0 x 7 ∷ []
+
+-- ---- the function that adds 1
+
+abbrev tests_lines : List Line
+tests_lines =
+    acts (Label 2) [] ∷ copies_to 0 7
+    ∷ copies_to 7 8 ∷ sets 1 9 ∷ acts (Branch Equal 3) (8 ∷ 9 ∷ [])
+    ∷ loads immediate_4 7 8 ∷ computes (Op.Immediate Andi immediate_255) (8 ∷ []) 8
+    ∷ copies_to 8 9 ∷ sets 1 10 ∷ acts (Branch Equal 4) (9 ∷ 10 ∷ [])
+    ∷ acts (Label 3) [] ∷ acts (Jump 0) []
+    ∷ acts (Label 4) [] ∷ acts (Jump 1) [] ∷ []
+
+abbrev opening_lines : List Line
+opening_lines =
+    loads immediate_0 0 7 ∷ sets 1 8 ∷ acts (Branch NotEqual 5) (7 ∷ 8 ∷ [])
+    ∷ loads immediate_8 0 1 ∷ loads immediate_12 0 2 ∷ acts (Compute Op.Free) (0 ∷ []) ∷ acts (Jump 6) []
+    ∷ acts (Label 5) [] ∷ loads immediate_8 0 1 ∷ loads immediate_12 0 2
+    ∷ loads immediate_0 0 7 ∷ computes (Op.Immediate Addi minus_one) (7 ∷ []) 7 ∷ stores immediate_0 0 7
+    ∷ acts (Compute Op.Dup) (2 ∷ []) ∷ acts (Label 6) [] ∷ []
+
+abbrev adds_lines : List Line
+adds_lines =
+    sets 1 3 ∷ computes (Op.Register Register.Add) (1 ∷ 3 ∷ []) 4 ∷ copies_to 2 7
+    ∷ record { action = Call 0; args = 7 ∷ []; into = Some 5 } ∷ (makes_cons 6 4 5 ++ acts Return (6 ∷ []) ∷ [])
+
+abbrev inc_lines : Lines
+inc_lines = record {
+  params = 0 ∷ [];
+  code = tests_lines ++ (acts (Label 0) [] ∷ acts Return (0 ∷ []) ∷ acts (Label 1) [] ∷ (opening_lines ++ adds_lines));
+}
+
+abbrev setting : (ℕ → Bool) → Setting
+setting holds = record { layout = layout; holds = holds; base = 7; texts = record { literals = []; constants = [] } }
+
+abbrev inc_holds : ℕ → Bool
+inc_holds x = is_among (0 ∷ 2 ∷ 5 ∷ 6 ∷ []) x
+
+-- a construction of a Cons
+makes : (x head rest : ℕ) → ConstructLines 7 x 513 (head ∷ rest ∷ []) (makes_cons x head rest)
+makes x head rest = (
+  stores immediate_4 x 7,
+  stores immediate_8 x head ∷ stores immediate_12 x rest ∷ [],
+  stores immediate_0 x 7,
+  (immediate_4, refl, refl),
+  (stores immediate_8 x head, stores immediate_12 x rest ∷ [], (immediate_8, refl, refl),
+      (stores immediate_12 x rest, [], (immediate_12, refl, refl), refl, refl), refl),
+  (immediate_0, refl, refl),
+  refl,
+)
+
+abbrev two_loads : List Line
+two_loads = loads immediate_8 0 1 ∷ loads immediate_12 0 2 ∷ []
+
+two_loads_are : AllLoads 0 2 (1 ∷ 2 ∷ []) two_loads
+two_loads_are =
+    (loads immediate_8 0 1, loads immediate_12 0 2 ∷ [], (immediate_8, refl, refl),
+    (loads immediate_12 0 2, [], (immediate_12, refl, refl), refl, refl), refl)
+
+opens : UniqueLines 7 inc_holds 5 6 0 (1 ∷ 2 ∷ []) (1 ∷ 2 ∷ []) opening_lines
+opens = (
+  loads immediate_0 0 7,
+  two_loads,
+  loads immediate_0 0 7,
+  minus_one,
+  stores immediate_0 0 7,
+  (immediate_0, refl, refl),
+  two_loads_are,
+  (immediate_0, refl, refl),
+  refl,
+  (immediate_0, refl, refl),
+  refl,
+)
+
+adds : CodeLines (setting inc_holds) returns 7
+    (compute 3 (OfForm.Number (pos 1)) []
+    (compute 4
+    (OfForm.Binary
+    Add) (1 ∷ 3 ∷ [])
+    (compute 5 (OfForm.Call 0) (2 ∷ [])
+    (compute 6 (OfForm.Construct 3)
+    (4 ∷ 5 ∷ []) (give 6)))))
+    adds_lines 7
+adds = (
+  sets 1 3 ∷ [],
+  computes (Op.Register Register.Add) (1 ∷ 3 ∷ []) 4 ∷ copies_to 2 7
+      ∷ record { action = Call 0; args = 7 ∷ []; into = Some 5 } ∷ (makes_cons 6 4 5 ++ acts Return (6 ∷ []) ∷ []),
+  (1, refl, lit< tt, refl),
+  (
+    computes (Op.Register Register.Add) (1 ∷ 3 ∷ []) 4 ∷ [],
+    copies_to 2 7 ∷ record { action = Call 0; args = 7 ∷ []; into = Some 5 } ∷ (makes_cons 6 4 5 ++ acts Return (6 ∷ []) ∷ []),
+    refl,
+    (
+      copies_to 2 7 ∷ record { action = Call 0; args = 7 ∷ []; into = Some 5 } ∷ [],
+      makes_cons 6 4 5 ++ acts Return (6 ∷ []) ∷ [],
+      refl,
+      (makes_cons 6 4 5, acts Return (6 ∷ []) ∷ [], makes 6 4 5, (refl, refl), refl),
+      refl,
+    ),
+    refl,
+  ),
+  refl,
+)
+
+inc_code : CodeLines (setting inc_holds) returns 0 (inc by_count).body inc_lines.code 7
+inc_code = (
+  tests_lines,
+  acts (Label 0) [] ∷ acts Return (0 ∷ []) ∷ acts (Label 1) [] ∷ (opening_lines ++ adds_lines),
+  2,
+  refl,
+  (
+    copies_to 0 7
+        ∷ copies_to 7 8 ∷ sets 1 9 ∷ acts (Branch Equal 3) (8 ∷ 9 ∷ [])
+        ∷ loads immediate_4 7 8 ∷ computes (Op.Immediate Andi immediate_255) (8 ∷ []) 8
+        ∷ copies_to 8 9 ∷ sets 1 10 ∷ acts (Branch Equal 4) (9 ∷ 10 ∷ []) ∷ [],
+    acts (Label 3) [] ∷ acts (Jump 0) [] ∷ acts (Label 4) [] ∷ acts (Jump 1) [] ∷ [],
+    (
+      [],
+      loads immediate_4 7 8 ∷ computes (Op.Immediate Andi immediate_255) (8 ∷ []) 8
+          ∷ copies_to 8 9 ∷ sets 1 10 ∷ acts (Branch Equal 4) (9 ∷ 10 ∷ []) ∷ [],
+      refl,
+      ([], loads immediate_4 7 8, immediate_255, refl, (immediate_4, refl, refl), refl, refl),
+      refl,
+    ),
+    (
+      acts (Jump 0) [] ∷ [],
+      acts (Label 4) [] ∷ acts (Jump 1) [] ∷ [],
+      refl,
+      (acts (Jump 1) [] ∷ [], [], refl, refl, refl),
+      refl,
+    ),
+    refl,
+  ),
+  (
+    acts Return (0 ∷ []) ∷ [],
+    acts (Label 1) [] ∷ (opening_lines ++ adds_lines),
+    5,
+    (refl, refl),
+    (opening_lines ++ adds_lines, [], 7, (opening_lines, adds_lines, opens, adds, refl), (refl, refl), refl),
+    refl,
+  ),
+  refl,
+)
+
+pub inc_lowered : IsFunctionOf layout (record { literals = []; constants = [] }) marks 0 (inc by_count) inc_lines
+inc_lowered = record {
+  lowered = record { holds = inc_holds; base = 7; params = refl; labels = 7; code = inc_code };
+  marked = record {
+    parameters_marked = (refl, tt);
+    body_marked = (
+      refl,
+      (
+        (refl, refl),
+        (
+          (
+            (refl, (refl, (refl, (refl, tt)))),
+            (tt, ((tt, refl), ((refl, (refl, tt)), (((refl, (refl, tt)), refl), ((refl, tt), (((refl, tt), refl), ((refl, (refl, tt)),
+                (((refl, (refl, tt)), refl), (refl, refl))))))))),
+          ),
+          tt,
+        ),
+      ),
+    );
+  };
+  few = lit≤ tt;
+  numbered = (
+    tt,
+    (
+      (
+        ((lit< tt, (lit< tt, tt)), (refl, (refl, (refl, tt)))),
+        (lit< tt, ((lit< tt, (lit< tt, (lit< tt, tt))), (lit< tt, ((lit< tt, (lit< tt, (lit< tt, (lit< tt, tt)))),
+            (lit< tt, ((lit< tt, (lit< tt, (lit< tt, (lit< tt, (lit< tt, tt))))),
+            (lit< tt, ((lit< tt, (lit< tt, (lit< tt, (lit< tt, (lit< tt, (lit< tt, tt)))))), tt)))))))),
+      ),
+      tt,
+    ),
+  );
+}
