@@ -1,6 +1,6 @@
 -- The assembler lines of a program of two functions, by hand: one adds 1 to each number of a list, in the cells that the list has
 -- where they are its own; `main` makes a list of two cells and calls it.
-use Rattle.std.proofs.Common.{◌≡◌, ℕ, ◌+◌, ◌*◌, ◌^◌, ◌-◌, ◌<◌, ◌≤◌, pos, Bool, true, false, List, [], ◌∷◌, ◌++◌, Option, Some, None, refl, lit<, lit≤, arith}
+use Rattle.std.proofs.Common.{◌≡◌, ℕ, zero, suc, ◌+◌, ◌*◌, ◌^◌, ◌-◌, ◌<◌, ◌≤◌, pos, Bool, true, false, List, [], ◌∷◌, ◌++◌, Option, Some, None, refl, subst, lit<, lit≤, arith}
 use Rattle.std.specs.Prelude.{slice_get, slice_index_or}
 use Rattle.kk_syntax.specs.Shapes.{is_among}
 use Rattle.kk_syntax.specs.declared.program.Form.TheVariants as OfForm
@@ -244,3 +244,91 @@ inc_lowered = record {
     ),
   );
 }
+
+-- ---- `main`
+
+abbrev main_holds : ℕ → Bool
+main_holds x = is_among (0 ∷ 2 ∷ 4 ∷ 5 ∷ []) x
+
+abbrev main_end : List Line
+main_end = copies_to 5 7 ∷ acts (Calls Drop) (7 ∷ []) ∷ sets 1 6 ∷ acts Return (6 ∷ []) ∷ []
+
+abbrev main_call : List Line
+main_call = copies_to 4 7 ∷ record { action = Call 0; args = 7 ∷ []; into = Some 5 } ∷ main_end
+
+abbrev main_second : List Line
+main_second = sets 8 3 ∷ (makes_cons 4 3 2 ++ main_call)
+
+abbrev main_lines : Lines
+main_lines = record { params = []; code = sets 1 0 ∷ sets 7 1 ∷ (makes_cons 2 1 0 ++ main_second) }
+
+main_code : CodeLines (setting main_holds) returns 0 (two_cells unique).body main_lines.code 0
+main_code = (
+  sets 1 0 ∷ [],
+  sets 7 1 ∷ (makes_cons 2 1 0 ++ main_second),
+  refl,
+  (
+    sets 7 1 ∷ [],
+    makes_cons 2 1 0 ++ main_second,
+    (7, refl, lit< tt, refl),
+    (
+      makes_cons 2 1 0,
+      main_second,
+      makes 2 1 0,
+      (
+        sets 8 3 ∷ [],
+        makes_cons 4 3 2 ++ main_call,
+        (8, refl, lit< tt, refl),
+        (
+          makes_cons 4 3 2,
+          main_call,
+          makes 4 3 2,
+          (
+            copies_to 4 7 ∷ record { action = Call 0; args = 7 ∷ []; into = Some 5 } ∷ [],
+            main_end,
+            refl,
+            (
+              sets 1 6 ∷ acts Return (6 ∷ []) ∷ [],
+              (sets 1 6 ∷ [], acts Return (6 ∷ []) ∷ [], refl, (refl, refl), refl),
+              refl,
+            ),
+            refl,
+          ),
+          refl,
+        ),
+        refl,
+      ),
+      refl,
+    ),
+    refl,
+  ),
+  refl,
+)
+
+pub main_lowered : IsFunctionOf layout (record { literals = []; constants = [] }) marks 1 (two_cells unique) main_lines
+main_lowered = record {
+  lowered = record { holds = main_holds; base = 7; params = refl; labels = 0; code = main_code };
+  marked = record {
+    parameters_marked = tt;
+    body_marked =
+        (tt, ((tt, refl), (tt, ((tt, refl), ((refl, (refl, tt)), (((refl, (refl, tt)), refl), (tt, ((tt, refl),
+        ((refl, (refl, tt)), (((refl, (refl, tt)), refl), ((refl, tt), (((refl, tt), refl), (refl, (tt, ((tt, refl),
+        (refl, refl))))))))))))))));
+  };
+  few = lit≤ tt;
+  numbered =
+      (lit< tt, (tt, (lit< tt, ((lit< tt, tt), (lit< tt, ((lit< tt, (lit< tt, tt)), (lit< tt, ((lit< tt, (lit< tt, (lit< tt, tt))),
+      (lit< tt, ((lit< tt, (lit< tt, (lit< tt, (lit< tt, tt)))), (lit< tt, ((lit< tt, (lit< tt, (lit< tt, (lit< tt, (lit< tt, tt))))),
+      (lit< tt, ((lit< tt, (lit< tt, (lit< tt, (lit< tt, (lit< tt, (lit< tt, tt)))))), tt))))))))))))));
+}
+
+-- both functions of the program are lowered
+pub both_lowered : AreFunctionsOf layout (record { literals = []; constants = [] }) marks (inc by_count ∷ two_cells unique ∷ [])
+    (inc_lines ∷ main_lines ∷ [])
+both_lowered zero function is =
+    let same : inc by_count ≡ function = cc is in
+    (inc_lines, refl, subst (λ f. IsFunctionOf layout (record { literals = []; constants = [] }) marks 0 f inc_lines) same inc_lowered)
+both_lowered (suc zero) function is =
+    let same : two_cells unique ≡ function = cc is in
+    (main_lines, refl, subst (λ f. IsFunctionOf layout (record { literals = []; constants = [] }) marks 1 f main_lines) same main_lowered)
+both_lowered (suc (suc f)) function is = cc is

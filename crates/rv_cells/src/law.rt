@@ -1,17 +1,21 @@
-ghost use Rattle.std.specs.Prelude.{◌≡◌, ◌<◌, ◌≤◌, ℕ, suc, ◌%◌, ◌^◌, List, [], ◌∷◌, length, All, Option, Some, None, true};
+ghost use Rattle.std.specs.Prelude.{◌≡◌, ◌<◌, ◌≤◌, ℕ, suc, ◌%◌, ◌^◌, Bool, List, [], ◌∷◌, length, All, Option, Some, None, true};
 ghost use Rattle.cell_heap.specs.Pool.{Pool};
 ghost use Rattle.cell_heap.specs.Blocks.{Cells, own, with_block, with_word, request, unused_cells};
 ghost use Rattle.kk_source.specs.State.{Value, Cell};
 ghost use Rattle.kk_source.specs.Sound.{AllWithin};
 ghost use Rattle.kk_counted.specs.CountedCodes.{CountedProgram};
-ghost use Rattle.kk_counted.specs.Keeping.{counted_after};
-ghost use Rattle.kk_counted.specs.Marks.{CellMarks};
+ghost use Rattle.kk_counted.specs.CountBounds.{AllSpendAtMost};
+ghost use Rattle.kk_counted.specs.CountedStates.{CountedSetting, CountedState};
+ghost use Rattle.kk_counted.specs.Keeping.{counted_after, FitsAlways, HasShapeAlways};
+ghost use Rattle.kk_counted.specs.Spending.{IsSpent};
+ghost use Rattle.kk_syntax.specs.PositionsOf.{PositionTable};
+ghost use Rattle.kk_counted.specs.Marks.{CellMarks, field_marks, AreMarked};
 ghost use Rattle.kk_counted.specs.Heaps.{Heap, count_at, set_count, fields_held, busy, dup_value, drop_value};
 ghost use Rattle.rv_cells.specs.Layout.{Layout, IsNarrow, FitsField};
 ghost use Rattle.rv_cells.specs.Follows.{IsBlockOf, Owner, nobody, cell_of, in_hand, Follows, with_owner, assign, NoneInHand};
 ghost use Rattle.rv_isa.specs.AsmCode.{Lines};
 ghost use Rattle.rv_cells.specs.Costs.{counted_cost};
-ghost use Rattle.rv_cells.specs.Fitting.{IsFit};
+ghost use Rattle.rv_cells.specs.Fitting.{FitsControl, IsFit};
 ghost use Rattle.rv_cells.specs.Meaning.{setting_on, IsProgramLowered, RunsTheSame};
 ghost use Rattle.rv_cells.specs.Steps.{Served, Dupped, Dropped, IsPaid, Released};
 
@@ -101,4 +105,16 @@ pub fn lowered_counted_programs_run_the_same()
         → All (λ byte. byte < 256) input
         → ((n : ℕ) → IsFit layout (counted_after (counted_cost moves) (setting_on code pool depth) input n))
         → RunsTheSame code constants functions lowered.main_lines pool depth first moves input }
+{}
+
+/// Code that spends its references and is marked by types is fit in each state of its run, where its values are of the types that it
+/// takes, within the limits of cells, call frames and code. It is a law, and does nothing.
+pub fn judged_programs_are_fit()
+    ensures { (positions : PositionTable) (marks : CellMarks) (holds : ℕ → ℕ → Bool) (setting : CountedSetting) (layout : Layout)
+        (weight : CountedState → ℕ) (input : List ℕ) (most : ℕ)
+        → IsSpent positions setting.program → FitsAlways weight setting input → HasShapeAlways weight setting input
+        → AreMarked marks holds setting.program → AllSpendAtMost setting.program most → most ≤ 65000
+        → ((c : ℕ) → length (field_marks marks c) ≤ 6) → 1 ≤ setting.depth → setting.depth ≤ 65536 → setting.cells ≤ 1048576
+        → ((n : ℕ) → FitsControl layout (counted_after weight setting input n).heap (counted_after weight setting input n).control)
+        → (n : ℕ) → IsFit layout (counted_after weight setting input n) }
 {}
