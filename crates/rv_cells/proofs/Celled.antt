@@ -1,49 +1,42 @@
 -- The lines of the forms that touch cells do the steps of the counted machine.
-use Rattle.std.proofs.Common.{◌≡◌, ◌≢◌, ℕ, zero, suc, ◌+◌, ◌*◌, ◌^◌, ◌<◌, ◌≤◌, ◌⊎◌, inl, inr, Bool, true, false, List, [], ◌∷◌, ◌++◌, length, map, filter, Option, Some, None, nat_le, All, flat_map, refl, sym, ◌∙◌, ap, subst, arith, append_assoc}
-use Rattle.std.specs.Prelude.{◌||◌, ◌==◌, if◌then◌else◌}
+use Rattle.std.proofs.Common.{◌≡◌, ℕ, suc, ◌+◌, ◌*◌, ◌<◌, ◌≤◌, ◌⊎◌, inl, inr, Bool, true, false, List, [], ◌∷◌, ◌++◌, length, map, filter, Option, Some, None, flat_map, refl, sym, ◌∙◌, ap, subst, arith, append_assoc}
+use Rattle.std.specs.Prelude.{◌==◌, if◌then◌else◌}
 use Rattle.std.proofs.lemmas.Bool.{or_right, or_left}
-use Rattle.std.proofs.lemmas.Bool.Decides.{nat_tests}
 use Rattle.std.proofs.lemmas.List.{length-map}
 use Rattle.kk_base.specs.Trace.{Event}
 use Rattle.kk_syntax.specs.Shapes.{is_among}
-use Rattle.kk_syntax.specs.declared.program.Form.TheVariants.{Construct}
-use Rattle.kk_source.specs.State.{Value, Environment, heap_full}
+use Rattle.kk_source.specs.State.{Environment}
 use Rattle.kk_source.specs.Live.{value_of}
 use Rattle.kk_source.specs.Sound.{AllWithin}
 use Rattle.kk_source.specs.Notes.{events_of}
 use Rattle.kk_source.specs.Actions.{Action, goes, builds, performed}
 use Rattle.kk_core.specs.Sizes.{AreBound}
 use Rattle.kk_core.specs.CoreMachine.{bind_fields}
-use Rattle.kk_counted.specs.CountedCodes.{Counted, compute, read, open_cell, if_unique, dup, drop}
-use Rattle.kk_counted.specs.CountedStates.{CountedJoin, CountedFrame, CountedControl, running, stopped, CountedConfiguration, CountedState}
-use Rattle.kk_counted.specs.CountedMachine.{at_counted, at_end, with_heap, Named, cell_named, open_step, NotStuck, used_values, other_values, opened_heap, unique_heap}
-use Rattle.kk_counted.specs.Heaps.{Heap, busy, count_at, fields_held}
+use Rattle.kk_counted.specs.CountedCodes.{Counted, read, open_cell, if_unique, dup, drop}
+use Rattle.kk_counted.specs.CountedStates.{CountedJoin, CountedFrame, running, CountedConfiguration, CountedState}
+use Rattle.kk_counted.specs.CountedMachine.{at_counted, Named, cell_named, open_step, NotStuck, used_values, other_values, opened_heap, unique_heap}
+use Rattle.kk_counted.specs.Heaps.{Heap, count_at, fields_held}
 use Rattle.kk_counted.specs.Keeping.{values_of}
 use Rattle.kk_counted.specs.Spending.{AllAmong}
 use Rattle.kk_counted.specs.Marks.{field_marks, HaveMarks, HasMark}
 use Rattle.rv_isa.specs.declared.asm.Action.TheVariants.{Label}
 use Rattle.rv_isa.specs.AsmCode.{Line}
-use Rattle.rv_isa.specs.AsmMachine.{AsmTurn}
 use Rattle.rv_isa.specs.Frames.{Frame, top, top_in}
-use Rattle.rv_isa.specs.Primitives.{ended}
-use Rattle.rv_isa.specs.Processor.{exited}
 use Rattle.rv_isa.specs.WellFormed.{AreLinesFormed}
 use Rattle.rv_lower.specs.Lines.{acts}
-use Rattle.rv_lower.specs.Lowered.{Goal}
 use Rattle.rv_lower.proofs.Orders.{split_at}
 use Rattle.rv_cells.specs.Layout.{FitsField, FitFields}
 use Rattle.rv_cells.specs.Marked.{AreBelow, bound_list, AreNumbered}
 use Rattle.rv_cells.specs.Costs.{row_cost, forms, code_cost}
-use Rattle.rv_cells.proofs.Values.{HasValues, among_by, Carries}
+use Rattle.rv_cells.proofs.Values.{among_by}
 use Rattle.rv_cells.proofs.Runs.{turn_of, Runs}
-use Rattle.rv_cells.proofs.Spots.{Spot, Known, Here, AreSmall, saved}
+use Rattle.rv_cells.proofs.Spots.{Spot, Here, saved}
 use Rattle.rv_cells.proofs.Rows.{IsReading}
 use Rattle.rv_cells.proofs.Openings.{bound_older}
-use Rattle.rv_cells.proofs.Constructing.{IsMaking, full_did}
 use Rattle.rv_cells.proofs.Uniques.{head_lines, shared_lines, for_shared, whole_lines}
-use Rattle.rv_cells.proofs.Stepping.{Steps, there_is, dup_steps, drop_steps, read_steps, open_steps, construct_steps, unique_steps}
-use Rattle.rv_cells.proofs.Standing.{Lowering, AreWithin, target, texts, setting, upper, known_of, Placed, Continues, continues_more, AllWait, waits_carried, At, IsFitFrom, Follow, by_lines, finds, has_fewer}
-use Rattle.rv_cells.proofs.Blocks.{within_itself, within_one, counted_at, Does, does_by}
+use Rattle.rv_cells.proofs.Stepping.{Steps, there_is, dup_steps, drop_steps, read_steps, open_steps, unique_steps}
+use Rattle.rv_cells.proofs.Standing.{Lowering, AreWithin, target, texts, setting, upper, known_of, Placed, Continues, continues_more, AllWait, waits_carried, At, IsFitFrom, by_lines, finds, has_fewer}
+use Rattle.rv_cells.proofs.Blocks.{within_itself, counted_at, Does, does_by}
 
 -- ---- bound variables
 
@@ -170,12 +163,12 @@ module _ (program : Lowering) where
 
     pub goes_on : (most : ℕ) (tells : CountedConfiguration → Action CountedConfiguration) (bound later : List ℕ)
         → (steps : Steps (known_of program at.holds at.base) (setting program)
-            (texts program) at.goal at.placed.high most tells code rest
+        (texts program) at.goal at.placed.high most tells code rest
         inner state_at.machine at.placed.own at.placed.after fs s bound)
         → IsQuiet tells → most ≤ (upper program).weight state_at
         → (upper program).step state_at
         ≡ seen_action (tells (record { control = running rest steps.to.environment inner; frames = frames; heap = steps.to.heap }))
-            input
+        input
         → suc (forms rest) ≤ idle → forms rest ≤ program.most
         → AreWithin later bound → AreWithin s.bound later
         → HasMark program.marks at.holds at.result later at.given rest → AreNumbered at.base later rest
@@ -195,7 +188,7 @@ module _ (program : Lowering) where
         (sym (own_is ∙ append_assoc steps.own steps.more p.after)) did.runs in
         let whole : s.frame.whole ≡ steps.to.frame.whole = sym did.whole in
         let placed : Placed program at.holds at.base at.result at.goal at.given later s.frame.whole rest
-            (steps.more ++ p.after) = record {
+        (steps.more ++ p.after) = record {
           before = p.before ++ steps.own;
           own = steps.more;
           after = p.after;
@@ -257,14 +250,14 @@ module _ (program : Lowering) where
       → At program (dup x rest) inner frames input s fs left
       → IsFitFrom program (counted_at program (dup x rest) s.environment inner frames s.heap input)
       → Does program idle (counted_at program (dup x rest) s.environment inner frames s.heap input)
-          (turn_of left s.frame fs s.world)
+      (turn_of left s.frame fs s.world)
   at_dup x idle rest inner frames input s fs left idle_is at fit =
       let p = at.placed in
       let counts = (fit 0).counts (dup x rest) s.environment inner refl in
       let few = p.short in
       let c = (counted_at program (dup x rest) s.environment inner frames s.heap input).machine in
       let steps = dup_steps (known_of program at.holds at.base) (setting program)
-          (texts program) at.goal p.low p.high x rest inner c
+      (texts program) at.goal p.low p.high x rest inner c
       p.own p.after fs s at.here p.marked.0 p.lines (λ name. let small = counts name in omega arith) (fit 1).going in
       goes_on (dup x rest) rest idle inner frames input s fs left at fit (program.moves + 5) goes s.bound s.bound steps quiet_goes
       (omega arith) (ap (λ action. seen_action action input) steps.steps) (omega (arith, idle_is)) (omega arith)
@@ -275,16 +268,16 @@ module _ (program : Lowering) where
       → At program (drop x rest) inner frames input s fs left
       → IsFitFrom program (counted_at program (drop x rest) s.environment inner frames s.heap input)
       → Does program idle (counted_at program (drop x rest) s.environment inner frames s.heap input)
-          (turn_of left s.frame fs s.world)
+      (turn_of left s.frame fs s.world)
   at_drop x idle rest inner frames input s fs left idle_is at fit =
       let p = at.placed in
       let few = p.short in
       let c = (counted_at program (drop x rest) s.environment inner frames s.heap input).machine in
       let steps = drop_steps (known_of program at.holds at.base) (setting program)
-          (texts program) at.goal p.low p.high x rest inner c
+      (texts program) at.goal p.low p.high x rest inner c
       p.own p.after fs s at.here p.marked.0 p.lines (fit 1).going in
       goes_on (drop x rest) rest idle inner frames input s fs left at fit
-          (2 * program.moves + 17) goes s.bound s.bound steps quiet_goes
+      (2 * program.moves + 17) goes s.bound s.bound steps quiet_goes
       (omega arith) (ap (λ action. seen_action action input) steps.steps) (omega (arith, idle_is)) (omega arith)
       (within_itself s.bound) (within_itself s.bound) p.marked.1 p.numbered
 
@@ -310,7 +303,7 @@ module _ (program : Lowering) where
   few_fields holds c fields have =
       let same : length fields ≡ length (program.layout.fields c)
       = sym (length-map fields holds) ∙ ap length (marks_are holds fields (field_marks program.marks c) have
-          ∙ sym (program.fields_are c)) in
+      ∙ sym (program.fields_are c)) in
       let few = program.narrow.few c in
       omega arith
 
@@ -392,10 +385,10 @@ module _ (program : Lowering) where
       let most = few_fields at.holds c fields p.marked.0.1.1 in
       let after = p.lines.1 ++ p.after in
       let first = head_lines known after fs s x c fields used p.low
-          (p.low + 1) p.lines.0 named.0 next.0 at.here reads p.numbered.0.1.1
+      (p.low + 1) p.lines.0 named.0 next.0 at.here reads p.numbered.0.1.1
       p.lines.2 in
       let shared = for_shared known after fs s x c fields used p.low
-          (p.low + 1) p.lines.0 named.0 next.0 at.here reads p.numbered.0.1.1
+      (p.low + 1) p.lines.0 named.0 next.0 at.here reads p.numbered.0.1.1
       p.lines.2 in
       let shared_rest = shared_lines known after fs s x c fields used p.low (p.low + 1) p.lines.0 named.0 next.0 at.here reads
       p.numbered.0.1.1 p.lines.2 in
@@ -403,7 +396,7 @@ module _ (program : Lowering) where
       let is : left ≡ first ++ (shared ++ behind)
       = p.left_is ∙ ap (λ own. own ++ p.after) p.lines.4 ∙ append_assoc p.lines.0 p.lines.1 p.after
       ∙ whole_lines known after fs s x c fields used p.low (p.low + 1) p.lines.0 named.0 next.0 at.here reads p.numbered.0.1.1
-          p.lines.2 in
+      p.lines.2 in
       let shared_at : s.frame.whole ≡ (p.before ++ first) ++ (shared ++ behind)
       = p.place ∙ ap (λ ls. p.before ++ ls) is ∙ sym (append_assoc p.before first (shared ++ behind)) in
       let behind_at : s.frame.whole ≡ ((p.before ++ first) ++ shared) ++ behind

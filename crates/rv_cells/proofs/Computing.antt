@@ -1,5 +1,5 @@
 -- The lines of forms that call no function do the steps of the counted machine: constructions, numbers, prints and reads.
-use Rattle.std.proofs.Common.{◌≡◌, ◌≢◌, ℕ, zero, suc, ◌+◌, ◌*◌, ◌^◌, ◌<◌, ◌≤◌, inl, inr, ℤ, pos, negsuc, w32, Bool, true, false, not, List, [], ◌∷◌, ◌++◌, length, map, Option, Some, None, nat_le, All, flat_map, refl, sym, ◌∙◌, ap, subst, arith, append_assoc, mul-le-mul_right}
+use Rattle.std.proofs.Common.{◌≡◌, ℕ, ◌+◌, ◌*◌, ◌^◌, ◌<◌, ◌≤◌, inl, inr, ℤ, pos, negsuc, w32, Bool, true, false, not, List, [], ◌∷◌, ◌++◌, length, Option, Some, nat_le, All, refl, sym, ◌∙◌, ap, subst, arith, append_assoc, mul-le-mul_right}
 use Rattle.std.specs.Prelude.{if◌then◌else◌}
 use Rattle.std.specs.Fmt.{signed_decimal}
 use Rattle.std.specs.Int.{int_wrap}
@@ -18,11 +18,10 @@ use Rattle.kk_source.specs.Arithmetic.{wrapped}
 use Rattle.kk_source.specs.State.{Value, integer, unit, constant, place, Environment, heap_full}
 use Rattle.kk_source.specs.Live.{value_of}
 use Rattle.kk_source.specs.Sound.{Within}
-use Rattle.kk_source.specs.Actions.{Action, builds, print_step, performed}
+use Rattle.kk_source.specs.Actions.{builds, print_step}
 use Rattle.kk_source.specs.FormEffects.{truth, is_true, integer_of, unary_result, number_result, binary_result, byte_value, piece_of}
-use Rattle.kk_core.specs.Sizes.{AreBound}
 use Rattle.kk_counted.specs.CountedCodes.{Counted, compute}
-use Rattle.kk_counted.specs.CountedStates.{CountedJoin, CountedFrame, running, CountedConfiguration, CountedState}
+use Rattle.kk_counted.specs.CountedStates.{CountedJoin, CountedFrame, CountedConfiguration, CountedState}
 use Rattle.kk_counted.specs.CountedMachine.{bound_then, at_end}
 use Rattle.kk_counted.specs.Heaps.{Heap, busy}
 use Rattle.kk_counted.specs.Keeping.{values_of}
@@ -48,18 +47,16 @@ use Rattle.rv_lower.proofs.Runs.{Target as NumberTarget, line_cost}
 use Rattle.rv_lower.proofs.Runs as NumberRuns
 use Rattle.rv_cells.specs.Layout.{Layout, word_in, FitsField, FitFields}
 use Rattle.rv_cells.specs.Follows.{Follows}
-use Rattle.rv_cells.specs.Marked.{AreBelow}
-use Rattle.rv_cells.specs.CountedLines.{ComputeLines}
 use Rattle.rv_cells.specs.Costs.{row_cost, forms}
-use Rattle.rv_cells.specs.Fitting.{IsInt32, IsTruth}
+use Rattle.rv_cells.specs.Fitting.{IsInt32}
 use Rattle.rv_cells.proofs.Values.{HasValues, among_by, has_bound}
 use Rattle.rv_cells.proofs.Runs.{turn_of, Runs}
 use Rattle.rv_cells.proofs.Spots.{Spot, Here, saved}
 use Rattle.rv_cells.proofs.Constructing.{IsMaking, full_did}
 use Rattle.rv_cells.proofs.Stepping.{construct_steps}
-use Rattle.rv_cells.proofs.Standing.{Lowering, target, texts, setting, upper, known_of, Placed, continues_more, At, IsFitFrom, arrives, by_lines}
+use Rattle.rv_cells.proofs.Standing.{Lowering, target, texts, setting, upper, known_of, continues_more, At, IsFitFrom, arrives, by_lines}
 use Rattle.rv_cells.proofs.Blocks.{within_itself, within_one, counted_at, Does, does_by}
-use Rattle.rv_cells.proofs.Celled.{below_among, all_among, apart_above, marks_are, arguments_fit, none_top, seen_action, goes_on, quiet_builds}
+use Rattle.rv_cells.proofs.Celled.{below_among, all_among, apart_above, arguments_fit, none_top, seen_action, goes_on, quiet_builds}
 
 -- ---- words of numbers
 
@@ -74,7 +71,7 @@ word_wraps z = refl
 pub word_signed : (a : ℕ) → a < 2 ^ 32 → word_of (signed a) ≡ a
 word_signed a fits =
     same_word (word_of (signed a)) a (word_fits (signed a)) fits
-        (word_wraps (signed a) ∙ int_wrap_fits w32 (signed a) (signed_fits a fits))
+    (word_wraps (signed a) ∙ int_wrap_fits w32 (signed a) (signed_fits a fits))
 
 -- values of other words of the same variables
 pub has_same : {layout : Layout} {address : ℕ → ℕ} {holds : ℕ → Bool} {base next : ℕ} {bound : List ℕ} {environment : Environment}
@@ -122,7 +119,7 @@ module _ (program : Lowering) where
             holds = at.placed.marked.1.0.1;
             fits = subst (λ marks. FitFields marks (values_of s.environment (a ∷ more))) (sym (program.fields_are c))
                 (arguments_fit program s at.holds at.base at.here (a ∷ more)
-                    (field_marks program.marks c) all at.placed.marked.1.0.0);
+                (field_marks program.marks c) all at.placed.marked.1.0.0);
             older = (fit 0).sound.older;
             none = at.none;
           }
@@ -137,7 +134,7 @@ module _ (program : Lowering) where
           let p = at.placed in
           let few = p.short in
           let steps = construct_steps (known_of program at.holds at.base) (setting program)
-              (texts program) at.goal p.low p.high x c a
+          (texts program) at.goal p.low p.high x c a
           more rest inner m p.own p.after fs s at.here making p.lines refl test in
           goes_on program (compute x (Construct c) (a ∷ more) rest) rest idle inner frames input s fs left at fit
           (5 * program.moves + 18 + row_cost (a ∷ more) (program.moves + 2) + (52 + 8 * length (a ∷ more))) (builds (busy s.heap))
@@ -147,7 +144,7 @@ module _ (program : Lowering) where
       by_room true test =
           let p = at.placed in
           let st : CountedState = counted_at program (compute x (Construct c) (a ∷ more) rest) s.environment inner frames s.heap
-              input in
+          input in
           let made : CountedConfiguration = record (bound_then x (place (length s.heap)) rest s.environment inner m) {
             heap = record { count = 1; cell = record { made_by = c; fields = values_of s.environment (a ∷ more) } } ∷ s.heap;
           } in
@@ -228,7 +225,7 @@ module _ (program : Lowering) where
 
   module _ (x idle : ℕ) (form : Form) (arguments : List ℕ) (rest : Counted) (inner : List CountedJoin) (frames : List CountedFrame)
       (input : List ℕ) (s : Spot) (fs : List (Frame Line)) (left : List Line)
-          (idle_is : idle ≡ forms (compute x form arguments rest))
+      (idle_is : idle ≡ forms (compute x form arguments rest))
       (at : At program (compute x form arguments rest) inner frames input s fs left)
       (fit : IsFitFrom program (counted_at program (compute x form arguments rest) s.environment inner frames s.heap input)) where
     abbrev pub form_state : CountedState
@@ -267,7 +264,7 @@ module _ (program : Lowering) where
         let ran : NumberRuns.Runs numbers_target n events (turn_of left s.frame fs s.world) (turn_of form_rest f fs world)
         = subst (λ u. NumberRuns.Runs numbers_target n events (turn_of left s.frame fs s.world) u) last
         (subst (λ t. NumberRuns.Runs numbers_target n events t (turn_at s.frame.whole form_rest cells s.frame.into fs world)) first
-            run) in
+        run) in
         let place : s.frame.whole ≡ (p.before ++ form_own) ++ form_rest
         = p.place ∙ ap (λ ls. p.before ++ ls) parts ∙ sym (append_assoc p.before form_own form_rest) in
         let values = has_same (has_bound at.here.values x v p.numbered.0 fits within) cells
@@ -279,7 +276,7 @@ module _ (program : Lowering) where
         ]) in
         does_by program idle form_state next events (turn_of left s.frame fs s.world) is fit
         (λ later. arrives program n (10 * line_cost program.moves) ((upper program).weight form_state)
-            (saved s.heap) idle events next
+        (saved s.heap) idle events next
         (turn_of left s.frame fs s.world) (turn_of form_rest f fs world)
         (omega (arith, ran.within, mul-le-mul_right (line_cost program.moves) few)) ran.events_are ran.passes ran.arrives
         (omega arith) (omega (arith, idle_is)) later
@@ -394,9 +391,9 @@ module _ (program : Lowering) where
       let own = at.placed.lines.0 in
       let lines = at.placed.lines.2 in
       performed_value x idle (Number n) arguments rest inner frames input s fs left idle_is at fit int32
-          (integer n) [] s.world input
+      (integer n) [] s.world input
       (Performing.sets_performs numbers_target x lines.0 int32 (integer n) own s.frame.cells s.world
-          (ap integer (sym lines.1), lines.2)
+      (ap integer (sym lines.1), lines.2)
       lines.3) at.placed.marked.1.0.1 refl at.input_is refl at.bytes
   at_plain x Nothing arguments plain idle rest inner frames input s fs left idle_is at fit =
       performed_value x idle Nothing arguments rest inner frames input s fs left idle_is at fit unit_type unit [] s.world input
@@ -407,16 +404,16 @@ module _ (program : Lowering) where
       (byte_value (Performing.got numbers_target input)) (Performing.read_events numbers_target input)
       (Performing.world_behind numbers_target input s.world) (Performing.left_behind numbers_target input)
       (Performing.read_performs numbers_target x input at.placed.lines.0 s.frame.cells s.world at.input_is at.bytes
-          at.placed.lines.2)
+      at.placed.lines.2)
       at.placed.marked.1.0.1 (reads x arguments rest s.environment inner frames s.heap input) refl refl
-          (bytes_behind input at.bytes)
+      (bytes_behind input at.bytes)
   at_plain x (PrintText how text) arguments plain idle rest inner frames input s fs left idle_is at fit =
       let piece : List ℕ = piece_of how (text_at program.code.texts text) in
       let lines = at.placed.lines.2 in
       let to : CountedConfiguration
       = (counted_at program rest (record { variable = x; value = unit } ∷ s.environment) inner frames s.heap input).machine in
       performed_value x idle (PrintText how text) arguments rest inner frames input s fs left idle_is at fit unit_type unit
-          (put_of piece)
+      (put_of piece)
       (told_more (put_of piece) s.world) input
       (Performing.print_text_performs numbers_target at.base x piece lines.0 at.placed.lines.0 s.frame.cells s.world
       at.placed.numbered.0 lines.1 lines.2) at.placed.marked.1.0.1 (print_is piece to input) at.input_is refl at.bytes
@@ -468,10 +465,10 @@ module _ (program : Lowering) where
       (binary_result operator (value_of s.environment a) (value_of s.environment b)) [] s.world input
       (subst (λ v. Performing.Performs numbers_target p.lines.0 x (binary_type operator) v s.frame.cells s.world s.world []) same
       (Performing.binary_performs numbers_target at.base x operator a b first.0 second.0 p.lines.0 s.frame.cells s.world
-          p.numbered.0
+      p.numbered.0
       (below_among x s.bound a p.numbered.1.0 bound_a) (below_among x s.bound b p.numbered.1.0 bound_b)
       (number_word s at.holds at.base a at.here bound_a first)
-          (number_word s at.holds at.base b at.here bound_b second) first.2 second.2
+      (number_word s at.holds at.base b at.here bound_b second) first.2 second.2
       p.lines.2))
       p.marked.1.0.1 refl at.input_is refl at.bytes
   at_plain x (Print how) [] plain idle rest inner frames input s fs left idle_is at fit = absurd (fit 0).fits
@@ -504,7 +501,7 @@ module _ (program : Lowering) where
       (turn_at s.frame.whole (own ++ (p.lines.1 ++ p.after)) s.frame.cells s.frame.into fs s.world)
       (turn_at s.frame.whole (p.lines.1 ++ p.after) (put x (Some word) s.frame.cells) s.frame.into fs s.world)) (sym p.lines.2)
       (NumberRuns.compute_runs numbers_target s.frame.whole (Op.Li word) [] x
-          (p.lines.1 ++ p.after) s.frame.cells s.frame.into fs s.world
+      (p.lines.1 ++ p.after) s.frame.cells s.frame.into fs s.world
       [] word refl refl))
       (λ z less. put_other x z word s.frame.cells (λ e. omega (arith, e, less))) (put_same x word s.frame.cells)
       (fits_constant (at.holds x) c) tt refl at.input_is refl at.bytes

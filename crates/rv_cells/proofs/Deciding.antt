@@ -1,13 +1,11 @@
 -- The lines of a case do the step of the counted machine.
-use Rattle.std.proofs.Common.{◌≡◌, ◌≢◌, ℕ, zero, suc, ◌+◌, ◌*◌, ◌<◌, ◌≤◌, Bool, true, false, List, [], ◌∷◌, ◌++◌, length, Option, Some, None, refl, sym, ◌∙◌, ap, subst, arith, append_assoc}
+use Rattle.std.proofs.Common.{◌≡◌, ℕ, zero, suc, ◌+◌, ◌*◌, ◌≤◌, Bool, List, [], ◌∷◌, ◌++◌, length, Option, Some, None, refl, sym, ◌∙◌, ap, subst, arith, append_assoc}
 use Rattle.std.specs.Prelude.{slice_get}
-use Rattle.kk_syntax.specs.Shapes.{is_among}
 use Rattle.kk_source.specs.State.{Value, Environment}
 use Rattle.kk_source.specs.Live.{value_of}
 use Rattle.kk_source.specs.Matching.{and_then}
 use Rattle.kk_source.specs.Actions.{performed}
 use Rattle.kk_core.specs.Decisions.{NodeTree, chooses, tests, value_at, answer_of, found_at, next_by, row_at, chosen_from, chosen}
-use Rattle.kk_core.specs.declared.decisions.Edge.{Edge}
 use Rattle.kk_counted.specs.CountedCodes.{Counted, case, CountedArms, no_arm, arm}
 use Rattle.kk_counted.specs.CountedStates.{CountedJoin, CountedFrame, CountedConfiguration, CountedState}
 use Rattle.kk_counted.specs.CountedMachine.{arm_at, case_step, NotStuck}
@@ -20,7 +18,7 @@ use Rattle.rv_lower.specs.Lines.{acts}
 use Rattle.rv_lower.specs.Lowered.{Goal}
 use Rattle.rv_lower.proofs.Labels.{found_label}
 use Rattle.rv_cells.specs.Layout.{Layout, word_in}
-use Rattle.rv_cells.specs.CountedLines.{Setting, CodeLines, ArmsLines, NodeLines, NodesLines, count_arms}
+use Rattle.rv_cells.specs.CountedLines.{Setting, CodeLines, ArmsLines, NodeLines, NodesLines}
 use Rattle.rv_cells.specs.Marked.{AreNumbered, AreArmsNumbered}
 use Rattle.rv_cells.specs.Costs.{row_cost, forms, arms_forms, edges_cost, node_cost, nodes_cost, decisions_cost}
 use Rattle.rv_cells.specs.Fitting.{FitsNode, FitsFrom}
@@ -28,8 +26,8 @@ use Rattle.rv_cells.proofs.Held.{some-is}
 use Rattle.rv_cells.proofs.Runs.{turn_of, Runs, runs_then}
 use Rattle.rv_cells.proofs.Acting.{label_runs, jump_runs}
 use Rattle.rv_cells.proofs.Rows.{then_some}
-use Rattle.rv_cells.proofs.Spots.{Spot, Known, Here, saved}
-use Rattle.rv_cells.proofs.Standing.{Lowering, target, texts, upper, known_of, Placed, At, IsFitFrom, by_lines, finds}
+use Rattle.rv_cells.proofs.Spots.{Spot, Known, saved}
+use Rattle.rv_cells.proofs.Standing.{Lowering, target, texts, upper, known_of, At, IsFitFrom, by_lines, finds}
 use Rattle.rv_cells.proofs.Blocks.{counted_at, Does, does_by}
 use Rattle.rv_cells.proofs.Celled.{seen_action}
 use Rattle.rv_cells.proofs.Computing.{has_same}
@@ -203,7 +201,7 @@ module _ (program : Lowering) (x idle : ℕ) (decisions : List NodeTree) (arms :
       ∙ ap (λ ls. stands.before ++ (acts (Label (nodes + k)) [] ∷ ls)) (append_assoc stands.first stands.rest tail))
       ∙ sym (append_assoc at.placed.before stands.before (node_from k node stands)) in
       finds program (nodes + k) s.frame.whole (at.placed.before ++ stands.before)
-          (stands.first ++ (stands.rest ++ tail)) at.formed place
+      (stands.first ++ (stands.rest ++ tail)) at.formed place
 
   stands_of : (k : ℕ) (node : NodeTree) → slice_get decisions k ≡ Some node → StandsAt k node
   stands_of k node is =
@@ -260,7 +258,7 @@ module _ (program : Lowering) (x idle : ℕ) (decisions : List NodeTree) (arms :
       let behind = chosen_from (cell_at s.heap) v decisions steps in
       let row_by = sym (ap (row_at (cell_at s.heap) v behind) is) ∙ row_is in
       let first = then_some (found_at (cell_at s.heap) way v)
-          (λ found. and_then (next_by edges otherwise found) behind) row row_by in
+      (λ found. and_then (next_by edges otherwise found) behind) row row_by in
       let found = first.0 in
       let value = then_some (value_at (cell_at s.heap) way v) (answer_of (cell_at s.heap)) found first.1 in
       let next = then_some (next_by edges otherwise found) behind row first.2 in
@@ -283,7 +281,7 @@ module _ (program : Lowering) (x idle : ℕ) (decisions : List NodeTree) (arms :
       } in
       let test = tests_lead known s fs at.here at.base nodes edges otherwise found next.0 rest goal
       (node_found next.0 later.0 stands_later) next.1 it.1.0 low x way v value.0 stands.first values stands.node_lines has value.1
-          value.2
+      value.2
       it.0 in
       let below = at.here.values.below x at.placed.marked.0 in
       let onward = node_leads steps next.0 row later.0 stands_later there test.later later.1 next.2 (it.1.1 next.0 next.1) found_arm
@@ -291,7 +289,7 @@ module _ (program : Lowering) (x idle : ℕ) (decisions : List NodeTree) (arms :
       let cheap = cost_within m k decisions (tests way edges otherwise) is in
       let rest_cost = decisions_cost m steps each in
       leads_more known s fs at.here at.base at.base ((m + 0) + (cost + rest_cost))
-          (decisions_cost m (suc steps) each) from there values
+      (decisions_cost m (suc steps) each) from there values
       (omega (arith, cheap)) (omega arith)
       (leads_then known s fs at.here at.base (m + 0) (cost + rest_cost) from (stands.first ++ rest) there values label
       (leads_then known s fs at.here at.base cost rest_cost (stands.first ++ rest) goal there values test onward))
@@ -311,7 +309,7 @@ module _ (program : Lowering) (x idle : ℕ) (decisions : List NodeTree) (arms :
       starts : (some : List NodeTree) → NodesLines program.layout at.base at.placed.lines.2 at.placed.low x 0 some at.placed.lines.0
           → (node : NodeTree) → slice_get some 0 ≡ Some node
           → (stands : NodeAt program.layout at.base at.placed.lines.2 at.placed.low x
-              (at.placed.lines.2 + 0) node at.placed.lines.0)
+          (at.placed.lines.2 + 0) node at.placed.lines.0)
           × (at.placed.lines.0 ++ (at.placed.lines.1 ++ at.placed.after)
           ≡ acts (Label (at.placed.lines.2 + 0)) [] ∷ (stands.first ++ (stands.rest ++ (at.placed.lines.1 ++ at.placed.after))))
       starts [] are node is = cc

@@ -1,18 +1,16 @@
 -- The lines of calls do the steps of the counted machine.
-use Rattle.std.proofs.Common.{◌≡◌, ℕ, zero, suc, ◌+◌, ◌*◌, ◌<◌, ◌≤◌, Bool, true, false, List, [], ◌∷◌, ◌++◌, length, map, Option, Some, None, nat_le, All, refl, sym, ◌∙◌, ap, subst, arith, append_assoc, mul-le-mul_right}
+use Rattle.std.proofs.Common.{◌≡◌, ℕ, zero, suc, ◌+◌, ◌*◌, ◌<◌, ◌≤◌, Bool, true, false, List, [], ◌∷◌, ◌++◌, length, Option, Some, None, nat_le, All, refl, sym, ◌∙◌, ap, subst, arith, append_assoc, mul-le-mul_right}
 use Rattle.std.specs.Prelude.{if◌then◌else◌, slice_get}
 use Rattle.std.proofs.lemmas.List.{append-nil, length-map}
 use Rattle.kk_syntax.specs.declared.program.Form.TheVariants.{Call}
-use Rattle.kk_syntax.specs.Shapes.{is_among}
 use Rattle.kk_source.specs.State.{Value, Environment, stack_full}
 use Rattle.kk_source.specs.Live.{value_of}
 use Rattle.kk_source.specs.Sound.{Within, AllWithin}
 use Rattle.kk_source.specs.Step.{bind_parameters}
-use Rattle.kk_source.specs.Actions.{Action, calls, performed}
+use Rattle.kk_source.specs.Actions.{calls, performed}
 use Rattle.kk_counted.specs.CountedCodes.{Counted, tail_call, compute, CountedFunction}
-use Rattle.kk_counted.specs.CountedStates.{CountedJoin, CountedFrame, running, CountedConfiguration, CountedState}
+use Rattle.kk_counted.specs.CountedStates.{CountedJoin, CountedFrame, CountedConfiguration, CountedState}
 use Rattle.kk_counted.specs.CountedMachine.{at_end, in_code, tail_step, call_step, NotStuck}
-use Rattle.kk_counted.specs.Heaps.{Heap}
 use Rattle.kk_counted.specs.Keeping.{values_of}
 use Rattle.kk_counted.specs.Marks.{parameter_marks, result_mark, HaveMarks}
 use Rattle.kk_counted.specs.Spending.{AllAmong, numbers_from}
@@ -20,7 +18,7 @@ use Rattle.rv_isa.specs.declared.asm.Action.TheVariants.{Call as CallLine, TailC
 use Rattle.rv_isa.specs.Processor.{Ending, exited}
 use Rattle.rv_isa.specs.AsmCode.{Line, Lines}
 use Rattle.rv_isa.specs.AsmMachine.{AsmTurn, bound as entry_bound, asm_entered}
-use Rattle.rv_isa.specs.Frames.{Frame, all_of}
+use Rattle.rv_isa.specs.Frames.{Frame}
 use Rattle.rv_isa.specs.Primitives.{ended}
 use Rattle.cell_runtime.specs.declared.stop.Ending.TheVariants as OfEnding
 use Rattle.cell_runtime.specs.Stops.{number_of}
@@ -38,7 +36,7 @@ use Rattle.rv_cells.proofs.Runs.{left_at, turn_of, Runs, runs_then}
 use Rattle.rv_cells.proofs.Calling.{put_row, row_below, row_has, copies_run, has_parameters, call_runs, full_call_runs, tail_call_runs}
 use Rattle.rv_cells.proofs.Spots.{Spot, Here, saved}
 use Rattle.rv_cells.proofs.Constructing.{args_older}
-use Rattle.rv_cells.proofs.Standing.{Lowering, target, texts, setting, upper, pace, known_of, Placed, continues_more, AllWait, as_many_wait, At, IsFitFrom, StandsFor, IsAt, by_lines}
+use Rattle.rv_cells.proofs.Standing.{Lowering, target, texts, setting, upper, pace, known_of, continues_more, AllWait, as_many_wait, At, IsFitFrom, by_lines}
 use Rattle.rv_cells.proofs.Blocks.{within_one, counted_at, Does, does_by}
 use Rattle.rv_cells.proofs.Celled.{all_among, arguments_fit, seen_action}
 
@@ -242,7 +240,7 @@ module _ (program : Lowering) where
       = p.left_is ∙ ap (λ own. own ++ p.after) p.lines.0 ∙ append_assoc (copies at.base arguments) (line ∷ []) p.after in
       let runs : Runs (target program) (row_cost arguments (m + 2) + (m + 2)) (length arguments + 1) t0 t2
       = subst (λ ls. Runs (target program) (row_cost arguments (m + 2) + (m + 2)) (length arguments + 1)
-          (turn_of ls s.frame fs s.world) t2)
+      (turn_of ls s.frame fs s.world) t2)
       (sym is)
       (runs_then (target program) (row_cost arguments (m + 2)) (m + 2) (length arguments) 1
       (turn_of (copies at.base arguments ++ (line ∷ p.after)) s.frame fs s.world) t1 t2 copied called) in
@@ -251,7 +249,7 @@ module _ (program : Lowering) where
       does_by program idle st next [] t0
       (ap (λ o. seen_action program (tail_step o vs st.machine) input) there.1) fit
       (λ later. by_lines program (length arguments + 1) (row_cost arguments (m + 2) + (m + 2)) ((upper program).weight st)
-          (saved s.heap)
+      (saved s.heap)
       idle next t0 t2 runs (omega arith) (omega (arith, some, few, paces)) later
       (record {
         spot = to;
@@ -284,7 +282,7 @@ module _ (program : Lowering) where
           let args : List Value = values_of s.environment arguments in
           let ws = words_in program.layout s.address args in
           let start : CountedState = counted_at program (compute x (Call f) arguments rest) s.environment inner frames s.heap input
-              in
+          in
           let waiting : CountedFrame = record { variable = x; rest = rest; joins = inner; environment = s.environment } in
           let all = all_among arguments s.bound p.marked.0 in
           let there = call_there program (slice_get program.code.functions f) args waiting start.machine input (fit 1).going in
@@ -311,7 +309,7 @@ module _ (program : Lowering) where
           ∙ append_assoc (copies at.base arguments) (line ∷ []) behind in
           let depth_is : nat_le program.depth (length (f1 ∷ fs)) ≡ full
           = ap (λ n. nat_le program.depth (suc n)) (as_many_wait program s.address (length s.heap) frames fs at.result at.waits)
-              ∙ test in
+          ∙ test in
           let place : s.frame.whole ≡ (p.before ++ p.lines.0) ++ behind
           = split_at s.frame.whole p.before left p.lines.0 p.lines.1 p.after p.place
           (p.left_is ∙ ap (λ own. own ++ p.after) p.lines.4) in
@@ -359,7 +357,7 @@ module _ (program : Lowering) where
           ≡ seen_action program (calls (suc (length frames)) (if b then at_end stack_full start.machine else entered)) input
           = λ b e. ap (λ o. seen_action program (call_step (setting program) o args waiting start.machine) input) there.1
           ∙ ap (λ c. seen_action program (calls (suc (length frames)) (if c then at_end stack_full start.machine else entered))
-              input) e in
+          input) e in
           let cost = row_cost arguments (m + 2) + (m + 7) in
           let whole_run : (u : AsmTurn World Ending) → Runs (target program) (m + 7) 1 t1 u
           → Runs (target program) cost (length arguments + 1) t0 u
@@ -374,7 +372,7 @@ module _ (program : Lowering) where
                 does_by program idle start next [] t0 (step_is true e) fit
                 (λ later. by_lines program (length arguments + 1) cost ((upper program).weight start) (saved s.heap) idle next t0 u
                 (whole_run u (full_call_runs (target program) f1 fs s.world f
-                    (temporaries at.base arguments) ws lines entry_at.values behind
+                (temporaries at.base arguments) ws lines entry_at.values behind
                 reads low.1 entry_at.is x d))
                 (omega arith) (omega (arith, paces)) later
                 (record {
@@ -392,7 +390,7 @@ module _ (program : Lowering) where
                 does_by program idle start next [] t0 (step_is false e) fit
                 (λ later. by_lines program (length arguments + 1) cost ((upper program).weight start) (saved s.heap) idle next t0 u
                 (whole_run u (call_runs (target program) f1 fs s.world f
-                    (temporaries at.base arguments) ws lines entry_at.values behind
+                (temporaries at.base arguments) ws lines entry_at.values behind
                 reads low.1 entry_at.is x d))
                 (omega arith) (omega (arith, few, paces)) later
                 (record {

@@ -1,13 +1,13 @@
 -- The assembler lines of a program of two functions, by hand: one adds 1 to each number of a list, in the cells that the list has
 -- where they are its own; `main` makes a list of two cells and calls it.
-use Rattle.std.proofs.Common.{◌≡◌, ℕ, zero, suc, ◌+◌, ◌*◌, ◌^◌, ◌-◌, ◌<◌, ◌≤◌, pos, Bool, true, false, List, [], ◌∷◌, ◌++◌, Option, Some, None, refl, subst, lit<, lit≤, arith}
-use Rattle.std.specs.Prelude.{slice_get, slice_index_or}
+use Rattle.std.proofs.Common.{◌≡◌, ℕ, zero, suc, ◌^◌, ◌-◌, pos, Bool, true, false, List, [], ◌∷◌, ◌++◌, Some, refl, subst, lit<, lit≤}
+use Rattle.std.specs.Prelude.{slice_index_or}
 use Rattle.kk_syntax.specs.Shapes.{is_among}
 use Rattle.kk_syntax.specs.declared.program.Form.TheVariants as OfForm
 use Rattle.kk_syntax.specs.declared.operator.BinaryOperator.TheVariants.{Add}
 use Rattle.kk_counted.specs.CountedCodes.{give, compute}
-use Rattle.kk_counted.specs.Marks.{CellMarks, IsMarked, AreMarked}
-use Rattle.kk_counted.proofs.Examples.{inc, by_count, two_cells, unique, program}
+use Rattle.kk_counted.specs.Marks.{CellMarks}
+use Rattle.kk_counted.proofs.Examples.{inc, by_count, two_cells, unique}
 use Rattle.rv_isa.specs.declared.asm.Action.TheVariants.{Compute, Label, Jump, Branch, Call, Return, Routine as Calls}
 use Rattle.rv_isa.specs.declared.asm.Condition.TheVariants.{Equal, NotEqual}
 use Rattle.rv_isa.specs.declared.asm.Operation.TheVariants as Op
@@ -16,12 +16,12 @@ use Rattle.rv_isa.specs.declared.asm.ImmediateOperation.TheVariants.{Addi, Andi}
 use Rattle.rv_isa.specs.declared.immediate.Immediate.{Immediate}
 use Rattle.rv_isa.specs.declared.routine.Routine.TheVariants.{Take, Drop}
 use Rattle.rv_isa.specs.AsmCode.{Line, Lines}
-use Rattle.rv_lower.specs.Lines.{Texts, computes, sets, copies_to, acts}
+use Rattle.rv_lower.specs.Lines.{computes, sets, copies_to, acts}
 use Rattle.rv_lower.specs.Lowered.{returns}
 use Rattle.rv_cells.specs.Layout.{Layout}
 use Rattle.rv_cells.specs.CellLines.{ConstructLines, AllLoads, UniqueLines}
-use Rattle.rv_cells.specs.CountedLines.{Setting, CodeLines, IsFunctionLowered}
-use Rattle.rv_cells.specs.Marked.{AreNumbered, IsFunctionOf, AreFunctionsOf}
+use Rattle.rv_cells.specs.CountedLines.{Setting, CodeLines}
+use Rattle.rv_cells.specs.Marked.{IsFunctionOf, AreFunctionsOf}
 
 -- `False`, `True`, `Nil` and `Cons`
 abbrev layout : Layout
@@ -111,8 +111,13 @@ makes x head rest = (
   stores immediate_8 x head ∷ stores immediate_12 x rest ∷ [],
   stores immediate_0 x 7,
   (immediate_4, refl, refl),
-  (stores immediate_8 x head, stores immediate_12 x rest ∷ [], (immediate_8, refl, refl),
-      (stores immediate_12 x rest, [], (immediate_12, refl, refl), refl, refl), refl),
+  (
+    stores immediate_8 x head,
+    stores immediate_12 x rest ∷ [],
+    (immediate_8, refl, refl),
+    (stores immediate_12 x rest, [], (immediate_12, refl, refl), refl, refl),
+    refl,
+  ),
   (immediate_0, refl, refl),
   refl,
 )
@@ -121,9 +126,13 @@ abbrev two_loads : List Line
 two_loads = loads immediate_8 0 1 ∷ loads immediate_12 0 2 ∷ []
 
 two_loads_are : AllLoads 0 2 (1 ∷ 2 ∷ []) two_loads
-two_loads_are =
-    (loads immediate_8 0 1, loads immediate_12 0 2 ∷ [], (immediate_8, refl, refl),
-    (loads immediate_12 0 2, [], (immediate_12, refl, refl), refl, refl), refl)
+two_loads_are = (
+  loads immediate_8 0 1,
+  loads immediate_12 0 2 ∷ [],
+  (immediate_8, refl, refl),
+  (loads immediate_12 0 2, [], (immediate_12, refl, refl), refl, refl),
+  refl,
+)
 
 opens : UniqueLines 7 inc_holds 5 6 0 (1 ∷ 2 ∷ []) (1 ∷ 2 ∷ []) opening_lines
 opens = (
@@ -222,8 +231,28 @@ inc_lowered = record {
         (
           (
             (refl, (refl, (refl, (refl, tt)))),
-            (tt, ((tt, refl), ((refl, (refl, tt)), (((refl, (refl, tt)), refl), ((refl, tt), (((refl, tt), refl), ((refl, (refl, tt)),
-                (((refl, (refl, tt)), refl), (refl, refl))))))))),
+            (
+              tt,
+              (
+                (tt, refl),
+                (
+                  (refl, (refl, tt)),
+                  (
+                    ((refl, (refl, tt)), refl),
+                    (
+                      (refl, tt),
+                      (
+                        ((refl, tt), refl),
+                        (
+                          (refl, (refl, tt)),
+                          (((refl, (refl, tt)), refl), (refl, refl)),
+                        ),
+                      ),
+                    ),
+                  ),
+                ),
+              ),
+            ),
           ),
           tt,
         ),
@@ -236,9 +265,25 @@ inc_lowered = record {
     (
       (
         ((lit< tt, (lit< tt, tt)), (refl, (refl, (refl, tt)))),
-        (lit< tt, ((lit< tt, (lit< tt, (lit< tt, tt))), (lit< tt, ((lit< tt, (lit< tt, (lit< tt, (lit< tt, tt)))),
-            (lit< tt, ((lit< tt, (lit< tt, (lit< tt, (lit< tt, (lit< tt, tt))))),
-            (lit< tt, ((lit< tt, (lit< tt, (lit< tt, (lit< tt, (lit< tt, (lit< tt, tt)))))), tt)))))))),
+        (
+          lit< tt,
+          (
+            (lit< tt, (lit< tt, (lit< tt, tt))),
+            (
+              lit< tt,
+              (
+                (lit< tt, (lit< tt, (lit< tt, (lit< tt, tt)))),
+                (
+                  lit< tt,
+                  (
+                    (lit< tt, (lit< tt, (lit< tt, (lit< tt, (lit< tt, tt))))),
+                    (lit< tt, ((lit< tt, (lit< tt, (lit< tt, (lit< tt, (lit< tt, (lit< tt, tt)))))), tt)),
+                  ),
+                ),
+              ),
+            ),
+          ),
+        ),
       ),
       tt,
     ),
@@ -310,25 +355,108 @@ main_lowered = record {
   lowered = record { holds = main_holds; base = 7; params = refl; labels = 0; code = main_code };
   marked = record {
     parameters_marked = tt;
-    body_marked =
-        (tt, ((tt, refl), (tt, ((tt, refl), ((refl, (refl, tt)), (((refl, (refl, tt)), refl), (tt, ((tt, refl),
-        ((refl, (refl, tt)), (((refl, (refl, tt)), refl), ((refl, tt), (((refl, tt), refl), (refl, (tt, ((tt, refl),
-        (refl, refl))))))))))))))));
+    body_marked = (
+      tt,
+      (
+        (tt, refl),
+        (
+          tt,
+          (
+            (tt, refl),
+            (
+              (refl, (refl, tt)),
+              (
+                ((refl, (refl, tt)), refl),
+                (
+                  tt,
+                  (
+                    (tt, refl),
+                    (
+                      (refl, (refl, tt)),
+                      (
+                        ((refl, (refl, tt)), refl),
+                        (
+                          (refl, tt),
+                          (
+                            ((refl, tt), refl),
+                            (
+                              refl,
+                              (
+                                tt,
+                                (
+                                  (tt, refl),
+                                  (refl, refl),
+                                ),
+                              ),
+                            ),
+                          ),
+                        ),
+                      ),
+                    ),
+                  ),
+                ),
+              ),
+            ),
+          ),
+        ),
+      ),
+    );
   };
   few = lit≤ tt;
-  numbered =
-      (lit< tt, (tt, (lit< tt, ((lit< tt, tt), (lit< tt, ((lit< tt, (lit< tt, tt)), (lit< tt, ((lit< tt, (lit< tt, (lit< tt, tt))),
-      (lit< tt, ((lit< tt, (lit< tt, (lit< tt, (lit< tt, tt)))), (lit< tt, ((lit< tt, (lit< tt, (lit< tt, (lit< tt, (lit< tt, tt))))),
-      (lit< tt, ((lit< tt, (lit< tt, (lit< tt, (lit< tt, (lit< tt, (lit< tt, tt)))))), tt))))))))))))));
+  numbered = (
+    lit< tt,
+    (
+      tt,
+      (
+        lit< tt,
+        (
+          (lit< tt, tt),
+          (
+            lit< tt,
+            (
+              (lit< tt, (lit< tt, tt)),
+              (
+                lit< tt,
+                (
+                  (lit< tt, (lit< tt, (lit< tt, tt))),
+                  (
+                    lit< tt,
+                    (
+                      (lit< tt, (lit< tt, (lit< tt, (lit< tt, tt)))),
+                      (
+                        lit< tt,
+                        (
+                          (lit< tt, (lit< tt, (lit< tt, (lit< tt, (lit< tt, tt))))),
+                          (lit< tt, ((lit< tt, (lit< tt, (lit< tt, (lit< tt, (lit< tt, (lit< tt, tt)))))), tt)),
+                        ),
+                      ),
+                    ),
+                  ),
+                ),
+              ),
+            ),
+          ),
+        ),
+      ),
+    ),
+  );
 }
 
 -- both functions of the program are lowered
 pub both_lowered : AreFunctionsOf layout (record { literals = []; constants = [] }) marks (inc by_count ∷ two_cells unique ∷ [])
     (inc_lines ∷ main_lines ∷ [])
 both_lowered zero function is =
-    let same : inc by_count ≡ function = cc is in
-    (inc_lines, refl, subst (λ f. IsFunctionOf layout (record { literals = []; constants = [] }) marks 0 f inc_lines) same inc_lowered)
+    let same : inc by_count ≡ function = cc is in (
+      inc_lines,
+      refl,
+      subst (λ f. IsFunctionOf layout (record { literals = []; constants = [] }) marks 0 f inc_lines) same
+          inc_lowered,
+    )
 both_lowered (suc zero) function is =
-    let same : two_cells unique ≡ function = cc is in
-    (main_lines, refl, subst (λ f. IsFunctionOf layout (record { literals = []; constants = [] }) marks 1 f main_lines) same main_lowered)
+    let same : two_cells unique ≡ function = cc is in (
+      main_lines,
+      refl,
+      subst (λ f. IsFunctionOf layout (record { literals = []; constants = [] }) marks 1 f main_lines) same
+          main_lowered,
+    )
 both_lowered (suc (suc f)) function is = cc is

@@ -1,13 +1,11 @@
 -- The assembler's machine does each step of the counted machine, from the start of a run to its end.
-use Rattle.std.proofs.Common.{◌≡◌, ◌≢◌, ◌⊎◌, ℕ, zero, suc, ◌+◌, ◌*◌, ◌%◌, ◌<◌, ◌≤◌, Bool, true, false, List, [], ◌∷◌, ◌++◌, length, Option, Some, None, All, refl, sym, ◌∙◌, ap, subst, arith}
+use Rattle.std.proofs.Common.{◌≡◌, ℕ, zero, suc, ◌+◌, ◌*◌, ◌%◌, ◌<◌, ◌≤◌, Bool, true, false, List, [], ◌∷◌, length, Some, None, All, refl, sym, ◌∙◌, ap, subst, arith}
 use Rattle.std.specs.Prelude.{◌==◌, slice_get, slice_index_or, if◌then◌else◌}
 use Rattle.std.proofs.lemmas.List.{append-nil}
 use Rattle.std.proofs.lemmas.Option.{get_or_from_slice_get}
-use Rattle.kk_base.specs.Trace.{Event}
-use Rattle.kk_base.specs.Machines.{Machine, mapped, state}
+use Rattle.kk_base.specs.Machines.{state}
 use Rattle.kk_base.specs.Simulations.{Reaches, Simulates}
 use Rattle.kk_base.proofs.Simulations.{simulates_until_ended, simulates_many, simulates_agree, simulates_passing}
-use Rattle.kk_syntax.specs.Shapes.{is_among}
 use Rattle.kk_syntax.specs.declared.program.Form.{Form}
 use Rattle.kk_syntax.specs.declared.program.Form.TheVariants.{Number, Unit as Nothing, ReadByte, PrintText, Unary, Binary, Print, Construct, Call}
 use Rattle.kk_source.specs.State.{Environment, End}
@@ -26,7 +24,7 @@ use Rattle.rv_isa.specs.Frames.{Frame, empty}
 use Rattle.rv_isa.specs.Primitives.{ended, stuck as stuck_turn, end_of}
 use Rattle.rv_isa.specs.WellFormed.{AreLinesFormed, AreWellFormed}
 use Rattle.cell_heap.specs.Pool.{Pool, IsCell}
-use Rattle.cell_heap.specs.Blocks.{Cells, unused, unused_cells}
+use Rattle.cell_heap.specs.Blocks.{Cells, unused}
 use Rattle.rv_world.specs.World.{World, first_world}
 use Rattle.rv_lower.specs.Lowered.{returns}
 use Rattle.rv_cells.specs.Layout.{Layout}
@@ -39,7 +37,7 @@ use Rattle.rv_cells.proofs.Starts.{starts as begins}
 use Rattle.rv_cells.proofs.Values.{HasValues}
 use Rattle.rv_cells.proofs.Runs.{turn_of}
 use Rattle.rv_cells.proofs.Spots.{Spot, saved}
-use Rattle.rv_cells.proofs.Standing.{Lowering, target, texts, setting, upper, lower, pace, Passing, At, IsAt, HasEnded, StandsFor, IsFitFrom, Related}
+use Rattle.rv_cells.proofs.Standing.{Lowering, texts, setting, upper, lower, pace, Passing, At, IsAt, HasEnded, StandsFor, IsFitFrom, Related}
 use Rattle.rv_cells.proofs.Blocks.{counted_at, Does, at_give, at_inside, at_branch}
 use Rattle.rv_cells.proofs.Celled.{at_dup, at_drop, at_read, at_open, at_unique}
 use Rattle.rv_cells.proofs.Computing.{FormDoes, at_construct, at_plain}
@@ -118,14 +116,16 @@ module _ (program : Lowering) where
 
   steps_by : (control : CountedControl) (frames : List CountedFrame) (heap : Heap) (input : List ℕ) (credit idle : ℕ)
       (t : AsmTurn World Ending)
-      → Related program credit idle (record { machine = record { control = control; frames = frames; heap = heap }; input = input
-          }) t
+      → Related program credit idle (record {
+        machine = record { control = control; frames = frames; heap = heap };
+        input = input;
+      }) t
       → (upper program).ending (record { machine = record { control = control; frames = frames; heap = heap }; input = input })
-          ≡ None
+      ≡ None
       → Follows_from credit idle (record { machine = record { control = control; frames = frames; heap = heap }; input = input }) t
   steps_by (running code environment inner) frames heap input credit idle t related goes =
       stands_step code environment inner frames heap input credit idle t related.credit_is related.idle_is related.fit
-          related.stands
+      related.stands
   steps_by (stopped by) frames heap input credit idle t related goes = cc goes
   steps_by stuck frames heap input credit idle t related goes = absurd related.stands
 
@@ -158,7 +158,7 @@ module _ (program : Lowering) where
       (λ credit idle s t related. ends_alike s.machine.control s.machine.frames s.machine.heap s.input t related.stands)
       (λ credit idle s t related. passes s.machine.control s.machine.frames s.machine.heap s.input t related.stands)
       (λ credit idle s t related goes. steps_by s.machine.control s.machine.frames s.machine.heap s.input credit idle t related
-          goes)
+      goes)
 
   -- ---- the start
 
@@ -343,16 +343,19 @@ module _ (layout : Layout) (marks : CellMarks) (code : CountedProgram) (constant
   related : Related lowering 0 (forms lowered.main.body) start turn
   related = starts lowering lowered.main lowered.main_is lowered.main_alone lowered.main_lines lowered.lines_are input bytes
       (λ n. subst (λ (s : CountedState). IsFit layout s.machine) (sym (state_mapped moves (setting_on code pool depth) n start))
-          (fits n))
+      (fits n))
 
   last_free : (n : ℕ) (by : End) (s : CountedState) (t : AsmTurn World Ending) → s.machine.control ≡ stopped by
       → StandsFor lowering s.machine.control s.machine.frames s.machine.heap s.input t
       → (world : World) × (t ≡ ended (exited (exit_of by)) world) × (busy s.machine.heap ≡ 0 → AreFree pool world.cells)
   last_free n by s t is stands =
       let end : HasEnded lowering by s.machine.heap t
-      = subst (λ control. StandsFor lowering control s.machine.frames s.machine.heap s.input t) is stands in
-      (end.world, end.turn_is, λ none. all_free pool layout end.address end.owners s.machine.heap end.world.cells end.follows
-          end.none none)
+      = subst (λ control. StandsFor lowering control s.machine.frames s.machine.heap s.input t) is stands in (
+        end.world,
+        end.turn_is,
+        λ none. all_free pool layout end.address end.owners s.machine.heap end.world.cells end.follows
+            end.none none,
+      )
 
   -- the assembler's machine and the counted machine run the same
   pub runs_the_same : RunsTheSame code constants functions lowered.main_lines pool depth first moves input

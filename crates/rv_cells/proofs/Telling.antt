@@ -1,5 +1,5 @@
 -- What the words of values tell of the edges of a test.
-use Rattle.std.proofs.Common.{◌≡◌, ◌≢◌, ℕ, zero, suc, ◌+◌, ◌*◌, ◌%◌, ◌^◌, ◌<◌, ◌≤◌, ℤ, Bool, true, false, not, cond, List, [], ◌∷◌, length, filter, Option, Some, None, option_map, nat_eq, int_eq, refl, sym, ◌∙◌, ap, subst, arith, eqb-true, eq-eqb, ne_eqb}
+use Rattle.std.proofs.Common.{◌≡◌, ℕ, ◌+◌, ◌*◌, ◌%◌, ◌≤◌, ℤ, Bool, true, false, not, cond, List, [], ◌∷◌, length, filter, Option, Some, None, nat_eq, int_eq, refl, sym, ◌∙◌, ap, subst, arith, eqb-true, eq-eqb, ne_eqb}
 use Rattle.std.proofs.lemmas.Bool.Decides.{Decides-int_eq}
 use Rattle.std.specs.Prelude.{if◌then◌else◌, ◌==◌}
 use Rattle.kk_source.specs.State.{Value, integer, unit, constant, place, Cell}
@@ -8,12 +8,10 @@ use Rattle.kk_core.specs.declared.decisions.Answer.{Answer}
 use Rattle.kk_core.specs.declared.decisions.Answer.TheVariants.{Number, Constructor}
 use Rattle.kk_core.specs.declared.decisions.Edge.{Edge}
 use Rattle.rv_isa.specs.Arithmetic.{signed, word_of}
-use Rattle.rv_lower.proofs.Words.{same_word}
 use Rattle.rv_cells.specs.Layout.{Layout, word_in}
 use Rattle.rv_cells.specs.CountedLines.{is_plain, answer_word, answer_tag}
 use Rattle.rv_cells.specs.Costs.{edges_cost}
 use Rattle.rv_cells.specs.Fitting.{IsInt32, AreAlike, AllAlike, ShowsIts}
-use Rattle.rv_cells.proofs.Held.{some-is}
 use Rattle.rv_cells.proofs.Computing.{word_signed}
 
 -- two tests that hold alike
@@ -98,7 +96,7 @@ split_cost moves keeps (edge ∷ edges) = by (keeps edge) (split_cost moves keep
   where
     by : (b : Bool)
         → edges_cost moves (filter keeps edges) + edges_cost moves
-            (filter (λ edge. not (keeps edge)) edges) ≤ edges_cost moves edges
+        (filter (λ edge. not (keeps edge)) edges) ≤ edges_cost moves edges
         → edges_cost moves (cond b (edge ∷ filter keeps edges) (filter keeps edges))
         + edges_cost moves (cond (not b) (edge ∷ filter (λ edge. not (keeps edge)) edges) (filter (λ edge. not (keeps edge)) edges))
         ≤ (3 * moves + 7) + edges_cost moves edges

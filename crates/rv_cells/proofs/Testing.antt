@@ -1,18 +1,17 @@
 -- The lines of a node of decisions lead to the label of the node that is chosen, or of the arm.
-use Rattle.std.proofs.Common.{◌≡◌, ◌≢◌, ◌⊎◌, inl, inr, ℕ, zero, suc, ◌+◌, ◌*◌, ◌%◌, ◌^◌, ◌<◌, ◌≤◌, Bool, true, false, not, List, [], ◌∷◌, ◌++◌, length, filter, Option, Some, None, nat_eq, bit_and, refl, sym, ◌∙◌, ap, subst, arith, append_assoc}
+use Rattle.std.proofs.Common.{◌≡◌, ◌⊎◌, inl, inr, ℕ, zero, suc, ◌+◌, ◌*◌, ◌%◌, ◌<◌, ◌≤◌, Bool, true, false, not, List, [], ◌∷◌, ◌++◌, length, filter, Option, Some, None, nat_eq, bit_and, refl, sym, ◌∙◌, ap, subst, arith, append_assoc}
 use Rattle.std.specs.Prelude.{if◌then◌else◌, cond, ℤ, option_map}
 use Rattle.cell_heap.specs.Blocks.{own}
 use Rattle.rv_isa.specs.declared.asm.Operation.TheVariants as Op
 use Rattle.rv_isa.specs.declared.asm.ImmediateOperation.TheVariants.{Andi}
 use Rattle.std.proofs.lemmas.Nat.{and_mask}
 use Rattle.kk_source.specs.State.{Value, integer, unit, constant, place, Cell}
-use Rattle.kk_source.specs.Matching.{and_then}
-use Rattle.kk_core.specs.Decisions.{NodeTree, chooses, tests, value_at, answer_of, is_answer, next_by}
+use Rattle.kk_core.specs.Decisions.{tests, value_at, answer_of, is_answer, next_by}
 use Rattle.kk_core.specs.declared.decisions.Answer.{Answer}
 use Rattle.kk_core.specs.declared.decisions.Answer.TheVariants.{Number, Constructor}
 use Rattle.kk_core.specs.declared.decisions.Edge.{Edge}
-use Rattle.kk_counted.specs.Heaps.{Held, Heap, cell_at, held_at, if_counted}
-use Rattle.rv_isa.specs.declared.asm.Action.TheVariants.{Label, Jump, Branch}
+use Rattle.kk_counted.specs.Heaps.{Held, cell_at, held_at, if_counted}
+use Rattle.rv_isa.specs.declared.asm.Action.TheVariants.{Branch}
 use Rattle.rv_isa.specs.declared.asm.Condition.TheVariants.{NotEqual}
 use Rattle.rv_isa.specs.AsmCode.{Line}
 use Rattle.rv_isa.specs.Frames.{Frame, put}
@@ -22,9 +21,9 @@ use Rattle.rv_world.specs.World.{World}
 use Rattle.rv_lower.specs.Lines.{computes, acts, copies_to}
 use Rattle.rv_lower.proofs.Labels.{found_label}
 use Rattle.rv_lower.proofs.Performing.{put_same, put_other}
-use Rattle.rv_cells.specs.Layout.{Layout, word_in, header_of, mask_of}
+use Rattle.rv_cells.specs.Layout.{word_in, header_of}
 use Rattle.rv_cells.specs.CountedLines.{is_plain, answer_word, answer_tag, number_tests, otherwise_lines, OddLines, TagLines, NodeLines}
-use Rattle.rv_cells.specs.Costs.{row_cost, edges_cost, node_cost}
+use Rattle.rv_cells.specs.Costs.{row_cost, edges_cost}
 use Rattle.rv_cells.specs.Fitting.{AreAlike, AllAlike, ShowsIts}
 use Rattle.rv_cells.proofs.Held.{some-is, held_count}
 use Rattle.rv_cells.proofs.Words.{load_own, cell_named}
@@ -260,14 +259,14 @@ module _ (known : Known) (s : Spot) (fs : List (Frame Line)) (here : Here known 
       let from = number_tests number value nodes edges ++ (otherwise_lines nodes otherwise ++ rest) in
       let mid = otherwise_lines nodes otherwise ++ rest in
       let first = leads_more (value + 1) limit (edges_cost moves edges) (edges_cost moves edges) from mid values
-          (omega arith) le none.1 in
+      (omega arith) le none.1 in
       leads_then limit (edges_cost moves edges) (moves + 2) from mid there values first
       (jumps_out nodes limit otherwise k there rest first.later (sym (next_other edges otherwise found none.0) ∙ next) finds)
   finish number value nodes limit found edges otherwise k rest there values le finds next (inr taken) =
       let from = number_tests number value nodes edges ++ (otherwise_lines nodes otherwise ++ rest) in
       let same : taken.0 ≡ k = some-is (sym (next_some edges otherwise found taken.0 taken.1) ∙ next) in
       leads_more (value + 1) limit (edges_cost moves edges) (edges_cost moves edges + (moves + 2)) from there values
-          (omega arith) le
+      (omega arith) le
       (taken.2 there (ap (λ n. found_label (nodes + n) s.frame.whole) same ∙ finds))
 
   -- ---- the cell of a value
@@ -380,7 +379,7 @@ module _ (known : Known) (s : Spot) (fs : List (Frame Line)) (here : Here known 
         subst (λ ls. Leads base (tags_cost (edge ∷ more)) ls there values)
         (sym (ap (λ ls. ls ++ out) lines.6 ∙ append_assoc lines.0 behind out))
         (leads_more (base + 1) base (2 * moves + 5) (tags_cost (edge ∷ more)) (lines.0 ++ (behind ++ out)) there values
-            (omega arith)
+        (omega arith)
         (omega arith) (odd_jumps base nodes w otherwise k lines.0 (behind ++ out) there values lines.3 is finds has odd))
 
     -- a cell is told by its tag
@@ -414,7 +413,7 @@ module _ (known : Known) (s : Spot) (fs : List (Frame Line)) (here : Here known 
         = ap (bit_and header) lines.5 ∙ and_mask header 8 ∙ omega (arith, low) in
         let second = leads_put (base + 1) (m + 2) (base + 1) header r1 r2 v1 (omega arith)
         (load_runs known.target r2 (record s.frame { cells = v1 }) fs s.world base 1 (base + 1)
-            (s.address name) header lines.1 lines.4
+        (s.address name) header lines.1 lines.4
         has1 (load_own s.world.cells (s.address name) 1 header shows.words shows.block (omega arith)
         (shows.header ∙ ap (λ d. Some (header_of known.layout d)) same_maker))) in
         let third = leads_put (base + 1) (m + 2) (base + 1) word r2 r3 v2 (omega arith)
@@ -484,10 +483,10 @@ module _ (known : Known) (s : Spot) (fs : List (Frame Line)) (here : Here known 
         → Tested (answer_word known.layout) base nodes found plain (tags ++ (otherwise_lines nodes otherwise ++ rest)) values
         → Leads base (edges_cost known.target.moves plain + tags_cost tagged)
         (number_tests (answer_word known.layout) base nodes plain ++ (tags ++ (otherwise_lines nodes otherwise ++ rest))) there
-            values
+        values
     word_outcome w tags values answer shows lines has (inl none) =
         let from = number_tests (answer_word known.layout) base nodes plain ++
-            (tags ++ (otherwise_lines nodes otherwise ++ rest)) in
+        (tags ++ (otherwise_lines nodes otherwise ++ rest)) in
         let mid = tags ++ (otherwise_lines nodes otherwise ++ rest) in
         let first = leads_more (base + 1) base (edges_cost moves plain) (edges_cost moves plain) from mid values (omega arith)
         (omega arith) none.1 in
@@ -495,10 +494,10 @@ module _ (known : Known) (s : Spot) (fs : List (Frame Line)) (here : Here known 
         (tags_run w tags first.later answer shows none.0 lines (none.1.kept base (omega arith) ∙ has))
     word_outcome w tags values answer shows lines has (inr taken) =
         let from = number_tests (answer_word known.layout) base nodes plain ++
-            (tags ++ (otherwise_lines nodes otherwise ++ rest)) in
+        (tags ++ (otherwise_lines nodes otherwise ++ rest)) in
         let same : taken.0 ≡ k = taken_is w answer shows in
         leads_more (base + 1) base (edges_cost moves plain) (edges_cost moves plain + tags_cost tagged) from there values
-            (omega arith)
+        (omega arith)
         (omega arith) (taken.2 there (ap (λ n. found_label (nodes + n) s.frame.whole) same ∙ finds))
       where
         plain_taken : is_plain known.layout found ≡ true → taken.0 ≡ k

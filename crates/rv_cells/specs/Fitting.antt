@@ -3,9 +3,9 @@
 -- values are of the types that the code takes.
 use Rattle.std.specs.Prelude.{◌≡◌, ℕ, zero, suc, ◌+◌, ◌^◌, ◌<◌, Bool, true, false, List, [], ◌∷◌, map, length, Option, Some, None, slice_get}
 use Rattle.kk_syntax.specs.declared.program.Form.{Form}
-use Rattle.kk_syntax.specs.declared.program.Form.TheVariants.{Number, Unit as Nothing, ReadByte, PrintText, Unary, Binary, Print, Construct, Call}
+use Rattle.kk_syntax.specs.declared.program.Form.TheVariants.{Unary, Binary, Print}
 use Rattle.kk_syntax.specs.declared.operator.UnaryOperator.TheVariants.{Negate, Not}
-use Rattle.kk_source.specs.State.{Value, integer, unit, constant, place, Cell, Environment}
+use Rattle.kk_source.specs.State.{Value, integer, place, Cell, Environment}
 use Rattle.kk_source.specs.Live.{value_of}
 use Rattle.kk_source.specs.FormEffects.{truth}
 use Rattle.kk_core.specs.Decisions.{NodeTree, chooses, tests, value_at, answer_of, next_by}

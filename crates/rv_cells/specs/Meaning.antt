@@ -1,5 +1,5 @@
 -- That assembler code does what a program in counted form does.
-use Rattle.std.specs.Prelude.{◌≡◌, ◌≢◌, ℕ, List, length, Some, slice_get}
+use Rattle.std.specs.Prelude.{◌≡◌, ◌≢◌, ℕ, List, Some, slice_get}
 use Rattle.kk_base.specs.Trace.{Event}
 use Rattle.kk_base.specs.Agreements.{Agree}
 use Rattle.kk_base.specs.Machines.{Machine, mapped, state}
@@ -14,7 +14,7 @@ use Rattle.kk_counted.specs.Keeping.{counted_after}
 use Rattle.kk_counted.specs.Marks.{CellMarks, field_marks}
 use Rattle.rv_isa.specs.Processor.{Ending, exited}
 use Rattle.rv_isa.specs.AsmCode.{Lines}
-use Rattle.rv_isa.specs.AsmMachine.{AsmTurn, asm_machine, asm_start}
+use Rattle.rv_isa.specs.AsmMachine.{asm_machine, asm_start}
 use Rattle.rv_isa.specs.Primitives.{ended, stuck}
 use Rattle.rv_isa.specs.WellFormed.{AreWellFormed}
 use Rattle.cell_heap.specs.Pool.{Pool, IsCell}
