@@ -1,11 +1,17 @@
 -- The assembler lines of a program of two functions, by hand: one adds 1 to each number of a list, in the cells that the list has
 -- where they are its own; `main` makes a list of two cells and calls it.
-use Rattle.std.proofs.Common.{◌≡◌, ℕ, zero, suc, ◌^◌, ◌-◌, pos, Bool, true, false, List, [], ◌∷◌, ◌++◌, Some, refl, subst, lit<, lit≤}
+use Rattle.std.proofs.Common.{Option, ◌≡◌, ℕ, zero, suc, ◌^◌, ◌-◌, pos, Bool, true, false, List, [], ◌∷◌, ◌++◌, Some, refl, subst, lit<, lit≤}
 use Rattle.std.specs.Prelude.{slice_index_or}
+use Rattle.cell_heap.specs.Pool.{Pool}
+use Rattle.cell_heap.specs.Blocks.{Block, no_block, unused}
+use Rattle.rv_isa.specs.Primitives.{go, ended, stuck}
+use Rattle.kk_base.specs.Machines.{Machine, state, ending_after}
+use Rattle.kk_base.specs.Trace.{Event}
 use Rattle.kk_syntax.specs.Shapes.{is_among}
 use Rattle.kk_syntax.specs.declared.program.Form.TheVariants as OfForm
 use Rattle.kk_syntax.specs.declared.operator.BinaryOperator.TheVariants.{Add}
 use Rattle.kk_counted.specs.CountedCodes.{give, compute}
+use Rattle.kk_counted.specs.CountedStates.{CountedState, counted_first_state}
 use Rattle.kk_counted.specs.Marks.{CellMarks}
 use Rattle.kk_counted.proofs.Examples.{inc, by_count, two_cells, unique}
 use Rattle.rv_isa.specs.declared.asm.Action.TheVariants.{Compute, Label, Jump, Branch, Call, Return, Routine as Calls}
@@ -15,12 +21,16 @@ use Rattle.rv_isa.specs.declared.asm.RegisterOperation.TheVariants as Register
 use Rattle.rv_isa.specs.declared.asm.ImmediateOperation.TheVariants.{Addi, Andi}
 use Rattle.rv_isa.specs.declared.immediate.Immediate.{Immediate}
 use Rattle.rv_isa.specs.declared.routine.Routine.TheVariants.{Take, Drop}
+use Rattle.rv_isa.specs.AsmMachine.{AsmTurn, asm_machine, asm_start}
+use Rattle.rv_isa.specs.Processor.{Ending, exited}
+use Rattle.rv_world.specs.World.{World, first_world, primitives}
 use Rattle.rv_isa.specs.AsmCode.{Line, Lines}
 use Rattle.rv_lower.specs.Lines.{computes, sets, copies_to, acts}
 use Rattle.rv_lower.specs.Lowered.{returns}
 use Rattle.rv_cells.specs.Layout.{Layout}
 use Rattle.rv_cells.specs.CellLines.{ConstructLines, AllLoads, UniqueLines}
 use Rattle.rv_cells.specs.CountedLines.{Setting, CodeLines}
+use Rattle.rv_cells.specs.Meaning.{counted_outside, setting_on}
 use Rattle.rv_cells.specs.Marked.{IsFunctionOf, AreFunctionsOf}
 
 -- `False`, `True`, `Nil` and `Cons`
@@ -460,3 +470,49 @@ both_lowered (suc zero) function is =
           main_lowered,
     )
 both_lowered (suc (suc f)) function is = cc is
+
+-- ---- its run
+
+-- the assembler's machine in a pool of so many cells, with a stack of so many frames
+abbrev pool : ℕ → Pool
+pool cells = record { first = 32; cells = cells }
+
+abbrev lower : ℕ → ℕ → Machine (AsmTurn World Ending) Event Ending
+lower cells depth = asm_machine (primitives (record { first = 0; texts = [] }) (pool cells)) 0 depth (inc_lines ∷ main_lines ∷ [])
+
+abbrev last : ℕ → ℕ → AsmTurn World Ending
+last cells depth = state (lower cells depth) 200 (asm_start main_lines (first_world (pool cells) []))
+
+-- the counted machine
+abbrev upper : ℕ → ℕ → Machine CountedState Event Ending
+upper cells depth = counted_outside 0 (setting_on (record {
+  functions = inc by_count ∷ two_cells unique ∷ [];
+  texts = [];
+  main = 1;
+})
+    (pool cells) depth)
+
+abbrev how : ℕ → ℕ → Option Ending
+how cells depth = ending_after (upper cells depth) 60
+    (counted_first_state (setting_on (record { functions = inc by_count ∷ two_cells unique ∷ []; texts = []; main = 1 })
+    (pool cells) depth) [])
+
+-- with two cells and four frames it ends by itself
+ends_both : ((lower 2 4).ending (last 2 4) ≡ Some (exited 0)) × (how 2 4 ≡ Some (exited 0))
+ends_both = (refl, refl)
+
+-- with one cell the heap is full, and with three frames the stack is
+full_both : ((lower 1 4).ending (last 1 4) ≡ Some (exited 101)) × (how 1 4 ≡ Some (exited 101))
+full_both = (refl, refl)
+
+deep_both : ((lower 2 3).ending (last 2 3) ≡ Some (exited 102)) × (how 2 3 ≡ Some (exited 102))
+deep_both = (refl, refl)
+
+-- at the end both cells are free
+abbrev blocks_of : AsmTurn World Ending → ℕ → Block
+blocks_of (go s) at = s.shared.cells.blocks at
+blocks_of (ended by world) at = world.cells.blocks at
+blocks_of stuck at = no_block
+
+both_free : (blocks_of (last 2 4) 32 ≡ unused) × (blocks_of (last 2 4) 64 ≡ unused)
+both_free = (refl, refl)
