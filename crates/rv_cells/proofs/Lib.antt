@@ -19,6 +19,8 @@ pub mod Walking
 pub mod Frames
 pub mod Calling
 pub mod Stepping
+pub mod Written
+pub mod Grown
 pub mod Standing
 pub mod Blocks
 pub mod Celled
@@ -30,3 +32,7 @@ pub mod Deciding
 pub mod Simulating
 pub mod Fits
 pub mod Examples
+pub mod Marks
+pub mod Marking
+pub mod Lowered
+pub mod CellForms

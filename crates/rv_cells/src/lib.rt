@@ -3,7 +3,13 @@
 //! assembler code.
 #![tactic(auto)]
 
+mod block;
+mod cells;
+mod decide;
+mod known;
 mod law;
+mod mark;
+mod program;
 
 pub use law::{
     cells_in_hand_are_counted, cells_in_hand_are_released, counts_are_stored,
@@ -11,3 +17,4 @@ pub use law::{
     references_are_duplicated, requests_find_free_cells, unique_cells_are_opened,
     unused_cells_hold_no_heap, words_in_hand_are_stored,
 };
+pub use program::lower;

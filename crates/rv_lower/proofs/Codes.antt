@@ -41,7 +41,7 @@ pub record Fits (base : ℕ) (bound : List ℕ) (goal : Goal) (low high n : ℕ)
   pub good : (tail : List Line) → Ahead base bound goal low high tail → Good (Readable base base bound) (lines ++ tail)
 
 -- the goal is as well ahead of what comes later, with more labels between, and where more is bound
-goal_later : (base : ℕ) (bound : List ℕ) (goal : Goal) (low later : ℕ) (between tail : List Line) → low ≤ later → ((l : ℕ) → l < low → HasNo l between)
+pub goal_later : (base : ℕ) (bound : List ℕ) (goal : Goal) (low later : ℕ) (between tail : List Line) → low ≤ later → ((l : ℕ) → l < low → HasNo l between)
     → IsGoalAhead base bound goal low tail → IsGoalAhead base bound goal later (between ++ tail)
 goal_later base bound returns low later between tail le none ahead = tt
 goal_later base bound (joins y label) low later between tail le none ahead =
@@ -55,16 +55,16 @@ readable_under base limit bound x y v (inl is) = split (or_cases (y == v) (is_bo
     split (inl same) = inl (or_left (y == v) (is_bound (x ∷ bound) v) same)
     split (inr bound_v) = inl (or_right (y == v) (is_bound (x ∷ bound) v) (or_right (x == v) (is_bound bound v) bound_v))
 
-goal_more : (base : ℕ) (bound : List ℕ) (x : ℕ) (goal : Goal) (low : ℕ) (tail : List Line) → IsGoalAhead base bound goal low tail → IsGoalAhead base (x ∷ bound) goal low tail
+pub goal_more : (base : ℕ) (bound : List ℕ) (x : ℕ) (goal : Goal) (low : ℕ) (tail : List Line) → IsGoalAhead base bound goal low tail → IsGoalAhead base (x ∷ bound) goal low tail
 goal_more base bound x returns low tail ahead = tt
 goal_more base bound x (joins y label) low tail ahead = (ahead.0, ahead.1, ahead.2, λ v is. readable_under base base bound x y v (ahead.3 v is))
 
-goal_up : (base : ℕ) (bound : List ℕ) (goal : Goal) (low later : ℕ) (tail : List Line) → low ≤ later → IsGoalAhead base bound goal low tail → IsGoalAhead base bound goal later tail
+pub goal_up : (base : ℕ) (bound : List ℕ) (goal : Goal) (low later : ℕ) (tail : List Line) → low ≤ later → IsGoalAhead base bound goal low tail → IsGoalAhead base bound goal later tail
 goal_up base bound returns low later tail le ahead = tt
 goal_up base bound (joins y label) low later tail le ahead = (omega (arith, le, ahead.0), ahead.1, ahead.2, ahead.3)
 
 -- an action that reads and writes nothing
-good_alone : (B : ℕ → Type 0) (action : Action) (rest : List Line) → AreLabelsAhead action rest → HoldsNone action → ((v : ℕ) → is_alive_behind v action rest ≡ true → B v) → AreLinesFormed rest
+pub good_alone : (B : ℕ → Type 0) (action : Action) (rest : List Line) → AreLabelsAhead action rest → HoldsNone action → ((v : ℕ) → is_alive_behind v action rest ≡ true → B v) → AreLinesFormed rest
     → Good B (acts action [] ∷ rest)
 good_alone B action rest labels none alive formed = record {
   formed = (
@@ -84,7 +84,7 @@ good_alone B action rest labels none alive formed = record {
 }
 
 -- a label before code in which it does not stand
-good_label : (B : ℕ → Type 0) (l : ℕ) (rest : List Line) → HasNo l rest → Good B rest → Good B (acts (Label l) [] ∷ rest)
+pub good_label : (B : ℕ → Type 0) (l : ℕ) (rest : List Line) → HasNo l rest → Good B rest → Good B (acts (Label l) [] ∷ rest)
 good_label B l rest none good = good_alone B (Label l) rest (found_none l rest none) tt good.alive good.formed
 
 -- a label, and the lines of the code behind it
@@ -129,7 +129,7 @@ module _ (base : ℕ) (bound : List ℕ) (has : HasRoom base bound) where
     alive = alive_line (Readable base base bound) (acts Return (x ∷ [])) tail (inl is, tt) (λ v other is. absurd (false≢true is));
   }
 
-  fits_give : (x : ℕ) (goal : Goal) (low : ℕ) → is_bound bound x ≡ true → Fits base bound goal low low 1 (goal_lines goal x)
+  pub fits_give : (x : ℕ) (goal : Goal) (low : ℕ) → is_bound bound x ≡ true → Fits base bound goal low low 1 (goal_lines goal x)
   fits_give x returns low is = record { up = omega arith; none = λ l _. (refl, tt); few = omega arith; good = λ tail ahead. good_return x tail is ahead.formed }
   fits_give x (joins y label) low is = record {
     up = omega arith;
@@ -139,7 +139,7 @@ module _ (base : ℕ) (bound : List ℕ) (has : HasRoom base bound) where
         (good_alone (Readable base base (y ∷ bound)) (Jump label) tail ahead.goal_ahead.2 tt ahead.goal_ahead.3 ahead.formed);
   }
 
-  fits_tail_call : (f : ℕ) (arguments : List ℕ) (goal : Goal) (low : ℕ) → length arguments ≤ 8 → AreBound bound arguments
+  pub fits_tail_call : (f : ℕ) (arguments : List ℕ) (goal : Goal) (low : ℕ) → length arguments ≤ 8 → AreBound bound arguments
       → Fits base bound goal low low 1 (copies base arguments ++ acts (TailCall f) (temporaries base arguments) ∷ [])
   fits_tail_call f arguments goal low few each = record {
     up = omega arith;
@@ -210,7 +210,7 @@ module _ (base : ℕ) (bound : List ℕ) (has : HasRoom base bound) (x : ℕ) (i
         second_set : Leads (Readable base (base + 1) bound) (Readable base (base + 1 + 1) bound) 1 (sets (constant_word 1) (base + 1) ∷ [])
         second_set = next_temporary base bound has (base + 1) (Op.Li (constant_word 1)) [] (omega arith) refl (omega arith) tt
 
-  fits_branch : Fits base bound goal low high (n + m + 1) (test_lines base x low ++ (positive ++ (acts (Label low) [] ∷ negative)))
+  pub fits_branch : Fits base bound goal low high (n + m + 1) (test_lines base x low ++ (positive ++ (acts (Label low) [] ∷ negative)))
   fits_branch = record {
     up = let up = second.up in omega (arith, less, up);
     none = λ l apart. (refl, (refl, (refl, branch_none l apart)));
@@ -247,7 +247,7 @@ module _ (base : ℕ) (bound : List ℕ) (x : ℕ) (less_x : x < base) (goal : G
       goal_ahead = (omega arith, less_x, subst IsSome (sym (found_here low (more ++ tail))) refl, λ v is. label_good.alive v (sym (alive_at_here low v (more ++ tail)) ∙ is));
     })
 
-  fits_inside : Fits base bound goal low high (n + m + 1) (part ++ (acts (Label low) [] ∷ more))
+  pub fits_inside : Fits base bound goal low high (n + m + 1) (part ++ (acts (Label low) [] ∷ more))
   fits_inside = record {
     up = let up = second.up in omega (arith, less_inside, up);
     none = inside_none;

@@ -64,7 +64,7 @@ code_same literals {base} {base_too} {texts} {texts_too} {low} {low_too} goal co
     (subst (λ (l : ℕ). CodeLines base (texts_of literals texts) goal l code lines high) same_low are))
 
 -- texts that come later than those of a part
-later_texts : {n : ℕ} {lines : List Line} {a b : Lowering} (grows : Grows n lines a b) (later : List (List ℕ)) → texts_written a ++ (grows.more ++ later) ≡ texts_written b ++ later
+pub later_texts : {n : ℕ} {lines : List Line} {a b : Lowering} (grows : Grows n lines a b) (later : List (List ℕ)) → texts_written a ++ (grows.more ++ later) ≡ texts_written b ++ later
 later_texts {n} {lines} {a} {b} grows later = sym (ap (λ (texts : List (List ℕ)). texts ++ later) grows.texts ∙ append_assoc (texts_written a) grows.more later)
 
 -- ---- steps

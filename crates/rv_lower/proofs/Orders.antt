@@ -1,5 +1,5 @@
 -- How far the next line of a code is, and where its lines stand.
-use Rattle.std.proofs.Common.{◌≡◌, ◌+◌, ◌≤◌, ℕ, suc, List, [], ◌∷◌, ◌++◌, length, Option, Bool, true, false, refl, sym, ◌∙◌, ap, arith, append_assoc, true≢false}
+use Rattle.std.proofs.Common.{◌≡◌, ◌≤◌, ℕ, suc, List, [], ◌∷◌, ◌++◌, length, Option, Bool, true, refl, sym, ◌∙◌, ap, arith, append_assoc, true≢false}
 use Rattle.kk_syntax.specs.Types.{TypeTree}
 use Rattle.kk_syntax.specs.PlainTyping.{Signature, Scope}
 use Rattle.kk_source.specs.State.{Environment}

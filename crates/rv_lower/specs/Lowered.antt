@@ -15,6 +15,10 @@ abbrev pub goal_lines : Goal → ℕ → List Line
 goal_lines returns x = acts Return (x ∷ []) ∷ []
 goal_lines (joins y label) x = copies_to x y ∷ acts (Jump label) [] ∷ []
 
+-- a tail call
+abbrev pub tail_lines : ℕ → ℕ → List ℕ → List Line
+tail_lines base f arguments = copies base arguments ++ acts (TailCall f) (temporaries base arguments) ∷ []
+
 -- the branch of an `if`: to a label where the variable is not `True`
 abbrev pub test_lines : ℕ → ℕ → ℕ → List Line
 test_lines base x label =
@@ -24,7 +28,7 @@ test_lines base x label =
 abbrev pub CodeLines : ℕ → Texts → Goal → ℕ → Code → List Line → ℕ → Type 0
 CodeLines base texts goal low (give x) lines high = (lines ≡ goal_lines goal x) × (low ≡ high)
 CodeLines base texts goal low (tail_call f arguments) lines high =
-    (lines ≡ copies base arguments ++ acts (TailCall f) (temporaries base arguments) ∷ []) × (low ≡ high)
+    (lines ≡ tail_lines base f arguments) × (low ≡ high)
 CodeLines base texts goal low (branch x positive negative) lines high =
     (yes : List Line) × (no : List Line) × (middle : ℕ) × CodeLines base texts goal (low + 1) positive yes middle × CodeLines base texts goal middle negative no high
     × (lines ≡ test_lines base x low ++ (yes ++ (acts (Label low) [] ∷ no)))

@@ -1,10 +1,10 @@
 // The code of blocks.
 
-ghost use Rattle.std.specs.Prelude.{◌≡◌, ℕ, List, [], ◌∷◌, map, OnOk};
-ghost use Rattle.kk_core.specs.Codes.{block_code, last_code, step_piece, give, tail_call};
+ghost use Rattle.std.specs.Prelude.{[], ◌∷◌, map, OnOk};
+ghost use Rattle.kk_core.specs.Codes.{block_code, last_code, step_piece};
 ghost use Rattle.rv_isa.specs.declared.asm.Action.TheVariants.{Label};
 ghost use Rattle.rv_lower.specs.Lines.{acts};
-ghost use Rattle.rv_lower.specs.Lowered.{test_lines};
+ghost use Rattle.rv_lower.specs.Lowered.{goal_lines, tail_lines, test_lines};
 ghost use Rattle.rv_lower.specs.Written.{goal_of, Wrote, WroteCode, WroteSteps};
 
 use crate::line::{Reads, act, copy, set};
@@ -89,7 +89,7 @@ fn write_last(
     match last {
         Last::Return(variable) => write_value(lowering, *variable, goal),
         Last::TailCall(function, arguments) => {
-            write_tail_call(lowering, *function, arguments, goal)
+            write_tail_call(lowering, *function, arguments)
         }
         Last::If(variable, positive, negative) => {
             let label = lowering.take_label()?;
@@ -102,14 +102,15 @@ fn write_last(
     }
 }
 
-fn write_label(lowering: &mut Lowering, label: u32) -> Result<(), NoMemory>
+/// Writes a label.
+pub fn write_label(lowering: &mut Lowering, label: u32) -> Result<(), NoMemory>
     ensures { OnOk result (Wrote (acts (Label label) [] ∷ []) lowering.old lowering.new) }
 {
     lowering.write(&[act(Action::Label(label), Reads::Nothing)])
 }
 
 /// A branch to a label where the variable is not `True`.
-fn write_test(lowering: &mut Lowering, variable: u32, label: u32) -> Result<(), NoMemory>
+pub fn write_test(lowering: &mut Lowering, variable: u32, label: u32) -> Result<(), NoMemory>
     ensures { OnOk result (Wrote (test_lines lowering.old.base variable label) lowering.old lowering.new) }
 {
     let (tested, positive) = (lowering.base, lowering.temporary(1)?);
@@ -125,8 +126,8 @@ fn write_test(lowering: &mut Lowering, variable: u32, label: u32) -> Result<(), 
 }
 
 /// The value of a variable goes to the goal.
-fn write_value(lowering: &mut Lowering, variable: u32, goal: Goal) -> Result<(), NoMemory>
-    ensures { (literals : List (List ℕ)) → OnOk result (WroteCode literals (goal_of goal) (give variable) lowering.old lowering.new) }
+pub fn write_value(lowering: &mut Lowering, variable: u32, goal: Goal) -> Result<(), NoMemory>
+    ensures { OnOk result (Wrote (goal_lines (goal_of goal) variable) lowering.old lowering.new) }
 {
     match goal {
         Goal::Return => lowering.write(&[act(Action::Return, Reads::One(variable))]),
@@ -137,13 +138,13 @@ fn write_value(lowering: &mut Lowering, variable: u32, goal: Goal) -> Result<(),
     }
 }
 
-fn write_tail_call(
+/// A call that takes the function's place.
+pub fn write_tail_call(
     lowering: &mut Lowering,
     function: u32,
     arguments: &[u32],
-    goal: Goal,
 ) -> Result<(), NoMemory>
-    ensures { (literals : List (List ℕ)) → OnOk result (WroteCode literals (goal_of goal) (tail_call function arguments.now) lowering.old lowering.new) }
+    ensures { OnOk result (Wrote (tail_lines lowering.old.base function arguments.now) lowering.old lowering.new) }
 {
     let handed = lowering.hand_over(arguments)?;
     lowering.push(Action::TailCall(function), &handed, None)

@@ -107,7 +107,7 @@ impl Lowering {
 }
 
 /// The next number. Numbers above those of a `u32` would want more memory than there is.
-fn next(number: u32) -> Result<u32, NoMemory>
+pub fn next(number: u32) -> Result<u32, NoMemory>
     ensures { IfOk result (λ next. next ≡ number + 1) }
 {
     match number.checked_add(1) {

@@ -19,7 +19,7 @@ use rv_isa::{Asm, AsmFunction};
 use std::alloc::Global;
 
 /// The values that a function's caller passes: the first ones.
-fn parameters(alloc: Global, count: u32) -> Result<Vec<u32>, NoMemory>
+pub fn parameters(alloc: Global, count: u32) -> Result<Vec<u32>, NoMemory>
     ensures { IfOk result (λ params. params.items ≡ from_to 0 count) }
 {
     let mut params = Vec::new(alloc);

@@ -1,0 +1,340 @@
+-- The lines of forms that touch cells: no label stands in them, they are few, and before well-formed code they are well formed.
+use Rattle.std.proofs.Common.{
+  ◌≡◌,
+  ℕ,
+  suc,
+  ◌+◌,
+  ◌*◌,
+  ◌<◌,
+  ◌≤◌,
+  ◌==◌,
+  ◌⊎◌,
+  inl,
+  inr,
+  Bool,
+  true,
+  false,
+  List,
+  [],
+  ◌∷◌,
+  ◌++◌,
+  length,
+  None,
+  Some,
+  refl,
+  sym,
+  subst,
+  ◌∙◌,
+  arith,
+}
+use Rattle.std.specs.Prelude.{filter, if◌then◌else◌}
+use Rattle.std.proofs.lemmas.Bool.{eq-eqb, false≢true, or_cases, or_left, or_right}
+use Rattle.std.proofs.lemmas.List.Elements.{All-nil}
+use Rattle.kk_core.specs.Sizes.{AreBound}
+use Rattle.kk_syntax.specs.Shapes.{is_among as is_bound}
+use Rattle.rv_isa.specs.declared.asm.Action.TheVariants.{Compute, Routine}
+use Rattle.rv_isa.specs.declared.asm.Operation.{Operation}
+use Rattle.rv_isa.specs.declared.asm.Operation.TheVariants as Op
+use Rattle.rv_isa.specs.declared.routine.Routine.TheVariants.{Take, Drop}
+use Rattle.rv_isa.specs.AsmCode.{Line}
+use Rattle.rv_isa.specs.WellFormed.{most_values, IsSpent}
+use Rattle.rv_lower.specs.Lines.{sets, copies_to, acts}
+use Rattle.rv_lower.proofs.Formed.{
+  Each,
+  Readable,
+  Good,
+  HasRoom,
+  room_more,
+  all_each,
+  alive_line,
+  to_variable,
+  to_temporary,
+  good_hands,
+  readable_small,
+  readable_more,
+  none_some,
+  some_same,
+}
+use Rattle.rv_lower.proofs.Operations.{Leads, leads_then, leads_weaker, next_temporary, only_bound}
+use Rattle.rv_cells.specs.CellLines.{Loads, Stores, AllLoads, AllStores, dup_lines, drop_lines, dups_lines, drops_lines}
+use Rattle.rv_cells.specs.CellLines.{ConstructLines, OpenLines}
+use Rattle.rv_cells.specs.Marked.{AreBelow, bound_list}
+
+-- an operation that gives no value
+good_effect : (B : ℕ → Type 0) (operation : Operation) (args : List ℕ) (rest : List Line) → length args ≤ 2 → Each B args
+    → ((v : ℕ) → B v → v < most_values) → Good B rest → Good B (acts (Compute operation) args ∷ rest)
+good_effect B operation args rest few each small good = record {
+  formed = (
+    record {
+      labels = tt;
+      holds_none = tt;
+      few = few;
+      gives = λ is. absurd (false≢true is);
+      distinct = λ is. absurd (false≢true is);
+      spent = λ is. absurd (false≢true is);
+      args_small = all_each B (λ v. v < most_values) args small each;
+      into_small = λ v is. absurd (none_some is);
+    },
+    good.formed,
+  );
+  alive = alive_line B (acts (Compute operation) args) rest each (λ v other is. good.alive v is);
+}
+
+module _ (base : ℕ) where
+  -- what may be read with no temporary, and with those below a limit
+  abbrev Bound : List ℕ → ℕ → Type 0
+  Bound bound = Readable base base bound
+
+  pub effect : (bound : List ℕ) (limit : ℕ) (operation : Operation) (args : List ℕ) → HasRoom base bound → limit ≤ base + 8
+      → length args ≤ 2
+      → Each (Readable base limit bound) args
+      → Leads (Readable base limit bound) (Readable base limit bound) 1 (acts (Compute operation) args ∷ [])
+  effect bound limit operation args has le few each = record {
+    no_label = λ l. (refl, tt);
+    few = omega arith;
+    good = λ rest good. good_effect (Readable base limit bound) operation args rest few each
+        (readable_small base limit bound has le) good;
+  }
+
+  -- a field is loaded, and all fields are
+  pub one_load : (bound : List ℕ) (cell i x : ℕ) (line : Line) → HasRoom base bound → is_bound bound cell ≡ true → x < base
+      → Loads cell i x line → Leads (Bound bound) (Bound (x ∷ bound)) 1 (line ∷ [])
+  one_load bound cell i x line has is less loads =
+      subst (λ l. Leads (Bound bound) (Bound (x ∷ bound)) 1 (l ∷ [])) (sym loads.2)
+      (record {
+        no_label = λ l. (refl, tt);
+        few = omega arith;
+        good = λ rest good. to_variable base base bound (Op.Lw loads.0) (cell ∷ []) x rest has (omega arith) refl (omega arith)
+            (inl is, tt) less good;
+      })
+
+  pub loads_lead : (bound : List ℕ) (cell i : ℕ) (xs : List ℕ) (lines : List Line) → HasRoom base bound → is_bound bound cell ≡ true
+      → AreBelow base xs → AllLoads cell i xs lines → Leads (Bound bound) (Bound (bound_list xs bound)) (length xs) lines
+  loads_lead bound cell i [] lines has is below loads =
+      subst (Leads (Bound bound) (Bound bound) 0) (sym loads)
+      (record { no_label = λ l. tt; few = omega arith; good = λ rest good. good })
+  loads_lead bound cell i (x ∷ xs) lines has is below loads =
+      subst (Leads (Bound bound) (Bound (bound_list xs (x ∷ bound))) (suc (length xs))) (sym loads.4)
+      (subst (λ n. Leads (Bound bound) (Bound (bound_list xs (x ∷ bound))) n (loads.0 ∷ loads.1)) (one_more (length xs))
+      (leads_then (Bound bound) (Bound (x ∷ bound)) (Bound (bound_list xs (x ∷ bound))) 1 (length xs) (loads.0 ∷ []) loads.1
+      (one_load bound cell i x loads.0 has is below.0 loads.2)
+      (loads_lead (x ∷ bound) cell (suc i) xs loads.1 (room_more base bound x has below.0)
+      (or_right _ (is_bound bound cell) is) below.1 loads.3)))
+    where
+      one_more : (n : ℕ) → 1 + n ≡ suc n
+      one_more n = omega arith
+
+  -- a word is stored, and all fields are
+  pub one_store : (bound : List ℕ) (limit cell i from : ℕ) (line : Line) → HasRoom base bound → limit ≤ base + 8
+      → Readable base limit bound cell → Readable base limit bound from → Stores cell i from line
+      → Leads (Readable base limit bound) (Readable base limit bound) 1 (line ∷ [])
+  one_store bound limit cell i from line has le is is_from stores =
+      subst (λ l. Leads (Readable base limit bound) (Readable base limit bound) 1 (l ∷ [])) (sym stores.2)
+      (effect bound limit (Op.Sw stores.0) (cell ∷ from ∷ []) has le (omega arith) (is, (is_from, tt)))
+
+  pub stores_lead : (bound : List ℕ) (limit cell i : ℕ) (xs : List ℕ) (lines : List Line) → HasRoom base bound → limit ≤ base + 8
+      → is_bound bound cell ≡ true → AreBound bound xs → AllStores cell i xs lines
+      → Leads (Readable base limit bound) (Readable base limit bound) (length xs) lines
+  stores_lead bound limit cell i [] lines has le is are stores =
+      subst (Leads (Readable base limit bound) (Readable base limit bound) 0) (sym stores)
+      (record { no_label = λ l. tt; few = omega arith; good = λ rest good. good })
+  stores_lead bound limit cell i (x ∷ xs) lines has le is are stores =
+      subst (Leads (Readable base limit bound) (Readable base limit bound) (suc (length xs))) (sym stores.4)
+      (subst (λ n. Leads (Readable base limit bound) (Readable base limit bound) n (stores.0 ∷ stores.1)) (one_more (length xs))
+      (leads_then (Readable base limit bound) (Readable base limit bound) (Readable base limit bound) 1 (length xs) (stores.0 ∷ [])
+      stores.1 (one_store bound limit cell i x stores.0 has le (inl is) (inl are.0) stores.2)
+      (stores_lead bound limit cell (suc i) xs stores.1 has le is are.1 stores.3)))
+    where
+      one_more : (n : ℕ) → 1 + n ≡ suc n
+      one_more n = omega arith
+
+  -- a reference more, and one less
+  pub dup_leads : (bound : List ℕ) (holds : ℕ → Bool) (x : ℕ) → HasRoom base bound → is_bound bound x ≡ true
+      → Leads (Bound bound) (Bound bound) 1 (dup_lines holds x)
+  dup_leads bound holds x has is = by (holds x) refl
+    where
+      by : (h : Bool) → holds x ≡ h → Leads (Bound bound) (Bound bound) 1 (dup_lines holds x)
+      by true same = subst (λ h. Leads (Bound bound) (Bound bound) 1 (if h then acts (Compute Op.Dup) (x ∷ []) ∷ [] else []))
+          (sym same)
+          (effect bound base Op.Dup (x ∷ []) has (omega arith) (omega arith) (inl is, tt))
+      by false same = subst (λ h. Leads (Bound bound) (Bound bound) 1 (if h then acts (Compute Op.Dup) (x ∷ []) ∷ [] else []))
+          (sym same)
+          (record { no_label = λ l. tt; few = omega arith; good = λ rest good. good })
+
+  pub drop_leads : (bound : List ℕ) (holds : ℕ → Bool) (x : ℕ) → HasRoom base bound → is_bound bound x ≡ true
+      → Leads (Bound bound) (Bound bound) 2 (drop_lines base holds x)
+  drop_leads bound holds x has is = by (holds x) refl
+    where
+      given : List Line
+      given = copies_to x base ∷ acts (Routine Drop) (base ∷ []) ∷ []
+
+      handed : Leads (Bound bound) (Bound bound) 2 (copies_to x base ∷ acts (Routine Drop) (base ∷ []) ∷ [])
+      handed = record {
+        no_label = λ l. (refl, (refl, tt));
+        few = omega arith;
+        good = λ rest good. to_temporary base base bound Op.Mv (x ∷ []) (acts (Routine Drop) (base ∷ []) ∷ rest) has (omega arith)
+            refl
+            (omega arith) (inl is, tt)
+            (good_hands base bound (x ∷ []) (Routine Drop) None rest has tt tt (omega arith) (omega arith)
+            (λ is. absurd (false≢true is))
+            (λ v is. absurd (none_some is)) (λ v other is. only_bound base bound has v (good.alive v is)) good.formed);
+      }
+
+      by : (h : Bool) → holds x ≡ h → Leads (Bound bound) (Bound bound) 2 (drop_lines base holds x)
+      by true same = subst (λ h. Leads (Bound bound) (Bound bound) 2
+          (if h then copies_to x base ∷ acts (Routine Drop) (base ∷ []) ∷ [] else []))
+          (sym same) handed
+      by false same = subst (λ h. Leads (Bound bound) (Bound bound) 2
+          (if h then copies_to x base ∷ acts (Routine Drop) (base ∷ []) ∷ [] else []))
+          (sym same) (record { no_label = λ l. tt; few = omega arith; good = λ rest good. good })
+
+  pub dups_lead : (bound : List ℕ) (holds : ℕ → Bool) (xs : List ℕ) → HasRoom base bound → AreBound bound xs
+      → Leads (Bound bound) (Bound bound) (length xs) (dups_lines holds xs)
+  dups_lead bound holds [] has are = record { no_label = λ l. tt; few = omega arith; good = λ rest good. good }
+  dups_lead bound holds (x ∷ xs) has are =
+      leads_weaker (Bound bound) (Bound bound) (Bound bound) (Bound bound) (1 + length xs) (suc (length xs))
+      (dups_lines holds (x ∷ xs))
+      (λ v is. is) (λ v is. is) (omega arith)
+      (leads_then (Bound bound) (Bound bound) (Bound bound) 1 (length xs) (dup_lines holds x) (dups_lines holds xs)
+      (dup_leads bound holds x has are.0) (dups_lead bound holds xs has are.1))
+
+  pub drops_lead : (bound : List ℕ) (holds : ℕ → Bool) (xs : List ℕ) → HasRoom base bound → AreBound bound xs
+      → Leads (Bound bound) (Bound bound) (2 * length xs) (drops_lines base holds xs)
+  drops_lead bound holds [] has are = record { no_label = λ l. tt; few = omega arith; good = λ rest good. good }
+  drops_lead bound holds (x ∷ xs) has are =
+      leads_weaker (Bound bound) (Bound bound) (Bound bound) (Bound bound) (2 + 2 * length xs) (2 * suc (length xs))
+      (drops_lines base holds (x ∷ xs)) (λ v is. is) (λ v is. is) (omega arith)
+      (leads_then (Bound bound) (Bound bound) (Bound bound) 2 (2 * length xs) (drop_lines base holds x) (drops_lines base holds xs)
+      (drop_leads bound holds x has are.0) (drops_lead bound holds xs has are.1))
+
+  -- a cell is taken
+  pub take_leads : (bound : List ℕ) (x : ℕ) → HasRoom base bound → x < base
+      → Leads (Bound bound) (Bound (x ∷ bound)) 1 (record { action = Routine Take; args = []; into = Some x } ∷ [])
+  take_leads bound x has less = record {
+    no_label = λ l. (refl, tt);
+    few = omega arith;
+    good = λ rest good. record {
+      formed = (
+        record {
+          labels = tt;
+          holds_none = tt;
+          few = omega arith;
+          gives = λ _. refl;
+          distinct = λ _. tt;
+          spent = λ _. All-nil (IsSpent (record { action = Routine Take; args = []; into = Some x }) rest);
+          args_small = All-nil (λ v. v < most_values);
+          into_small = λ v is. subst (λ (y : ℕ). y < most_values) (some_same is) (omega (arith, less, has.room));
+        },
+        good.formed,
+      );
+      alive = alive_line (Bound bound) (record { action = Routine Take; args = []; into = Some x }) rest tt
+          (λ v other is. other_bound v other (good.alive v is));
+    };
+  }
+    where
+      left : (v : ℕ) → (x == v) ≡ false → ((x == v) ≡ true) ⊎ (is_bound bound v ≡ true) → is_bound bound v ≡ true
+      left v other (inl same) = absurd (false≢true (sym other ∙ same))
+      left v other (inr is) = is
+
+      other_bound : (v : ℕ) → (x == v) ≡ false → Bound (x ∷ bound) v → Bound bound v
+      other_bound v other (inl is) = inl (left v other (or_cases (x == v) (is_bound bound v) is))
+      other_bound v other (inr is) = inr is
+
+  bound_later : (bound : List ℕ) (x : ℕ) (xs : List ℕ) → AreBound bound xs → AreBound (x ∷ bound) xs
+  bound_later bound x [] are = tt
+  bound_later bound x (y ∷ xs) are = (or_right (x == y) (is_bound bound y) are.0, bound_later bound x xs are.1)
+
+  -- a construction
+  pub construct_leads : (bound : List ℕ) (x header : ℕ) (arguments : List ℕ) (lines : List Line) → HasRoom base bound → x < base
+      → AreBound bound arguments → ConstructLines base x header arguments lines
+      → Leads (Bound bound) (Bound (x ∷ bound)) (5 + length arguments) lines
+  construct_leads bound x header arguments lines has less are own =
+      subst (Leads (Bound bound) (Bound (x ∷ bound)) (5 + length arguments)) (sym own.6)
+      (leads_weaker (Bound bound) (Bound bound) (Bound (x ∷ bound)) (Bound (x ∷ bound))
+      (1 + (1 + (1 + (length arguments + (1 + 1))))) (5 + length arguments)
+      (taken ∷ sets header base ∷ own.0 ∷ (own.1 ++ sets 1 base ∷ own.2 ∷ [])) (λ v is. is) (λ v is. is) (omega arith)
+      (leads_then (Bound bound) (Bound (x ∷ bound)) (Bound (x ∷ bound)) 1 (1 + (1 + (length arguments + (1 + 1)))) (taken ∷ [])
+      (sets header base ∷ own.0 ∷ (own.1 ++ sets 1 base ∷ own.2 ∷ [])) (take_leads bound x has less)
+      (leads_then (Bound (x ∷ bound)) (Readable base (base + 1) (x ∷ bound)) (Bound (x ∷ bound)) 1
+      (1 + (length arguments + (1 + 1))) (sets header base ∷ []) (own.0 ∷ (own.1 ++ sets 1 base ∷ own.2 ∷ []))
+      (next_temporary base (x ∷ bound) room base (Op.Li header) [] (omega arith) refl (omega arith) tt)
+      (leads_then (Readable base (base + 1) (x ∷ bound)) (Readable base (base + 1) (x ∷ bound)) (Bound (x ∷ bound)) 1
+      (length arguments + (1 + 1)) (own.0 ∷ []) (own.1 ++ sets 1 base ∷ own.2 ∷ [])
+      (one_store (x ∷ bound) (base + 1) x 1 base own.0 room (omega arith) (inl here) (inr (omega arith, omega arith)) own.3)
+      (leads_then (Readable base (base + 1) (x ∷ bound)) (Readable base (base + 1) (x ∷ bound)) (Bound (x ∷ bound))
+      (length arguments) (1 + 1) own.1 (sets 1 base ∷ own.2 ∷ [])
+      (stores_lead (x ∷ bound) (base + 1) x 2 arguments own.1 room (omega arith) here (bound_later bound x arguments are) own.4)
+      (leads_then (Readable base (base + 1) (x ∷ bound)) (Readable base (base + 1) (x ∷ bound)) (Bound (x ∷ bound)) 1 1
+      (sets 1 base ∷ []) (own.2 ∷ [])
+      (leads_weaker (Bound (x ∷ bound)) (Readable base (base + 1) (x ∷ bound)) (Readable base (base + 1) (x ∷ bound))
+      (Readable base (base + 1) (x ∷ bound)) 1 1 (sets 1 base ∷ [])
+      (λ v is. readable_more base base (base + 1) (x ∷ bound) (omega arith) v is)
+      (λ v is. is) (omega arith)
+      (next_temporary base (x ∷ bound) room base (Op.Li 1) [] (omega arith) refl (omega arith) tt))
+      (leads_weaker (Readable base (base + 1) (x ∷ bound)) (Readable base (base + 1) (x ∷ bound))
+      (Readable base (base + 1) (x ∷ bound)) (Bound (x ∷ bound)) 1 1 (own.2 ∷ []) (λ v is. is)
+      (λ v is. readable_more base base (base + 1) (x ∷ bound) (omega arith) v is) (omega arith)
+      (one_store (x ∷ bound) (base + 1) x 0 base own.2 room (omega arith) (inl here) (inr (omega arith, omega arith)) own.5))))))))
+    where
+      taken : Line
+      taken = record { action = Routine Take; args = []; into = Some x }
+
+      room : HasRoom base (x ∷ bound)
+      room = room_more base bound x has less
+
+      here : is_bound (x ∷ bound) x ≡ true
+      here = or_left (x == x) (is_bound bound x) (eq-eqb x x refl)
+
+  -- what is bound behind fields
+  pub room_list : (bound xs : List ℕ) → HasRoom base bound → AreBelow base xs → HasRoom base (bound_list xs bound)
+  room_list bound [] has below = has
+  room_list bound (x ∷ xs) has below = room_list (x ∷ bound) xs (room_more base bound x has below.0) below.1
+
+kept_list : (bound xs : List ℕ) (y : ℕ) → is_bound bound y ≡ true → is_bound (bound_list xs bound) y ≡ true
+kept_list bound [] y is = is
+kept_list bound (x ∷ xs) y is = kept_list (x ∷ bound) xs y (or_right (x == y) (is_bound bound y) is)
+
+pub bound_fields : (bound xs : List ℕ) → AreBound (bound_list xs bound) xs
+bound_fields bound [] = tt
+bound_fields bound (x ∷ xs) =
+    (kept_list (x ∷ bound) xs x (or_left (x == x) (is_bound bound x) (eq-eqb x x refl)), bound_fields (x ∷ bound) xs)
+
+pub bound_filter : (bound : List ℕ) (p : ℕ → Bool) (xs : List ℕ) → AreBound bound xs
+    → AreBound bound (filter p xs) × (length (filter p xs) ≤ length xs)
+bound_filter bound p [] are = (tt, omega arith)
+bound_filter bound p (x ∷ xs) are = by (p x) (bound_filter bound p xs are.1)
+  where
+    by : (t : Bool) → AreBound bound (filter p xs) × (length (filter p xs) ≤ length xs)
+        → AreBound bound (if t then x ∷ filter p xs else filter p xs)
+        × (length (if t then x ∷ filter p xs else filter p xs) ≤ suc (length xs))
+    by true more = ((are.0, more.0), omega (arith, more.1))
+    by false more = (more.0, omega (arith, more.1))
+
+-- an opening
+pub open_leads : (base : ℕ) (bound : List ℕ) (holds : ℕ → Bool) (x : ℕ) (fields used : List ℕ) (lines : List Line)
+    → HasRoom base bound
+    → is_bound bound x ≡ true → AreBelow base fields → OpenLines base holds x fields used lines
+    → Leads (Readable base base bound) (Readable base base (bound_list fields bound)) (2 * length fields + 2) lines
+open_leads base bound holds x fields used lines has is below own =
+    subst (Leads (Readable base base bound) (Readable base base (bound_list fields bound)) (2 * length fields + 2)) (sym own.2)
+    (leads_weaker (Readable base base bound) (Readable base base bound) (Readable base base (bound_list fields bound))
+    (Readable base base (bound_list fields bound)) (length fields + (length (filter (is_bound used) fields) + 2))
+    (2 * length fields + 2) (own.0 ++ (dups_lines holds (filter (is_bound used) fields) ++ drop_lines base holds x)) (λ v is. is)
+    (λ v is. is)
+    (omega (arith, few.1))
+    (leads_then (Readable base base bound) (Readable base base (bound_list fields bound))
+    (Readable base base (bound_list fields bound)) (length fields) (length (filter (is_bound used) fields) + 2) own.0
+    (dups_lines holds (filter (is_bound used) fields) ++ drop_lines base holds x)
+    (loads_lead base bound x 2 fields own.0 has is below own.1)
+    (leads_then (Readable base base (bound_list fields bound)) (Readable base base (bound_list fields bound))
+    (Readable base base (bound_list fields bound)) (length (filter (is_bound used) fields)) 2
+    (dups_lines holds (filter (is_bound used) fields)) (drop_lines base holds x)
+    (dups_lead base (bound_list fields bound) holds (filter (is_bound used) fields) room few.0)
+    (drop_leads base (bound_list fields bound) holds x room (kept_list bound fields x is)))))
+  where
+    few : AreBound (bound_list fields bound) (filter (is_bound used) fields) ×
+        (length (filter (is_bound used) fields) ≤ length fields)
+    few = bound_filter (bound_list fields bound) (is_bound used) fields (bound_fields bound fields)
+
+    room : HasRoom base (bound_list fields bound)
+    room = room_list base bound fields has below

@@ -1,0 +1,19 @@
+use Rattle.std.proofs.Common.{map, sym, ap, ◌∙◌}
+use Rattle.std.proofs.lemmas.Result.{on_ok_weaker}
+use Rattle.kk_counted.proofs.FormViews.{block_is}
+use Rattle.kk_counted.specs.CountedForms.{last_code, step_move}
+use Rattle.rv_cells.specs.Marking.{marks_behind, marks_after_all}
+use Rattle.rv_cells.specs.Tables.{table_of}
+use Rattle.rv_cells.proofs.Marks.{plug_marks}
+use Rattle.rv_cells.proofs.mark.+mark.Goals as goal
+
+pub mark_block-returns : goal.mark_block-returns
+mark_block-returns t c =
+    on_ok_weaker c.mark_last.result
+    (λ is. is ∙ ap (λ marks. marks_behind (table_of c.args.shape.now) (last_code c.args.block.now.last) marks)
+    (c.in_ok-mark_steps.ensures ∙ ap (λ steps. marks_after_all (table_of c.args.shape.now) (map step_move steps)
+    c.args.marks.now.items) c.deref.ensures.value)
+    ∙ sym (plug_marks (table_of c.args.shape.now) (map step_move c.args.block.now.steps.items) (last_code c.args.block.now.last)
+    c.args.marks.now.items)
+    ∙ ap (λ code. marks_behind (table_of c.args.shape.now) code c.args.marks.now.items) (sym (block_is c.args.block.now)))
+    c.mark_last.ensures

@@ -1,0 +1,131 @@
+-- What was written of a function's assembler code, from its counted form.
+use Rattle.std.specs.Prelude.{◌≡◌, ℕ, ◌+◌, ◌-◌, ◌^◌, Bool, false, List, [], ◌∷◌, ◌++◌, slice_index_or}
+use Rattle.kk_syntax.specs.declared.program.Form.{Form}
+use Rattle.kk_counted.specs.CountedCodes.{Counted}
+use Rattle.kk_counted.specs.CountedForms.{Move, plug, arms_of}
+use Rattle.rv_isa.specs.declared.asm.Action.TheVariants.{Compute, Jump, Branch}
+use Rattle.rv_isa.specs.declared.asm.Condition.TheVariants.{NotEqual}
+use Rattle.rv_isa.specs.declared.asm.Operation.TheVariants as Op
+use Rattle.rv_isa.specs.declared.asm.ImmediateOperation.TheVariants.{Addi, Andi}
+use Rattle.rv_isa.specs.declared.immediate.Immediate.{Immediate}
+use Rattle.rv_isa.specs.AsmCode.{Line}
+use Rattle.rv_lower.specs.declared.lowering.Lowering.{Lowering}
+use Rattle.rv_lower.specs.Lines.{computes, sets, acts}
+use Rattle.rv_lower.specs.Lowered.{Goal}
+use Rattle.rv_lower.specs.Written.{lines_written, texts_written, texts_of, Grows}
+use Rattle.rv_cells.specs.declared.known.Known.{Known}
+use Rattle.rv_cells.specs.declared.decide.Targets.{Targets}
+use Rattle.rv_cells.specs.Layout.{Layout, layout_of}
+use Rattle.rv_cells.specs.CellLines.{Loads, Stores, UniqueLines}
+use Rattle.rv_cells.specs.CountedLines.{Setting, ComputeLines, CodeLines, ArmsLines}
+use Rattle.rv_cells.specs.Sizes.{forms, forms_of_arms}
+
+-- ---- what is known
+
+-- by a variable's number, whether its type has cells: behind the last mark it has none
+abbrev pub holds_in : List Bool → ℕ → Bool
+holds_in marks x = slice_index_or marks x false
+
+abbrev pub holds_known : Known → ℕ → Bool
+holds_known known x = holds_in known.marks.now x
+
+abbrev pub layout_known : Known → Layout
+layout_known known = layout_of known.constructors.now
+
+-- the string literals, how values look, and which variables are of types with cells
+pub record Facts : Type 0 where
+  pub literals : List (List ℕ)
+  pub layout : Layout
+  pub holds : ℕ → Bool
+
+abbrev pub facts_of : Known → Facts
+facts_of known = record { literals = known.literals.now; layout = layout_known known; holds = holds_known known }
+
+-- where temporaries begin there, and these constant bytes stand
+abbrev pub setting_in : Facts → ℕ → List (List ℕ) → Setting
+setting_in facts base texts = record {
+  layout = facts.layout;
+  holds = facts.holds;
+  base = base;
+  texts = texts_of facts.literals texts;
+}
+
+-- ---- lines
+
+-- a branch to a label where the count of a cell is not 1
+abbrev pub TestsCount : ℕ → ℕ → ℕ → List Line → Type 0
+TestsCount base shared x lines =
+    (test : Line) × Loads x 0 base test
+    × (lines ≡ test ∷ sets 1 (base + 1) ∷ acts (Branch NotEqual shared) (base ∷ (base + 1) ∷ []) ∷ [])
+
+-- a cell is freed, and the code goes on at a label
+abbrev pub free_lines : ℕ → ℕ → List Line
+free_lines x behind = acts (Compute Op.Free) (x ∷ []) ∷ acts (Jump behind) [] ∷ []
+
+-- the count of a cell is lowered
+abbrev pub LowersCount : ℕ → ℕ → List Line → Type 0
+LowersCount base x lines =
+    (count : Line) × (less : Immediate) × (store : Line) × Loads x 0 base count × (less.word ≡ 2 ^ 32 - 1) × Stores x 0 base store
+    × (lines ≡ count ∷ computes (Op.Immediate Addi less) (base ∷ []) base ∷ store ∷ [])
+
+-- the tag of a value's cell is loaded
+abbrev pub LoadsTag : ℕ → ℕ → List Line → Type 0
+LoadsTag value tag lines =
+    (header : Line) × (byte : Immediate) × Loads value 1 tag header × (byte.word ≡ 255)
+    × (lines ≡ header ∷ computes (Op.Immediate Andi byte) (tag ∷ []) tag ∷ [])
+
+-- ---- what was written
+
+-- so many labels were taken, and nothing written
+pub record TookLabels (count label : ℕ) (old new : Lowering) : Type 0 where
+  pub is : label ≡ old.next_label
+  pub next : new.next_label ≡ old.next_label + count
+  pub code : lines_written new ≡ lines_written old
+  pub texts : texts_written new ≡ texts_written old
+  pub base : new.base ≡ old.base
+
+-- the labels of the arms and of the nodes of a case were taken
+pub record TookTargets (arms nodes : ℕ) (targets : Targets) (old new : Lowering) : Type 0 where
+  pub first : targets.arms ≡ old.next_label
+  pub second : targets.nodes ≡ old.next_label + arms
+  pub took : TookLabels (arms + nodes) targets.arms old new
+
+-- an opening by the count of a cell was written, with two labels
+pub record WroteUnique (holds : ℕ → Bool) (x : ℕ) (fields used : List ℕ) (old new : Lowering) : Type 0 where
+  pub lines : List Line
+  pub grows : Grows 0 lines old new
+  pub label : new.next_label ≡ old.next_label + 2
+  pub are : UniqueLines old.base holds old.next_label (old.next_label + 1) x fields used lines
+
+-- The lines of a form on variables were written. They are its lines however many texts come later.
+pub record WroteValue (facts : Facts) (x : ℕ) (form : Form) (arguments : List ℕ) (old new : Lowering) : Type 0 where
+  pub lines : List Line
+  pub grows : Grows 1 lines old new
+  pub label : new.next_label ≡ old.next_label
+  pub are : (later : List (List ℕ)) → ComputeLines (setting_in facts old.base (texts_written new ++ later)) x form arguments lines
+
+-- the same of a code
+pub record WroteCode (facts : Facts) (goal : Goal) (code : Counted) (old new : Lowering) : Type 0 where
+  pub lines : List Line
+  pub grows : Grows (forms code) lines old new
+  pub are : (later : List (List ℕ))
+      → CodeLines (setting_in facts old.base (texts_written new ++ later)) goal old.next_label code lines new.next_label
+
+-- the same of the arms of a case, from a label on
+pub record WroteArms (facts : Facts) (goal : Goal) (label : ℕ) (arms : List Counted) (old new : Lowering) : Type 0 where
+  pub lines : List Line
+  pub grows : Grows (forms_of_arms (arms_of arms)) lines old new
+  pub are : (later : List (List ℕ))
+      → ArmsLines (setting_in facts old.base (texts_written new ++ later)) goal label old.next_label (arms_of arms) lines
+      new.next_label
+
+-- the lines of steps were written: those of any code that follows stand behind them
+pub record WroteSteps (facts : Facts) (moves : List Move) (old new : Lowering) : Type 0 where
+  pub lines : List Line
+  pub n : ℕ
+  pub grows : Grows n lines old new
+  pub counted : (rest : Counted) → forms (plug moves rest) ≡ n + forms rest
+  pub are : (later : List (List ℕ)) (goal : Goal) (rest : Counted) (more : List Line) (high : ℕ)
+      → CodeLines (setting_in facts old.base (texts_written new ++ later)) goal new.next_label rest more high
+      → CodeLines (setting_in facts old.base (texts_written new ++ later)) goal old.next_label (plug moves rest) (lines ++ more)
+      high

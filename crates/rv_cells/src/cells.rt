@@ -1,0 +1,243 @@
+// The lines of the forms that touch cells.
+
+ghost use Rattle.std.specs.Prelude.{◌≡◌, ◌*◌, map, not, filter, IfOk, OnOk};
+ghost use Rattle.kk_syntax.specs.Shapes.{is_among};
+ghost use Rattle.rv_lower.specs.Written.{short_line, Wrote, WroteLines};
+ghost use Rattle.rv_cells.specs.CellLines.{Loads, Stores, AllLoads, AllStores, dup_lines, drop_lines, dups_lines, drops_lines};
+ghost use Rattle.rv_cells.specs.CellLines.{ConstructLines, ReadLines, OpenLines};
+ghost use Rattle.rv_cells.specs.Written.{holds_known, free_lines, TestsCount, LowersCount, WroteUnique};
+
+use crate::known::Known;
+use kk_base::NoMemory;
+use rv_isa::{Action, Condition, Immediate, ImmediateOperation, Operation, Routine};
+use rv_lower::{Lowering, Reads, Short, act, copy, next, set, unary, write_label};
+use std::alloc::Global;
+
+/// The word of a cell that has its count, that which has its header, and the first one of its fields.
+const COUNT: u32 = 0;
+
+const HEADER: u32 = 1;
+
+const FIELDS: u32 = 2;
+
+/// The offset of a word of a cell. One that no line can name would want more memory than there is.
+fn offset(index: u32) -> Result<Immediate, NoMemory>
+    ensures { IfOk result (λ offset. offset.word ≡ 4 * index) }
+{
+    let Some(bytes) = index.checked_mul(4) else {
+        return Err(NoMemory);
+    };
+    match Immediate::try_new(bytes) {
+        Some(offset) => Ok(offset),
+        None => Err(NoMemory),
+    }
+}
+
+/// The line that loads a word of a cell.
+pub fn load(cell: u32, index: u32, into: u32) -> Result<Short, NoMemory>
+    ensures { IfOk result (λ line. Loads cell index into (short_line line)) }
+{
+    let offset = offset(index)?;
+    Ok(unary(Operation::Lw(offset), cell, into))
+}
+
+/// The line that stores a word of a cell.
+fn store(cell: u32, index: u32, from: u32) -> Result<Short, NoMemory>
+    ensures { IfOk result (λ line. Stores cell index from (short_line line)) }
+{
+    let offset = offset(index)?;
+    Ok(act(
+        Action::Compute(Operation::Sw(offset)),
+        Reads::Two(cell, from),
+    ))
+}
+
+/// The lines that load the fields of a cell.
+fn loads(alloc: Global, cell: u32, fields: &[u32]) -> Result<Vec<Short>, NoMemory>
+    ensures { IfOk result (λ lines. AllLoads cell 2 fields.now (map short_line lines.items)) }
+{
+    let mut lines = Vec::new(alloc);
+    let mut index = FIELDS;
+    for field in fields {
+        let line = load(cell, index, *field)?;
+        lines.push(line)?;
+        index = next(index)?;
+    }
+    Ok(lines)
+}
+
+/// The lines that store the fields of a cell.
+fn stores(alloc: Global, cell: u32, fields: &[u32]) -> Result<Vec<Short>, NoMemory>
+    ensures { IfOk result (λ lines. AllStores cell 2 fields.now (map short_line lines.items)) }
+{
+    let mut lines = Vec::new(alloc);
+    let mut index = FIELDS;
+    for field in fields {
+        let line = store(cell, index, *field)?;
+        lines.push(line)?;
+        index = next(index)?;
+    }
+    Ok(lines)
+}
+
+/// Loads the fields of a cell.
+pub fn write_reading(lowering: &mut Lowering, cell: u32, fields: &[u32]) -> Result<(), NoMemory>
+    ensures { OnOk result (WroteLines (ReadLines cell fields.now) lowering.old lowering.new) }
+{
+    let lines = loads(lowering.alloc, cell, fields)?;
+    lowering.write(&lines)
+}
+
+/// A construction with fields.
+pub fn write_construction(
+    lowering: &mut Lowering,
+    into: u32,
+    header: u32,
+    arguments: &[u32],
+) -> Result<(), NoMemory>
+    ensures { OnOk result (WroteLines (ConstructLines lowering.old.base into header arguments.now) lowering.old lowering.new) }
+{
+    let word = lowering.base;
+    let (head, count) = (store(into, HEADER, word)?, store(into, COUNT, word)?);
+    let fields = stores(lowering.alloc, into, arguments)?;
+    lowering.push(Action::Routine(Routine::Take), &[], Some(into))?;
+    lowering.write(&[set(header, word), head])?;
+    lowering.write(&fields)?;
+    lowering.write(&[set(1, word), count])
+}
+
+/// A reference more of the value of a variable.
+pub fn write_dup(lowering: &mut Lowering, known: &Known<'_>, variable: u32) -> Result<(), NoMemory>
+    ensures { OnOk result (Wrote (dup_lines (holds_known known.now) variable) lowering.old lowering.new) }
+{
+    if !known.holds(variable) {
+        return Ok(());
+    }
+    lowering.write(&[act(Action::Compute(Operation::Dup), Reads::One(variable))])
+}
+
+/// A reference of the value of a variable is given up.
+pub fn write_drop(lowering: &mut Lowering, known: &Known<'_>, variable: u32) -> Result<(), NoMemory>
+    ensures { OnOk result (Wrote (drop_lines lowering.old.base (holds_known known.now) variable) lowering.old lowering.new) }
+{
+    if !known.holds(variable) {
+        return Ok(());
+    }
+    let given_up = lowering.base;
+    lowering.write(&[
+        copy(variable, given_up),
+        act(Action::Routine(Routine::Drop), Reads::One(given_up)),
+    ])
+}
+
+/// A reference more of each field in use.
+fn write_dups(
+    lowering: &mut Lowering,
+    known: &Known<'_>,
+    fields: &[u32],
+    used: &[u32],
+) -> Result<(), NoMemory>
+    ensures { OnOk result (Wrote (dups_lines (holds_known known.now) (filter (is_among used.now) fields.now)) lowering.old
+        lowering.new) }
+{
+    for field in fields {
+        if used.contains(field) {
+            write_dup(lowering, known, *field)?;
+        }
+    }
+    Ok(())
+}
+
+/// A reference of each field that is not in use is given up.
+fn write_drops(
+    lowering: &mut Lowering,
+    known: &Known<'_>,
+    fields: &[u32],
+    used: &[u32],
+) -> Result<(), NoMemory>
+    ensures { OnOk result (Wrote (drops_lines lowering.old.base (holds_known known.now)
+        (filter (λ y. not (is_among used.now y)) fields.now)) lowering.old lowering.new) }
+{
+    for field in fields {
+        if !used.contains(field) {
+            write_drop(lowering, known, *field)?;
+        }
+    }
+    Ok(())
+}
+
+/// An opening.
+pub fn write_opening(
+    lowering: &mut Lowering,
+    known: &Known<'_>,
+    cell: u32,
+    fields: &[u32],
+    used: &[u32],
+) -> Result<(), NoMemory>
+    ensures { OnOk result (WroteLines (OpenLines lowering.old.base (holds_known known.now) cell fields.now used.now) lowering.old
+        lowering.new) }
+{
+    write_reading(lowering, cell, fields)?;
+    write_dups(lowering, known, fields, used)?;
+    write_drop(lowering, known, cell)
+}
+
+/// An opening by the count of the cell.
+pub fn write_unique(
+    lowering: &mut Lowering,
+    known: &Known<'_>,
+    cell: u32,
+    fields: &[u32],
+    used: &[u32],
+) -> Result<(), NoMemory>
+    ensures { OnOk result (WroteUnique (holds_known known.now) cell fields.now used.now lowering.old lowering.new) }
+{
+    let shared = lowering.take_label()?;
+    let behind = lowering.take_label()?;
+    let loads = loads(lowering.alloc, cell, fields)?;
+    write_count_test(lowering, cell, shared)?;
+    lowering.write(&loads)?;
+    write_drops(lowering, known, fields, used)?;
+    write_free(lowering, cell, behind)?;
+    write_label(lowering, shared)?;
+    lowering.write(&loads)?;
+    write_less(lowering, cell)?;
+    write_dups(lowering, known, fields, used)?;
+    write_label(lowering, behind)
+}
+
+/// A branch to a label where the count of a cell is not 1.
+fn write_count_test(lowering: &mut Lowering, cell: u32, shared: u32) -> Result<(), NoMemory>
+    ensures { OnOk result (WroteLines (TestsCount lowering.old.base shared cell) lowering.old lowering.new) }
+{
+    let (count, one) = (lowering.base, lowering.temporary(1)?);
+    let line = load(cell, COUNT, count)?;
+    lowering.write(&[
+        line,
+        set(1, one),
+        act(
+            Action::Branch(Condition::NotEqual, shared),
+            Reads::Two(count, one),
+        ),
+    ])
+}
+
+/// Frees a cell, and goes on at a label.
+fn write_free(lowering: &mut Lowering, cell: u32, behind: u32) -> Result<(), NoMemory>
+    ensures { OnOk result (Wrote (free_lines cell behind) lowering.old lowering.new) }
+{
+    lowering.write(&[
+        act(Action::Compute(Operation::Free), Reads::One(cell)),
+        act(Action::Jump(behind), Reads::Nothing),
+    ])
+}
+
+/// Lowers the count of a cell.
+fn write_less(lowering: &mut Lowering, cell: u32) -> Result<(), NoMemory>
+    ensures { OnOk result (WroteLines (LowersCount lowering.old.base cell) lowering.old lowering.new) }
+{
+    let count = lowering.base;
+    let (first, last) = (load(cell, COUNT, count)?, store(cell, COUNT, count)?);
+    let less = Operation::Immediate(ImmediateOperation::Addi, Immediate::new(u32::MAX));
+    lowering.write(&[first, unary(less, count, count), last])
+}
