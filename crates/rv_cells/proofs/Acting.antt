@@ -1,9 +1,9 @@
 -- What one line does that touches cells.
-use Rattle.std.proofs.Common.{◌≡◌, ◌≢◌, ◌≤◌, ℕ, ◌+◌, ◌*◌, List, [], ◌∷◌, map, Some, None, option_map, true, false, not, cond, refl, sym, ◌∙◌, ap, subst, arith, ne_eqb}
+use Rattle.std.proofs.Common.{◌≡◌, ◌≢◌, ◌≤◌, ℕ, ◌+◌, ◌*◌, List, [], ◌∷◌, map, Some, None, option_map, true, false, not, cond, refl, sym, ◌∙◌, ap, subst, arith, ne_eqb, bit_and}
 use Rattle.rv_isa.specs.declared.asm.Action.TheVariants.{Compute, Label, Jump, Branch, Routine as Calls}
 use Rattle.rv_isa.specs.declared.asm.Condition.{Condition}
 use Rattle.rv_world.specs.Operations.{compares}
-use Rattle.rv_isa.specs.declared.asm.ImmediateOperation.TheVariants.{Addi}
+use Rattle.rv_isa.specs.declared.asm.ImmediateOperation.TheVariants.{Addi, Andi}
 use Rattle.rv_isa.specs.Arithmetic.{sum_word}
 use Rattle.rv_isa.specs.declared.asm.Operation.{Operation}
 use Rattle.rv_isa.specs.declared.asm.Operation.TheVariants as Op
@@ -143,6 +143,13 @@ module _ (target : Target) (rest : List Line) (f : Frame Line) (fs : List (Frame
       sets_value 2 (Op.Immediate Addi immediate) (from ∷ []) into (word ∷ []) (sum_word word immediate.word)
       (reads_one f.cells from word is) refl (omega arith)
 
+  pub andi_runs : (from into word : ℕ) (immediate : Immediate) → f.cells from ≡ Some word
+      → Runs target (target.moves + 2) 1 (turn_of (computes (Op.Immediate Andi immediate) (from ∷ []) into ∷ rest) f fs world)
+      (turn_of rest (put_in into (bit_and word immediate.word) f) fs world)
+  andi_runs from into word immediate is =
+      sets_value 2 (Op.Immediate Andi immediate) (from ∷ []) into (word ∷ []) (bit_and word immediate.word)
+      (reads_one f.cells from word is) refl (omega arith)
+
   -- ---- labels and jumps
 
   pub label_runs : (l : ℕ) → Runs target (target.moves + 0) 1 (turn_of (acts (Label l) [] ∷ rest) f fs world)
@@ -183,6 +190,29 @@ module _ (target : Target) (rest : List Line) (f : Frame Line) (fs : List (Frame
   branch_runs condition l x y word other there is also holds finds =
       line_runs target 3 (acts (Branch condition l) (x ∷ y ∷ [])) rest f fs world (word ∷ other ∷ []) (turn_of there f fs world)
       (reads_two f.cells x y word other is also)
+      (ap (λ b. or_stuck (Some b)
+      (λ taken. cond taken (asm_jumps {W = Ending} l (left_at rest f) fs world) (asm_goes (left_at rest f) fs world))) holds
+      ∙ jumps_to l there finds)
+      (λ held. omega arith) (silent target world)
+
+  -- the same of one value, which is compared with zero
+  pub falls_one_runs : (condition : Condition) (l x word : ℕ) → f.cells x ≡ Some word → compares condition word 0 ≡ false
+      → Runs target (target.moves + 3) 1 (turn_of (acts (Branch condition l) (x ∷ []) ∷ rest) f fs world)
+      (turn_of rest f fs world)
+  falls_one_runs condition l x word is not =
+      line_runs target 3 (acts (Branch condition l) (x ∷ [])) rest f fs world (word ∷ []) (turn_of rest f fs world)
+      (reads_one f.cells x word is)
+      (ap (λ b. or_stuck (Some b)
+      (λ taken. cond taken (asm_jumps {W = Ending} l (left_at rest f) fs world) (asm_goes (left_at rest f) fs world))) not)
+      (λ held. omega arith) (silent target world)
+
+  pub branch_one_runs : (condition : Condition) (l x word : ℕ) (there : List Line) → f.cells x ≡ Some word
+      → compares condition word 0 ≡ true → Finds l there
+      → Runs target (target.moves + 3) 1 (turn_of (acts (Branch condition l) (x ∷ []) ∷ rest) f fs world)
+      (turn_of there f fs world)
+  branch_one_runs condition l x word there is holds finds =
+      line_runs target 3 (acts (Branch condition l) (x ∷ [])) rest f fs world (word ∷ []) (turn_of there f fs world)
+      (reads_one f.cells x word is)
       (ap (λ b. or_stuck (Some b)
       (λ taken. cond taken (asm_jumps {W = Ending} l (left_at rest f) fs world) (asm_goes (left_at rest f) fs world))) holds
       ∙ jumps_to l there finds)

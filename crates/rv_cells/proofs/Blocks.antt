@@ -1,11 +1,11 @@
 -- The lines of what blocks end with, of branches and of blocks inside do the steps of the counted machine.
-use Rattle.std.proofs.Common.{◌≡◌, ◌≢◌, ℕ, suc, ◌+◌, ◌*◌, ◌<◌, ◌≤◌, Bool, true, false, not, nat_eq, List, [], ◌∷◌, ◌++◌, length, Option, Some, None, All, refl, sym, ◌∙◌, ap, subst, arith, append_assoc}
+use Rattle.std.proofs.Common.{◌≡◌, ℕ, suc, ◌+◌, ◌*◌, ◌<◌, ◌≤◌, Bool, true, false, not, nat_eq, List, [], ◌∷◌, ◌++◌, length, Some, All, refl, sym, ◌∙◌, ap, subst, arith, append_assoc}
 use Rattle.std.specs.Prelude.{if◌then◌else◌}
 use Rattle.std.specs.Prelude.{◌==◌}
 use Rattle.std.proofs.lemmas.Bool.{or_right}
 use Rattle.kk_base.specs.Trace.{Event}
 use Rattle.kk_syntax.specs.Shapes.{is_among}
-use Rattle.kk_source.specs.State.{Value, Environment, ended as run_ended}
+use Rattle.kk_source.specs.State.{Value, Environment}
 use Rattle.kk_source.specs.Live.{value_of}
 use Rattle.kk_source.specs.FormEffects.{truth, is_true}
 use Rattle.kk_counted.specs.CountedCodes.{Counted, give, branch, inside}
@@ -21,20 +21,18 @@ use Rattle.rv_isa.specs.Primitives.{ended}
 use Rattle.rv_isa.specs.WellFormed.{AreLinesFormed}
 use Rattle.rv_world.specs.World.{World}
 use Rattle.rv_lower.specs.Lines.{acts, copies_to, sets, constant_word}
-use Rattle.rv_lower.specs.Lowered.{Goal, returns, joins, goal_lines, test_lines}
-use Rattle.rv_lower.proofs.Labels.{found_label}
+use Rattle.rv_lower.specs.Lowered.{Goal, returns, joins, test_lines}
 use Rattle.rv_lower.proofs.Performing.{put_same, put_other}
 use Rattle.rv_lower.proofs.Orders.{split_at}
 use Rattle.rv_cells.specs.Layout.{word_in, FitsField}
 use Rattle.rv_cells.specs.Follows.{NoneInHand}
 use Rattle.rv_cells.specs.Costs.{forms}
-use Rattle.rv_cells.specs.Fitting.{IsTruth}
-use Rattle.rv_cells.proofs.Values.{HasValues, among_by, has_bound, has_temporary}
+use Rattle.rv_cells.proofs.Values.{HasValues, has_bound, has_temporary}
 use Rattle.rv_cells.proofs.Runs.{turn_of, Runs, runs_none, runs_then}
 use Rattle.rv_cells.proofs.Acting.{put_in, copy_runs, sets_runs, label_runs, jump_runs, falls_runs, branch_runs}
 use Rattle.rv_cells.proofs.Calling.{return_runs, last_return_runs}
 use Rattle.rv_cells.proofs.Spots.{Spot, Here, saved}
-use Rattle.rv_cells.proofs.Standing.{Lowering, AreWithin, target, upper, known_of, Placed, Joined, Continues, continues_more, AllWait, At, IsFitFrom, Follow, by_lines, finds, has_fewer}
+use Rattle.rv_cells.proofs.Standing.{Lowering, AreWithin, target, upper, known_of, Placed, Continues, continues_more, AllWait, At, IsFitFrom, Follow, by_lines, finds, has_fewer}
 
 pub within_itself : (xs : List ℕ) → AreWithin xs xs
 within_itself xs = λ z is. is
@@ -58,7 +56,8 @@ module _ (program : Lowering) where
       → (IsFitFrom program next → Follow program ((upper program).weight s) (saved s.machine.heap) idle (events, next) t)
       → Does idle s t
   does_by idle s next events t is fit follows =
-      subst (λ (to : List Event × CountedState). Follow program ((upper program).weight s) (saved s.machine.heap) idle to t) (sym is)
+      subst (λ (to : List Event × CountedState). Follow program ((upper program).weight s) (saved s.machine.heap) idle to t)
+      (sym is)
       (follows (subst (λ (to : List Event × CountedState). IsFitFrom program to.1) is (λ n. fit (suc n))))
 
   -- ---- the value of a code
@@ -100,16 +99,19 @@ module _ (program : Lowering) where
         let runs : Runs (target program) ((m + 2) + ((m + 2) + (m + 0))) (1 + (1 + 1)) t0 t3
         = runs_then (target program) (m + 2) ((m + 2) + (m + 0)) 1 (1 + 1) t0 t1 t3 first
         (runs_then (target program) (m + 2) (m + 0) 1 1 t1 t2 t3 second third) in
-        let fits : FitsField (holds y) given_value = subst (λ b. FitsField b given_value) (placed.marked.1 ∙ sym j.kind) (here.values.fits x bound) in
+        let fits : FitsField (holds y) given_value = subst (λ b. FitsField b given_value) (placed.marked.1 ∙ sym j.kind)
+        (here.values.fits x bound) in
         let to : Spot = record s {
           bound = y ∷ j.older;
           environment = record { variable = y; value = given_value } ∷ s.environment;
           frame = f;
         } in
-        subst (λ ls. Does idle (counted_at (give x) s.environment (join ∷ outer) frames s.heap input) (turn_of ls s.frame fs s.world))
+        subst (λ ls. Does idle (counted_at (give x) s.environment (join ∷ outer) frames s.heap input)
+        (turn_of ls s.frame fs s.world))
         (sym is)
         (by_lines program (1 + (1 + 1)) ((m + 2) + ((m + 2) + (m + 0))) (3 * m + 4) (saved s.heap) idle
-        (counted_at join.rest (record { variable = join.variable; value = given_value } ∷ s.environment) outer frames s.heap input) t0 t3 runs
+        (counted_at join.rest (record { variable = join.variable; value = given_value } ∷ s.environment) outer frames s.heap input)
+        t0 t3 runs
         (omega arith) (let few = j.placed.short in omega arith) (λ n. fit (suc n))
         (record {
           spot = to;
@@ -175,7 +177,8 @@ module _ (program : Lowering) where
         let g = record f { cells = values } in
         let t0 = turn_of (acts Return (x ∷ []) ∷ placed.after) s.frame (f ∷ fs) s.world in
         let t1 = turn_of f.code g fs s.world in
-        let gets : received f.into (Some given_word) f.cells ≡ Some values = ap (λ o. received o (Some given_word) f.cells) w.into in
+        let gets : received f.into (Some given_word) f.cells
+        ≡ Some values = ap (λ o. received o (Some given_word) f.cells) w.into in
         let fits : FitsField (w.holds waiting.variable) given_value
         = subst (λ b. FitsField b given_value) (placed.marked.1 ∙ same ∙ sym w.kind) (here.values.fits x bound) in
         let to : Spot = record s {
@@ -186,7 +189,8 @@ module _ (program : Lowering) where
         subst (λ ls. Does idle (counted_at (give x) s.environment [] (waiting ∷ frames) s.heap input)
         (turn_of ls s.frame (f ∷ fs) s.world)) (sym is)
         (by_lines program 1 (m + 3) (3 * m + 4) (saved s.heap) idle
-        (counted_at waiting.rest (record { variable = waiting.variable; value = given_value } ∷ waiting.environment) waiting.joins frames s.heap
+        (counted_at waiting.rest (record { variable = waiting.variable; value = given_value } ∷ waiting.environment) waiting.joins
+        frames s.heap
         input) t0 t1
         (return_runs (target program) s.frame f fs s.world placed.after x given_word values (here.values.words x bound) held gets)
         (omega arith) (let few = w.placed.short in omega (arith, some)) (λ n. fit (suc n))
@@ -234,7 +238,8 @@ module _ (program : Lowering) where
       → IsFitFrom program (counted_at (give x) s.environment inner frames s.heap input)
       → Does idle (counted_at (give x) s.environment inner frames s.heap input) (turn_of left s.frame fs s.world)
   at_give x idle inner frames input s fs left some at fit =
-      by_goal x idle s at.holds at.base at.result at.given left input at.here at.none at.held at.formed at.input_is at.bytes some at.goal
+      by_goal x idle s at.holds at.base at.result at.given left input at.here at.none at.held at.formed at.input_is at.bytes some
+      at.goal
       inner frames fs at.placed at.continues at.waits fit
 
   -- ---- blocks inside
@@ -363,7 +368,8 @@ module _ (program : Lowering) where
 
     -- the frame behind the copies of the test
     abbrev tested : Frame Line
-    tested = put_in (at.base + 1) (constant_word 1) (put_in at.base (word_in program.layout s.address (value_of s.environment x)) s.frame)
+    tested = put_in (at.base + 1) (constant_word 1) (put_in at.base
+        (word_in program.layout s.address (value_of s.environment x)) s.frame)
 
     abbrev branching : List Line
     branching = acts (Branch NotEqual at.placed.low) (at.base ∷ (at.base + 1) ∷ []) ∷ behind
@@ -398,12 +404,14 @@ module _ (program : Lowering) where
         → cost ≤ 4 * program.moves + 7 → suc (forms code) ≤ idle
         → (upper program).step (counted_at (branch x positive negative) s.environment inner frames s.heap input)
         ≡ ([], counted_at code s.environment inner frames s.heap input)
-        → Does idle (counted_at (branch x positive negative) s.environment inner frames s.heap input) (turn_of left s.frame fs s.world)
+        → Does idle (counted_at (branch x positive negative) s.environment inner frames s.heap input)
+        (turn_of left s.frame fs s.world)
     side code there n cost placed runs cheap few is =
         does_by idle (counted_at (branch x positive negative) s.environment inner frames s.heap input)
         (counted_at code s.environment inner frames s.heap input) [] (turn_of left s.frame fs s.world) is fit
         (λ later. by_lines program n cost (4 * program.moves + 7) (saved s.heap) idle
-        (counted_at code s.environment inner frames s.heap input) (turn_of left s.frame fs s.world) (turn_of there tested fs s.world)
+        (counted_at code s.environment inner frames s.heap input) (turn_of left s.frame fs s.world)
+        (turn_of there tested fs s.world)
         runs (omega (arith, cheap)) (omega (arith, few)) later
         (record {
           spot = to;
@@ -431,13 +439,15 @@ module _ (program : Lowering) where
         }))
 
     by_truth : (b : Bool) → value_of s.environment x ≡ truth b
-        → Does idle (counted_at (branch x positive negative) s.environment inner frames s.heap input) (turn_of left s.frame fs s.world)
+        → Does idle (counted_at (branch x positive negative) s.environment inner frames s.heap input)
+        (turn_of left s.frame fs s.world)
     by_truth true is =
         let m = program.moves in
         let few = at.placed.short in
         let word_is : word ≡ 3
         = ap (word_in program.layout s.address) is ∙ ap (λ t. 2 * t + 1) program.truth_is in
-        let falls = falls_runs (target program) behind tested fs s.world NotEqual low base (base + 1) word (constant_word 1) first_word
+        let falls = falls_runs (target program) behind tested fs s.world NotEqual low base (base + 1) word
+        (constant_word 1) first_word
         second_word (ap (λ w. not (nat_eq w 3)) word_is) in
         let runs = runs_then (target program) ((m + 2) + (m + 2)) (m + 3) (1 + 1) 1 (turn_of (test ++ behind) s.frame fs s.world)
         (turn_of branching tested fs s.world) (turn_of behind tested fs s.world) copied falls in
@@ -487,7 +497,8 @@ module _ (program : Lowering) where
           numbered = at.placed.numbered.1;
           short = omega arith;
         })
-        (subst (λ ls. Runs (target program) ((m + 2) + (m + 2) + ((m + 3) + (m + 0))) (1 + 1 + (1 + 1)) (turn_of ls s.frame fs s.world)
+        (subst (λ ls. Runs (target program) ((m + 2) + (m + 2) + ((m + 3) + (m + 0))) (1 + 1 + (1 + 1))
+        (turn_of ls s.frame fs s.world)
         (turn_of there tested fs s.world)) (sym (left_parts ∙ append_assoc test (yes ++ (label ∷ no)) at.placed.after)) runs)
         (omega arith) (omega (arith, idle_is))
         (ap (λ (v : Value). ([], counted_at (if is_true v then positive else negative) s.environment inner frames s.heap input)) is)

@@ -33,7 +33,7 @@ abbrev pub put_row : ℕ → List ℕ → (ℕ → Option ℕ) → ℕ → Optio
 put_row t [] values = values
 put_row t (w ∷ ws) values = put_row (t + 1) ws (put t (Some w) values)
 
-row_below : (t z : ℕ) (ws : List ℕ) (values : ℕ → Option ℕ) → z < t → put_row t ws values z ≡ values z
+pub row_below : (t z : ℕ) (ws : List ℕ) (values : ℕ → Option ℕ) → z < t → put_row t ws values z ≡ values z
 row_below t z [] values less = refl
 row_below t z (w ∷ ws) values less =
     row_below (t + 1) z ws (put t (Some w) values) (omega (arith, less)) ∙ put_other t z w values (λ e. omega (arith, e, less))

@@ -1,53 +1,47 @@
 -- The lines of the forms that touch cells do the steps of the counted machine.
-use Rattle.std.proofs.Common.{◌≡◌, ◌≢◌, ℕ, zero, suc, ◌+◌, ◌*◌, ◌^◌, ◌<◌, ◌≤◌, ◌⊎◌, inl, inr, Bool, true, false, List, [], ◌∷◌, ◌++◌, length, map, filter, Option, Some, None, nat_le, All, flat_map, refl, sym, ◌∙◌, ap, subst, arith, append_assoc}
-use Rattle.std.specs.Prelude.{◌||◌, ◌==◌, if◌then◌else◌}
+use Rattle.std.proofs.Common.{◌≡◌, ℕ, suc, ◌+◌, ◌*◌, ◌<◌, ◌≤◌, ◌⊎◌, inl, inr, Bool, true, false, List, [], ◌∷◌, ◌++◌, length, map, filter, Option, Some, None, flat_map, refl, sym, ◌∙◌, ap, subst, arith, append_assoc}
+use Rattle.std.specs.Prelude.{◌==◌, if◌then◌else◌}
 use Rattle.std.proofs.lemmas.Bool.{or_right, or_left}
-use Rattle.std.proofs.lemmas.Bool.Decides.{nat_tests}
 use Rattle.std.proofs.lemmas.List.{length-map}
 use Rattle.kk_base.specs.Trace.{Event}
 use Rattle.kk_syntax.specs.Shapes.{is_among}
-use Rattle.kk_syntax.specs.declared.program.Form.TheVariants.{Construct}
-use Rattle.kk_source.specs.State.{Value, Environment, heap_full}
+use Rattle.kk_source.specs.State.{Environment}
 use Rattle.kk_source.specs.Live.{value_of}
 use Rattle.kk_source.specs.Sound.{AllWithin}
 use Rattle.kk_source.specs.Notes.{events_of}
 use Rattle.kk_source.specs.Actions.{Action, goes, builds, performed}
 use Rattle.kk_core.specs.Sizes.{AreBound}
 use Rattle.kk_core.specs.CoreMachine.{bind_fields}
-use Rattle.kk_counted.specs.CountedCodes.{Counted, compute, read, open_cell, if_unique, dup, drop}
-use Rattle.kk_counted.specs.CountedStates.{CountedJoin, CountedFrame, CountedControl, running, stopped, CountedConfiguration, CountedState}
-use Rattle.kk_counted.specs.CountedMachine.{at_counted, at_end, with_heap, Named, cell_named, open_step, NotStuck, used_values, other_values, opened_heap, unique_heap}
-use Rattle.kk_counted.specs.Heaps.{Heap, busy, count_at, fields_held}
+use Rattle.kk_counted.specs.CountedCodes.{Counted, read, open_cell, if_unique, dup, drop}
+use Rattle.kk_counted.specs.CountedStates.{CountedJoin, CountedFrame, running, CountedConfiguration, CountedState}
+use Rattle.kk_counted.specs.CountedMachine.{at_counted, Named, cell_named, open_step, NotStuck, used_values, other_values, opened_heap, unique_heap}
+use Rattle.kk_counted.specs.Heaps.{Heap, count_at, fields_held}
 use Rattle.kk_counted.specs.Keeping.{values_of}
 use Rattle.kk_counted.specs.Spending.{AllAmong}
 use Rattle.kk_counted.specs.Marks.{field_marks, HaveMarks, HasMark}
 use Rattle.rv_isa.specs.declared.asm.Action.TheVariants.{Label}
 use Rattle.rv_isa.specs.AsmCode.{Line}
-use Rattle.rv_isa.specs.AsmMachine.{AsmTurn}
 use Rattle.rv_isa.specs.Frames.{Frame, top, top_in}
-use Rattle.rv_isa.specs.Primitives.{ended}
-use Rattle.rv_isa.specs.Processor.{exited}
 use Rattle.rv_isa.specs.WellFormed.{AreLinesFormed}
 use Rattle.rv_lower.specs.Lines.{acts}
-use Rattle.rv_lower.specs.Lowered.{Goal}
 use Rattle.rv_lower.proofs.Orders.{split_at}
 use Rattle.rv_cells.specs.Layout.{FitsField, FitFields}
 use Rattle.rv_cells.specs.Marked.{AreBelow, bound_list, AreNumbered}
 use Rattle.rv_cells.specs.Costs.{row_cost, forms, code_cost}
-use Rattle.rv_cells.proofs.Values.{HasValues, among_by, Carries}
+use Rattle.rv_cells.proofs.Values.{among_by}
 use Rattle.rv_cells.proofs.Runs.{turn_of, Runs}
-use Rattle.rv_cells.proofs.Spots.{Spot, Known, Here, AreSmall, saved}
+use Rattle.rv_cells.proofs.Spots.{Spot, Here, saved}
 use Rattle.rv_cells.proofs.Rows.{IsReading}
 use Rattle.rv_cells.proofs.Openings.{bound_older}
-use Rattle.rv_cells.proofs.Constructing.{IsMaking, full_did}
 use Rattle.rv_cells.proofs.Uniques.{head_lines, shared_lines, for_shared, whole_lines}
-use Rattle.rv_cells.proofs.Stepping.{Steps, there_is, dup_steps, drop_steps, read_steps, open_steps, construct_steps, unique_steps}
-use Rattle.rv_cells.proofs.Standing.{Lowering, AreWithin, target, texts, setting, upper, known_of, Placed, Continues, continues_more, AllWait, waits_carried, At, IsFitFrom, Follow, by_lines, finds, has_fewer}
-use Rattle.rv_cells.proofs.Blocks.{within_itself, within_one, counted_at, Does, does_by}
+use Rattle.rv_cells.proofs.Stepping.{Steps, there_is, dup_steps, drop_steps, read_steps, open_steps, unique_steps}
+use Rattle.rv_cells.proofs.Standing.{Lowering, AreWithin, target, texts, setting, upper, known_of, Placed, Continues, continues_more, AllWait, waits_carried, At, IsFitFrom, by_lines, finds, has_fewer}
+use Rattle.rv_cells.proofs.Blocks.{within_itself, counted_at, Does, does_by}
 
 -- ---- bound variables
 
-among_front : (fields bound : List ℕ) (z : ℕ) → is_among (fields ++ bound) z ≡ true → (is_among fields z ≡ true) ⊎ (is_among bound z ≡ true)
+among_front : (fields bound : List ℕ) (z : ℕ) → is_among (fields ++ bound) z ≡ true
+    → (is_among fields z ≡ true) ⊎ (is_among bound z ≡ true)
 among_front [] bound z is = inr is
 among_front (x ∷ xs) bound z is =
     elim (among_by x (xs ++ bound) z is) [
@@ -88,9 +82,10 @@ pub marks_are : (holds : ℕ → Bool) (xs : List ℕ) (marks : List Bool) → H
 marks_are holds [] [] have = refl
 marks_are holds [] (mark ∷ marks) have = absurd have
 marks_are holds (x ∷ xs) [] have = absurd have
-marks_are holds (x ∷ xs) (mark ∷ marks) have = ap (λ m. m ∷ map holds xs) have.0 ∙ ap (λ ms. mark ∷ ms) (marks_are holds xs marks have.1)
+marks_are holds (x ∷ xs) (mark ∷ marks) have = ap (λ m. m ∷ map holds xs) have.0
+    ∙ ap (λ ms. mark ∷ ms) (marks_are holds xs marks have.1)
 
-below_among : (x : ℕ) (bound : List ℕ) (z : ℕ) → AreBelow x bound → is_among bound z ≡ true → z < x
+pub below_among : (x : ℕ) (bound : List ℕ) (z : ℕ) → AreBelow x bound → is_among bound z ≡ true → z < x
 below_among x [] z below is = cc
 below_among x (y ∷ ys) z below is =
     elim (among_by y ys z is) [
@@ -110,7 +105,8 @@ filter_length : (takes : ℕ → Bool) (xs : List ℕ) → length (filter takes 
 filter_length takes [] = omega arith
 filter_length takes (x ∷ xs) = by (takes x) (filter_length takes xs)
   where
-    by : (b : Bool) → length (filter takes xs) ≤ length xs → length (if b then x ∷ filter takes xs else filter takes xs) ≤ suc (length xs)
+    by : (b : Bool) → length (filter takes xs) ≤ length xs → length (if b then x ∷ filter takes xs else filter takes xs) ≤ suc
+        (length xs)
     by true few = omega (arith, few)
     by false few = omega (arith, few)
 
@@ -123,7 +119,8 @@ named_there (Some named) heap fields rest environment inner from input going = (
 
 module _ (program : Lowering) where
   -- fields have values of their marks
-  arguments_fit : (s : Spot) (holds : ℕ → Bool) (base : ℕ) → Here (known_of program holds base) s → (xs : List ℕ) (marks : List Bool)
+  pub arguments_fit : (s : Spot) (holds : ℕ → Bool) (base : ℕ) → Here (known_of program holds base) s
+      → (xs : List ℕ) (marks : List Bool)
       → AllAmong xs s.bound → HaveMarks holds xs marks → FitFields marks (values_of s.environment xs)
   arguments_fit s holds base here [] [] all have = tt
   arguments_fit s holds base here [] (mark ∷ marks) all have = absurd have
@@ -153,7 +150,7 @@ module _ (program : Lowering) where
   seen_action action input = (flat_map events_of (performed action input).0, (performed action input).1)
 
   -- one that the world does not see
-  abbrev IsQuiet : (CountedConfiguration → Action CountedConfiguration) → Type 0
+  abbrev pub IsQuiet : (CountedConfiguration → Action CountedConfiguration) → Type 0
   IsQuiet tells =
       (to : CountedConfiguration) (input : List ℕ)
       → seen_action (tells to) input ≡ ([], record { machine = to; input = input })
@@ -161,15 +158,17 @@ module _ (program : Lowering) where
   module _ (code rest : Counted) (idle : ℕ) (inner : List CountedJoin) (frames : List CountedFrame) (input : List ℕ) (s : Spot)
       (fs : List (Frame Line)) (left : List Line) (at : At program code inner frames input s fs left)
       (fit : IsFitFrom program (counted_at program code s.environment inner frames s.heap input)) where
-    abbrev state_at : CountedState
+    abbrev pub state_at : CountedState
     state_at = counted_at program code s.environment inner frames s.heap input
 
-    goes_on : (most : ℕ) (tells : CountedConfiguration → Action CountedConfiguration) (bound later : List ℕ)
-        → (steps : Steps (known_of program at.holds at.base) (setting program) (texts program) at.goal at.placed.high most tells code rest
+    pub goes_on : (most : ℕ) (tells : CountedConfiguration → Action CountedConfiguration) (bound later : List ℕ)
+        → (steps : Steps (known_of program at.holds at.base) (setting program)
+        (texts program) at.goal at.placed.high most tells code rest
         inner state_at.machine at.placed.own at.placed.after fs s bound)
         → IsQuiet tells → most ≤ (upper program).weight state_at
         → (upper program).step state_at
-        ≡ seen_action (tells (record { control = running rest steps.to.environment inner; frames = frames; heap = steps.to.heap })) input
+        ≡ seen_action (tells (record { control = running rest steps.to.environment inner; frames = frames; heap = steps.to.heap }))
+        input
         → suc (forms rest) ≤ idle → forms rest ≤ program.most
         → AreWithin later bound → AreWithin s.bound later
         → HasMark program.marks at.holds at.result later at.given rest → AreNumbered at.base later rest
@@ -188,7 +187,8 @@ module _ (program : Lowering) where
         = subst (λ ls. Runs (target program) did.cost did.steps (turn_of ls s.frame fs s.world) t1)
         (sym (own_is ∙ append_assoc steps.own steps.more p.after)) did.runs in
         let whole : s.frame.whole ≡ steps.to.frame.whole = sym did.whole in
-        let placed : Placed program at.holds at.base at.result at.goal at.given later s.frame.whole rest (steps.more ++ p.after) = record {
+        let placed : Placed program at.holds at.base at.result at.goal at.given later s.frame.whole rest
+        (steps.more ++ p.after) = record {
           before = p.before ++ steps.own;
           own = steps.more;
           after = p.after;
@@ -220,7 +220,8 @@ module _ (program : Lowering) where
             result = at.result;
             goal = at.goal;
             given = at.given;
-            placed = subst (λ w. Placed program at.holds at.base at.result at.goal at.given later w rest (steps.more ++ p.after)) whole
+            placed = subst (λ w. Placed program at.holds at.base at.result at.goal at.given later w rest (steps.more ++ p.after))
+                whole
                 placed;
             here = record { follows = did.here.follows; values = values };
             none = λ x words owned. at.none x words (did.was x words owned);
@@ -239,7 +240,7 @@ module _ (program : Lowering) where
   quiet_goes : IsQuiet goes
   quiet_goes to input = refl
 
-  quiet_builds : (n : ℕ) → IsQuiet (builds n)
+  pub quiet_builds : (n : ℕ) → IsQuiet (builds n)
   quiet_builds n to input = refl
 
   -- ---- references
@@ -248,13 +249,15 @@ module _ (program : Lowering) where
       (fs : List (Frame Line)) (left : List Line) → idle ≡ forms (dup x rest)
       → At program (dup x rest) inner frames input s fs left
       → IsFitFrom program (counted_at program (dup x rest) s.environment inner frames s.heap input)
-      → Does program idle (counted_at program (dup x rest) s.environment inner frames s.heap input) (turn_of left s.frame fs s.world)
+      → Does program idle (counted_at program (dup x rest) s.environment inner frames s.heap input)
+      (turn_of left s.frame fs s.world)
   at_dup x idle rest inner frames input s fs left idle_is at fit =
       let p = at.placed in
-      let counts = (fit 0).counts in
+      let counts = (fit 0).counts (dup x rest) s.environment inner refl in
       let few = p.short in
       let c = (counted_at program (dup x rest) s.environment inner frames s.heap input).machine in
-      let steps = dup_steps (known_of program at.holds at.base) (setting program) (texts program) at.goal p.low p.high x rest inner c
+      let steps = dup_steps (known_of program at.holds at.base) (setting program)
+      (texts program) at.goal p.low p.high x rest inner c
       p.own p.after fs s at.here p.marked.0 p.lines (λ name. let small = counts name in omega arith) (fit 1).going in
       goes_on (dup x rest) rest idle inner frames input s fs left at fit (program.moves + 5) goes s.bound s.bound steps quiet_goes
       (omega arith) (ap (λ action. seen_action action input) steps.steps) (omega (arith, idle_is)) (omega arith)
@@ -264,14 +267,17 @@ module _ (program : Lowering) where
       (fs : List (Frame Line)) (left : List Line) → idle ≡ forms (drop x rest)
       → At program (drop x rest) inner frames input s fs left
       → IsFitFrom program (counted_at program (drop x rest) s.environment inner frames s.heap input)
-      → Does program idle (counted_at program (drop x rest) s.environment inner frames s.heap input) (turn_of left s.frame fs s.world)
+      → Does program idle (counted_at program (drop x rest) s.environment inner frames s.heap input)
+      (turn_of left s.frame fs s.world)
   at_drop x idle rest inner frames input s fs left idle_is at fit =
       let p = at.placed in
       let few = p.short in
       let c = (counted_at program (drop x rest) s.environment inner frames s.heap input).machine in
-      let steps = drop_steps (known_of program at.holds at.base) (setting program) (texts program) at.goal p.low p.high x rest inner c
+      let steps = drop_steps (known_of program at.holds at.base) (setting program)
+      (texts program) at.goal p.low p.high x rest inner c
       p.own p.after fs s at.here p.marked.0 p.lines (fit 1).going in
-      goes_on (drop x rest) rest idle inner frames input s fs left at fit (2 * program.moves + 17) goes s.bound s.bound steps quiet_goes
+      goes_on (drop x rest) rest idle inner frames input s fs left at fit
+      (2 * program.moves + 17) goes s.bound s.bound steps quiet_goes
       (omega arith) (ap (λ action. seen_action action input) steps.steps) (omega (arith, idle_is)) (omega arith)
       (within_itself s.bound) (within_itself s.bound) p.marked.1 p.numbered
 
@@ -296,7 +302,8 @@ module _ (program : Lowering) where
       → length fields ≤ 6
   few_fields holds c fields have =
       let same : length fields ≡ length (program.layout.fields c)
-      = sym (length-map fields holds) ∙ ap length (marks_are holds fields (field_marks program.marks c) have ∙ sym (program.fields_are c)) in
+      = sym (length-map fields holds) ∙ ap length (marks_are holds fields (field_marks program.marks c) have
+      ∙ sym (program.fields_are c)) in
       let few = program.narrow.few c in
       omega arith
 
@@ -330,7 +337,7 @@ module _ (program : Lowering) where
   at_open x c idle fields used rest inner frames input s fs left idle_is at fit =
       let p = at.placed in
       let few = p.short in
-      let counts = (fit 0).counts in
+      let counts = (fit 0).counts (open_cell x c fields used rest) s.environment inner refl in
       let m = (counted_at program (open_cell x c fields used rest) s.environment inner frames s.heap input).machine in
       let opens = λ (n : Named). opened_heap n.at (used_values used fields n.fields) s.heap in
       let named = named_there (cell_named c (length fields) s.heap (value_of s.environment x)) opens fields rest
@@ -361,7 +368,7 @@ module _ (program : Lowering) where
   at_unique x c idle fields used rest inner frames input s fs left idle_is at fit =
       let p = at.placed in
       let few = p.short in
-      let counts = (fit 0).counts in
+      let counts = (fit 0).counts (if_unique x c fields used rest) s.environment inner refl in
       let known = known_of program at.holds at.base in
       let m = (counted_at program (if_unique x c fields used rest) s.environment inner frames s.heap input).machine in
       let opens = λ (n : Named). unique_heap (count_at s.heap n.at) n.at (used_values used fields n.fields)
@@ -377,16 +384,19 @@ module _ (program : Lowering) where
       let few_used = filter_length (is_among used) fields in
       let most = few_fields at.holds c fields p.marked.0.1.1 in
       let after = p.lines.1 ++ p.after in
-      let first = head_lines known after fs s x c fields used p.low (p.low + 1) p.lines.0 named.0 next.0 at.here reads p.numbered.0.1.1
+      let first = head_lines known after fs s x c fields used p.low
+      (p.low + 1) p.lines.0 named.0 next.0 at.here reads p.numbered.0.1.1
       p.lines.2 in
-      let shared = for_shared known after fs s x c fields used p.low (p.low + 1) p.lines.0 named.0 next.0 at.here reads p.numbered.0.1.1
+      let shared = for_shared known after fs s x c fields used p.low
+      (p.low + 1) p.lines.0 named.0 next.0 at.here reads p.numbered.0.1.1
       p.lines.2 in
       let shared_rest = shared_lines known after fs s x c fields used p.low (p.low + 1) p.lines.0 named.0 next.0 at.here reads
       p.numbered.0.1.1 p.lines.2 in
       let behind = acts (Label (p.low + 1)) [] ∷ after in
       let is : left ≡ first ++ (shared ++ behind)
       = p.left_is ∙ ap (λ own. own ++ p.after) p.lines.4 ∙ append_assoc p.lines.0 p.lines.1 p.after
-      ∙ whole_lines known after fs s x c fields used p.low (p.low + 1) p.lines.0 named.0 next.0 at.here reads p.numbered.0.1.1 p.lines.2 in
+      ∙ whole_lines known after fs s x c fields used p.low (p.low + 1) p.lines.0 named.0 next.0 at.here reads p.numbered.0.1.1
+      p.lines.2 in
       let shared_at : s.frame.whole ≡ (p.before ++ first) ++ (shared ++ behind)
       = p.place ∙ ap (λ ls. p.before ++ ls) is ∙ sym (append_assoc p.before first (shared ++ behind)) in
       let behind_at : s.frame.whole ≡ ((p.before ++ first) ++ shared) ++ behind

@@ -176,7 +176,7 @@ args_words known s here x at word (y ∷ ys) bound apart =
       args_words known s here x at word ys bound.1 beside.1,
     )
 
-args_older : (known : Known) (s : Spot) (here : Here known s) (xs : List ℕ) → AllAmong xs s.bound → AllWithin (length s.heap)
+pub args_older : (known : Known) (s : Spot) (here : Here known s) (xs : List ℕ) → AllAmong xs s.bound → AllWithin (length s.heap)
     (values_of s.environment xs)
 args_older known s here [] bound = tt
 args_older known s here (y ∷ ys) bound = (here.values.older y bound.0, args_older known s here ys bound.1)

@@ -24,6 +24,14 @@ pub mod Grown
 pub mod Standing
 pub mod Blocks
 pub mod Celled
+pub mod Computing
+pub mod Entering
+pub mod Telling
+pub mod Testing
+pub mod Deciding
+pub mod Simulating
+pub mod Fits
+pub mod Examples
 pub mod Marks
 pub mod Marking
 pub mod Lowered

@@ -1,16 +1,15 @@
 -- How a state of the assembler's machine stands for a state of the counted machine.
-use Rattle.std.proofs.Common.{◌≡◌, ◌≢◌, ℕ, suc, ◌+◌, ◌*◌, ◌%◌, ◌<◌, ◌≤◌, Bool, true, List, [], ◌∷◌, ◌++◌, length, Option, Some, None, option_map, All, refl, sym, ◌∙◌, ap, subst, arith}
+use Rattle.std.proofs.Common.{◌≡◌, ◌≢◌, ℕ, suc, ◌+◌, ◌*◌, ◌%◌, ◌<◌, ◌≤◌, Bool, true, List, [], ◌∷◌, ◌++◌, length, Option, Some, All, refl, sym, ◌∙◌, ap, subst, arith}
 use Rattle.std.specs.Prelude.{slice_get}
-use Rattle.std.specs.List.{flat_map}
 use Rattle.kk_base.specs.Trace.{Event}
 use Rattle.kk_base.specs.Machines.{Machine, mapped, state, trace, weight_of}
 use Rattle.kk_base.specs.Simulations.{Reaches}
 use Rattle.kk_syntax.specs.Shapes.{is_among}
-use Rattle.kk_source.specs.State.{Value, Environment, End}
+use Rattle.kk_source.specs.State.{Environment, End}
 use Rattle.kk_source.specs.Ends.{exit_of}
 use Rattle.kk_source.specs.Notes.{events_of}
 use Rattle.kk_counted.specs.CountedCodes.{Counted, CountedFunction, CountedProgram}
-use Rattle.kk_counted.specs.CountedStates.{CountedSetting, CountedJoin, CountedFrame, CountedControl, running, stopped, stuck, CountedConfiguration, CountedState}
+use Rattle.kk_counted.specs.CountedStates.{CountedSetting, CountedJoin, CountedFrame, CountedControl, running, stopped, stuck, CountedState}
 use Rattle.kk_counted.specs.CountedMachine.{counted_machine}
 use Rattle.kk_counted.specs.Heaps.{Heap}
 use Rattle.kk_counted.specs.Marks.{CellMarks, field_marks, HasMark}
@@ -242,13 +241,13 @@ module _ (program : Lowering) where
     pub given : Bool
     pub placed : Placed holds base result goal given s.bound s.frame.whole code left
     pub here : Here (record {
-        target = target;
-        layout = program.layout;
-        holds = holds;
-        base = base;
-        aligned = program.aligned;
-        narrow = program.narrow;
-      }) s
+      target = target;
+      layout = program.layout;
+      holds = holds;
+      base = base;
+      aligned = program.aligned;
+      narrow = program.narrow;
+    }) s
     pub none : NoneInHand s.owners
     pub held : s.frame.held ≡ []
     pub formed : AreLinesFormed s.frame.whole

@@ -1,10 +1,11 @@
--- What is asked of a state of the counted machine: that it is not stuck, that its heap is sound with counts that are words, and that
+-- What is asked of a state of the counted machine: that it is not stuck, that its heap is sound with counts that are words, and
+-- that
 -- values are of the types that the code takes.
 use Rattle.std.specs.Prelude.{◌≡◌, ℕ, zero, suc, ◌+◌, ◌^◌, ◌<◌, Bool, true, false, List, [], ◌∷◌, map, length, Option, Some, None, slice_get}
 use Rattle.kk_syntax.specs.declared.program.Form.{Form}
-use Rattle.kk_syntax.specs.declared.program.Form.TheVariants.{Number, Unit as Nothing, ReadByte, PrintText, Unary, Binary, Print, Construct, Call}
+use Rattle.kk_syntax.specs.declared.program.Form.TheVariants.{Unary, Binary, Print}
 use Rattle.kk_syntax.specs.declared.operator.UnaryOperator.TheVariants.{Negate, Not}
-use Rattle.kk_source.specs.State.{Value, integer, unit, constant, place, Cell}
+use Rattle.kk_source.specs.State.{Value, integer, place, Cell, Environment}
 use Rattle.kk_source.specs.Live.{value_of}
 use Rattle.kk_source.specs.FormEffects.{truth}
 use Rattle.kk_core.specs.Decisions.{NodeTree, chooses, tests, value_at, answer_of, next_by}
@@ -12,7 +13,7 @@ use Rattle.kk_core.specs.declared.decisions.Answer.{Answer}
 use Rattle.kk_core.specs.declared.decisions.Answer.TheVariants.{Number as OfNumber, Constructor}
 use Rattle.kk_core.specs.declared.decisions.Edge.{Edge}
 use Rattle.kk_counted.specs.CountedCodes.{Counted, branch, case, compute}
-use Rattle.kk_counted.specs.CountedStates.{CountedControl, running, CountedConfiguration}
+use Rattle.kk_counted.specs.CountedStates.{CountedJoin, CountedControl, running, CountedConfiguration}
 use Rattle.kk_counted.specs.CountedMachine.{NotStuck}
 use Rattle.kk_counted.specs.Heaps.{Heap, count_at, cell_at}
 use Rattle.kk_counted.specs.References.{IsSound}
@@ -23,7 +24,7 @@ use Rattle.rv_cells.specs.CountedLines.{is_plain}
 -- ---- numbers
 
 abbrev pub IsInt32 : Value → Type 0
-IsInt32 v = (word : ℕ) × ((v ≡ integer (signed word)) × (word < 2 ^ 32))
+IsInt32 v = (word : ℕ) × (v ≡ integer (signed word)) × (word < 2 ^ 32)
 
 abbrev pub IsTruth : Value → Type 0
 IsTruth v = (b : Bool) × (v ≡ truth b)
@@ -79,10 +80,11 @@ FitsControl layout heap (running (compute x form arguments rest) environment joi
     FitsForm form (map (value_of environment) arguments)
 FitsControl layout heap _ = Unit {0}
 
--- A count and the references that one step makes are less than 2^32.
+-- Where it goes on, a count and the references that one step makes are less than 2^32.
 pub record IsFit (layout : Layout) (c : CountedConfiguration) : Type 0 where
   pub going : NotStuck c.control
   pub owned : List Value
   pub sound : IsSound owned c.heap
-  pub counts : (name : ℕ) → 8 + count_at c.heap name < 2 ^ 32
+  pub counts : (code : Counted) (environment : Environment) (joins : List CountedJoin)
+      → c.control ≡ running code environment joins → (name : ℕ) → 8 + count_at c.heap name < 2 ^ 32
   pub fits : FitsControl layout c.heap c.control

@@ -8,6 +8,7 @@ pub mod Written
 pub mod Marked
 pub mod Costs
 pub mod Fitting
+pub mod Meaning
 pub mod Marking
 pub mod Tables
 pub mod Lowered

@@ -1,9 +1,9 @@
 -- The functions of a program in counted form beside their assembler code: how their variables are numbered and marked.
-use Rattle.std.specs.Prelude.{◌≡◌, ℕ, ◌<◌, ◌≤◌, Bool, false, List, [], ◌∷◌, ◌++◌, Some, slice_get}
+use Rattle.std.specs.Prelude.{◌≡◌, ℕ, ◌<◌, ◌≤◌, false, List, [], ◌∷◌, ◌++◌, Some, slice_get}
 use Rattle.kk_syntax.specs.Shapes.{is_among}
-use Rattle.kk_counted.specs.CountedCodes.{Counted, give, tail_call, branch, case, compute, inside, read, open_cell, if_unique, dup, drop, CountedArms, no_arm, arm, CountedFunction, CountedProgram}
+use Rattle.kk_counted.specs.CountedCodes.{Counted, give, tail_call, branch, case, compute, inside, read, open_cell, if_unique, dup, drop, CountedArms, no_arm, arm, CountedFunction}
 use Rattle.kk_counted.specs.Spending.{AreApart, numbers_from}
-use Rattle.kk_counted.specs.Marks.{CellMarks, field_marks, IsMarked}
+use Rattle.kk_counted.specs.Marks.{CellMarks, IsMarked}
 use Rattle.rv_isa.specs.AsmCode.{Lines}
 use Rattle.rv_lower.specs.Lines.{Texts}
 use Rattle.rv_cells.specs.Layout.{Layout}
@@ -62,4 +62,4 @@ pub record IsFunctionOf (layout : Layout) (texts : Texts) (marks : CellMarks) (f
 abbrev pub AreFunctionsOf : Layout → Texts → CellMarks → List CountedFunction → List Lines → Type 0
 AreFunctionsOf layout texts marks functions each =
     (f : ℕ) (function : CountedFunction) → slice_get functions f ≡ Some function
-    → (lines : Lines) × ((slice_get each f ≡ Some lines) × IsFunctionOf layout texts marks f function lines)
+    → (lines : Lines) × (slice_get each f ≡ Some lines) × IsFunctionOf layout texts marks f function lines

@@ -1,11 +1,22 @@
-ghost use Rattle.std.specs.Prelude.{◌≡◌, ◌<◌, ◌≤◌, ℕ, suc, ◌%◌, ◌^◌, [], ◌∷◌, length, Option, Some, None, true};
+ghost use Rattle.std.specs.Prelude.{◌≡◌, ◌<◌, ◌≤◌, ℕ, suc, ◌%◌, ◌^◌, Bool, List, [], ◌∷◌, length, All, Option, Some, None, true};
 ghost use Rattle.cell_heap.specs.Pool.{Pool};
 ghost use Rattle.cell_heap.specs.Blocks.{Cells, own, with_block, with_word, request, unused_cells};
 ghost use Rattle.kk_source.specs.State.{Value, Cell};
 ghost use Rattle.kk_source.specs.Sound.{AllWithin};
+ghost use Rattle.kk_counted.specs.CountedCodes.{CountedProgram};
+ghost use Rattle.kk_counted.specs.CountBounds.{AllSpendAtMost};
+ghost use Rattle.kk_counted.specs.CountedStates.{CountedSetting, CountedState};
+ghost use Rattle.kk_counted.specs.Keeping.{counted_after, FitsAlways, HasShapeAlways};
+ghost use Rattle.kk_counted.specs.Spending.{IsSpent};
+ghost use Rattle.kk_syntax.specs.PositionsOf.{PositionTable};
+ghost use Rattle.kk_counted.specs.Marks.{CellMarks, field_marks, AreMarked};
 ghost use Rattle.kk_counted.specs.Heaps.{Heap, count_at, set_count, fields_held, busy, dup_value, drop_value};
 ghost use Rattle.rv_cells.specs.Layout.{Layout, IsNarrow, FitsField};
 ghost use Rattle.rv_cells.specs.Follows.{IsBlockOf, Owner, nobody, cell_of, in_hand, Follows, with_owner, assign, NoneInHand};
+ghost use Rattle.rv_isa.specs.AsmCode.{Lines};
+ghost use Rattle.rv_cells.specs.Costs.{counted_cost};
+ghost use Rattle.rv_cells.specs.Fitting.{FitsControl, IsFit};
+ghost use Rattle.rv_cells.specs.Meaning.{setting_on, IsProgramLowered, RunsTheSame};
 ghost use Rattle.rv_cells.specs.Steps.{Served, Dupped, Dropped, IsPaid, Released};
 
 /// At the start the cells of a pool hold the empty heap. It is a law, and does nothing.
@@ -82,4 +93,28 @@ pub fn cells_in_hand_are_released()
     ensures { (pool : Pool) (layout : Layout) (address : ℕ → ℕ) (owners : ℕ → Owner) (heap : Heap) (cells : Cells)
         → Follows pool layout address owners heap cells
         → (at : ℕ) (words : ℕ → Option ℕ) → owners at ≡ in_hand words → Released pool layout address owners heap cells at }
+{}
+
+/// A program in counted form whose functions are all lowered runs the same as its assembler code, where each state of its run is not
+/// stuck, has a sound heap with counts that are words, and takes values of the types of its code: the same events, the same end, no
+/// more instructions than its steps weigh, and all cells free where the heap is empty at the end. It is a law, and does nothing.
+pub fn lowered_counted_programs_run_the_same()
+    ensures { (layout : Layout) (marks : CellMarks) (code : CountedProgram) (constants : List (List ℕ)) (functions : List Lines)
+        → (lowered : IsProgramLowered layout marks code constants functions)
+        → (pool : Pool) (depth first moves : ℕ) (input : List ℕ) → pool.first % 32 ≡ 0 → 0 < pool.first
+        → All (λ byte. byte < 256) input
+        → ((n : ℕ) → IsFit layout (counted_after (counted_cost moves) (setting_on code pool depth) input n))
+        → RunsTheSame code constants functions lowered.main_lines pool depth first moves input }
+{}
+
+/// Code that spends its references and is marked by types is fit in each state of its run, where its values are of the types that it
+/// takes, within the limits of cells, call frames and code. It is a law, and does nothing.
+pub fn judged_programs_are_fit()
+    ensures { (positions : PositionTable) (marks : CellMarks) (holds : ℕ → ℕ → Bool) (setting : CountedSetting) (layout : Layout)
+        (weight : CountedState → ℕ) (input : List ℕ) (most : ℕ)
+        → IsSpent positions setting.program → FitsAlways weight setting input → HasShapeAlways weight setting input
+        → AreMarked marks holds setting.program → AllSpendAtMost setting.program most → most ≤ 65000
+        → ((c : ℕ) → length (field_marks marks c) ≤ 6) → 1 ≤ setting.depth → setting.depth ≤ 65536 → setting.cells ≤ 1048576
+        → ((n : ℕ) → FitsControl layout (counted_after weight setting input n).heap (counted_after weight setting input n).control)
+        → (n : ℕ) → IsFit layout (counted_after weight setting input n) }
 {}

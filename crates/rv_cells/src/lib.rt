@@ -1,5 +1,6 @@
 //! The counted heap in a program's cells: which words stand for a value, when cells hold a heap, and what requests, loads,
-//! stores, duplications and drops do then.
+//! stores, duplications and drops do then. A program in counted form whose functions are all lowered runs the same as its
+//! assembler code.
 #![tactic(auto)]
 
 mod block;
@@ -12,7 +13,8 @@ mod program;
 
 pub use law::{
     cells_in_hand_are_counted, cells_in_hand_are_released, counts_are_stored,
-    references_are_dropped, references_are_duplicated, requests_find_free_cells,
-    unique_cells_are_opened, unused_cells_hold_no_heap, words_in_hand_are_stored,
+    judged_programs_are_fit, lowered_counted_programs_run_the_same, references_are_dropped,
+    references_are_duplicated, requests_find_free_cells, unique_cells_are_opened,
+    unused_cells_hold_no_heap, words_in_hand_are_stored,
 };
 pub use program::lower;

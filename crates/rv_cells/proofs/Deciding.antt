@@ -1,0 +1,408 @@
+-- The lines of a case do the step of the counted machine.
+use Rattle.std.proofs.Common.{◌≡◌, ℕ, zero, suc, ◌+◌, ◌*◌, ◌≤◌, Bool, List, [], ◌∷◌, ◌++◌, length, Option, Some, None, refl, sym, ◌∙◌, ap, subst, arith, append_assoc}
+use Rattle.std.specs.Prelude.{slice_get}
+use Rattle.kk_source.specs.State.{Value, Environment}
+use Rattle.kk_source.specs.Live.{value_of}
+use Rattle.kk_source.specs.Matching.{and_then}
+use Rattle.kk_source.specs.Actions.{performed}
+use Rattle.kk_core.specs.Decisions.{NodeTree, chooses, tests, value_at, answer_of, found_at, next_by, row_at, chosen_from, chosen}
+use Rattle.kk_counted.specs.CountedCodes.{Counted, case, CountedArms, no_arm, arm}
+use Rattle.kk_counted.specs.CountedStates.{CountedJoin, CountedFrame, CountedConfiguration, CountedState}
+use Rattle.kk_counted.specs.CountedMachine.{arm_at, case_step, NotStuck}
+use Rattle.kk_counted.specs.Heaps.{cell_at}
+use Rattle.kk_counted.specs.Marks.{HasMark, HaveMark}
+use Rattle.rv_isa.specs.declared.asm.Action.TheVariants.{Label, Jump}
+use Rattle.rv_isa.specs.AsmCode.{Line}
+use Rattle.rv_isa.specs.Frames.{Frame}
+use Rattle.rv_lower.specs.Lines.{acts}
+use Rattle.rv_lower.specs.Lowered.{Goal}
+use Rattle.rv_lower.proofs.Labels.{found_label}
+use Rattle.rv_cells.specs.Layout.{Layout, word_in}
+use Rattle.rv_cells.specs.CountedLines.{Setting, CodeLines, ArmsLines, NodeLines, NodesLines}
+use Rattle.rv_cells.specs.Marked.{AreNumbered, AreArmsNumbered}
+use Rattle.rv_cells.specs.Costs.{row_cost, forms, arms_forms, edges_cost, node_cost, nodes_cost, decisions_cost}
+use Rattle.rv_cells.specs.Fitting.{FitsNode, FitsFrom}
+use Rattle.rv_cells.proofs.Held.{some-is}
+use Rattle.rv_cells.proofs.Runs.{turn_of, Runs, runs_then}
+use Rattle.rv_cells.proofs.Acting.{label_runs, jump_runs}
+use Rattle.rv_cells.proofs.Rows.{then_some}
+use Rattle.rv_cells.proofs.Spots.{Spot, Known, saved}
+use Rattle.rv_cells.proofs.Standing.{Lowering, target, texts, upper, known_of, At, IsFitFrom, by_lines, finds}
+use Rattle.rv_cells.proofs.Blocks.{counted_at, Does, does_by}
+use Rattle.rv_cells.proofs.Celled.{seen_action}
+use Rattle.rv_cells.proofs.Computing.{has_same}
+use Rattle.rv_cells.proofs.Testing.{Leads, leads_then, leads_more, tests_lead}
+
+-- ---- where nodes and arms stand
+
+-- a node of a number stands behind its label
+record NodeAt (layout : Layout) (base nodes arms x l : ℕ) (node : NodeTree) (lines : List Line) : Type 0 where
+  before : List Line
+  first : List Line
+  rest : List Line
+  is : lines ≡ before ++ (acts (Label l) [] ∷ (first ++ rest))
+  node_lines : NodeLines layout base nodes arms x node first
+
+node_at : (layout : Layout) (base nodes arms x k j : ℕ) (decisions : List NodeTree) (lines : List Line) (node : NodeTree)
+    → NodesLines layout base nodes arms x k decisions lines → slice_get decisions j ≡ Some node
+    → NodeAt layout base nodes arms x (nodes + (k + j)) node lines
+node_at layout base nodes arms x k j [] lines node are is = cc
+node_at layout base nodes arms x k zero (one ∷ more) lines node are is =
+    let same : one ≡ node = cc is in
+    let here : nodes + k ≡ nodes + (k + 0) = omega arith in
+    record {
+      before = [];
+      first = are.0;
+      rest = are.1;
+      is = are.4 ∙ ap (λ l. acts (Label l) [] ∷ (are.0 ++ are.1)) here;
+      node_lines = subst (λ n. NodeLines layout base nodes arms x n are.0) same are.2;
+    }
+node_at layout base nodes arms x k (suc j) (one ∷ more) lines node are is =
+    let later = node_at layout base nodes arms x (suc k) j more are.1 node are.3 is in
+    let there : nodes + (suc k + j) ≡ nodes + (k + suc j) = omega arith in
+    let head = acts (Label (nodes + k)) [] ∷ are.0 in
+    record {
+      before = head ++ later.before;
+      first = later.first;
+      rest = later.rest;
+      is = are.4 ∙ ap (λ ls. head ++ ls) (later.is ∙ ap (λ l. later.before ++ (acts (Label l) [] ∷ (later.first ++ later.rest)))
+          there)
+          ∙ sym (append_assoc head later.before (acts (Label (nodes + (k + suc j))) [] ∷ (later.first ++ later.rest)));
+      node_lines = later.node_lines;
+    }
+
+cost_within : (moves j : ℕ) (decisions : List NodeTree) (node : NodeTree) → slice_get decisions j ≡ Some node
+    → node_cost moves node ≤ nodes_cost moves decisions
+cost_within moves j [] node is = cc
+cost_within moves zero (one ∷ more) node is =
+    let same : one ≡ node = cc is in
+    let cost = ap (node_cost moves) same in
+    omega arith
+cost_within moves (suc j) (one ∷ more) node is = let later = cost_within moves j more node is in omega arith
+
+-- an arm of a row stands behind its label
+record ArmAt (setting : Setting) (goal : Goal) (l : ℕ) (body : Counted) (lines : List Line) : Type 0 where
+  before : List Line
+  first : List Line
+  rest : List Line
+  low : ℕ
+  high : ℕ
+  is : lines ≡ before ++ (acts (Label l) [] ∷ (first ++ rest))
+  code : CodeLines setting goal low body first high
+
+arm_stands : (setting : Setting) (goal : Goal) (label low high row : ℕ) (arms : CountedArms) (lines : List Line) (body : Counted)
+    → ArmsLines setting goal label low arms lines high → arm_at arms row ≡ Some body → ArmAt setting goal (label + row) body lines
+arm_stands setting goal label low high row no_arm lines body are is = cc
+arm_stands setting goal label low high zero (arm one more) lines body are is =
+    let same : one ≡ body = cc is in
+    let here : label ≡ label + 0 = omega arith in
+    record {
+      before = [];
+      first = are.0;
+      rest = are.1;
+      low = low;
+      high = are.2;
+      is = are.5 ∙ ap (λ l. acts (Label l) [] ∷ (are.0 ++ are.1)) here;
+      code = subst (λ b. CodeLines setting goal low b are.0 are.2) same are.3;
+    }
+arm_stands setting goal label low high (suc row) (arm one more) lines body are is =
+    let later = arm_stands setting goal (label + 1) are.2 high row more are.1 body are.4 is in
+    let there : label + 1 + row ≡ label + suc row = omega arith in
+    let head = acts (Label label) [] ∷ are.0 in
+    record {
+      before = head ++ later.before;
+      first = later.first;
+      rest = later.rest;
+      low = later.low;
+      high = later.high;
+      is = are.5 ∙ ap (λ ls. head ++ ls) (later.is ∙ ap (λ l. later.before ++ (acts (Label l) [] ∷ (later.first ++ later.rest)))
+          there)
+          ∙ sym (append_assoc head later.before (acts (Label (label + suc row)) [] ∷ (later.first ++ later.rest)));
+      code = later.code;
+    }
+
+arm_short : (arms : CountedArms) (row : ℕ) (body : Counted) → arm_at arms row ≡ Some body → forms body ≤ arms_forms arms
+arm_short no_arm row body is = cc
+arm_short (arm one more) zero body is =
+    let same : one ≡ body = cc is in
+    let few = ap forms same in
+    omega arith
+arm_short (arm one more) (suc row) body is = let later = arm_short more row body is in omega arith
+
+arm_numbered : (base : ℕ) (bound : List ℕ) (arms : CountedArms) (row : ℕ) (body : Counted) → arm_at arms row ≡ Some body
+    → AreArmsNumbered base bound arms → AreNumbered base bound body
+arm_numbered base bound no_arm row body is are = cc
+arm_numbered base bound (arm one more) zero body is are =
+    let same : one ≡ body = cc is in subst (AreNumbered base bound) same are.0
+arm_numbered base bound (arm one more) (suc row) body is are = arm_numbered base bound more row body is are.1
+
+arm_marked : (program : Lowering) (holds : ℕ → Bool) (result given : Bool) (bound : List ℕ) (arms : CountedArms) (row : ℕ)
+    (body : Counted) → arm_at arms row ≡ Some body → HaveMark program.marks holds result bound given arms
+    → HasMark program.marks holds result bound given body
+arm_marked program holds result given bound no_arm row body is are = cc
+arm_marked program holds result given bound (arm one more) zero body is are =
+    let same : one ≡ body = cc is in subst (HasMark program.marks holds result bound given) same are.0
+arm_marked program holds result given bound (arm one more) (suc row) body is are =
+    arm_marked program holds result given bound more row body is are.1
+
+case_there : (o : Option Counted) (environment : Environment) (inner : List CountedJoin) (from : CountedConfiguration)
+    (input : List ℕ) → NotStuck (performed (case_step o environment inner from) input).1.machine.control
+    → (body : Counted) × (o ≡ Some body)
+case_there None environment inner from input going = absurd going
+case_there (Some body) environment inner from input going = (body, refl)
+
+module _ (program : Lowering) (x idle : ℕ) (decisions : List NodeTree) (arms : CountedArms) (inner : List CountedJoin)
+    (frames : List CountedFrame) (input : List ℕ) (s : Spot) (fs : List (Frame Line)) (left : List Line)
+    (idle_is : idle ≡ forms (case x decisions arms)) (at : At program (case x decisions arms) inner frames input s fs left)
+    (fit : IsFitFrom program (counted_at program (case x decisions arms) s.environment inner frames s.heap input)) where
+  abbrev known : Known
+  known = known_of program at.holds at.base
+
+  abbrev v : Value
+  v = value_of s.environment x
+
+  abbrev low : ℕ
+  low = at.placed.low
+
+  abbrev nodes : ℕ
+  nodes = at.placed.lines.2
+
+  abbrev choice : List Line
+  choice = at.placed.lines.0
+
+  abbrev tail : List Line
+  tail = at.placed.lines.1 ++ at.placed.after
+
+  abbrev Goes : ℕ → List Line → List Line → (ℕ → Option ℕ) → Type 0
+  Goes = Leads known s fs at.here at.base
+
+  left_is : left ≡ choice ++ tail
+  left_is = at.placed.left_is ∙ ap (λ own. own ++ at.placed.after) at.placed.lines.6
+      ∙ append_assoc choice at.placed.lines.1 at.placed.after
+
+  choice_at : s.frame.whole ≡ at.placed.before ++ (choice ++ tail)
+  choice_at = at.placed.place ∙ ap (λ ls. at.placed.before ++ ls) left_is
+
+  abbrev StandsAt : ℕ → NodeTree → Type 0
+  StandsAt k node = NodeAt program.layout at.base nodes low x (nodes + k) node choice
+
+  -- the lines from a node's label on
+  abbrev node_from : (k : ℕ) (node : NodeTree) → NodeAt program.layout at.base at.placed.lines.2 at.placed.low x
+      (at.placed.lines.2 + k) node at.placed.lines.0 → List Line
+  node_from k node stands = acts (Label (nodes + k)) [] ∷ (stands.first ++ (stands.rest ++ tail))
+
+  node_found : (k : ℕ) (node : NodeTree) (stands : StandsAt k node)
+      → found_label (nodes + k) s.frame.whole ≡ Some (node_from k node stands)
+  node_found k node stands =
+      let inner_lines = acts (Label (nodes + k)) [] ∷ (stands.first ++ stands.rest) in
+      let place : s.frame.whole ≡ (at.placed.before ++ stands.before) ++ node_from k node stands
+      = choice_at ∙ ap (λ ls. at.placed.before ++ (ls ++ tail)) stands.is
+      ∙ ap (λ ls. at.placed.before ++ ls) (append_assoc stands.before inner_lines tail
+      ∙ ap (λ ls. stands.before ++ (acts (Label (nodes + k)) [] ∷ ls)) (append_assoc stands.first stands.rest tail))
+      ∙ sym (append_assoc at.placed.before stands.before (node_from k node stands)) in
+      finds program (nodes + k) s.frame.whole (at.placed.before ++ stands.before)
+      (stands.first ++ (stands.rest ++ tail)) at.formed place
+
+  stands_of : (k : ℕ) (node : NodeTree) → slice_get decisions k ≡ Some node → StandsAt k node
+  stands_of k node is =
+      let same : nodes + (0 + k) ≡ nodes + k = omega arith in
+      subst (λ l. NodeAt program.layout at.base nodes low x l node choice) same
+      (node_at program.layout at.base nodes low x 0 k decisions choice node at.placed.lines.4 is)
+
+  node_there : (steps k row : ℕ) → chosen_from (cell_at s.heap) v decisions steps k ≡ Some row
+      → (node : NodeTree) × (slice_get decisions k ≡ Some node)
+  node_there zero k row is = cc
+  node_there (suc steps) k row is = by (slice_get decisions k) is
+    where
+      by : (o : Option NodeTree) → row_at (cell_at s.heap) v (chosen_from (cell_at s.heap) v decisions steps) o ≡ Some row
+          → (node : NodeTree) × (o ≡ Some node)
+      by None is = cc
+      by (Some node) is = (node, refl)
+
+  abbrev each : ℕ
+  each = nodes_cost program.moves decisions
+
+  -- from a node to the arm that is chosen
+  node_leads : (steps k row : ℕ) (node : NodeTree) (stands : StandsAt k node) (there : List Line) (values : ℕ → Option ℕ)
+      → slice_get decisions k ≡ Some node → chosen_from (cell_at s.heap) v decisions steps k ≡ Some row
+      → FitsFrom program.layout (cell_at s.heap) v decisions steps k
+      → found_label (low + row) s.frame.whole ≡ Some there
+      → values x ≡ Some (word_in program.layout s.address v)
+      → Goes (decisions_cost program.moves steps each) (node_from k node stands) there values
+  node_leads zero k row node stands there values is row_is fits found_arm has = cc
+  node_leads (suc steps) k row (chooses chosen_row) stands there values is row_is fits found_arm has =
+      let m = program.moves in
+      let rest = stands.rest ++ tail in
+      let same : chosen_row ≡ row
+      = some-is (sym (ap (row_at (cell_at s.heap) v (chosen_from (cell_at s.heap) v decisions steps)) is) ∙ row_is) in
+      let from = acts (Label (nodes + k)) [] ∷ (acts (Jump (low + chosen_row)) [] ∷ rest) in
+      let mid = acts (Jump (low + chosen_row)) [] ∷ rest in
+      let f = record s.frame { cells = values } in
+      let jump = jump_runs (target program) rest f fs s.world (low + chosen_row) there
+      (ap (λ r. found_label (low + r) s.frame.whole) same ∙ found_arm) in
+      let cheap = cost_within m k decisions (chooses chosen_row) is in
+      let lines_are : node_from k (chooses chosen_row) stands ≡ from
+      = ap (λ ls. acts (Label (nodes + k)) [] ∷ (ls ++ rest)) stands.node_lines in
+      subst (λ ls. Goes (decisions_cost m (suc steps) each) ls there values) (sym lines_are)
+      (leads_more known s fs at.here at.base at.base ((m + 0) + (m + 2)) (decisions_cost m (suc steps) each) from there values
+      (omega (arith, cheap)) (omega arith)
+      (record {
+        steps = 1 + 1;
+        later = values;
+        runs = runs_then (target program) (m + 0) (m + 2) 1 1 (turn_of from f fs s.world) (turn_of mid f fs s.world)
+            (turn_of there f fs s.world) (label_runs (target program) mid f fs s.world (nodes + k)) jump;
+        kept = λ z less. refl;
+      }))
+  node_leads (suc steps) k row (tests way edges otherwise) stands there values is row_is fits found_arm has =
+      let m = program.moves in
+      let behind = chosen_from (cell_at s.heap) v decisions steps in
+      let row_by = sym (ap (row_at (cell_at s.heap) v behind) is) ∙ row_is in
+      let first = then_some (found_at (cell_at s.heap) way v)
+      (λ found. and_then (next_by edges otherwise found) behind) row row_by in
+      let found = first.0 in
+      let value = then_some (value_at (cell_at s.heap) way v) (answer_of (cell_at s.heap)) found first.1 in
+      let next = then_some (next_by edges otherwise found) behind row first.2 in
+      let fits_here : FitsNode program.layout (cell_at s.heap) v (FitsFrom program.layout (cell_at s.heap) v decisions steps)
+      (Some (tests way edges otherwise))
+      = subst (FitsNode program.layout (cell_at s.heap) v (FitsFrom program.layout (cell_at s.heap) v decisions steps)) is fits in
+      let it = fits_here value.0 value.1 found value.2 in
+      let later = node_there steps next.0 row next.2 in
+      let stands_later = stands_of next.0 later.0 later.1 in
+      let goal = node_from next.0 later.0 stands_later in
+      let rest = stands.rest ++ tail in
+      let from = acts (Label (nodes + k)) [] ∷ (stands.first ++ rest) in
+      let f = record s.frame { cells = values } in
+      let cost = 6 * m + 14 + row_cost way (m + 2) + edges_cost m edges in
+      let label : Leads known s fs at.here at.base (m + 0) from (stands.first ++ rest) values = record {
+        steps = 1;
+        later = values;
+        runs = label_runs (target program) (stands.first ++ rest) f fs s.world (nodes + k);
+        kept = λ z less. refl;
+      } in
+      let test = tests_lead known s fs at.here at.base nodes edges otherwise found next.0 rest goal
+      (node_found next.0 later.0 stands_later) next.1 it.1.0 low x way v value.0 stands.first values stands.node_lines has value.1
+      value.2
+      it.0 in
+      let below = at.here.values.below x at.placed.marked.0 in
+      let onward = node_leads steps next.0 row later.0 stands_later there test.later later.1 next.2 (it.1.1 next.0 next.1) found_arm
+      (test.kept x below ∙ has) in
+      let cheap = cost_within m k decisions (tests way edges otherwise) is in
+      let rest_cost = decisions_cost m steps each in
+      leads_more known s fs at.here at.base at.base ((m + 0) + (cost + rest_cost))
+      (decisions_cost m (suc steps) each) from there values
+      (omega (arith, cheap)) (omega arith)
+      (leads_then known s fs at.here at.base (m + 0) (cost + rest_cost) from (stands.first ++ rest) there values label
+      (leads_then known s fs at.here at.base cost rest_cost (stands.first ++ rest) goal there values test onward))
+
+  -- from the first line of a case
+  first_leads : (row : ℕ) (there : List Line) → chosen (cell_at s.heap) v decisions ≡ Some row
+      → found_label (low + row) s.frame.whole ≡ Some there
+      → Goes (decisions_cost program.moves (length decisions) each) (choice ++ tail) there s.frame.cells
+  first_leads row there is found_arm =
+      let first = node_there (length decisions) 0 row is in
+      let begins = starts decisions at.placed.lines.4 first.0 first.1 in
+      let here_at : choice ++ tail ≡ node_from 0 first.0 begins.0 = begins.1 in
+      subst (λ ls. Goes (decisions_cost program.moves (length decisions) each) ls there s.frame.cells) (sym here_at)
+      (node_leads (length decisions) 0 row first.0 begins.0 there s.frame.cells first.1 is (fit 0).fits found_arm
+      (at.here.values.words x at.placed.marked.0))
+    where
+      starts : (some : List NodeTree) → NodesLines program.layout at.base at.placed.lines.2 at.placed.low x 0 some at.placed.lines.0
+          → (node : NodeTree) → slice_get some 0 ≡ Some node
+          → (stands : NodeAt program.layout at.base at.placed.lines.2 at.placed.low x
+          (at.placed.lines.2 + 0) node at.placed.lines.0)
+          × (at.placed.lines.0 ++ (at.placed.lines.1 ++ at.placed.after)
+          ≡ acts (Label (at.placed.lines.2 + 0)) [] ∷ (stands.first ++ (stands.rest ++ (at.placed.lines.1 ++ at.placed.after))))
+      starts [] are node is = cc
+      starts (one ∷ more) are node is =
+          let same : one ≡ node = cc is in
+          let behind = at.placed.lines.1 ++ at.placed.after in (
+            record {
+              before = [];
+              first = are.0;
+              rest = are.1;
+              is = are.4;
+              node_lines = subst (λ n. NodeLines program.layout at.base at.placed.lines.2 at.placed.low x n are.0) same are.2;
+            },
+            ap (λ ls. ls ++ behind) are.4
+                ∙ ap (λ ls. acts (Label (at.placed.lines.2 + 0)) [] ∷ ls) (append_assoc are.0 are.1 behind),
+          )
+
+  pub at_case : Does program idle (counted_at program (case x decisions arms) s.environment inner frames s.heap input)
+      (turn_of left s.frame fs s.world)
+  at_case =
+      let p = at.placed in
+      let m = program.moves in
+      let st : CountedState = counted_at program (case x decisions arms) s.environment inner frames s.heap input in
+      let there = case_there (and_then (chosen (cell_at s.heap) v decisions) (arm_at arms)) s.environment inner st.machine input
+      (fit 1).going in
+      let body = there.0 in
+      let choose = then_some (chosen (cell_at s.heap) v decisions) (arm_at arms) body there.1 in
+      let row = choose.0 in
+      let stands = arm_stands (record { layout = program.layout; holds = at.holds; base = at.base; texts = texts program })
+      at.goal low (nodes + length decisions) p.high row arms p.lines.1 body p.lines.5 choose.2 in
+      let next : CountedState = counted_at program body s.environment inner frames s.heap input in
+      let label = acts (Label (low + row)) [] in
+      let rest = stands.rest ++ p.after in
+      let behind = stands.first ++ rest in
+      let tail_is : tail ≡ stands.before ++ (label ∷ behind)
+      = ap (λ ls. ls ++ p.after) stands.is ∙ append_assoc stands.before (label ∷ (stands.first ++ stands.rest)) p.after
+      ∙ ap (λ ls. stands.before ++ (label ∷ ls)) (append_assoc stands.first stands.rest p.after) in
+      let place : s.frame.whole ≡ ((p.before ++ choice) ++ stands.before) ++ (label ∷ behind)
+      = choice_at ∙ ap (λ ls. p.before ++ (choice ++ ls)) tail_is
+      ∙ sym (append_assoc p.before choice (stands.before ++ (label ∷ behind)))
+      ∙ sym (append_assoc (p.before ++ choice) stands.before (label ∷ behind)) in
+      let leads = first_leads row (label ∷ behind) choose.1
+      (finds program (low + row) s.frame.whole ((p.before ++ choice) ++ stands.before) behind at.formed place) in
+      let f = record s.frame { cells = leads.later } in
+      let cost = decisions_cost m (length decisions) each in
+      let t0 = turn_of left s.frame fs s.world in
+      let t2 = turn_of behind f fs s.world in
+      let runs : Runs (target program) (cost + (m + 0)) (leads.steps + 1) t0 t2
+      = subst (λ ls. Runs (target program) (cost + (m + 0)) (leads.steps + 1) (turn_of ls s.frame fs s.world) t2) (sym left_is)
+      (runs_then (target program) cost (m + 0) leads.steps 1 (turn_of (choice ++ tail) s.frame fs s.world)
+      (turn_of (label ∷ behind) f fs s.world) t2 leads.runs (label_runs (target program) behind f fs s.world (low + row))) in
+      let short = arm_short arms row body choose.2 in
+      let few = p.short in
+      does_by program idle st next [] t0
+      (ap (λ o. seen_action program (case_step o s.environment inner st.machine) input) there.1) fit
+      (λ fits. by_lines program (leads.steps + 1) (cost + (m + 0)) ((upper program).weight st) (saved s.heap) idle next t0 t2 runs
+      (omega arith) (omega (arith, short, idle_is)) fits
+      (record {
+        spot = record s { frame = f };
+        fs = fs;
+        left = behind;
+        environment_is = refl;
+        heap_is = refl;
+        turn_is = refl;
+        at = record {
+          holds = at.holds;
+          base = at.base;
+          result = at.result;
+          goal = at.goal;
+          given = at.given;
+          placed = record {
+            before = ((p.before ++ choice) ++ stands.before) ++ (label ∷ []);
+            own = stands.first;
+            after = rest;
+            low = stands.low;
+            high = stands.high;
+            lines = stands.code;
+            left_is = refl;
+            place = place ∙ sym (append_assoc ((p.before ++ choice) ++ stands.before) (label ∷ []) behind);
+            marked = arm_marked program at.holds at.result at.given s.bound arms row body choose.2 p.marked.1;
+            numbered = arm_numbered at.base s.bound arms row body choose.2 p.numbered;
+            short = omega (arith, short, few);
+          };
+          here = record {
+            follows = at.here.follows;
+            values = has_same at.here.values leads.later (λ z among. leads.kept z (at.here.values.below z among));
+          };
+          none = at.none;
+          held = at.held;
+          formed = at.formed;
+          continues = at.continues;
+          waits = at.waits;
+          input_is = at.input_is;
+          bytes = at.bytes;
+        };
+      }))

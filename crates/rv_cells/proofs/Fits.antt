@@ -1,0 +1,55 @@
+-- Code that is judged and marked is fit in each state of a run, where its values are of the types that the code takes.
+use Rattle.std.proofs.Common.{ℕ, ◌≤◌, Bool, List, ◌++◌, length, arith, mul-le-mul_right, mul-le-mul_left}
+use Rattle.kk_syntax.specs.PositionsOf.{PositionTable}
+use Rattle.kk_source.specs.State.{Value}
+use Rattle.kk_counted.specs.CountBounds.{AllSpendAtMost}
+use Rattle.kk_counted.specs.CountedCodes.{CountedFunction}
+use Rattle.kk_counted.specs.CountedStates.{CountedSetting, CountedControl, running, stopped, stuck, CountedState}
+use Rattle.kk_counted.specs.Heaps.{Heap}
+use Rattle.kk_counted.specs.Keeping.{IsKeptAt, counted_after, FitsAlways, HasShapeAlways, values_of}
+use Rattle.kk_counted.specs.Marks.{CellMarks, field_marks, AreMarked}
+use Rattle.kk_counted.specs.References.{IsSound}
+use Rattle.kk_counted.specs.Spending.{IsSpent}
+use Rattle.kk_counted.proofs.NarrowCounts.{counts_few}
+use Rattle.kk_counted.proofs.SoundGoing.{never_stuck}
+use Rattle.kk_counted.proofs.SoundRuns.{keeps_sound}
+use Rattle.rv_cells.specs.Layout.{Layout}
+use Rattle.rv_cells.specs.Fitting.{FitsControl, IsFit}
+
+sound_of : (positions : PositionTable) (functions : List CountedFunction) (heap : Heap) (below : List Value)
+    (control : CountedControl)
+    → IsKeptAt positions functions heap below control → (owned : List Value) × IsSound owned heap
+sound_of positions functions heap below (running code environment joins) kept =
+    (values_of environment kept.owned ++ below, kept.sound)
+sound_of positions functions heap below (stopped by) kept = kept
+sound_of positions functions heap below stuck kept = kept
+
+pub always_fits : (positions : PositionTable) (marks : CellMarks) (holds : ℕ → ℕ → Bool) (setting : CountedSetting)
+    (layout : Layout)
+    (weight : CountedState → ℕ) (input : List ℕ) (most : ℕ)
+    → IsSpent positions setting.program → FitsAlways weight setting input → HasShapeAlways weight setting input
+    → AreMarked marks holds setting.program → AllSpendAtMost setting.program most → most ≤ 65000
+    → ((c : ℕ) → length (field_marks marks c) ≤ 6) → 1 ≤ setting.depth → setting.depth ≤ 65536 → setting.cells ≤ 1048576
+    → ((n : ℕ) → FitsControl layout (counted_after weight setting input n).heap (counted_after weight setting input n).control)
+    → (n : ℕ) → IsFit layout (counted_after weight setting input n)
+always_fits positions marks holds setting layout weight input most spent fits shaped marked spends small few deep shallow cells
+    typed n =
+    let kept = keeps_sound positions setting weight input spent fits n in
+    let sound = sound_of positions setting.program.functions (counted_after weight setting input n).heap kept.0
+    (counted_after weight setting input n).control kept.1.1 in
+    record {
+      going = never_stuck positions setting weight input spent fits shaped n;
+      owned = sound.0;
+      sound = sound.1;
+      counts = λ code environment joins here name.
+          omega (
+            arith,
+            counts_few positions marks holds setting weight input most 6 spent fits marked spends few deep n code environment joins
+                here
+                name,
+            mul-le-mul_right most shallow,
+            mul-le-mul_left 65536 small,
+            cells,
+          );
+      fits = typed n;
+    }
