@@ -5,7 +5,7 @@ use Rattle.std.proofs.lemmas.Bool.{and_parts}
 use Rattle.std.proofs.lemmas.List.{length-map}
 use Rattle.std.proofs.lemmas.Option.{slice_get_within}
 use Rattle.kk_syntax.specs.GroundTyping.{table_of, IsGroundTyped}
-use Rattle.kk_syntax.specs.PlainTyping.{signature_of}
+use Rattle.kk_syntax.specs.GroundTyping.{signature_of}
 use Rattle.kk_syntax.specs.Shapes.{greatest_nodes}
 use Rattle.kk_syntax.specs.Programs.{FunctionTree, ProgramTree}
 use Rattle.kk_syntax.specs.Trees.{Tree, variable, apply, branch, match, sequence, Trees, no_tree, tree}
