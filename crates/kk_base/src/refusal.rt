@@ -12,5 +12,7 @@ pub enum Refusal {
     NotTyped { function: Name },
     NotCovered { function: Name, example: Text },
     Over(Limit),
+    /// The text is accepted, and its program has a form of which no image can be built yet.
+    NotBuilt,
     NoMemory,
 }

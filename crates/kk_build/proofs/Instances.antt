@@ -1,18 +1,20 @@
 -- The image of a program's instances is one of the program.
 use Rattle.std.proofs.Common.{ℕ, List, refl}
+use Rattle.kk_base.specs.declared.refusal.Refusal.{Refusal}
+use Rattle.kk_base.specs.declared.refusal.Refusal.TheVariants as OfText
 use Rattle.kk_syntax.proofs.LeastTables.{least_table}
 use Rattle.kk_syntax.specs.PositionsOf.{PositionTable}
 use Rattle.kk_syntax.specs.Programs.{ProgramTree}
-use Rattle.kk_syntax.specs.PlainTyping.{IsTyped}
 use Rattle.kk_source.specs.Ends.{exit_of}
 use Rattle.kk_source.specs.Notes.{events_of}
 use Rattle.kk_source.specs.SourceAfter.{store_machine, first_state}
-use Rattle.kk_front.specs.Judgement.{IsProgramOf}
+use Rattle.kk_front.specs.Judgement.{Refuses}
+use Rattle.kk_front.proofs.Unbuilt.{refused_otherwise}
 use Rattle.kk_instances.specs.Meaning.{MeansTheSame}
 use Rattle.kk_build.specs.Agreement.{Agrees, instructions_within, IsBounded}
-use Rattle.kk_build.specs.Built.{setting_of, IsBuilt}
+use Rattle.kk_build.specs.Built.{setting_of, IsReadAs, IsBuilt, RefusesToBuild}
+use Rattle.kk_build.specs.FileOf.{IsFileOf}
 use Rattle.kk_build.specs.ImageAfter.{file_after}
-use Rattle.kk_build.specs.Images.{IsImageFile}
 use Rattle.kk_build.proofs.Alike.{agrees_alike, keeps_up_alike}
 
 module _ (program instances : ProgramTree) (means : MeansTheSame program instances) (cells depth : ℕ) (file : List ℕ) (positions : PositionTable) where
@@ -36,23 +38,28 @@ module _ (program instances : ProgramTree) (means : MeansTheSame program instanc
 
 -- ---- what is built
 
--- what reading a text and the laws on it give
-pub record IsReadWith (text : List ℕ) (program instances : ProgramTree) : Type 0 where
-  pub is_program : IsProgramOf text program
-  pub typed : IsTyped program
-  pub means : MeansTheSame program instances
-
-pub built_by_instances : (text : List ℕ) (cells depth : ℕ) (program instances : ProgramTree) (file : List ℕ) → IsReadWith text program instances → IsImageFile file
-    → ((table : PositionTable) → Agrees file (setting_of instances table cells depth)) → ((table : PositionTable) → IsBounded file (setting_of instances table cells depth)) → IsBuilt text cells depth file
-built_by_instances text cells depth program instances file read image agrees bounded =
+pub built_by_instances : (text : List ℕ) (cells depth : ℕ) (program made : ProgramTree) (file : List ℕ) → IsReadAs text program made
+    → MeansTheSame program made → IsFileOf made cells depth file → IsBuilt text cells depth file
+built_by_instances text cells depth program made file read means is =
     let least = least_table program in
     record {
       program = program;
-      is_program = read.is_program;
-      typed = read.typed;
-      is_image = image;
+      made = made;
+      is_read = read;
+      plain = is.plain;
+      is_image = is.image;
       setting = setting_of program least.0 cells depth;
       is_run = record { positions = least.0; least = least.1; is = refl };
-      agrees = agrees_by_instances program instances read.means cells depth file least.0 agrees;
-      bounded = bounded_by_instances program instances read.means cells depth file least.0 bounded;
+      agrees = agrees_by_instances program made means cells depth file least.0 is.agrees;
+      bounded = bounded_by_instances program made means cells depth file least.0 is.bounded;
     }
+
+pub refused_by_front : (text : List ℕ) (refusal : Refusal) → Refuses text refusal → RefusesToBuild text refusal
+refused_by_front text OfText.NotBuilt refuses = absurd (refused_otherwise text (refuses refl))
+refused_by_front text (OfText.Lex error) refuses = refuses
+refused_by_front text (OfText.Parse error) refuses = refuses
+refused_by_front text (OfText.Name error) refuses = refuses
+refused_by_front text (OfText.NotTyped function) refuses = refuses
+refused_by_front text (OfText.NotCovered function example) refuses = refuses
+refused_by_front text (OfText.Over limit) refuses = refuses
+refused_by_front text OfText.NoMemory refuses = refuses

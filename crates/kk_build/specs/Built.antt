@@ -1,22 +1,51 @@
--- What is built of a text.
-use Rattle.std.specs.Prelude.{ℕ, List}
+-- What is built of a text, and of which texts nothing is built yet.
+use Rattle.std.specs.Prelude.{◌≡◌, ℕ, List, true, false}
+use Rattle.kk_base.specs.declared.refusal.Refusal.{Refusal}
+use Rattle.kk_base.specs.declared.refusal.Refusal.TheVariants.{NotBuilt}
+use Rattle.kk_syntax.specs.Checked.{IsChecked}
 pub use Rattle.kk_syntax.specs.Programs.{ProgramTree, program_tree}
-use Rattle.kk_syntax.specs.PlainTyping.{IsTyped}
+use Rattle.kk_syntax.specs.Typing.{Choice, ArePrincipal}
+use Rattle.kk_mono.specs.Instances.{InstanceTree, IsInstanceProgram}
 pub use Rattle.kk_source.specs.Settings.{setting_of, IsRun}
 use Rattle.kk_source.specs.State.{Setting}
-use Rattle.kk_front.specs.Judgement.{IsProgramOf}
+use Rattle.kk_norm.specs.PlainTrees.{are_plain_functions}
+use Rattle.kk_front.specs.Judgement.{IsProgramOf, Refuses}
 use Rattle.kk_build.specs.Agreement.{Agrees, IsBounded}
 use Rattle.kk_build.specs.Images.{IsImageFile}
 
--- These bytes are built of a text, for a heap of so many cells and so many open calls: the text is accepted as a program, which
--- is typed, and they are the file of an image that agrees with the program as it is run, with its owned positions, and does what
--- it does within a bound on instructions.
+-- A text is accepted as a program, which is checked with its principal typings; and the functions of `made` are the
+-- program's instances.
+pub record IsReadAs (text : List ℕ) (program made : ProgramTree) : Type 0 where
+  pub is_program : IsProgramOf text program
+  pub typings : List (List Choice)
+  pub principal : ArePrincipal program typings
+  pub checked : IsChecked program typings
+  pub instances : List InstanceTree
+  pub are : IsInstanceProgram program typings instances made
+
+-- These bytes are built of a text, for a heap of so many cells and so many open calls: the text is accepted as a program, none of
+-- whose instances has a match or constructs anything but `False` and `True`; and they are the file of an image that agrees with
+-- the program as it is run, with its owned positions, and does what it does within a bound on instructions.
 pub record IsBuilt (text : List ℕ) (cells depth : ℕ) (image : List ℕ) : Type 0 where
   pub program : ProgramTree
-  pub is_program : IsProgramOf text program
-  pub typed : IsTyped program
+  pub made : ProgramTree
+  pub is_read : IsReadAs text program made
+  pub plain : are_plain_functions made.functions ≡ true
   pub is_image : IsImageFile image
   pub setting : Setting
   pub is_run : IsRun program cells depth setting
   pub agrees : Agrees image setting
   pub bounded : IsBounded image setting
+
+-- Nothing is built yet of a text that is accepted as a program, one of whose instances has a match, or constructs something else
+-- than `False` and `True`.
+pub record IsNotBuilt (text : List ℕ) : Type 0 where
+  pub program : ProgramTree
+  pub made : ProgramTree
+  pub is_read : IsReadAs text program made
+  pub not_plain : are_plain_functions made.functions ≡ false
+
+-- why nothing is built: the text is refused, unless memory is wanted; or nothing is built of it yet
+abbrev pub RefusesToBuild : List ℕ → Refusal → Type 0
+RefusesToBuild text NotBuilt = IsNotBuilt text
+RefusesToBuild text refusal = Refuses text refusal

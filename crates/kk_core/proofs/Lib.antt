@@ -1,5 +1,6 @@
 mod ChosenArms
 mod Examples
+mod PlainCodes
 mod PlainTypes
 mod Safe
 mod SafeRuns

@@ -5,7 +5,7 @@ use Rattle.std.proofs.lemmas.Bool.{eqb-true}
 use Rattle.kk_syntax.specs.GroundTyping.{Table}
 use Rattle.kk_syntax.specs.OfType.{field_types}
 use Rattle.kk_syntax.specs.Patterns.{Pattern, constructor, Patterns, part}
-use Rattle.kk_syntax.specs.PlainTyping.{Signature}
+use Rattle.kk_syntax.specs.GroundTyping.{Signature}
 use Rattle.kk_syntax.specs.Types.{TypeTree}
 use Rattle.kk_syntax.specs.Typing.{bool}
 use Rattle.kk_source.specs.Live.{value_of}

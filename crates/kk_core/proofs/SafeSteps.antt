@@ -4,7 +4,7 @@ use Rattle.std.specs.Prelude.{slice_get, suc, nat_le, if◌then◌else◌}
 use Rattle.kk_syntax.specs.declared.program.Form.{Form}
 use Rattle.kk_syntax.specs.GroundTyping.{Table}
 use Rattle.kk_syntax.specs.Patterns.{part}
-use Rattle.kk_syntax.specs.PlainTyping.{Signature}
+use Rattle.kk_syntax.specs.GroundTyping.{Signature}
 use Rattle.kk_syntax.specs.PositionsOf.{is_lent}
 use Rattle.kk_syntax.specs.Types.{TypeTree}
 use Rattle.kk_source.specs.FormEffects.{FormEffect, gives, prints, reads, makes, enters, is_true, byte_value, form_effect, effect_step}

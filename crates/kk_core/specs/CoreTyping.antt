@@ -6,7 +6,7 @@ use Rattle.kk_syntax.specs.GroundTyping.{Table, IsFormTyped, HasTruths}
 use Rattle.kk_syntax.specs.OfType.{IsPatternOf, values_of, field_types}
 use Rattle.kk_syntax.specs.Outlines.{outline_of}
 use Rattle.kk_syntax.specs.Patterns.{Pattern, anything, constructor, Patterns, part}
-use Rattle.kk_syntax.specs.PlainTyping.{Signature}
+use Rattle.kk_syntax.specs.GroundTyping.{Signature}
 use Rattle.kk_syntax.specs.Types.{TypeTree, unit_type}
 use Rattle.kk_syntax.specs.Typing.{bool}
 use Rattle.kk_core.specs.Choosing.{Decides}

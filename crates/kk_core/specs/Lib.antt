@@ -8,5 +8,7 @@ pub mod CoreTyping
 pub mod Decisions
 pub mod Needed
 pub mod NeverStuck
+pub mod Plain
 pub mod PlainCoreTyping
+pub mod PlainPieces
 pub mod Sizes

@@ -2,7 +2,7 @@
 -- know cells yet ask for these in place of CoreTyping's.
 use Rattle.std.specs.Prelude.{◌≡◌, ℕ, List, [], ◌∷◌, length, Bool, true, false, Some, slice_get}
 use Rattle.kk_syntax.specs.Types.{TypeTree, unit_type}
-use Rattle.kk_syntax.specs.PlainTyping.{Signature, Scope, type_in, with_parameters, bool, IsFormTyped, IsPlainForm}
+use Rattle.kk_syntax.specs.PlainTyping.{Signature, Scope, type_in, with_parameters, bool, IsFormTyped}
 use Rattle.kk_core.specs.Codes.{Code, give, tail_call, branch, case, compute, use_of, unpack, inside, FunctionCode, ProgramCode}
 use Rattle.kk_core.specs.Sizes.{IsOrdered}
 
@@ -50,20 +50,3 @@ pub record IsPlainCoreTyped (code : ProgramCode) : Type 0 where
   pub signatures : List Signature
   pub functions : AreCodesTyped signatures code.functions signatures
   pub main : slice_get signatures code.main ≡ Some (record { parameters = []; result = unit_type })
-
--- ---- without cells
-
--- a code without cases and openings, which constructs `False` and `True` alone
-abbrev pub IsPlainCode : Code → Type 0
-IsPlainCode (give x) = Unit {0}
-IsPlainCode (tail_call f arguments) = Unit {0}
-IsPlainCode (branch x positive negative) = IsPlainCode positive × IsPlainCode negative
-IsPlainCode (case x decisions arms) = ⊥
-IsPlainCode (compute x form arguments rest) = IsPlainForm form × IsPlainCode rest
-IsPlainCode (use_of x rest) = IsPlainCode rest
-IsPlainCode (unpack x c fields rest) = ⊥
-IsPlainCode (inside x block rest) = IsPlainCode block × IsPlainCode rest
-
-abbrev pub ArePlainCodes : List FunctionCode → Type 0
-ArePlainCodes [] = Unit {0}
-ArePlainCodes (function ∷ functions) = IsPlainCode function.body × ArePlainCodes functions

@@ -4,6 +4,7 @@
 mod decisions;
 mod form;
 mod law;
+mod plain;
 mod shape;
 
 pub use decisions::{Answer, Decisions, Edge, Node};

@@ -1,19 +1,15 @@
 -- An accepted program came through each judgement: so it is typed, and keeps its limits.
-use Rattle.std.proofs.Common.{◌≡◌, ℕ, List, Some, [], map, option_map, sym, ap, ◌∙◌, subst}
-use Rattle.std.specs.Prelude.{Ok, slice_get}
-use Rattle.std.proofs.lemmas.Option.{slice_get-map}
+use Rattle.std.proofs.Common.{ℕ, List, sym, subst}
+use Rattle.std.specs.Prelude.{Ok}
 use Rattle.kk_base.specs.declared.refusal.Refusal.TheVariants as OfText
 use Rattle.kk_syntax.specs.Programs.{ProgramTree}
 use Rattle.kk_syntax.specs.Surface.{WrittenTree}
-use Rattle.kk_syntax.specs.Types.{unit_type}
-use Rattle.kk_syntax.specs.PlainTyping.{signature_of, IsTyped}
 use Rattle.kk_syntax.specs.Typing.{TypesAs}
-use Rattle.kk_names.specs.Names.{ResolvesAs, HasMain, ResolvedProgramsHaveMain, ResolvedProgramsArePlain}
+use Rattle.kk_names.specs.Names.{ResolvesAs}
 use Rattle.kk_cover.specs.Matches.{CoversAs}
 use Rattle.kk_mono.specs.Counts.{ParametersAs, CountsAs}
 use Rattle.kk_front.specs.Judgement.{ChecksTypes, ChecksCover, ChecksProgram, IsProgramOf}
 use Rattle.kk_front.proofs.Chains.{came_through, through_check, through_told_check}
-use Rattle.kk_front.proofs.Plain.{plainly_typed}
 use Rattle.kk_front.proofs.Judging.{OfLength, OfLexemes, OfGrammar, OfNames, OfCounts, FromLexemes, FromGrammar, FromNames, FromTypes, FromCover}
 
 -- what each judgement found of an accepted program
@@ -37,13 +33,3 @@ found text program h =
     let counts = cover.1 in
     let passed : IsFound checks.0 = record { tree = names.0; resolved = checks.1; parameters = parameters.0; types = types.0; covered = cover.0; counts = counts.1 } in
     subst IsFound (sym counts.0) passed
-
-main_typed : (program : ProgramTree) → HasMain program → slice_get (map signature_of program.functions) program.main ≡ Some (record { parameters = []; result = unit_type })
-main_typed program main =
-    slice_get-map signature_of program.functions program.main ∙ (ap (option_map signature_of) main.there ∙ ap Some cc)
-
-pub typed : ResolvedProgramsHaveMain → ResolvedProgramsArePlain → (text : List ℕ) (program : ProgramTree) → IsProgramOf text program → IsTyped program
-typed mains plain text program h =
-    let facts = found text program h in
-    let is_plain = plain facts.tree program facts.resolved in
-    record { functions = plainly_typed program is_plain facts.types; closed = is_plain.closed; main = main_typed program (mains facts.tree program facts.resolved) }

@@ -3,4 +3,4 @@ pub mod Bounds
 pub mod Chains
 pub mod Checking
 pub mod Judging
-pub mod Plain
+pub mod Unbuilt

@@ -2,22 +2,18 @@ ghost use Rattle.std.specs.Prelude.{ℕ, List};
 ghost use Rattle.kk_syntax.specs.Checked.{IsChecked};
 ghost use Rattle.kk_syntax.specs.Covered.{Each};
 ghost use Rattle.kk_syntax.specs.Matches.{IsFunctionCovered};
-ghost use Rattle.kk_syntax.specs.PlainTyping.{IsTyped};
 ghost use Rattle.kk_syntax.specs.Programs.{ProgramTree};
-ghost use Rattle.kk_syntax.specs.Typing.{Choice, ArePrincipal};
+ghost use Rattle.kk_syntax.specs.Typing.{Choice, ArePrincipal, TypesAs};
 ghost use Rattle.kk_mono.specs.Counts.{ParametersAs, KeepsCounts};
 ghost use Rattle.kk_front.specs.Judgement.{IsProgramOf};
 
-use kk_names::{
-    resolved_programs_are_plain, resolved_programs_have_main,
-    resolved_programs_have_truths_and_texts,
-};
+use kk_names::{resolved_programs_have_main, resolved_programs_have_truths_and_texts};
 
 /// An accepted program is typed, its matches are covered, it is checked with its principal typings, and it keeps each limit: on
 /// the parameters and on the nodes of a function, on the number of its instances, and on their nodes in all. It is a law, and
 /// does nothing.
 pub fn accepted_programs_are_typed()
-    ensures typed { (text : List ℕ) (program : ProgramTree) → IsProgramOf text program → IsTyped program }
+    ensures typed { (text : List ℕ) (program : ProgramTree) → IsProgramOf text program → TypesAs program (Ok tt) }
     ensures covered { (text : List ℕ) (program : ProgramTree) → IsProgramOf text program → Each (IsFunctionCovered program) program.functions }
     ensures checked { (text : List ℕ) (program : ProgramTree) (typings : List (List Choice)) → IsProgramOf text program
         → ArePrincipal program typings → IsChecked program typings }
@@ -25,6 +21,5 @@ pub fn accepted_programs_are_typed()
     ensures small { (text : List ℕ) (program : ProgramTree) → IsProgramOf text program → KeepsCounts program }
 {
     resolved_programs_have_main();
-    resolved_programs_are_plain();
     resolved_programs_have_truths_and_texts();
 }

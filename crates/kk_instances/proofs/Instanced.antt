@@ -15,7 +15,7 @@ use Rattle.kk_syntax.specs.GroundTyping.{Table, table_of, IsFormTyped, with_patt
 use Rattle.kk_syntax.specs.Matches.{of_matches, matches, IsMatchCovered}
 use Rattle.kk_syntax.specs.Outlines.{Outline}
 use Rattle.kk_syntax.specs.Patterns.{Pattern, anything, variable as pattern_variable, exactly, constructor, Patterns, no_part, part}
-use Rattle.kk_syntax.specs.PlainTyping.{Signature, signature_of}
+use Rattle.kk_syntax.specs.GroundTyping.{Signature, signature_of}
 use Rattle.kk_syntax.specs.Programs.{FunctionTree, ProgramTree}
 use Rattle.kk_syntax.specs.Shapes.{bound, gathered_all, gathered_rows}
 use Rattle.kk_syntax.specs.Trees.{Tree, variable, apply, branch, match, sequence, Trees, no_tree, tree, Rows, no_row, row}

@@ -6,7 +6,6 @@ pub mod Grounds
 pub mod Images
 pub mod Instanced
 pub mod Meaning
-pub mod Plain
 pub mod Renamed
 pub mod Runs
 pub mod Scopes

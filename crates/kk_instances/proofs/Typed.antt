@@ -9,7 +9,7 @@ use Rattle.kk_syntax.specs.Checked.{printed, PrintsTexts, IsChecked}
 use Rattle.kk_syntax.specs.Covered.{Each}
 use Rattle.kk_syntax.specs.GroundTyping.{table_of, HasType, IsFunctionTyped, IsGroundTyped}
 use Rattle.kk_syntax.specs.Matches.{matches, IsMatchCovered, IsFunctionCovered}
-use Rattle.kk_syntax.specs.PlainTyping.{Signature, signature_of}
+use Rattle.kk_syntax.specs.GroundTyping.{Signature, signature_of}
 use Rattle.kk_syntax.specs.Programs.{FunctionTree, ProgramTree, no_function}
 use Rattle.kk_syntax.specs.Trees.{Tree}
 use Rattle.kk_syntax.specs.Types.{TypeTree, unit_type, put, type_at, variables_below}

@@ -1,6 +1,5 @@
 ghost use Rattle.std.specs.Prelude.{List};
 ghost use Rattle.kk_syntax.specs.Checked.{IsChecked};
-ghost use Rattle.kk_syntax.specs.PlainTyping.{IsTyped};
 ghost use Rattle.kk_syntax.specs.Programs.{ProgramTree};
 ghost use Rattle.kk_syntax.specs.Typing.{Choice};
 ghost use Rattle.kk_mono.specs.Instances.{InstanceTree, IsInstanceProgram};
@@ -12,11 +11,4 @@ ghost use Rattle.kk_instances.specs.Meaning.{MeansTheSame};
 pub fn instances_mean_the_program()
     ensures { (program made : ProgramTree) (typings : List (List Choice)) (instances : List InstanceTree)
         → IsChecked program typings → IsInstanceProgram program typings instances made → MeansTheSame program made }
-{}
-
-/// The instances of a checked program without type variables, matches and cells have none either, and are typed by the rules
-/// of such programs. It is a law, and does nothing.
-pub fn instances_of_plain_programs_are_plain()
-    ensures { (program made : ProgramTree) (typings : List (List Choice)) (instances : List InstanceTree) → IsTyped program
-        → IsChecked program typings → IsInstanceProgram program typings instances made → IsTyped made }
 {}

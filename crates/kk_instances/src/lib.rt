@@ -3,4 +3,4 @@
 
 mod law;
 
-pub use law::{instances_mean_the_program, instances_of_plain_programs_are_plain};
+pub use law::instances_mean_the_program;

@@ -3,7 +3,7 @@ use Rattle.std.proofs.lemmas.List.{map-append, take_all, get_or_past, get_or-set
 use Rattle.std.proofs.lemmas.List.Folds.{list_any-append}
 use Rattle.kk_norm.proofs.Writing.{take_more}
 use Rattle.std.proofs.Common.{◌≡◌, ℕ, suc, ◌+◌, ◌<◌, ◌≤◌, Bool, true, false, List, [], ◌∷◌, ◌++◌, length, map, take, get_or, refl, sym, ap, ◌∙◌, subst, inl, inr, arith}
-use Rattle.std.specs.Prelude.{slice_index_or, slice_set, All, ◌==◌, ◌&&◌, ◌||◌, not, if◌then◌else◌, AllPairs, Option, Some, None}
+use Rattle.std.specs.Prelude.{slice_set, All, ◌==◌, ◌&&◌, ◌||◌, not, if◌then◌else◌, AllPairs, Option, Some, None}
 use Rattle.std.proofs.Math.Dec.{eqb-suc-zero}
 use Rattle.std.proofs.lemmas.Bool.{eqb-true, eq-eqb, cases_lt, both_ways}
 use Rattle.kk_norm.proofs.TypeNumbers.{one_number, declared_is, own_type}
@@ -12,9 +12,9 @@ use Rattle.kk_syntax.specs.declared.ground.GroundConstructor.{GroundConstructor}
 use Rattle.kk_syntax.specs.declared.ground.Instance.{Instance}
 use Rattle.kk_syntax.specs.GroundPrograms.{ground_types, ground_constructor_tree, instance_tree, ground_program, number_of_type, arguments_of_type}
 use Rattle.kk_syntax.specs.GroundTypes.{is_declared}
-use Rattle.kk_syntax.specs.OfType.{same_type, same_types, fields_of, fields_with}
+use Rattle.kk_syntax.specs.OfType.{same_type, fields_of, fields_with}
 use Rattle.kk_syntax.specs.Programs.{ConstructorTree, FunctionTree}
-use Rattle.kk_syntax.specs.Types.{TypeTree, TypeTrees, int32, unit_type, type_variable, named, type_at}
+use Rattle.kk_syntax.specs.Types.{TypeTree, int32, unit_type, type_variable, named, type_at}
 use Rattle.kk_syntax.proofs.GroundTypes.{types_length}
 use Rattle.kk_syntax.proofs.SameTypes.{all_same_itself}
 use Rattle.kk_core.specs.CellTypes.{has_any, makes_cells, has_cells, made_type, TellsCells}

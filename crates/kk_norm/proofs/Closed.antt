@@ -1,6 +1,8 @@
 -- The free variables of a typed function are its parameters.
-use Rattle.std.proofs.Common.{◌≡◌, ℕ, ◌<◌, ◌==◌, Bool, true, false, List, [], ◌∷◌, ◌++◌, length, refl, sym, ap, ◌∙◌}
+use Rattle.std.proofs.Common.{◌≡◌, ℕ, ◌<◌, ◌==◌, Bool, true, false, List, [], ◌∷◌, ◌++◌, Some, length, refl, sym, ap, ◌∙◌}
 use Rattle.std.proofs.lemmas.Bool.{eqb-true}
+use Rattle.kk_syntax.specs.declared.program.Binder.{Binder}
+use Rattle.kk_syntax.specs.declared.program.Binder.TheVariants as OfBinder
 use Rattle.kk_syntax.specs.GroundTyping.{Table, with_pattern, with_parts, types_or_none, HasType, HaveTypes, AreRowsTyped, IsFunctionTyped}
 use Rattle.kk_syntax.specs.OfType.{field_types}
 use Rattle.kk_syntax.specs.Patterns.{Pattern, anything, variable as pattern_variable, exactly, constructor, Patterns, no_part, part}
@@ -10,9 +12,22 @@ use Rattle.kk_syntax.specs.Trees.{Tree, variable, apply, branch, match, sequence
 use Rattle.kk_syntax.specs.Types.{TypeTree}
 use Rattle.kk_syntax.specs.Typing.{Scope, type_in, with_binder, with_parameters}
 use Rattle.kk_norm.proofs.PatternNames.{out_left, out_right}
-use Rattle.kk_norm.proofs.Plain.{HasSome, typed_before}
 use Rattle.kk_norm.proofs.Scopes.{parameter_low}
 use Rattle.kk_norm.proofs.Variables.{among_each, left_over}
+
+-- a variable has a type
+abbrev HasSome : Scope → ℕ → Type 0
+HasSome scope x = (t : TypeTree) × (type_in scope x ≡ Some t)
+
+typed_before : (binder : Binder) (s : TypeTree) (scope : Scope) (x : ℕ) → is_among (bound_by binder) x ≡ false
+    → HasSome (with_binder binder s scope) x → HasSome scope x
+typed_before OfBinder.Nothing s scope x out some = some
+typed_before OfBinder.Wildcard s scope x out some = some
+typed_before (OfBinder.Variable y) s scope x out some = by_test (y == x) refl
+  where
+    by_test : (same : Bool) → (y == x) ≡ same → HasSome scope x
+    by_test true same_is = absurd (let one = rw same_is at out in cc)
+    by_test false same_is = (some.0, rw same_is at some.1)
 
 mutual
   -- a variable that a pattern does not bind has its type before it

@@ -2,7 +2,7 @@
 use Rattle.std.proofs.Common.{◌≡◌, ℕ, ◌+◌, true, zero, suc, List, [], ◌∷◌, length, Some, map, refl, sym, ap, subst, ◌∙◌, arith}
 use Rattle.std.specs.Prelude.{slice_get}
 use Rattle.kk_syntax.specs.GroundTyping.{Table, table_of, IsFunctionTyped, IsGroundTyped}
-use Rattle.kk_syntax.specs.PlainTyping.{signature_of}
+use Rattle.kk_syntax.specs.GroundTyping.{signature_of}
 use Rattle.kk_syntax.specs.Programs.{FunctionTree, ProgramTree}
 use Rattle.kk_syntax.specs.Types.{unit_type}
 use Rattle.kk_syntax.specs.Typing.{with_parameters}

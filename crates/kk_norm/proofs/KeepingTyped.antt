@@ -7,7 +7,7 @@ use Rattle.kk_syntax.specs.GroundTyping.{table_of, IsGroundTyped}
 use Rattle.kk_syntax.specs.OfType.{IsPatternOf, values_of}
 use Rattle.kk_syntax.specs.Outlines.{Outline}
 use Rattle.kk_syntax.specs.Patterns.{Pattern, anything, variable as pattern_variable, exactly, constructor, Patterns, no_part, part}
-use Rattle.kk_syntax.specs.PlainTyping.{signature_of}
+use Rattle.kk_syntax.specs.GroundTyping.{signature_of}
 use Rattle.kk_syntax.specs.Programs.{ProgramTree}
 use Rattle.kk_syntax.specs.Shapes.{greatest_nodes, nodes_of, nodes_of_all, nodes_of_rows, nodes_of_pattern, nodes_of_patterns}
 use Rattle.kk_syntax.specs.Trees.{Tree, variable, apply, branch, match, sequence, Trees, no_tree, tree, Rows, no_row, row}

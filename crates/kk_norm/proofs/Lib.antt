@@ -18,17 +18,13 @@ pub mod NeededVariables
 pub mod Openings
 pub mod PatternNames
 pub mod Picking
-pub mod Plain
 pub mod PlainCodes
-pub mod PlainForms
 pub mod ProgramTrees
 pub mod Programs
 pub mod Scopes
 pub mod Simulation
 pub mod Steps
 pub mod TypeNumbers
-pub mod TypedCodes
-pub mod TypedPrograms
 pub mod Variables
 pub mod Waits
 pub mod Writing

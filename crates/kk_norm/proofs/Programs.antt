@@ -7,7 +7,7 @@ use Rattle.kk_syntax.specs.declared.ground.Ground.{Ground}
 use Rattle.kk_syntax.specs.declared.ground.Instance.{Instance}
 use Rattle.kk_syntax.specs.GroundPrograms.{ground_types, instance_tree, ground_program}
 use Rattle.kk_syntax.specs.GroundTyping.{IsGroundTyped}
-use Rattle.kk_syntax.specs.PlainTyping.{signature_of}
+use Rattle.kk_syntax.specs.GroundTyping.{signature_of}
 use Rattle.kk_syntax.specs.Programs.{ConstructorTree, FunctionTree}
 use Rattle.kk_core.specs.Codes.{FunctionCode, function_code}
 use Rattle.kk_core.specs.declared.form.CoreFunction.{CoreFunction}

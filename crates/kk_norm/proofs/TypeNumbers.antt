@@ -1,13 +1,13 @@
 -- The numbers of types in a table, each once, are the types: of ground constructors that make values of one type the numbers are
 -- one.
-use Rattle.std.proofs.Common.{◌≡◌, ℕ, ◌<◌, Bool, true, false, Option, None, Some, option_map, List, length, map, AllPairs, All, refl, sym, ap, ◌∙◌, subst, inl, inr, arith}
-use Rattle.std.specs.Prelude.{slice_get, slice_index_or, if◌then◌else◌, ◌==◌}
+use Rattle.std.proofs.Common.{◌≡◌, ℕ, ◌<◌, Bool, true, false, Option, None, Some, option_map, List, length, map, AllPairs, refl, sym, ap, ◌∙◌, subst, inl, inr, arith}
+use Rattle.std.specs.Prelude.{slice_get, if◌then◌else◌, ◌==◌}
 use Rattle.std.proofs.lemmas.Bool.{eqb-true, cases_lt}
 use Rattle.std.proofs.lemmas.Option.{none-some, slice_get-map, slice_get_within, get_or_from_slice_get}
 use Rattle.kk_syntax.specs.declared.ground.Ground.{Ground}
 use Rattle.kk_syntax.specs.declared.ground.GroundConstructor.{GroundConstructor}
 use Rattle.kk_syntax.specs.GroundPrograms.{ground_types, ground_constructor_tree, ground_program, number_of_type, arguments_of_type}
-use Rattle.kk_syntax.specs.GroundTypes.{AreNumbered, is_declared}
+use Rattle.kk_syntax.specs.GroundTypes.{is_declared}
 use Rattle.kk_syntax.specs.OfType.{same_type, same_types, field_types, fields_of, fields_with}
 use Rattle.kk_syntax.specs.Programs.{ConstructorTree}
 use Rattle.kk_syntax.specs.Types.{TypeTree, TypeTrees, int32, unit_type, type_variable, named, type_at}

@@ -2,8 +2,8 @@ pub mod CellTables
 pub mod MatchRows
 pub mod Meaning
 pub mod Names
-pub mod NoMatches
 pub mod Normal
 pub mod Normalized
 pub mod OpenedCells
+pub mod PlainTrees
 pub mod Written

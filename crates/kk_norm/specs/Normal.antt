@@ -5,9 +5,8 @@ use Rattle.kk_syntax.specs.Shapes.{nodes_of}
 use Rattle.kk_syntax.specs.Programs.{FunctionTree, ProgramTree}
 use Rattle.kk_core.specs.Codes.{ProgramCode}
 use Rattle.kk_core.specs.CoreTyping.{IsCoreTyped, IsSmall}
-use Rattle.kk_core.specs.PlainCoreTyping.{IsPlainCoreTyped}
 use Rattle.kk_core.specs.Sizes.{most_parameters, most_nodes, most_instances, most_program_nodes}
-use Rattle.kk_norm.specs.Meaning.{KeepsMeaning, KeepsMeaningByCells}
+use Rattle.kk_norm.specs.Meaning.{KeepsMeaningByCells}
 
 -- a function has few parameters, and its body few nodes
 pub record IsFunctionWithin (function : FunctionTree) : Type 0 where
@@ -35,10 +34,4 @@ pub record IsWithin (program : ProgramTree) : Type 0 where
 pub record IsNormalForm (program : ProgramTree) (code : ProgramCode) : Type 0 where
   pub keeps_meaning : KeepsMeaningByCells program code
   pub typed : IsCoreTyped (table_of program) code
-  pub small : IsSmall code
-
--- the same of a program without matches and cells: it opens no cells, and is typed by the rules of such programs
-pub record IsPlainNormalForm (program : ProgramTree) (code : ProgramCode) : Type 0 where
-  pub keeps_meaning : KeepsMeaning program code
-  pub typed : IsPlainCoreTyped code
   pub small : IsSmall code

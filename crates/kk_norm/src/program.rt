@@ -2,7 +2,6 @@ ghost use Rattle.std.specs.Prelude.{◌≡◌, ◌≤◌, List, map, vec_len, If
 ghost use Rattle.kk_syntax.specs.declared.ground.GroundConstructor.{GroundConstructor};
 ghost use Rattle.kk_syntax.specs.GroundPrograms.{instance_tree, ground_program};
 ghost use Rattle.kk_syntax.specs.GroundTyping.{IsGroundTyped};
-ghost use Rattle.kk_syntax.specs.PlainTyping.{IsTyped};
 ghost use Rattle.kk_syntax.specs.Shapes.{nodes_of};
 ghost use Rattle.kk_syntax.specs.Trees.{expr_tree};
 ghost use Rattle.kk_syntax.specs.Types.{TypeTree};
@@ -12,7 +11,7 @@ ghost use Rattle.kk_core.specs.Codes.{function_code, core_code};
 ghost use Rattle.kk_core.specs.Sizes.{most_parameters, most_nodes};
 ghost use Rattle.kk_norm.specs.CellTables.{at_type, TellCells};
 ghost use Rattle.kk_norm.specs.MatchRows.{MatchesHaveRows, FunctionsHaveRows};
-ghost use Rattle.kk_norm.specs.Normal.{AreWithin, IsWithin, IsNormalForm, IsPlainNormalForm};
+ghost use Rattle.kk_norm.specs.Normal.{AreWithin, IsWithin, IsNormalForm};
 ghost use Rattle.kk_norm.specs.Normalized.{IsCoreOf, AreCoresOf, IsCoreForm};
 
 use crate::cells::{cell_types, constructor_shapes, has_cells, have_cells};
@@ -23,8 +22,7 @@ use kk_syntax::{Ground, Instance, copied_texts};
 use std::alloc::Global;
 
 /// The core form of a program of instances, of which the first is `main`. It keeps the program's meaning, is typed and is
-/// small. Where the program is typed by the rules of programs without matches and cells, so is its core form, and it opens
-/// no cells.
+/// small.
 ///
 /// The recursion is as deep as the deepest expression.
 pub fn normal(alloc: Global, given: &Ground) -> Result<Core, NoMemory>
@@ -37,7 +35,6 @@ pub fn normal(alloc: Global, given: &Ground) -> Result<Core, NoMemory>
         ≡ map (λ (c : GroundConstructor). c.of_type) given.now.constructors.items) }
     ensures greatest_nodes { IfOk result (λ core. core.greatest_nodes ≡ given.now.greatest_nodes) }
     ensures summed_nodes { IfOk result (λ core. core.summed_nodes ≡ given.now.summed_nodes) }
-    ensures plain { IfOk result (λ core. IsTyped (ground_program given.now) → IsPlainNormalForm (ground_program given.now) (core_code core)) }
 {
     let table = cell_types(alloc, given)?;
     let functions = all_functions(alloc, &table, given)?;

@@ -1,5 +1,4 @@
 pub mod Blocks
-pub mod Closed
 pub mod DeclaredTrees
 pub mod Elements
 pub mod Gathered

@@ -7,11 +7,18 @@ use Rattle.kk_syntax.specs.Covered.{IsCovered, asked_by}
 use Rattle.kk_syntax.specs.OfType.{IsPatternOf, values_of, field_types}
 use Rattle.kk_syntax.specs.Outlines.{outline_of}
 use Rattle.kk_syntax.specs.Patterns.{Pattern, anything, variable as pattern_variable, exactly, constructor, Patterns, no_part, part}
-use Rattle.kk_syntax.specs.PlainTyping.{Signature, signature_of}
 use Rattle.kk_syntax.specs.Programs.{ConstructorTree, FunctionTree, ProgramTree}
 use Rattle.kk_syntax.specs.Trees.{Tree, variable, apply, branch, match, sequence, Trees, no_tree, tree, Rows, no_row, row}
 use Rattle.kk_syntax.specs.Types.{TypeTree, int32, unit_type}
 use Rattle.kk_syntax.specs.Typing.{bool, Scope, type_in, with_parameters, with_binder, unary_type, binary_type}
+
+-- the types of a function's parameters and of its result
+pub record Signature : Type 0 where
+  pub parameters : List TypeTree
+  pub result : TypeTree
+
+abbrev pub signature_of : FunctionTree → Signature
+signature_of function = record { parameters = function.parameters; result = function.result }
 
 -- what a body is typed by: the constructors, the types of the functions, and how many string literals there are
 pub record Table : Type 0 where

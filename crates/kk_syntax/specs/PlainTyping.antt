@@ -1,20 +1,13 @@
 -- The types of programs without type variables and without cells: `int32`, `bool` and `()`. One clause for each form.
-use Rattle.std.specs.Prelude.{◌≡◌, ◌≤◌, ℕ, List, [], ◌∷◌, map, Some, slice_get}
+use Rattle.std.specs.Prelude.{◌≡◌, ◌≤◌, ℕ, List, [], ◌∷◌, Some, slice_get}
 use Rattle.kk_syntax.specs.declared.program.TypeDecl.{TypeDecl}
 use Rattle.kk_syntax.specs.declared.program.Form.{Form}
 use Rattle.kk_syntax.specs.declared.program.Form.TheVariants.{Number, Unit as Nothing, ReadByte, PrintText, Unary, Binary, Print, Construct, Call}
 use Rattle.kk_syntax.specs.Types.{TypeTree, TypeTrees, int32, unit_type, type_variable, named, no_type, type, types_of}
 use Rattle.kk_syntax.specs.Trees.{Tree, variable, apply, branch, match, sequence, Trees, no_tree, tree}
 use Rattle.kk_syntax.specs.Programs.{ConstructorTree, FunctionTree, ProgramTree}
+pub use Rattle.kk_syntax.specs.GroundTyping.{Signature, signature_of}
 pub use Rattle.kk_syntax.specs.Typing.{bool, TypedVariable, Scope, type_in, with_parameters, with_binder, unary_type, binary_type}
-
--- the types of a function's parameters and of its result
-pub record Signature : Type 0 where
-  pub parameters : List TypeTree
-  pub result : TypeTree
-
-abbrev pub signature_of : FunctionTree → Signature
-signature_of function = record { parameters = function.parameters; result = function.result }
 
 -- A form takes arguments of these types, and gives a value of that one. A print gives `()`. `False` and `True` are the
 -- constructors that make no cells.
@@ -28,26 +21,6 @@ IsFormTyped signatures (Binary operator) ts t = (ts ≡ int32 ∷ int32 ∷ []) 
 IsFormTyped signatures (Print form) ts t = (ts ≡ int32 ∷ []) × (t ≡ unit_type)
 IsFormTyped signatures (Construct c) ts t = (ts ≡ []) × (t ≡ bool) × (c ≤ 1)
 IsFormTyped signatures (Call f) ts t = slice_get signatures f ≡ Some (record { parameters = ts; result = t })
-
--- an expression has a type; there is no match
-abbrev mutual
-  pub HasType : List Signature → Scope → Tree → TypeTree → Type 0
-  HasType signatures scope (variable x) t = type_in scope x ≡ Some t
-  HasType signatures scope (apply form es) t = (ts : List TypeTree) × HaveTypes signatures scope es ts × IsFormTyped signatures form ts t
-  HasType signatures scope (branch e positive negative) t =
-      HasType signatures scope e bool × HasType signatures scope positive t × HasType signatures scope negative t
-  HasType signatures scope (match e rows) t = ⊥
-  HasType signatures scope (sequence binder first rest) t =
-      (s : TypeTree) × HasType signatures scope first s × HasType signatures (with_binder binder s scope) rest t
-
-  pub HaveTypes : List Signature → Scope → Trees → List TypeTree → Type 0
-  HaveTypes signatures scope no_tree ts = ts ≡ []
-  HaveTypes signatures scope (tree first rest) ts =
-      (s : TypeTree) × (more : List TypeTree) × (ts ≡ s ∷ more) × HasType signatures scope first s × HaveTypes signatures scope rest more
-
--- a function's body has the type of its result
-abbrev pub IsFunctionTyped : List Signature → FunctionTree → Type 0
-IsFunctionTyped signatures function = HasType signatures (with_parameters 0 function.parameters []) function.body function.result
 
 -- a type, and types, without type variables
 abbrev mutual
@@ -66,12 +39,6 @@ pub record HasClosedTypes (function : FunctionTree) : Type 0 where
   pub variables : function.variables ≡ 0
   pub parameters : AreClosed (types_of function.parameters)
   pub result : IsClosed function.result
-
--- each function is typed and has no type variables, and `main` has no parameters and gives `()`
-pub record IsTyped (program : ProgramTree) : Type 0 where
-  pub functions : (f : ℕ) (function : FunctionTree) → slice_get program.functions f ≡ Some function → IsFunctionTyped (map signature_of program.functions) function
-  pub closed : (f : ℕ) (function : FunctionTree) → slice_get program.functions f ≡ Some function → HasClosedTypes function
-  pub main : slice_get (map signature_of program.functions) program.main ≡ Some (record { parameters = []; result = unit_type })
 
 -- a form other than `False` and `True` constructs nothing
 abbrev pub IsPlainForm : Form → Type 0

@@ -1,38 +1,55 @@
 use Rattle.kk_syntax.specs.GroundPrograms.{ground_program}
-use Rattle.kk_syntax.specs.Programs.{program_tree}
-use Rattle.kk_build.proofs.Instances.{built_by_instances}
+use Rattle.kk_syntax.specs.Programs.{ProgramTree, program_tree}
+use Rattle.kk_build.specs.Built.{IsReadAs}
+use Rattle.kk_build.proofs.Instances.{built_by_instances, refused_by_front}
 use Rattle.kk_build.proofs.Within.{instances_are_within}
 use Rattle.kk_build.proofs.build.Goals as goal
 
 pub file_of-requires-clause-typed : goal.file_of-requires-clause-typed
 file_of-requires-clause-typed c =
-    let checked =
-    c.accepted_programs_are_typed.ensures.checked c.args.text.now (program_tree c.in_ok-accepted.accepted.typed.program) _ c.in_ok-accepted.ensures.program
-    c.in_ok-accepted.ensures.principal in
-    (c.instances_mean_the_program.ensures (program_tree c.in_ok-accepted.accepted.typed.program) (ground_program c.in_ok-accepted.accepted.instances) _ _ checked
-    c.in_ok-accepted.ensures.instances.instances).typed
-
-pub file_of-requires-clause-plain : goal.file_of-requires-clause-plain
-file_of-requires-clause-plain c =
-    let typed = c.accepted_programs_are_typed.ensures.typed _ _ c.in_ok-accepted.ensures.program in
-    let checked =
-    c.accepted_programs_are_typed.ensures.checked c.args.text.now (program_tree c.in_ok-accepted.accepted.typed.program) _ c.in_ok-accepted.ensures.program
-    c.in_ok-accepted.ensures.principal in
-    c.instances_of_plain_programs_are_plain.ensures _ _ _ _ typed checked c.in_ok-accepted.ensures.instances.instances
+    let program = program_tree c.in-Ok.accepted.typed.program in
+    let checked = c.accepted_programs_are_typed.ensures.checked c.args.text.now program _ c.in-Ok.ensures.program c.in-Ok.ensures.principal in
+    (c.instances_mean_the_program.ensures program (ground_program c.in-Ok.accepted.instances) _ _ checked c.in-Ok.ensures.instances.instances).typed
 
 pub file_of-requires-clause-small : goal.file_of-requires-clause-small
 file_of-requires-clause-small c =
-    let parameters = c.accepted_programs_are_typed.ensures.parameters _ _ c.in_ok-accepted.ensures.program in
-    instances_are_within _ _ _ _ parameters c.in_ok-accepted.ensures.instances.instances c.in_ok-accepted.ensures.instances.small
+    let parameters = c.accepted_programs_are_typed.ensures.parameters _ _ c.in-Ok.ensures.program in
+    instances_are_within _ _ _ _ parameters c.in-Ok.ensures.instances.instances c.in-Ok.ensures.instances.small
 
-pub returns-in-Ok-clause-ok : goal.returns-in-Ok-clause-ok
-returns-in-Ok-clause-ok c =
-    let program = program_tree c.in_ok-accepted.accepted.typed.program in
-    let made = ground_program c.in_ok-accepted.accepted.instances in
-    let typed = c.accepted_programs_are_typed.ensures.typed c.args.text.now program c.in_ok-accepted.ensures.program in
-    let checked =
-    c.accepted_programs_are_typed.ensures.checked c.args.text.now program _ c.in_ok-accepted.ensures.program
-    c.in_ok-accepted.ensures.principal in
-    let means = c.instances_mean_the_program.ensures program made _ _ checked c.in_ok-accepted.ensures.instances.instances in
-    built_by_instances c.args.text.now c.args.cells c.args.depth program made c.in-Ok.bytes
-    (record { is_program = c.in_ok-accepted.ensures.program; typed = typed; means = means }) c.in-Ok.ensures.image c.in-Ok.ensures.agrees c.in-Ok.ensures.bounded
+pub returns-in-Err-clause-err : goal.returns-in-Err-clause-err
+returns-in-Err-clause-err c = refused_by_front c.args.text.now c.in-Err.refusal c.in-Err.ensures.err
+
+pub returns-in-Ok-Some-clause-ok : goal.returns-in-Ok-Some-clause-ok
+returns-in-Ok-Some-clause-ok c =
+    let program = program_tree c.in-Ok.accepted.typed.program in
+    let made = ground_program c.in-Ok.accepted.instances in
+    let checked = c.accepted_programs_are_typed.ensures.checked c.args.text.now program _ c.in-Ok.ensures.program c.in-Ok.ensures.principal in
+    let means = c.instances_mean_the_program.ensures program made _ _ checked c.in-Ok.ensures.instances.instances in
+    let read : IsReadAs c.args.text.now program made
+    = record {
+      is_program = c.in-Ok.ensures.program;
+      typings = _;
+      principal = c.in-Ok.ensures.principal;
+      checked = checked;
+      instances = _;
+      are = c.in-Ok.ensures.instances.instances;
+    } in
+    built_by_instances c.args.text.now c.args.cells c.args.depth program made c.in-Ok-Some.bytes read means (rw c.in-Ok-Some.field-0-is at c.in-Ok-Some.ensures)
+
+pub returns-in-Ok-None-clause-err : goal.returns-in-Ok-None-clause-err
+returns-in-Ok-None-clause-err c =
+    let program = program_tree c.in-Ok.accepted.typed.program in
+    let checked = c.accepted_programs_are_typed.ensures.checked c.args.text.now program _ c.in-Ok.ensures.program c.in-Ok.ensures.principal in
+    record {
+      program = program;
+      made = ground_program c.in-Ok.accepted.instances;
+      is_read = record {
+        is_program = c.in-Ok.ensures.program;
+        typings = _;
+        principal = c.in-Ok.ensures.principal;
+        checked = checked;
+        instances = _;
+        are = c.in-Ok.ensures.instances.instances;
+      };
+      not_plain = rw c.in-Ok-None.field-0-is at c.in-Ok-None.ensures;
+    }

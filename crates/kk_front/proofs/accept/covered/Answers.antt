@@ -4,7 +4,6 @@ use Rattle.kk_base.specs.declared.refusal.Refusal.{Refusal}
 use Rattle.kk_syntax.specs.Outlines.{pattern_outline}
 use Rattle.kk_syntax.specs.Programs.{program_tree}
 use Rattle.kk_syntax.proofs.DeclaredTrees.{trees_declared}
-use Rattle.kk_cover.specs.Matches.{AnswersProgram}
 use Rattle.kk_front.specs.Judgement.{ChecksCover}
 use Rattle.kk_front.specs.Outcome.{IsOutcome}
 use Rattle.kk_front.proofs.Judging.{only_covered, only_missed_at}

@@ -1,16 +1,15 @@
-use Rattle.kk_front.proofs.Accepting.{found, typed}
+use Rattle.kk_front.proofs.Accepting.{found}
 use Rattle.kk_front.proofs.Checking.{checked}
 use Rattle.kk_front.proofs.law.accepted_programs_are_typed.Goals as goal
 
 pub returns-clause-typed : goal.returns-clause-typed
-returns-clause-typed c = typed c.resolved_programs_have_main.ensures c.resolved_programs_are_plain.ensures
+returns-clause-typed c = λ text program h. (found text program h).types
 
 pub returns-clause-covered : goal.returns-clause-covered
 returns-clause-covered c = λ text program h. (found text program h).covered
 
 pub returns-clause-checked : goal.returns-clause-checked
-returns-clause-checked c =
-    checked c.resolved_programs_have_main.ensures c.resolved_programs_are_plain.ensures c.resolved_programs_have_truths_and_texts.ensures
+returns-clause-checked c = checked c.resolved_programs_have_main.ensures c.resolved_programs_have_truths_and_texts.ensures
 
 pub returns-clause-parameters : goal.returns-clause-parameters
 returns-clause-parameters c = λ text program h. (found text program h).parameters

@@ -1,10 +1,9 @@
-use Rattle.std.proofs.Common.{arith, map, subst}
+use Rattle.std.proofs.Common.{arith, map}
 use Rattle.std.proofs.lemmas.List.{length-map}
 use Rattle.kk_syntax.specs.GroundPrograms.{ground_types, instance_tree, ground_program}
 use Rattle.kk_syntax.specs.Types.{type_at}
 use Rattle.kk_core.specs.Codes.{function_code}
 use Rattle.kk_norm.specs.Normal.{IsFunctionWithin}
-use Rattle.kk_norm.specs.Normalized.{IsCoreOf}
 use Rattle.kk_norm.proofs.CellTables.{tell_more, tell_all}
 use Rattle.kk_norm.proofs.Programs.{function_at, within_at, cores_more, cores_all}
 use Rattle.kk_norm.proofs.program.all_functions.Goals as goal

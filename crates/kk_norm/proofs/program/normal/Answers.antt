@@ -1,20 +1,16 @@
-use Rattle.std.proofs.Common.{refl, sym, subst, ◌∙◌, arith}
+use Rattle.std.proofs.Common.{refl, subst, ◌∙◌, arith}
 use Rattle.std.proofs.lemmas.List.{length-map}
 use Rattle.kk_syntax.specs.GroundPrograms.{ground_program}
 use Rattle.kk_syntax.specs.Programs.{ProgramTree}
-use Rattle.kk_core.specs.Codes.{ProgramCode, function_code}
+use Rattle.kk_core.specs.Codes.{function_code}
 use Rattle.kk_norm.specs.CellTables.{AreShapesOf, TellCells}
-use Rattle.kk_norm.specs.Normal.{IsPlainNormalForm}
 use Rattle.kk_norm.specs.Normalized.{IsCoreForm}
 use Rattle.kk_norm.proofs.CellTables.{tells_cells}
 use Rattle.kk_norm.proofs.CoreTypedPrograms.{core_form_typed}
 use Rattle.kk_norm.proofs.Forms.{as_many, is_small}
 use Rattle.kk_norm.proofs.KeepingTyped.{typed_keeps_meaning}
 use Rattle.kk_norm.proofs.MatchRows.{functions_have_rows}
-use Rattle.kk_norm.proofs.Plain.{are_plain}
-use Rattle.kk_norm.proofs.PlainForms.{only_form}
 use Rattle.kk_norm.proofs.Programs.{main_in_range}
-use Rattle.kk_norm.proofs.TypedPrograms.{is_normal_form}
 use Rattle.kk_norm.proofs.program.normal.Goals as goal
 
 pub all_functions-requires-clause-rows : goal.all_functions-requires-clause-rows
@@ -34,14 +30,6 @@ returns-clause-means c =
       typed = core_form_typed program _ c.requires.typed form;
       small = is_small program _ form c.requires.small;
     }
-
-pub returns-clause-plain : goal.returns-clause-plain
-returns-clause-plain c = λ typed.
-    let program : ProgramTree = ground_program c.args.given.now in
-    let form : IsCoreForm program _
-    = record { functions = c.in_ok-functions.ensures.form; texts = c.in_ok-texts.ensures ∙ c.deref-3.ensures.value; main = refl } in
-    subst (λ (code : ProgramCode). IsPlainNormalForm program code) (sym (only_form program _ (are_plain program typed) form))
-    (is_normal_form program typed c.requires.small (main_in_range c.args.given.now c.requires.typed))
 
 pub invariant_of-result : goal.invariant_of-result
 invariant_of-result c =
