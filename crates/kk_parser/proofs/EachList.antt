@@ -49,7 +49,7 @@ print_starts : {k l : Kind} {b : Phrase} → readable b ≡ true → Starts (eit
 print_starts h = starts_passing refl (starts_either starts_token starts_token) h
 
 atom_starts : Starts (form atom)
-atom_starts = starts_either starts_token (starts_either starts_token (starts_either (by_opener refl) (starts_either (by_token refl) (starts_either (print_starts refl) (by_token refl)))))
+atom_starts = starts_either starts_token (starts_either (by_token refl) (starts_either (by_opener refl) (starts_either (by_token refl) (starts_either (print_starts refl) (by_token refl)))))
 
 post_starts : Starts (form post)
 post_starts = starts_passing refl (starts_rule atom_starts) refl
@@ -90,6 +90,9 @@ eff_starts = starts_either starts_token (starts_either starts_token (starts_eith
 effect_starts : Starts (form effect)
 effect_starts = starts_either (starts_rule eff_starts) (by_token refl)
 
+type_starts : Starts (form type)
+type_starts = starts_level (starts_either starts_token (starts_either (by_token refl) (by_opener refl)))
+
 decl_starts : Starts (form decl)
 decl_starts = starts_level (by_token refl)
 
@@ -102,8 +105,8 @@ starts-form decl = decl_starts
 starts-form param = by_token refl
 starts-form effect = effect_starts
 starts-form eff = eff_starts
-starts-form type = starts_level (starts_either starts_token (by_opener refl))
-starts-form result_type = starts_level (starts_either starts_token (by_opener refl))
+starts-form type = type_starts
+starts-form result_type = starts_level (starts_either starts_token (starts_either (by_token refl) (by_opener refl)))
 starts-form expr = expr_starts
 starts-form block = by_opener refl
 starts-form stmt = stmt_starts

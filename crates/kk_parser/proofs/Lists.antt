@@ -4,7 +4,7 @@ use Rattle.std.proofs.lemmas.List.{append-nil}
 use Rattle.kk_syntax.specs.declared.token.Symbol.TheVariants.{Comma}
 use Rattle.kk_parser.specs.declared.parser.Parser.{Parser}
 use Rattle.kk_parser.specs.Classes.{is_at}
-use Rattle.kk_parser.specs.Grammar.{listed, listed_of}
+use Rattle.kk_parser.specs.Grammar.{some_listed, some_listed_of, listed, listed_of}
 use Rattle.kk_parser.specs.Kinds.{symbol, classes_of}
 use Rattle.kk_parser.specs.Methods.{Read}
 use Rattle.kk_parser.specs.Phrases.{Phrase, PhraseValue, token, ◌▸◌, many}
@@ -52,3 +52,30 @@ lists_fails_first a start f h r = fails_presence h (fails_front r)
 
 pub lists_fails : (a : Phrase) (given : List (PhraseValue a)) (start here mid : Parser) (f : Failure) → Lists a given start here → is_at (classes_of (symbol Comma)) here.rest.now ≡ true → Read (token (symbol Comma)) tt here mid → ReadingFails 200 a mid.depth mid.rest.now f → ReadingFails 200 (listed a) start.depth start.rest.now f
 lists_fails a given start here mid f l h r s = l.read.failed f (fails_one h (fails_behind r s))
+
+-- the same of lists with at least one
+pub record SomeLists (a : Phrase) (given : List (PhraseValue a)) (start here : Parser) : Type 0 where
+  pub says : List (PhraseValue (next_listed a)) → PhraseValue (some_listed a)
+  pub read : Continues (some_listed a) (many (next_listed a)) says start here
+  pub meant : (vs : List (PhraseValue (next_listed a))) → some_listed_of (says vs) ≡ given ++ map (λ m. m.1) vs
+
+abbrev pub ReadsSomeList : (a : Phrase) → List (PhraseValue a) → Parser → Parser → Type 0
+ReadsSomeList a given start here = (v : PhraseValue (some_listed a)) × (some_listed_of v ≡ given) × Read (some_listed a) v start here
+
+pub some_lists_one : (a : Phrase) (u : PhraseValue a) (start here : Parser) → Read a u start here → SomeLists a (u ∷ []) start here
+some_lists_one a u start here r = record {
+  says = λ vs. (u, vs);
+  read = record { found = λ v m us s. finds_both r s; failed = λ f s. fails_behind r s };
+  meant = λ vs. refl;
+}
+
+pub some_lists_more : (a : Phrase) (given : List (PhraseValue a)) (u : PhraseValue a) (start here mid next : Parser) → SomeLists a given start here → is_at (classes_of (symbol Comma)) here.rest.now ≡ true → Read (token (symbol Comma)) tt here mid → Read a u mid next → SomeLists a (given ++ u ∷ []) start next
+some_lists_more a given u start here mid next l h r s = record {
+  says = λ vs. l.says ((tt, u) ∷ vs);
+  read = continues_many (some_listed a) (next_listed a) l.says (tt, u) start here next l.read h (finds_both r s);
+  meant = λ vs. l.meant ((tt, u) ∷ vs) ∙ sym (append_assoc given (u ∷ []) (map (λ m. m.1) vs));
+}
+
+pub some_lists_end : (a : Phrase) (given : List (PhraseValue a)) (start here : Parser) → SomeLists a given start here → is_at (classes_of (symbol Comma)) here.rest.now ≡ false → ReadsSomeList a given start here
+some_lists_end a given start here l h =
+    (l.says [], l.meant [] ∙ append-nil given, ends_many l.read h)

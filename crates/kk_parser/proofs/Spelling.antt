@@ -33,23 +33,27 @@ program_unformed (by_both {u = s} r (by_presence (by_both {u = first} d rs))) =
 
 type_formed : {n m : ℕ} {v : PhraseValue (production type)} {ts us : List Marked} → Spells form_grammar (production type) n v m ts us → Formed type n (meaning type v) m ts us
 type_formed (by_level (by_first {v = name} r)) = record { value = inl name; same = refl; spells = by_level (by_first r) }
-type_formed (by_level (by_second (by_first {v = v} r))) = record { value = inr (v.0, inl v.1); same = refl; spells = by_level (by_second (none_inside form_grammar r)) }
-type_formed (by_level (by_second (by_second {v = v} r))) = record { value = inr (v.0, inr v.1); same = refl; spells = by_level (by_second (one_inside form_grammar r)) }
+type_formed (by_level (by_second (by_first {v = (name, arguments)} r))) = record { value = inr (inl (name, arguments)); same = refl; spells = by_level (by_second (by_first r)) }
+type_formed (by_level (by_second (by_second (by_first {v = v} r)))) = record { value = inr (inr (v.0, inl v.1)); same = refl; spells = by_level (by_second (by_second (none_inside form_grammar r))) }
+type_formed (by_level (by_second (by_second (by_second {v = v} r)))) = record { value = inr (inr (v.0, inr v.1)); same = refl; spells = by_level (by_second (by_second (one_inside form_grammar r))) }
 
 type_unformed : {n m : ℕ} {v : PhraseValue (form type)} {ts us : List Marked} → Spells program_grammar (form type) n v m ts us → Unformed type n (form_meaning type v) m ts us
 type_unformed (by_level (by_first {v = name} r)) = record { value = inl name; same = refl; spells = by_level (by_first r) }
-type_unformed (by_level (by_second (by_both {u = b} o (by_first {v = v} r)))) = record { value = inr (inl (b, v)); same = refl; spells = by_level (by_second (by_first (by_both o r))) }
-type_unformed (by_level (by_second (by_both {u = b} o (by_second {v = v} r)))) = record { value = inr (inr (b, v)); same = refl; spells = by_level (by_second (by_second (by_both o r))) }
+type_unformed (by_level (by_second (by_first {v = (name, arguments)} r))) = record { value = inr (inl (name, arguments)); same = refl; spells = by_level (by_second (by_first r)) }
+type_unformed (by_level (by_second (by_second (by_both {u = b} o (by_first {v = v} r))))) = record { value = inr (inr (inl (b, v))); same = refl; spells = by_level (by_second (by_second (by_first (by_both o r)))) }
+type_unformed (by_level (by_second (by_second (by_both {u = b} o (by_second {v = v} r))))) = record { value = inr (inr (inr (b, v))); same = refl; spells = by_level (by_second (by_second (by_second (by_both o r)))) }
 
 result_type_formed : {n m : ℕ} {v : PhraseValue (production result_type)} {ts us : List Marked} → Spells form_grammar (production result_type) n v m ts us → Formed result_type n (meaning result_type v) m ts us
 result_type_formed (by_level (by_first {v = name} r)) = record { value = inl name; same = refl; spells = by_level (by_first r) }
-result_type_formed (by_level (by_second (by_first {v = v} r))) = record { value = inr (v.0, inl v.1); same = refl; spells = by_level (by_second (none_inside form_grammar r)) }
-result_type_formed (by_level (by_second (by_second {v = v} r))) = record { value = inr (v.0, inr v.1); same = refl; spells = by_level (by_second (one_inside form_grammar r)) }
+result_type_formed (by_level (by_second (by_first {v = (name, arguments)} r))) = record { value = inr (inl (name, arguments)); same = refl; spells = by_level (by_second (by_first r)) }
+result_type_formed (by_level (by_second (by_second (by_first {v = v} r)))) = record { value = inr (inr (v.0, inl v.1)); same = refl; spells = by_level (by_second (by_second (none_inside form_grammar r))) }
+result_type_formed (by_level (by_second (by_second (by_second {v = v} r)))) = record { value = inr (inr (v.0, inr v.1)); same = refl; spells = by_level (by_second (by_second (one_inside form_grammar r))) }
 
 result_type_unformed : {n m : ℕ} {v : PhraseValue (form result_type)} {ts us : List Marked} → Spells program_grammar (form result_type) n v m ts us → Unformed result_type n (form_meaning result_type v) m ts us
 result_type_unformed (by_level (by_first {v = name} r)) = record { value = inl name; same = refl; spells = by_level (by_first r) }
-result_type_unformed (by_level (by_second (by_both {u = b} o (by_first {v = v} r)))) = record { value = inr (inl (b, v)); same = refl; spells = by_level (by_second (by_first (by_both o r))) }
-result_type_unformed (by_level (by_second (by_both {u = b} o (by_second {v = v} r)))) = record { value = inr (inr (b, v)); same = refl; spells = by_level (by_second (by_second (by_both o r))) }
+result_type_unformed (by_level (by_second (by_first {v = (name, arguments)} r))) = record { value = inr (inl (name, arguments)); same = refl; spells = by_level (by_second (by_first r)) }
+result_type_unformed (by_level (by_second (by_second (by_both {u = b} o (by_first {v = v} r))))) = record { value = inr (inr (inl (b, v))); same = refl; spells = by_level (by_second (by_second (by_first (by_both o r)))) }
+result_type_unformed (by_level (by_second (by_second (by_both {u = b} o (by_second {v = v} r))))) = record { value = inr (inr (inr (b, v))); same = refl; spells = by_level (by_second (by_second (by_second (by_both o r)))) }
 
 block_formed : {n m : ℕ} {v : PhraseValue (production block)} {ts us : List Marked} → Spells form_grammar (production block) n v m ts us → Formed block n (meaning block v) m ts us
 block_formed (by_both {u = b} o (by_both {u = s} r (by_both rs (by_both e (by_both {v = v} g c))))) =

@@ -3,16 +3,16 @@
 -- alternatives begin with stands before the choice.
 use Rattle.std.specs.Prelude.{List, [], ◌∷◌, ◌++◌, Option, Some, None, ◌⊎◌}
 use Rattle.std.proofs.Common.{inl, inr}
-use Rattle.kk_syntax.specs.Surface.{Written, number as number_written, unit, construct, no_written, print_text, block_of, WrittenStatement, WrittenType, unit_type, named, no_type, WrittenParameter}
+use Rattle.kk_syntax.specs.Surface.{Written, number as number_written, unit, construct, writtens_of, print_text, block_of, WrittenStatement, WrittenType, unit_type, type_variable, named, types_of, WrittenParameter}
 use Rattle.kk_syntax.specs.declared.token.Keyword.TheVariants.{Val, Then, Elif, Else}
 use Rattle.kk_syntax.specs.declared.token.Symbol.TheVariants.{CloseParenthesis, OpenBrace, CloseBrace, Semicolon, Dot, Equals}
 use Rattle.kk_syntax.specs.declared.tree.Effect.{Effect}
 use Rattle.kk_syntax.specs.declared.tree.Identifier.{Identifier}
-use Rattle.kk_parser.specs.Classes.{word as a_word, main as main_name}
+use Rattle.kk_parser.specs.Classes.{NameClass, word as a_word, main as main_name}
 use Rattle.kk_syntax.specs.declared.tree.SurfaceBinder.TheVariants as Binder
-use Rattle.kk_parser.specs.Kinds.{keyword, symbol, name_in, name_but_main, name_but_print, type_name, type_name_but_effect, constructor, number, string}
+use Rattle.kk_parser.specs.Kinds.{keyword, symbol, name_in, name_but_main, name_but_print, names_of, type_variable_name, type_name, type_name_but_effect, constructor, number, string}
 use Rattle.kk_parser.specs.Phrases.{Nonterminal, program, decl, param, effect, eff, type, result_type, expr, block, stmt, if_, or, and, cmp, add, mul, un, post, atom, say, args, Meant, Phrase, token, opener, ◌▸◌, either, many, optional, level, rule, each, perhaps, quoted_or, PhraseValue, Grammar}
-use Rattle.kk_parser.specs.Grammar.{production, meaning, semicolons, some_semicolons, bracket, bracketed, no_arguments, print_word, print_form, binder, binder_of, named_of, if_of, parameters, result, listed_of, effects_of, type_of}
+use Rattle.kk_parser.specs.Grammar.{production, meaning, semicolons, some_semicolons, bracket, bracketed, no_arguments, print_word, print_form, binder, binder_of, named_of, if_of, parameters, result, listed_of, effects_of, type_of, arguments_of, type_arguments, type_arguments_of}
 
 -- "(" ( ")" | a ")" )
 abbrev pub in_brackets : Phrase → Phrase
@@ -25,6 +25,10 @@ binding = token (keyword Val) ▸ binder ▸ token (symbol Equals) ▸ rule expr
 -- the statements that bind, and an expression behind them
 abbrev pub items : Phrase
 items = many (binding ▸ some_semicolons) ▸ rule expr
+
+-- tvar | tname [ "<" type { "," type } ">" ] | "(" ")" | "(" type ")", where the type's name is of one of some classes
+abbrev pub type_by : List NameClass → Phrase
+type_by names = either (token type_variable_name) (either (token (name_in names) ▸ optional type_arguments) (in_brackets (rule type)))
 
 -- what stands behind the first of some phrases: semicolons, and more of these phrases where one likes
 abbrev pub and_more : Phrase → Phrase
@@ -41,10 +45,10 @@ printed = print_word ▸ optional (bracket ▸ quoted_or (rule args ▸ token (s
 -- the right side of a production, in this form
 abbrev pub form : Nonterminal → Phrase
 form program = semicolons ▸ optional (rule decl ▸ and_more (rule decl))
-form type = level (either (token type_name) (in_brackets (rule type)))
-form result_type = level (either (token type_name_but_effect) (in_brackets (rule type)))
+form type = level (type_by (names_of type_name))
+form result_type = level (type_by (names_of type_name_but_effect))
 form block = opener (symbol OpenBrace) ▸ semicolons ▸ items ▸ and_more items ▸ token (symbol CloseBrace)
-form atom = either (token number) (either (token constructor) (either (in_brackets (rule expr)) (either spoken (either printed (token name_but_print ▸ optional (bracketed (rule args)))))))
+form atom = either (token number) (either (token constructor ▸ optional (bracketed (rule args))) (either (in_brackets (rule expr)) (either spoken (either printed (token name_but_print ▸ optional (bracketed (rule args)))))))
 form decl = production decl
 form param = production param
 form effect = production effect
@@ -90,6 +94,11 @@ abbrev pub inside : {A B C : Type 0} → C → (A → C) → B × (Unit {0} ⊎ 
 inside none one (_, inl _) = none
 inside none one (_, inr (a, _)) = one a
 
+abbrev pub type_by_of : PhraseValue (type_by []) → WrittenType
+type_by_of (inl name) = type_variable name
+type_by_of (inr (inl (name, arguments))) = named name (types_of (type_arguments_of arguments))
+type_by_of (inr (inr t)) = inside unit_type (λ u. u) t
+
 abbrev pub spoken_of : PhraseValue spoken → Written
 spoken_of (text, (_, (word, _))) = print_text (print_form word) text
 
@@ -129,13 +138,11 @@ printed_of (word, Some (_, inr (arguments, _))) = named_of (print_identifier wor
 abbrev pub form_meaning : (x : Nonterminal) → PhraseValue (form x) → Meant x
 form_meaning program (_, None) = []
 form_meaning program (_, Some (first, more)) = first ∷ those_given more
-form_meaning type (inl name) = named name no_type
-form_meaning type (inr t) = inside unit_type (λ u. u) t
-form_meaning result_type (inl name) = named name no_type
-form_meaning result_type (inr t) = inside unit_type (λ u. u) t
+form_meaning type t = type_by_of t
+form_meaning result_type t = type_by_of t
 form_meaning block (_, (_, (first, (more, _)))) = block_from first (those_given more)
 form_meaning atom (inl value) = number_written value
-form_meaning atom (inr (inl name)) = construct name no_written
+form_meaning atom (inr (inl (name, arguments))) = construct name (writtens_of (arguments_of arguments))
 form_meaning atom (inr (inr (inl t))) = inside unit (λ u. u) t
 form_meaning atom (inr (inr (inr (inl (text, (_, (word, _))))))) = print_text (print_form word) text
 form_meaning atom (inr (inr (inr (inr (inl p))))) = printed_of p

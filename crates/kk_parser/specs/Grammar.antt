@@ -1,7 +1,7 @@
 -- The grammar of programs: the right side of each production, and what a text of it means.
 use Rattle.std.specs.Prelude.{ℕ, List, [], ◌∷◌, Option, Some, None}
 use Rattle.std.proofs.Common.{inl, inr}
-use Rattle.kk_syntax.specs.Surface.{Written, number as number_written, unit, variable, call, dot_call, construct, unary, binary, both, either as either_written, print_text, branch, branch_alone, no_written, writtens_of, block_of, WrittenType, unit_type, named, no_type, WrittenDeclaration, function_declaration}
+use Rattle.kk_syntax.specs.Surface.{Written, number as number_written, unit, variable, call, dot_call, construct, unary, binary, both, either as either_written, print_text, branch, branch_alone, writtens_of, block_of, WrittenType, unit_type, type_variable, named, types_of, WrittenDeclaration, function_declaration}
 use Rattle.kk_syntax.specs.declared.token.Keyword.TheVariants.{Fun, Val, If, Then, Elif, Else}
 use Rattle.kk_syntax.specs.declared.token.Symbol.TheVariants.{OpenParenthesis, CloseParenthesis, OpenBrace, CloseBrace, Comma, Semicolon, Colon, Dot, Equals, Plus, Minus, Star, Slash, Percent, EqualEqual, NotEqual, Less, LessEqual, Greater, GreaterEqual, AndAnd, OrOr, Exclamation, Tilde}
 use Rattle.kk_syntax.specs.declared.operator.BinaryOperator.{BinaryOperator}
@@ -16,7 +16,7 @@ use Rattle.kk_syntax.specs.declared.tree.Effect.TheVariants.{Total, Div, Exn, Co
 use Rattle.kk_syntax.specs.declared.tree.SurfaceBinder.{SurfaceBinder}
 use Rattle.kk_syntax.specs.declared.tree.SurfaceBinder.TheVariants as Binder
 use Rattle.kk_parser.specs.Classes.{word, print as print_name, println as println_name, main as main_name, total as total_name, div as div_name, exn as exn_name, console as console_name}
-use Rattle.kk_parser.specs.Kinds.{keyword, symbol, name_in, name, name_but_main, type_name, type_name_but_effect, constructor, wildcard, number, string}
+use Rattle.kk_parser.specs.Kinds.{keyword, symbol, name_in, name, name_but_main, type_variable_name, type_name, type_name_but_effect, constructor, wildcard, number, string}
 use Rattle.kk_parser.specs.Phrases.{Nonterminal, program, decl, param, effect, eff, type, result_type, expr, block, stmt, if_, or, and, cmp, add, mul, un, post, atom, say, args, Meant, Phrase, token, opener, ◌▸◌, either, many, optional, level, rule, each, perhaps, PhraseValue, Grammar}
 
 -- ";"* and ";"+
@@ -26,9 +26,12 @@ semicolons = many (token (symbol Semicolon))
 abbrev pub some_semicolons : Phrase
 some_semicolons = token (symbol Semicolon) ▸ semicolons
 
--- phrases with commas between them, or none
+-- phrases with commas between them, at least one; and these or none
+abbrev pub some_listed : Phrase → Phrase
+some_listed a = a ▸ many (token (symbol Comma) ▸ a)
+
 abbrev pub listed : Phrase → Phrase
-listed a = optional (a ▸ many (token (symbol Comma) ▸ a))
+listed a = optional (some_listed a)
 
 -- "(", which opens a level; a phrase in round brackets; and these alone
 abbrev pub bracket : Phrase
@@ -65,6 +68,10 @@ parameters = bracketed (listed (rule param))
 abbrev pub result : Phrase
 result = token (symbol Colon) ▸ either (rule effect ▸ rule type) (rule result_type)
 
+-- "<" type { "," type } ">": it opens a level
+abbrev pub type_arguments : Phrase
+type_arguments = opener (symbol Less) ▸ some_listed (rule type) ▸ token (symbol Greater)
+
 -- name | wildcard
 abbrev pub binder : Phrase
 binder = either (token name) (token wildcard)
@@ -81,10 +88,10 @@ production param = token name ▸ token (symbol Colon) ▸ rule type
 production effect = either (rule eff) (token (symbol Less) ▸ listed (rule eff) ▸ token (symbol Greater))
 -- eff = "total" | "div" | "exn" | "console"
 production eff = either (token (name_in (word total_name ∷ []))) (either (token (name_in (word div_name ∷ []))) (either (token (name_in (word exn_name ∷ []))) (token (name_in (word console_name ∷ [])))))
--- type = tname | "(" ")" | "(" type ")"
-production type = level (either (token type_name) (either no_arguments (bracketed (rule type))))
+-- type = tvar | tname [ "<" type { "," type } ">" ] | "(" ")" | "(" type ")"
+production type = level (either (token type_variable_name) (either (token type_name ▸ optional type_arguments) (either no_arguments (bracketed (rule type)))))
 -- result_type = type that begins with no effect word
-production result_type = level (either (token type_name_but_effect) (either no_arguments (bracketed (rule type))))
+production result_type = level (either (token type_variable_name) (either (token type_name_but_effect ▸ optional type_arguments) (either no_arguments (bracketed (rule type)))))
 -- expr = block | if | or
 production expr = level (either (rule block) (either (rule if_) (rule or)))
 -- block = "{" ;* { stmt ;+ } expr ;* "}"
@@ -107,8 +114,8 @@ production mul = rule un ▸ many (product_operator ▸ rule un)
 production un = either (unary_operator ▸ rule un) (rule post)
 -- post = atom { "." name [ "(" args ")" ] }
 production post = rule atom ▸ many (opener (symbol Dot) ▸ token name ▸ optional (bracketed (rule args)))
--- atom = name [ "(" args ")" ] | Con | number | "(" ")" | "(" expr ")" | say
-production atom = either (token name ▸ optional (bracketed (rule args))) (either (token constructor) (either (token number) (either no_arguments (either (bracketed (rule expr)) (rule say)))))
+-- atom = name [ "(" args ")" ] | Con [ "(" args ")" ] | number | "(" ")" | "(" expr ")" | say
+production atom = either (token name ▸ optional (bracketed (rule args))) (either (token constructor ▸ optional (bracketed (rule args))) (either (token number) (either no_arguments (either (bracketed (rule expr)) (rule say)))))
 -- say = ( "print" | "println" ) "(" string ")" | string "." ( "print" | "println" ) [ "(" ")" ]
 production say = either (print_word ▸ bracketed (token string)) (token string ▸ opener (symbol Dot) ▸ print_word ▸ optional no_arguments)
 -- args = [ expr { "," expr } ]
@@ -146,6 +153,9 @@ to_left operator left [] = left
 to_left operator left ((a, right) ∷ more) = to_left operator (binary (operator a) left right) more
 
 -- what stands in a list with commas
+abbrev pub some_listed_of : {A : Type 0} → A × List (Unit {0} × A) → List A
+some_listed_of (first, more) = first ∷ Rattle.std.specs.Prelude.map (λ m. m.1) more
+
 abbrev pub listed_of : {A : Type 0} → Option (A × List (Unit {0} × A)) → List A
 listed_of None = []
 listed_of (Some (first, more)) = first ∷ Rattle.std.specs.Prelude.map (λ m. m.1) more
@@ -195,7 +205,12 @@ function_of (inl (name, ((_, (given, _)), None))) body = function_declaration na
 function_of (inl (name, ((_, (given, _)), Some (_, result)))) body = function_declaration name (listed_of given) (effects_of result) (Some (type_of result)) body
 function_of (inr (name, ((_, (given, _)), (_, result)))) body = function_declaration name (listed_of given) (effects_of result) (Some (type_of result)) body
 
--- the type of a name, or one in brackets
+-- the arguments of a type, or none
+abbrev pub type_arguments_of : PhraseValue (optional type_arguments) → List WrittenType
+type_arguments_of None = []
+type_arguments_of (Some (_, (types, _))) = some_listed_of types
+
+-- `()`, or a type in brackets
 abbrev pub bracketed_type : PhraseValue (either no_arguments (bracketed (rule type))) → WrittenType
 bracketed_type (inl _) = unit_type
 bracketed_type (inr (_, (t, _))) = t
@@ -212,10 +227,12 @@ meaning eff (inl _) = Total
 meaning eff (inr (inl _)) = Div
 meaning eff (inr (inr (inl _))) = Exn
 meaning eff (inr (inr (inr _))) = Console
-meaning type (inl name) = named name no_type
-meaning type (inr t) = bracketed_type t
-meaning result_type (inl name) = named name no_type
-meaning result_type (inr t) = bracketed_type t
+meaning type (inl name) = type_variable name
+meaning type (inr (inl (name, arguments))) = named name (types_of (type_arguments_of arguments))
+meaning type (inr (inr t)) = bracketed_type t
+meaning result_type (inl name) = type_variable name
+meaning result_type (inr (inl (name, arguments))) = named name (types_of (type_arguments_of arguments))
+meaning result_type (inr (inr t)) = bracketed_type t
 meaning expr (inl t) = t
 meaning expr (inr (inl t)) = t
 meaning expr (inr (inr t)) = t
@@ -235,7 +252,7 @@ meaning un (inl (operator, operand)) = unary (unary_operator_of operator) operan
 meaning un (inr t) = t
 meaning post (first, more) = dotted first more
 meaning atom (inl (name, arguments)) = named_of name arguments
-meaning atom (inr (inl name)) = construct name no_written
+meaning atom (inr (inl (name, arguments))) = construct name (writtens_of (arguments_of arguments))
 meaning atom (inr (inr (inl value))) = number_written value
 meaning atom (inr (inr (inr (inl _)))) = unit
 meaning atom (inr (inr (inr (inr (inl (_, (t, _))))))) = t

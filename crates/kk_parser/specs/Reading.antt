@@ -6,7 +6,7 @@ use Rattle.kk_syntax.specs.declared.token.LocatedToken.{LocatedToken}
 use Rattle.kk_syntax.specs.declared.token.Keyword.TheVariants.{Fun, Val, If}
 use Rattle.kk_syntax.specs.declared.token.Symbol.TheVariants.{OpenParenthesis, CloseParenthesis, OpenBrace, Semicolon, Dot, Less, Exclamation, Tilde}
 use Rattle.kk_parser.specs.Classes.{Class, keyword as keyword_class, symbol as symbol_class, number as number_class, string as string_class, constructor as constructor_class, is_at}
-use Rattle.kk_parser.specs.Kinds.{Kind, Said, says, classes_of, symbol, name, type_name, type_name_but_effect, string, effect_words, print_words, name_in}
+use Rattle.kk_parser.specs.Kinds.{Kind, Said, says, classes_of, symbol, name, type_variable_name, type_name, type_name_but_effect, string, effect_words, print_words, name_in}
 use Rattle.kk_parser.specs.Phrases.{Nonterminal, program, decl, param, effect, eff, type, result_type, expr, block, stmt, if_, post, atom, say, args, Phrase, token, opener, ◌▸◌, either, many, optional, level, rule, each, perhaps, quoted_or, PhraseValue}
 use Rattle.kk_parser.specs.Forms.{form, form_meaning}
 
@@ -38,8 +38,8 @@ first_of decl = keyword_class Fun ∷ []
 first_of param = classes_of name
 first_of effect = classes_of (name_in effect_words) ++ symbol_class Less ∷ []
 first_of eff = classes_of (name_in effect_words)
-first_of type = classes_of type_name ++ symbol_class OpenParenthesis ∷ []
-first_of result_type = classes_of type_name_but_effect ++ symbol_class OpenParenthesis ∷ []
+first_of type = classes_of type_variable_name ++ classes_of type_name ++ symbol_class OpenParenthesis ∷ []
+first_of result_type = classes_of type_variable_name ++ classes_of type_name_but_effect ++ symbol_class OpenParenthesis ∷ []
 first_of block = symbol_class OpenBrace ∷ []
 first_of stmt = keyword_class Val ∷ expr_first
 first_of if_ = keyword_class If ∷ []

@@ -15,7 +15,7 @@ use Rattle.kk_parser.specs.declared.name.NameClass.TheVariants as OfClass
 use Rattle.kk_parser.specs.declared.program.Head.{Head}
 use Rattle.kk_parser.specs.Forms.{WrittenHead}
 use Rattle.kk_parser.specs.Classes.{Class, name as name_of_class, NameClass, word, type_variable, other, print, println, main, total, div, exn, console}
-use Rattle.kk_parser.specs.Kinds.{Kind, name_in, names_of, print_words, name, name_but_print, name_but_main, type_name, type_name_but_effect}
+use Rattle.kk_parser.specs.Kinds.{Kind, name_in, names_of, print_words, name, name_but_print, name_but_main, type_variable_name, type_name, type_name_but_effect}
 
 abbrev pub class_view : CodeClass → NameClass
 class_view OfClass.Print = word print
@@ -39,6 +39,7 @@ classes_in OfNames.Prints = print_words
 classes_in OfNames.ButPrints = names_of name_but_print
 classes_in OfNames.Main = word main ∷ []
 classes_in OfNames.ButMain = names_of name_but_main
+classes_in OfNames.TypeVariables = names_of type_variable_name
 classes_in OfNames.OfTypes = names_of type_name
 classes_in OfNames.OfTypesButEffects = names_of type_name_but_effect
 

@@ -51,11 +51,15 @@ pub fn variable(alloc: Global, name: Identifier) -> Result<Box<SurfaceExpr>, Fau
     boxed(alloc, SurfaceExpr::Variable(name))
 }
 
-/// A construction without arguments.
-pub fn construct(alloc: Global, name: Identifier) -> Result<Box<SurfaceExpr>, Fault>
-    ensures { Makes boxed_expr (construct name (writtens_of [])) result }
+/// `Name(arguments ..)`
+pub fn construct(
+    alloc: Global,
+    name: Identifier,
+    arguments: Vec<SurfaceExpr>,
+) -> Result<Box<SurfaceExpr>, Fault>
+    ensures { Makes boxed_expr (construct name (writtens_of (map written_expr arguments.items))) result }
 {
-    boxed(alloc, SurfaceExpr::Construct(name, Vec::new(alloc)))
+    boxed(alloc, SurfaceExpr::Construct(name, arguments))
 }
 
 /// `name(arguments ..)`

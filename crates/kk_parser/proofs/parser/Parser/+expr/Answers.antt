@@ -3,18 +3,18 @@ use Rattle.std.proofs.lemmas.List.{append-nil}
 use Rattle.std.proofs.lemmas.Int.{to_z-of_z}
 use mir.Syntax.{w32}
 use mir.Val.{SFits}
-use Rattle.kk_syntax.specs.Surface.{written_expr, written_statement, unary, binary, branch, variable, call, print_text, unit, writtens_of, number as OfNumber}
+use Rattle.kk_syntax.specs.Surface.{written_expr, written_statement, unary, binary, branch, variable, call, construct, print_text, unit, writtens_of, number as OfNumber}
 use Rattle.kk_syntax.specs.declared.token.Keyword.TheVariants.{If, Then, Elif, Else, Val}
 use Rattle.kk_syntax.specs.declared.token.Symbol.TheVariants.{OpenParenthesis, CloseParenthesis, OpenBrace, CloseBrace, Semicolon, Comma, Dot, Equals, OrOr, AndAnd}
 use Rattle.kk_parser.specs.Forms.{branches, branches_of, inside, spoken_of, printed, printed_of, binding, binding_of, bindings_of, items}
 use Rattle.kk_parser.specs.Grammar.{print_word, comparison, sum_operator, sum_operator_of, product_operator, product_operator_of, unary_operator, to_left, bracketed, arguments_of, arguments_given, named_of, binder, some_semicolons}
-use Rattle.kk_parser.specs.Kinds.{keyword, symbol, name, name_but_print}
+use Rattle.kk_parser.specs.Kinds.{keyword, symbol, name, name_but_print, constructor}
 use Rattle.kk_parser.specs.Methods.{Read}
 use Rattle.kk_parser.specs.Phrases.{token, opener, optional, rule, ◌▸◌, expr, block, if_, or, and, cmp, add, mul, un, post, atom, args}
 use Rattle.kk_parser.specs.Reading.{fails_rule, fails_level, fails_front, fails_behind, fails_first, fails_second, fails_one, fails_presence, fails_quoted, fails_unquoted, fails_each_deep, finds_rule, finds_level, finds_both, finds_first, finds_second, finds_none, finds_absence, finds_presence, finds_no_more, finds_nothing, finds_quoted, finds_unquoted}
 use Rattle.kk_parser.specs.Views.{arguments_view, binding_view, boxed_expr}
-use Rattle.kk_parser.proofs.Arguments.{given-view-some, given-view-none, named-some, named-none, continues_dot, more_args, one_more}
-use Rattle.kk_parser.proofs.ReadAtoms.{brackets, other_name, atom_but_number, spoken-means, named-means}
+use Rattle.kk_parser.proofs.Arguments.{given-some, given-none, given-view-some, given-view-none, named-some, named-none, continues_dot, more_args, one_more}
+use Rattle.kk_parser.proofs.ReadAtoms.{brackets, construction, construction-means, other_name, atom_but_number, spoken-means, named-means}
 use Rattle.kk_parser.proofs.Blocks.{block_begins, block_goes_on, block_passes, stated, bound, items_go_on, items_end}
 use Rattle.kk_parser.proofs.Branches.{other_branches, behind_first, continues_elif, turn, turn-means, perhaps_found, perhaps_failed, if-means}
 use Rattle.kk_parser.proofs.Steps.{gives_up_in, gives_up_as, gives_up_as_in, gives_up_items, reads_made, reads_made_as, passed_on, too_deep_failed, deepen_reads_keyword, symbol_read, keyword_read, continues_rule, continues_left, continues_to, continues_many, continues_as, ends_many, first_next, first_absent, front_read, read_to, reads_on, reads_as_on}
@@ -361,10 +361,7 @@ atom-returns-in-Some-clause-reads t c =
 pub atom-returns-then-is_at_constructor-clause-reads : goal.atom-returns-then-is_at_constructor-clause-reads
 atom-returns-then-is_at_constructor-clause-reads t c =
     let n = rw c.in_default.is at c.number.ensures.takes in
-    let new = c.constructor.new.self in
-    let atom-is = first_next (atom_but_number c.args.self.now c.number.new.self n.0 n.1 n.2) (sym c.is_at_constructor.ensures ∙ c.if-is_at_constructor.true) in
-    reads_made (rule atom) boxed_expr _ c.construct.result c.args.self.now new c.construct.ensures
-    (atom-is.found c.in_ok-name.name new.depth new.rest.now c.in_ok-name.ensures.reads)
+    reads_as_on (first_next (atom_but_number c.args.self.now c.number.new.self n.0 n.1 n.2) (sym c.is_at_constructor.ensures ∙ c.if-is_at_constructor.true)) boxed_expr (λ v. construct v.0 (writtens_of (arguments_of v.1))) c.constructed.result c.constructed.new.self construction-means c.constructed.ensures.reads
 
 pub atom-returns-then-is_at-clause-reads : goal.atom-returns-then-is_at-clause-reads
 atom-returns-then-is_at-clause-reads t c =
@@ -492,6 +489,31 @@ named-returns-in-None-clause-reads t c =
     let a = rw c.in-None.is at c.in_ok-arguments.ensures.reads in
     let called = c.in_ok-name.name in
     reads_made_as other_name (λ v. named_of v.0 v.1) boxed_expr (called, a.0) _ c.variable.result c.args.self.now c.arguments.new.self c.variable.ensures (named-none called a.0 a.1)
+    (finds_both c.in_ok-name.ensures.reads a.2)
+
+pub constructed-returns-in_err-name-clause-reads : goal.constructed-returns-in_err-name-clause-reads
+constructed-returns-in_err-name-clause-reads t c =
+    gives_up_as_in construction (token constructor) (λ v. construct v.0 (writtens_of (arguments_of v.1))) boxed_expr c.from_residual.result c.in_err-name.field-0.0 c.args.self.now c.args.self.now c.constructor.new.self (λ f r. fails_front r) c.from_residual.ensures.1 c.in_err-name.ensures.reads
+
+pub constructed-returns-in_err-arguments-clause-reads : goal.constructed-returns-in_err-arguments-clause-reads
+constructed-returns-in_err-arguments-clause-reads t c =
+    gives_up_as_in construction (optional (bracketed (rule args))) (λ v. construct v.0 (writtens_of (arguments_of v.1))) boxed_expr c.from_residual-in_err-arguments.result c.in_err-arguments.field-0.0 c.args.self.now c.constructor.new.self c.arguments.new.self
+    (λ f r. fails_behind c.in_ok-name.ensures.reads r) c.from_residual-in_err-arguments.ensures.1 c.in_err-arguments.ensures.reads
+
+pub constructed-returns-in-Some-clause-reads : goal.constructed-returns-in-Some-clause-reads
+constructed-returns-in-Some-clause-reads t c =
+    let a = rw c.in-Some.is at c.in_ok-arguments.ensures.reads in
+    let called = c.in_ok-name.name in
+    reads_made_as construction (λ v. construct v.0 (writtens_of (arguments_of v.1))) boxed_expr (called, a.0) _ c.construct.result c.args.self.now c.arguments.new.self c.construct.ensures
+    (ap (λ es. construct called (writtens_of es)) (given-some a.0 (map written_expr c.in-Some.arguments.items) a.1))
+    (finds_both c.in_ok-name.ensures.reads a.2)
+
+pub constructed-returns-in-None-clause-reads : goal.constructed-returns-in-None-clause-reads
+constructed-returns-in-None-clause-reads t c =
+    let a = rw c.in-None.is at c.in_ok-arguments.ensures.reads in
+    let called = c.in_ok-name.name in
+    reads_made_as construction (λ v. construct v.0 (writtens_of (arguments_of v.1))) boxed_expr (called, a.0) _ c.construct-in-None.result c.args.self.now c.arguments.new.self c.construct-in-None.ensures
+    (ap (λ es. construct called (writtens_of es)) (given-none a.0 a.1 ∙ sym (ap (map written_expr) c.new.ensures.items)))
     (finds_both c.in_ok-name.ensures.reads a.2)
 
 pub arguments-returns-then-not-is_at-clause-reads : goal.arguments-returns-then-not-is_at-clause-reads

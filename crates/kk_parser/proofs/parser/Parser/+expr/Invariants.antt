@@ -64,6 +64,9 @@ decreases-printed l = 20 * length l.self.now.rest.now + 2
 abbrev pub decreases-named : goal.decreases-named
 decreases-named l = 20 * length l.self.now.rest.now + 2
 
+abbrev pub decreases-constructed : goal.decreases-constructed
+decreases-constructed l = 20 * length l.self.now.rest.now + 2
+
 abbrev pub decreases-arguments : goal.decreases-arguments
 decreases-arguments l = 20 * length l.self.now.rest.now + 1
 
