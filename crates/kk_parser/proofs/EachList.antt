@@ -6,7 +6,7 @@ use Rattle.kk_syntax.specs.declared.token.LocatedToken.{LocatedToken}
 use Rattle.kk_syntax.specs.declared.token.Symbol.TheVariants.{CloseParenthesis}
 use Rattle.kk_parser.specs.Classes.{is_at}
 use Rattle.kk_parser.specs.Kinds.{Kind, symbol, string, Said, says, classes_of}
-use Rattle.kk_parser.specs.Phrases.{Nonterminal, program, decl, param, effect, eff, type, result_type, expr, block, stmt, if_, or, and, cmp, add, mul, un, post, atom, say, args, Phrase, token, opener, ◌▸◌, either, many, optional, level, rule, each, perhaps, quoted_or, PhraseValue}
+use Rattle.kk_parser.specs.Phrases.{Nonterminal, program, decl, con, param, effect, eff, type, result_type, expr, block, stmt, if_, or, and, cmp, add, mul, un, post, atom, say, args, Phrase, token, opener, ◌▸◌, either, many, optional, level, rule, each, perhaps, quoted_or, PhraseValue}
 use Rattle.kk_parser.specs.Forms.{form, form_meaning}
 use Rattle.kk_parser.specs.Reading.{first, nullable, is_quoted, quoted, Finds, finds_token, finds_opener, finds_both, finds_first, finds_second, finds_none, finds_more, finds_absence, finds_presence, finds_level, finds_rule, finds_no_more, finds_each, finds_nothing, finds_something, finds_quoted, finds_unquoted, Failure, unexpected, too_deep, ReadingFails, fails_token, fails_opener, fails_deep, fails_front, fails_behind, fails_first, fails_second, fails_one, fails_more, fails_presence, fails_level, fails_rule, fails_each_deep, fails_each, fails_each_more, fails_something, fails_quoted, fails_unquoted}
 use Rattle.kk_parser.proofs.Apart.{next_of}
@@ -94,7 +94,7 @@ type_starts : Starts (form type)
 type_starts = starts_level (starts_either starts_token (starts_either (by_token refl) (by_opener refl)))
 
 decl_starts : Starts (form decl)
-decl_starts = starts_level (by_token refl)
+decl_starts = starts_level (starts_either (by_token refl) (by_token refl))
 
 program_starts : Starts (form program)
 program_starts = starts_both (starts_many refl refl starts_token) (starts_optional (starts_passing refl (starts_rule decl_starts) refl))
@@ -102,6 +102,7 @@ program_starts = starts_both (starts_many refl refl starts_token) (starts_option
 starts-form : (x : Nonterminal) → Starts (form x)
 starts-form program = program_starts
 starts-form decl = decl_starts
+starts-form con = starts_level (by_token refl)
 starts-form param = by_token refl
 starts-form effect = effect_starts
 starts-form eff = eff_starts

@@ -9,7 +9,7 @@ use Rattle.kk_syntax.specs.WrittenNodes.{binder_nodes, written_nodes, writtens_n
 use Rattle.kk_syntax.specs.Surface.{Written, binary, dot_call, writtens_of, WrittenStatement, block_of, WrittenDeclaration}
 use Rattle.kk_parser.specs.Classes.{word, main as main_name}
 use Rattle.kk_parser.specs.Kinds.{keyword, symbol, name, name_in, name_but_main}
-use Rattle.kk_parser.specs.Phrases.{Nonterminal, program, decl, param, effect, eff, type, result_type, expr, block, stmt, if_, or, and, cmp, add, mul, un, post, atom, say, args, Meant, Phrase, token, opener, ◌▸◌, either, many, optional, level, rule, each, perhaps, quoted_or, PhraseValue}
+use Rattle.kk_parser.specs.Phrases.{Nonterminal, program, decl, con, param, effect, eff, type, result_type, expr, block, stmt, if_, or, and, cmp, add, mul, un, post, atom, say, args, Meant, Phrase, token, opener, ◌▸◌, either, many, optional, level, rule, each, perhaps, quoted_or, PhraseValue}
 use Rattle.kk_parser.specs.Grammar.{some_semicolons, bracketed, parameters, result, comparison, sum_operator, product_operator, unary_operator, sum_operator_of, product_operator_of, to_left, listed, listed_of, arguments_of, named_of, dotted, if_of, binder, binder_of, function_of, production, meaning, program_grammar}
 use Rattle.kk_parser.specs.Parses.{HasTree}
 use Rattle.kk_parser.specs.Spells.{Marked, tokens_of, Spells, by_token, by_opener, by_both, by_first, by_second, by_none, by_more, by_absence, by_presence, by_level, by_rule, by_no_more, by_each, by_nothing, by_something, by_quoted, by_unquoted}
@@ -26,6 +26,7 @@ statement_nodes s = binder_nodes s.binder + written_nodes s.value
 abbrev nodes_meant : (x : Nonterminal) → Meant x → ℕ
 nodes_meant program declarations = summed nodes_in declarations
 nodes_meant decl d = nodes_in d
+nodes_meant con c = 0
 nodes_meant param p = 0
 nodes_meant effect es = 0
 nodes_meant eff e = 0
@@ -155,7 +156,9 @@ if_few condition positive ((next, (_, second)) ∷ more) last = omega (arith, if
 meant_few : (x : Nonterminal) (v : PhraseValue (production x)) → nodes_meant x (meaning x v) ≤ size (production x) v
 meant_few program (_, None) = omega arith
 meant_few program (_, Some (first, (more, _))) = omega (arith, declarations_few more)
-meant_few decl (_, (head, body)) = omega (arith, function_nodes head body)
+meant_few decl (inl (_, (name, (given, (_, (_, (first, (more, _)))))))) = omega arith
+meant_few decl (inr (_, (head, body))) = omega (arith, function_nodes head body)
+meant_few con v = omega arith
 meant_few param v = omega arith
 meant_few effect v = omega arith
 meant_few eff v = omega arith

@@ -5,6 +5,7 @@ pub mod Begins
 pub mod Blocks
 pub mod Branches
 pub mod Complete
+pub mod Declarations
 pub mod EachList
 pub mod FewNodes
 pub mod Functional

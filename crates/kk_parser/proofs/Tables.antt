@@ -3,13 +3,14 @@ use Rattle.std.proofs.Common.{◌≡◌, Bool, true, false, List, [], ◌∷◌,
 use Rattle.kk_syntax.specs.declared.token.Keyword.TheVariants.{Then, Elif, Else}
 use Rattle.kk_syntax.specs.declared.token.Symbol.TheVariants.{CloseParenthesis, CloseBrace, Comma, Semicolon, Dot, Plus, Minus, Star, Slash, Percent, EqualEqual, NotEqual, Less, LessEqual, Greater, GreaterEqual, AndAnd, OrOr}
 use Rattle.kk_parser.specs.Classes.{Class, keyword, symbol}
-use Rattle.kk_parser.specs.Phrases.{Nonterminal, program, decl, param, effect, eff, type, result_type, expr, block, stmt, if_, or, and, cmp, add, mul, un, post, atom, say, args}
+use Rattle.kk_parser.specs.Phrases.{Nonterminal, program, decl, con, param, effect, eff, type, result_type, expr, block, stmt, if_, or, and, cmp, add, mul, un, post, atom, say, args}
 use Rattle.kk_parser.specs.Forms.{form}
 use Rattle.kk_parser.specs.Reading.{first, first_of, expr_first, nullable, nullable_of}
 
 pub first-production : (x : Nonterminal) → first (form x) ≡ first_of x
 first-production program = refl
 first-production decl = refl
+first-production con = refl
 first-production param = refl
 first-production effect = refl
 first-production eff = refl
@@ -33,6 +34,7 @@ first-production args = refl
 pub nullable-production : (x : Nonterminal) → nullable (form x) ≡ nullable_of x
 nullable-production program = refl
 nullable-production decl = refl
+nullable-production con = refl
 nullable-production param = refl
 nullable-production effect = refl
 nullable-production eff = refl
@@ -79,6 +81,7 @@ un_follow = symbol Star ∷ symbol Slash ∷ symbol Percent ∷ mul_follow
 abbrev pub follow_of : Nonterminal → List Class
 follow_of program = []
 follow_of decl = symbol Semicolon ∷ []
+follow_of con = symbol Semicolon ∷ symbol CloseBrace ∷ []
 follow_of param = symbol Comma ∷ symbol CloseParenthesis ∷ []
 follow_of effect = first_of type
 follow_of eff = symbol Comma ∷ symbol Greater ∷ first_of type
@@ -99,6 +102,7 @@ follow_of _ = expr_follow
 
 -- whether the end may follow a text of a nonterminal
 abbrev pub end_of : Nonterminal → Bool
+end_of con = false
 end_of param = false
 end_of effect = false
 end_of eff = false

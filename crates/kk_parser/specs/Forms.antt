@@ -3,16 +3,17 @@
 -- alternatives begin with stands before the choice.
 use Rattle.std.specs.Prelude.{List, [], ◌∷◌, ◌++◌, Option, Some, None, ◌⊎◌}
 use Rattle.std.proofs.Common.{inl, inr}
-use Rattle.kk_syntax.specs.Surface.{Written, number as number_written, unit, construct, writtens_of, print_text, block_of, WrittenStatement, WrittenType, unit_type, type_variable, named, types_of, WrittenParameter}
+use Rattle.kk_syntax.specs.Surface.{Written, number as number_written, unit, construct, writtens_of, print_text, block_of, WrittenStatement, WrittenType, unit_type, type_variable, named, types_of, WrittenParameter, WrittenDeclaration, type_declaration}
 use Rattle.kk_syntax.specs.declared.token.Keyword.TheVariants.{Val, Then, Elif, Else}
+use Rattle.kk_syntax.specs.declared.token.Keyword.TheVariants as Keyword
 use Rattle.kk_syntax.specs.declared.token.Symbol.TheVariants.{CloseParenthesis, OpenBrace, CloseBrace, Semicolon, Dot, Equals}
 use Rattle.kk_syntax.specs.declared.tree.Effect.{Effect}
 use Rattle.kk_syntax.specs.declared.tree.Identifier.{Identifier}
 use Rattle.kk_parser.specs.Classes.{NameClass, word as a_word, main as main_name}
 use Rattle.kk_syntax.specs.declared.tree.SurfaceBinder.TheVariants as Binder
 use Rattle.kk_parser.specs.Kinds.{keyword, symbol, name_in, name_but_main, name_but_print, names_of, type_variable_name, type_name, type_name_but_effect, constructor, number, string}
-use Rattle.kk_parser.specs.Phrases.{Nonterminal, program, decl, param, effect, eff, type, result_type, expr, block, stmt, if_, or, and, cmp, add, mul, un, post, atom, say, args, Meant, Phrase, token, opener, ◌▸◌, either, many, optional, level, rule, each, perhaps, quoted_or, PhraseValue, Grammar}
-use Rattle.kk_parser.specs.Grammar.{production, meaning, semicolons, some_semicolons, bracket, bracketed, no_arguments, print_word, print_form, binder, binder_of, named_of, if_of, parameters, result, listed_of, effects_of, type_of, arguments_of, type_arguments, type_arguments_of}
+use Rattle.kk_parser.specs.Phrases.{Nonterminal, program, decl, con, param, effect, eff, type, result_type, expr, block, stmt, if_, or, and, cmp, add, mul, un, post, atom, say, args, Meant, Phrase, token, opener, ◌▸◌, either, many, optional, level, rule, each, perhaps, quoted_or, PhraseValue, Grammar}
+use Rattle.kk_parser.specs.Grammar.{production, meaning, semicolons, some_semicolons, bracket, bracketed, no_arguments, print_word, print_form, binder, binder_of, named_of, if_of, parameters, result, listed_of, effects_of, type_of, arguments_of, type_arguments, type_arguments_of, type_parameters, type_parameters_of, declared_function}
 
 -- "(" ( ")" | a ")" )
 abbrev pub in_brackets : Phrase → Phrase
@@ -34,6 +35,14 @@ type_by names = either (token type_variable_name) (either (token (name_in names)
 abbrev pub and_more : Phrase → Phrase
 and_more a = many (token (symbol Semicolon) ▸ optional a)
 
+-- ;* a { ;+ a } ;*
+abbrev pub separated : Phrase → Phrase
+separated a = semicolons ▸ a ▸ and_more a
+
+-- "type" tname [ type_parameters ] "{" ;* con { ;+ con } ;* "}"
+abbrev pub typed : Phrase
+typed = token (keyword Keyword.Type) ▸ token type_name ▸ optional type_parameters ▸ opener (symbol OpenBrace) ▸ separated (rule con) ▸ token (symbol CloseBrace)
+
 -- string "." print_word [ "(" ")" ]
 abbrev pub spoken : Phrase
 spoken = token string ▸ opener (symbol Dot) ▸ print_word ▸ optional no_arguments
@@ -49,7 +58,8 @@ form type = level (type_by (names_of type_name))
 form result_type = level (type_by (names_of type_name_but_effect))
 form block = opener (symbol OpenBrace) ▸ semicolons ▸ items ▸ and_more items ▸ token (symbol CloseBrace)
 form atom = either (token number) (either (token constructor ▸ optional (bracketed (rule args))) (either (in_brackets (rule expr)) (either spoken (either printed (token name_but_print ▸ optional (bracketed (rule args)))))))
-form decl = production decl
+form decl = level (either typed declared_function)
+form con = production con
 form param = production param
 form effect = production effect
 form eff = production eff
@@ -71,6 +81,13 @@ abbrev pub those_given : {A : Type 0} → List (Unit {0} × Option A) → List A
 those_given [] = []
 those_given ((_, None) ∷ more) = those_given more
 those_given ((_, Some a) ∷ more) = a ∷ those_given more
+
+abbrev pub separated_of : {A : Type 0} → List (Unit {0}) × (A × List (Unit {0} × Option A)) → List A
+separated_of (_, (first, more)) = first ∷ those_given more
+
+-- a declaration of a type
+abbrev pub typed_of : PhraseValue typed → WrittenDeclaration
+typed_of (_, (name, (given, (_, (constructors, _))))) = type_declaration name (type_parameters_of given) (separated_of constructors)
 
 -- a statement that binds, and some of them
 abbrev pub binding_of : PhraseValue binding → WrittenStatement
@@ -147,7 +164,9 @@ form_meaning atom (inr (inr (inl t))) = inside unit (λ u. u) t
 form_meaning atom (inr (inr (inr (inl (text, (_, (word, _))))))) = print_text (print_form word) text
 form_meaning atom (inr (inr (inr (inr (inl p))))) = printed_of p
 form_meaning atom (inr (inr (inr (inr (inr (name, arguments)))))) = named_of name arguments
-form_meaning decl v = meaning decl v
+form_meaning decl (inl t) = typed_of t
+form_meaning decl (inr f) = meaning decl (inr f)
+form_meaning con v = meaning con v
 form_meaning param v = meaning param v
 form_meaning effect v = meaning effect v
 form_meaning eff v = meaning eff v

@@ -1,8 +1,9 @@
 -- The grammar of programs: the right side of each production, and what a text of it means.
 use Rattle.std.specs.Prelude.{ℕ, List, [], ◌∷◌, Option, Some, None}
 use Rattle.std.proofs.Common.{inl, inr}
-use Rattle.kk_syntax.specs.Surface.{Written, number as number_written, unit, variable, call, dot_call, construct, unary, binary, both, either as either_written, print_text, branch, branch_alone, writtens_of, block_of, WrittenType, unit_type, type_variable, named, types_of, WrittenDeclaration, function_declaration}
+use Rattle.kk_syntax.specs.Surface.{Written, number as number_written, unit, variable, call, dot_call, construct, unary, binary, both, either as either_written, print_text, branch, branch_alone, writtens_of, block_of, WrittenType, unit_type, type_variable, named, types_of, WrittenDeclaration, WrittenParameter, type_declaration, function_declaration}
 use Rattle.kk_syntax.specs.declared.token.Keyword.TheVariants.{Fun, Val, If, Then, Elif, Else}
+use Rattle.kk_syntax.specs.declared.token.Keyword.TheVariants as Keyword
 use Rattle.kk_syntax.specs.declared.token.Symbol.TheVariants.{OpenParenthesis, CloseParenthesis, OpenBrace, CloseBrace, Comma, Semicolon, Colon, Dot, Equals, Plus, Minus, Star, Slash, Percent, EqualEqual, NotEqual, Less, LessEqual, Greater, GreaterEqual, AndAnd, OrOr, Exclamation, Tilde}
 use Rattle.kk_syntax.specs.declared.operator.BinaryOperator.{BinaryOperator}
 use Rattle.kk_syntax.specs.declared.operator.BinaryOperator.TheVariants as Operator
@@ -17,7 +18,7 @@ use Rattle.kk_syntax.specs.declared.tree.SurfaceBinder.{SurfaceBinder}
 use Rattle.kk_syntax.specs.declared.tree.SurfaceBinder.TheVariants as Binder
 use Rattle.kk_parser.specs.Classes.{word, print as print_name, println as println_name, main as main_name, total as total_name, div as div_name, exn as exn_name, console as console_name}
 use Rattle.kk_parser.specs.Kinds.{keyword, symbol, name_in, name, name_but_main, type_variable_name, type_name, type_name_but_effect, constructor, wildcard, number, string}
-use Rattle.kk_parser.specs.Phrases.{Nonterminal, program, decl, param, effect, eff, type, result_type, expr, block, stmt, if_, or, and, cmp, add, mul, un, post, atom, say, args, Meant, Phrase, token, opener, ◌▸◌, either, many, optional, level, rule, each, perhaps, PhraseValue, Grammar}
+use Rattle.kk_parser.specs.Phrases.{Nonterminal, program, decl, con, param, effect, eff, type, result_type, expr, block, stmt, if_, or, and, cmp, add, mul, un, post, atom, say, args, Meant, Phrase, token, opener, ◌▸◌, either, many, optional, level, rule, each, perhaps, PhraseValue, Grammar}
 
 -- ";"* and ";"+
 abbrev pub semicolons : Phrase
@@ -64,6 +65,14 @@ unary_operator = either (opener (symbol Exclamation)) (opener (symbol Tilde))
 abbrev pub parameters : Phrase
 parameters = bracketed (listed (rule param))
 
+-- "<" tvar { "," tvar } ">"
+abbrev pub type_parameters : Phrase
+type_parameters = token (symbol Less) ▸ some_listed (token type_variable_name) ▸ token (symbol Greater)
+
+-- [ "(" param { "," param } ")" ]
+abbrev pub fields : Phrase
+fields = optional (bracketed (some_listed (rule param)))
+
 -- ":" [ effect ] type, where one of the four effect words is always the effect
 abbrev pub result : Phrase
 result = token (symbol Colon) ▸ either (rule effect ▸ rule type) (rule result_type)
@@ -76,12 +85,22 @@ type_arguments = opener (symbol Less) ▸ some_listed (rule type) ▸ token (sym
 abbrev pub binder : Phrase
 binder = either (token name) (token wildcard)
 
+-- "type" tname [ type_parameters ] "{" ;* con { ;+ con } ;* "}"
+abbrev pub declared_type : Phrase
+declared_type = token (keyword Keyword.Type) ▸ token type_name ▸ optional type_parameters ▸ opener (symbol OpenBrace) ▸ semicolons ▸ rule con ▸ many (some_semicolons ▸ rule con) ▸ semicolons ▸ token (symbol CloseBrace)
+
+-- "fun" name parameters [ result ] expr; the result may be missing for `main` alone
+abbrev pub declared_function : Phrase
+declared_function = token (keyword Fun) ▸ either (token (name_in (word main_name ∷ [])) ▸ parameters ▸ optional result) (token name_but_main ▸ parameters ▸ result) ▸ rule expr
+
 -- the right side of a production
 abbrev pub production : Nonterminal → Phrase
 -- program = ;* [ decl { ;+ decl } ;* ]
 production program = semicolons ▸ optional (rule decl ▸ many (some_semicolons ▸ rule decl) ▸ semicolons)
--- decl = "fun" name "(" [ param { "," param } ] ")" [ ":" [ effect ] type ] expr; the result may be missing for `main` alone
-production decl = level (token (keyword Fun) ▸ either (token (name_in (word main_name ∷ [])) ▸ parameters ▸ optional result) (token name_but_main ▸ parameters ▸ result) ▸ rule expr)
+-- decl = declared_type | declared_function
+production decl = level (either declared_type declared_function)
+-- con = Con [ "(" param { "," param } ")" ]
+production con = level (token constructor ▸ fields)
 -- param = name ":" type
 production param = token name ▸ token (symbol Colon) ▸ rule type
 -- effect = eff | "<" [ eff { "," eff } ] ">"
@@ -199,6 +218,15 @@ abbrev pub type_of : PhraseValue (either (rule effect ▸ rule type) (rule resul
 type_of (inl (_, t)) = t
 type_of (inr t) = t
 
+-- the type variables and the fields of a declared type
+abbrev pub type_parameters_of : PhraseValue (optional type_parameters) → List Identifier
+type_parameters_of None = []
+type_parameters_of (Some (_, (names, _))) = some_listed_of names
+
+abbrev pub fields_of : PhraseValue fields → List WrittenParameter
+fields_of None = []
+fields_of (Some (_, (given, _))) = some_listed_of given
+
 -- the declaration of a function: what stands between `fun` and its body, and the body
 abbrev pub function_of : PhraseValue (either (token (name_in (word main_name ∷ [])) ▸ parameters ▸ optional result) (token name_but_main ▸ parameters ▸ result)) → Written → WrittenDeclaration
 function_of (inl (name, ((_, (given, _)), None))) body = function_declaration name (listed_of given) [] None body
@@ -219,7 +247,9 @@ bracketed_type (inr (_, (t, _))) = t
 abbrev pub meaning : (x : Nonterminal) → PhraseValue (production x) → Meant x
 meaning program (_, None) = []
 meaning program (_, Some (first, (more, _))) = first ∷ Rattle.std.specs.Prelude.map (λ m. m.1) more
-meaning decl (_, (head, body)) = function_of head body
+meaning decl (inl (_, (name, (given, (_, (_, (first, (more, _)))))))) = type_declaration name (type_parameters_of given) (first ∷ Rattle.std.specs.Prelude.map (λ m. m.1) more)
+meaning decl (inr (_, (head, body))) = function_of head body
+meaning con (name, given) = record { name = name; fields = fields_of given }
 meaning param (name, (_, t)) = record { name = name; of_type = t }
 meaning effect (inl e) = e ∷ []
 meaning effect (inr (_, (es, _))) = listed_of es

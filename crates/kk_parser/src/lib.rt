@@ -2,6 +2,7 @@
 #![tactic(auto)]
 
 mod block;
+mod declared;
 mod expr;
 mod fault;
 mod made;
