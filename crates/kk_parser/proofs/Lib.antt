@@ -17,6 +17,7 @@ pub mod OneOutcome
 pub mod Operators
 pub mod Passing
 pub mod ReadAtoms
+pub mod Rows
 pub mod Samples
 pub mod Semicolons
 pub mod Sound

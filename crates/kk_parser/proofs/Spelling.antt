@@ -1,9 +1,9 @@
 -- The grammar of programs and its form for reading spell the same.
-use Rattle.std.proofs.Common.{◌≡◌, ℕ, List, ◌∷◌, Some, None, refl, ap, ◌∙◌, subst, inl, inr}
-use Rattle.kk_syntax.specs.Surface.{type_declaration}
-use Rattle.kk_parser.specs.Phrases.{Nonterminal, program, decl, con, param, effect, eff, type, result_type, expr, block, stmt, if_, or, and, cmp, add, mul, un, post, atom, say, args, Meant, Phrase, rule, PhraseValue}
+use Rattle.std.proofs.Common.{◌≡◌, ℕ, List, ◌∷◌, Some, None, refl, ap, sym, ◌∙◌, subst, inl, inr}
+use Rattle.kk_syntax.specs.Surface.{type_declaration, match, rows_of}
+use Rattle.kk_parser.specs.Phrases.{Nonterminal, program, decl, con, param, effect, eff, type, result_type, expr, block, stmt, if_, match_, row, pat, or, and, cmp, add, mul, un, post, atom, say, args, Meant, Phrase, rule, PhraseValue}
 use Rattle.kk_parser.specs.Grammar.{production, meaning, type_parameters_of, program_grammar}
-use Rattle.kk_parser.specs.Forms.{form, form_meaning, form_grammar, items, block_from}
+use Rattle.kk_parser.specs.Forms.{form, form_meaning, form_grammar, pattern_of, items, block_from}
 use Rattle.kk_parser.specs.Spells.{Marked, Spells, by_token, by_opener, by_both, by_first, by_second, by_none, by_more, by_absence, by_presence, by_level, by_rule, by_no_more, by_each, by_nothing, by_something, by_quoted, by_unquoted}
 use Rattle.kk_parser.proofs.Semicolons.{loose, grouped, gathered, scattered}
 use Rattle.kk_parser.proofs.Atoms.{none_inside, one_inside, atom_formed, atom_unformed}
@@ -96,6 +96,31 @@ block_unformed (by_both {u = b} o (by_both {u = s} r (by_both {u = first} i (by_
       spells = by_both o (by_both r (by_both l.spells (by_both l.ends (by_both g.ends c))));
     }
 
+match_formed : {n m : ℕ} {v : PhraseValue (production match_)} {ts us : List Marked} → Spells form_grammar (production match_) n v m ts us → Formed match_ n (meaning match_ v) m ts us
+match_formed (by_both {u = k} t (by_both {u = scrutinee} q (by_both {u = b} o (by_both {u = s} r (by_both {u = first} d (by_both rs (by_both {v = v} e c))))))) =
+    let l = loose form_grammar (rule row) rs e in
+    record {
+      value = (k, (scrutinee, (b, ((s, (first, l.more)), v))));
+      same = ap (λ rows. match scrutinee (rows_of (first ∷ rows))) l.same;
+      spells = by_both t (by_both q (by_both o (by_both (by_both r (by_both d l.spells)) c)));
+    }
+
+match_unformed : {n m : ℕ} {v : PhraseValue (form match_)} {ts us : List Marked} → Spells program_grammar (form match_) n v m ts us → Unformed match_ n (form_meaning match_ v) m ts us
+match_unformed (by_both {u = k} t (by_both {u = scrutinee} q (by_both {u = b} o (by_both (by_both {u = s} r (by_both {u = first} d rs)) (by_token {v = v} c))))) =
+    let l = grouped program_grammar (rule row) rs in
+    record {
+      value = (k, (scrutinee, (b, (s, (first, (l.groups, (l.last, v)))))));
+      same = ap (λ rows. match scrutinee (rows_of (first ∷ rows))) l.same;
+      spells = by_both t (by_both q (by_both o (by_both r (by_both d (by_both l.spells (by_both l.ends (by_token c)))))));
+    }
+
+pattern_same : (v : PhraseValue (production pat)) → pattern_of v ≡ meaning pat v
+pattern_same (inl _) = refl
+pattern_same (inr (inl name)) = refl
+pattern_same (inr (inr (inl value))) = refl
+pattern_same (inr (inr (inr (inl (name, given))))) = refl
+pattern_same (inr (inr (inr (inr (_, (pattern, _)))))) = refl
+
 to_form : (x : Nonterminal) {n m : ℕ} {v : PhraseValue (production x)} {ts us : List Marked} → Spells form_grammar (production x) n v m ts us → Formed x n (meaning x v) m ts us
 to_form program r = program_formed r
 to_form type r = type_formed r
@@ -110,6 +135,9 @@ to_form eff {v = v} r = record { value = v; same = refl; spells = r }
 to_form expr {v = v} r = record { value = v; same = refl; spells = r }
 to_form stmt {v = v} r = record { value = v; same = refl; spells = r }
 to_form if_ {v = v} r = record { value = v; same = refl; spells = r }
+to_form match_ r = match_formed r
+to_form row {v = v} r = record { value = v; same = refl; spells = r }
+to_form pat {v = v} r = record { value = v; same = pattern_same v; spells = r }
 to_form or {v = v} r = record { value = v; same = refl; spells = r }
 to_form and {v = v} r = record { value = v; same = refl; spells = r }
 to_form cmp {v = v} r = record { value = v; same = refl; spells = r }
@@ -134,6 +162,9 @@ from_form eff {v = v} r = record { value = v; same = refl; spells = r }
 from_form expr {v = v} r = record { value = v; same = refl; spells = r }
 from_form stmt {v = v} r = record { value = v; same = refl; spells = r }
 from_form if_ {v = v} r = record { value = v; same = refl; spells = r }
+from_form match_ r = match_unformed r
+from_form row {v = v} r = record { value = v; same = refl; spells = r }
+from_form pat {v = v} r = record { value = v; same = sym (pattern_same v); spells = r }
 from_form or {v = v} r = record { value = v; same = refl; spells = r }
 from_form and {v = v} r = record { value = v; same = refl; spells = r }
 from_form cmp {v = v} r = record { value = v; same = refl; spells = r }

@@ -3,17 +3,17 @@
 -- alternatives begin with stands before the choice.
 use Rattle.std.specs.Prelude.{List, [], ◌∷◌, ◌++◌, Option, Some, None, ◌⊎◌}
 use Rattle.std.proofs.Common.{inl, inr}
-use Rattle.kk_syntax.specs.Surface.{Written, number as number_written, unit, construct, writtens_of, print_text, block_of, WrittenStatement, WrittenType, unit_type, type_variable, named, types_of, WrittenParameter, WrittenDeclaration, type_declaration}
-use Rattle.kk_syntax.specs.declared.token.Keyword.TheVariants.{Val, Then, Elif, Else}
+use Rattle.kk_syntax.specs.Surface.{Written, number as number_written, unit, construct, writtens_of, print_text, block_of, match, rows_of, WrittenPattern, anything, pattern_variable, exactly, constructor as constructor_pattern, patterns_of, WrittenStatement, WrittenType, unit_type, type_variable, named, types_of, WrittenParameter, WrittenDeclaration, type_declaration}
+use Rattle.kk_syntax.specs.declared.token.Keyword.TheVariants.{Val, Match, Then, Elif, Else}
 use Rattle.kk_syntax.specs.declared.token.Keyword.TheVariants as Keyword
 use Rattle.kk_syntax.specs.declared.token.Symbol.TheVariants.{CloseParenthesis, OpenBrace, CloseBrace, Semicolon, Dot, Equals}
 use Rattle.kk_syntax.specs.declared.tree.Effect.{Effect}
 use Rattle.kk_syntax.specs.declared.tree.Identifier.{Identifier}
 use Rattle.kk_parser.specs.Classes.{NameClass, word as a_word, main as main_name}
 use Rattle.kk_syntax.specs.declared.tree.SurfaceBinder.TheVariants as Binder
-use Rattle.kk_parser.specs.Kinds.{keyword, symbol, name_in, name_but_main, name_but_print, names_of, type_variable_name, type_name, type_name_but_effect, constructor, number, string}
-use Rattle.kk_parser.specs.Phrases.{Nonterminal, program, decl, con, param, effect, eff, type, result_type, expr, block, stmt, if_, or, and, cmp, add, mul, un, post, atom, say, args, Meant, Phrase, token, opener, ◌▸◌, either, many, optional, level, rule, each, perhaps, quoted_or, PhraseValue, Grammar}
-use Rattle.kk_parser.specs.Grammar.{production, meaning, semicolons, some_semicolons, bracket, bracketed, no_arguments, print_word, print_form, binder, binder_of, named_of, if_of, parameters, result, listed_of, effects_of, type_of, arguments_of, type_arguments, type_arguments_of, type_parameters, type_parameters_of, declared_function}
+use Rattle.kk_parser.specs.Kinds.{keyword, symbol, name_in, name, wildcard, name_but_main, name_but_print, names_of, type_variable_name, type_name, type_name_but_effect, constructor, number, string}
+use Rattle.kk_parser.specs.Phrases.{Nonterminal, program, decl, con, param, effect, eff, type, result_type, expr, block, stmt, if_, match_, row, pat, or, and, cmp, add, mul, un, post, atom, say, args, Meant, Phrase, token, opener, ◌▸◌, either, many, optional, level, rule, each, perhaps, quoted_or, PhraseValue, Grammar}
+use Rattle.kk_parser.specs.Grammar.{production, meaning, semicolons, some_semicolons, bracket, bracketed, no_arguments, print_word, print_form, binder, binder_of, named_of, if_of, parameters, result, listed_of, effects_of, type_of, arguments_of, type_arguments, type_arguments_of, type_parameters, type_parameters_of, declared_function, parts, parts_of}
 
 -- "(" ( ")" | a ")" )
 abbrev pub in_brackets : Phrase → Phrase
@@ -43,6 +43,14 @@ separated a = semicolons ▸ a ▸ and_more a
 abbrev pub typed : Phrase
 typed = token (keyword Keyword.Type) ▸ token type_name ▸ optional type_parameters ▸ opener (symbol OpenBrace) ▸ separated (rule con) ▸ token (symbol CloseBrace)
 
+-- "match" or "{" ;* row { ;+ row } ;* "}"
+abbrev pub matched : Phrase
+matched = token (keyword Match) ▸ rule or ▸ opener (symbol OpenBrace) ▸ separated (rule row) ▸ token (symbol CloseBrace)
+
+-- a pattern, the levels left open that it opens
+abbrev pub open_pattern : Phrase
+open_pattern = either (token wildcard) (either (token name) (either (token number) (either (token constructor ▸ parts) (bracketed (rule pat)))))
+
 -- string "." print_word [ "(" ")" ]
 abbrev pub spoken : Phrase
 spoken = token string ▸ opener (symbol Dot) ▸ print_word ▸ optional no_arguments
@@ -66,6 +74,9 @@ form eff = production eff
 form expr = production expr
 form stmt = production stmt
 form if_ = production if_
+form match_ = matched
+form row = production row
+form pat = level open_pattern
 form or = production or
 form and = production and
 form cmp = production cmp
@@ -88,6 +99,20 @@ separated_of (_, (first, more)) = first ∷ those_given more
 -- a declaration of a type
 abbrev pub typed_of : PhraseValue typed → WrittenDeclaration
 typed_of (_, (name, (given, (_, (constructors, _))))) = type_declaration name (type_parameters_of given) (separated_of constructors)
+
+abbrev pub matched_of : PhraseValue matched → Written
+matched_of (_, (scrutinee, (_, (rows, _)))) = match scrutinee (rows_of (separated_of rows))
+
+-- what a constructor with its fields' patterns means, and any pattern
+abbrev pub constructor_of : PhraseValue (token constructor ▸ parts) → WrittenPattern
+constructor_of (name, given) = constructor_pattern name (patterns_of (parts_of given))
+
+abbrev pub pattern_of : PhraseValue open_pattern → WrittenPattern
+pattern_of (inl _) = anything
+pattern_of (inr (inl name)) = pattern_variable name
+pattern_of (inr (inr (inl value))) = exactly value
+pattern_of (inr (inr (inr (inl v)))) = constructor_of v
+pattern_of (inr (inr (inr (inr (_, (pattern, _)))))) = pattern
 
 -- a statement that binds, and some of them
 abbrev pub binding_of : PhraseValue binding → WrittenStatement
@@ -173,6 +198,9 @@ form_meaning eff v = meaning eff v
 form_meaning expr v = meaning expr v
 form_meaning stmt v = meaning stmt v
 form_meaning if_ v = meaning if_ v
+form_meaning match_ v = matched_of v
+form_meaning row v = meaning row v
+form_meaning pat v = pattern_of v
 form_meaning or v = meaning or v
 form_meaning and v = meaning and v
 form_meaning cmp v = meaning cmp v

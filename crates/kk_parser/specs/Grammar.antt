@@ -1,10 +1,10 @@
 -- The grammar of programs: the right side of each production, and what a text of it means.
 use Rattle.std.specs.Prelude.{ℕ, List, [], ◌∷◌, Option, Some, None}
 use Rattle.std.proofs.Common.{inl, inr}
-use Rattle.kk_syntax.specs.Surface.{Written, number as number_written, unit, variable, call, dot_call, construct, unary, binary, both, either as either_written, print_text, branch, branch_alone, writtens_of, block_of, WrittenType, unit_type, type_variable, named, types_of, WrittenDeclaration, WrittenParameter, type_declaration, function_declaration}
-use Rattle.kk_syntax.specs.declared.token.Keyword.TheVariants.{Fun, Val, If, Then, Elif, Else}
+use Rattle.kk_syntax.specs.Surface.{Written, number as number_written, unit, variable, call, dot_call, construct, unary, binary, both, either as either_written, print_text, branch, branch_alone, writtens_of, block_of, match as match_written, rows_of, WrittenPattern, anything, pattern_variable, exactly, constructor as constructor_pattern, patterns_of, WrittenType, unit_type, type_variable, named, types_of, WrittenDeclaration, WrittenParameter, type_declaration, function_declaration}
+use Rattle.kk_syntax.specs.declared.token.Keyword.TheVariants.{Fun, Val, Match, If, Then, Elif, Else}
 use Rattle.kk_syntax.specs.declared.token.Keyword.TheVariants as Keyword
-use Rattle.kk_syntax.specs.declared.token.Symbol.TheVariants.{OpenParenthesis, CloseParenthesis, OpenBrace, CloseBrace, Comma, Semicolon, Colon, Dot, Equals, Plus, Minus, Star, Slash, Percent, EqualEqual, NotEqual, Less, LessEqual, Greater, GreaterEqual, AndAnd, OrOr, Exclamation, Tilde}
+use Rattle.kk_syntax.specs.declared.token.Symbol.TheVariants.{OpenParenthesis, CloseParenthesis, OpenBrace, CloseBrace, Comma, Semicolon, Colon, Dot, Equals, Arrow, Plus, Minus, Star, Slash, Percent, EqualEqual, NotEqual, Less, LessEqual, Greater, GreaterEqual, AndAnd, OrOr, Exclamation, Tilde}
 use Rattle.kk_syntax.specs.declared.operator.BinaryOperator.{BinaryOperator}
 use Rattle.kk_syntax.specs.declared.operator.BinaryOperator.TheVariants as Operator
 use Rattle.kk_syntax.specs.declared.operator.UnaryOperator.{UnaryOperator}
@@ -18,7 +18,7 @@ use Rattle.kk_syntax.specs.declared.tree.SurfaceBinder.{SurfaceBinder}
 use Rattle.kk_syntax.specs.declared.tree.SurfaceBinder.TheVariants as Binder
 use Rattle.kk_parser.specs.Classes.{word, print as print_name, println as println_name, main as main_name, total as total_name, div as div_name, exn as exn_name, console as console_name}
 use Rattle.kk_parser.specs.Kinds.{keyword, symbol, name_in, name, name_but_main, type_variable_name, type_name, type_name_but_effect, constructor, wildcard, number, string}
-use Rattle.kk_parser.specs.Phrases.{Nonterminal, program, decl, con, param, effect, eff, type, result_type, expr, block, stmt, if_, or, and, cmp, add, mul, un, post, atom, say, args, Meant, Phrase, token, opener, ◌▸◌, either, many, optional, level, rule, each, perhaps, PhraseValue, Grammar}
+use Rattle.kk_parser.specs.Phrases.{Nonterminal, program, decl, con, param, effect, eff, type, result_type, expr, block, stmt, if_, match_, row, pat, or, and, cmp, add, mul, un, post, atom, say, args, Meant, Phrase, token, opener, ◌▸◌, either, many, optional, level, rule, each, perhaps, PhraseValue, Grammar}
 
 -- ";"* and ";"+
 abbrev pub semicolons : Phrase
@@ -93,6 +93,10 @@ declared_type = token (keyword Keyword.Type) ▸ token type_name ▸ optional ty
 abbrev pub declared_function : Phrase
 declared_function = token (keyword Fun) ▸ either (token (name_in (word main_name ∷ [])) ▸ parameters ▸ optional result) (token name_but_main ▸ parameters ▸ result) ▸ rule expr
 
+-- [ "(" [ pat { "," pat } ] ")" ]
+abbrev pub parts : Phrase
+parts = optional (bracketed (listed (rule pat)))
+
 -- the right side of a production
 abbrev pub production : Nonterminal → Phrase
 -- program = ;* [ decl { ;+ decl } ;* ]
@@ -111,14 +115,20 @@ production eff = either (token (name_in (word total_name ∷ []))) (either (toke
 production type = level (either (token type_variable_name) (either (token type_name ▸ optional type_arguments) (either no_arguments (bracketed (rule type)))))
 -- result_type = type that begins with no effect word
 production result_type = level (either (token type_variable_name) (either (token type_name_but_effect ▸ optional type_arguments) (either no_arguments (bracketed (rule type)))))
--- expr = block | if | or
-production expr = level (either (rule block) (either (rule if_) (rule or)))
+-- expr = block | if | match | or
+production expr = level (either (rule block) (either (rule if_) (either (rule match_) (rule or))))
 -- block = "{" ;* { stmt ;+ } expr ;* "}"
 production block = opener (symbol OpenBrace) ▸ semicolons ▸ many (rule stmt ▸ some_semicolons) ▸ rule expr ▸ semicolons ▸ token (symbol CloseBrace)
 -- stmt = "val" ( name | wildcard ) "=" expr | expr
 production stmt = either (token (keyword Val) ▸ binder ▸ token (symbol Equals) ▸ rule expr) (rule expr)
 -- if = "if" or "then" expr { "elif" or "then" expr } [ "else" expr ]
 production if_ = opener (keyword If) ▸ rule or ▸ token (keyword Then) ▸ rule expr ▸ each (keyword Elif) (rule or ▸ token (keyword Then) ▸ rule expr) ▸ perhaps (keyword Else) (rule expr)
+-- match = "match" or "{" ;* row { ;+ row } ;* "}"
+production match_ = token (keyword Match) ▸ rule or ▸ opener (symbol OpenBrace) ▸ semicolons ▸ rule row ▸ many (some_semicolons ▸ rule row) ▸ semicolons ▸ token (symbol CloseBrace)
+-- row = pat "->" expr
+production row = rule pat ▸ token (symbol Arrow) ▸ rule expr
+-- pat = wildcard | name | number | Con [ "(" [ pat { "," pat } ] ")" ] | "(" pat ")"
+production pat = level (either (token wildcard) (either (token name) (either (token number) (either (token constructor ▸ parts) (bracketed (rule pat))))))
 -- or = and [ "||" or ]
 production or = rule and ▸ optional (opener (symbol OrOr) ▸ rule or)
 -- and = cmp [ "&&" and ]
@@ -227,6 +237,11 @@ abbrev pub fields_of : PhraseValue fields → List WrittenParameter
 fields_of None = []
 fields_of (Some (_, (given, _))) = some_listed_of given
 
+-- the patterns of a constructor's fields
+abbrev pub parts_of : PhraseValue parts → List WrittenPattern
+parts_of None = []
+parts_of (Some (_, (given, _))) = listed_of given
+
 -- the declaration of a function: what stands between `fun` and its body, and the body
 abbrev pub function_of : PhraseValue (either (token (name_in (word main_name ∷ [])) ▸ parameters ▸ optional result) (token name_but_main ▸ parameters ▸ result)) → Written → WrittenDeclaration
 function_of (inl (name, ((_, (given, _)), None))) body = function_declaration name (listed_of given) [] None body
@@ -265,11 +280,19 @@ meaning result_type (inr (inl (name, arguments))) = named name (types_of (type_a
 meaning result_type (inr (inr t)) = bracketed_type t
 meaning expr (inl t) = t
 meaning expr (inr (inl t)) = t
-meaning expr (inr (inr t)) = t
+meaning expr (inr (inr (inl t))) = t
+meaning expr (inr (inr (inr t))) = t
 meaning block (_, (_, (statements, (last, _)))) = block_of (Rattle.std.specs.Prelude.map (λ s. s.0) statements) last
 meaning stmt (inl (_, (binder, (_, value)))) = record { binder = binder_of binder; value = value }
 meaning stmt (inr value) = record { binder = Binder.Nothing; value = value }
 meaning if_ (_, (condition, (_, (positive, (more, last))))) = if_of condition positive more last
+meaning match_ (_, (scrutinee, (_, (_, (first, (more, _)))))) = match_written scrutinee (rows_of (first ∷ Rattle.std.specs.Prelude.map (λ m. m.1) more))
+meaning row (pattern, (_, body)) = record { pattern = pattern; body = body }
+meaning pat (inl _) = anything
+meaning pat (inr (inl name)) = pattern_variable name
+meaning pat (inr (inr (inl value))) = exactly value
+meaning pat (inr (inr (inr (inl (name, given))))) = constructor_pattern name (patterns_of (parts_of given))
+meaning pat (inr (inr (inr (inr (_, (pattern, _)))))) = pattern
 meaning or (left, None) = left
 meaning or (left, Some (_, right)) = either_written left right
 meaning and (left, None) = left

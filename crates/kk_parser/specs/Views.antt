@@ -6,8 +6,9 @@ use Rattle.kk_syntax.specs.declared.tree.Effect.TheVariants.{Total, Div, Exn, Co
 use Rattle.kk_syntax.specs.declared.tree.Declaration.{Declaration}
 use Rattle.kk_syntax.specs.declared.tree.SurfaceBinder.{SurfaceBinder}
 use Rattle.kk_syntax.specs.declared.tree.SurfaceExpr.{SurfaceExpr}
+use Rattle.kk_syntax.specs.declared.tree.SurfacePattern.{SurfacePattern}
 use Rattle.kk_syntax.specs.declared.tree.SurfaceType.{SurfaceType}
-use Rattle.kk_syntax.specs.Surface.{Written, WrittenDeclaration, WrittenStatement, function_declaration, WrittenType, written_declaration, written_expr, written_parameter, written_result, written_type}
+use Rattle.kk_syntax.specs.Surface.{Written, WrittenDeclaration, WrittenPattern, WrittenStatement, written_pattern, function_declaration, WrittenType, written_declaration, written_expr, written_parameter, written_result, written_type}
 use Rattle.kk_parser.specs.declared.name.Names.{Names}
 use Rattle.kk_parser.specs.declared.name.Names.TheVariants as OfNames
 use Rattle.kk_parser.specs.declared.name.NameClass.{NameClass as CodeClass}
@@ -49,6 +50,10 @@ kind_of names = name_in (classes_in names)
 -- what an expression in a box stands for
 abbrev pub boxed_expr : Box SurfaceExpr → Written
 boxed_expr e = written_expr e.value
+
+-- what a pattern in a box stands for
+abbrev pub boxed_pattern : Box SurfacePattern → WrittenPattern
+boxed_pattern p = written_pattern p.value
 
 -- what arguments in brackets stand for
 abbrev pub arguments_view : Option (Vec SurfaceExpr) → Option (List Written)

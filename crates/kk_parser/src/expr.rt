@@ -19,7 +19,7 @@ use crate::parser::Parser;
 use kk_syntax::{Keyword, SurfaceExpr, Symbol, Token};
 
 impl<'a> Parser<'a> {
-    /// `expr = block | if | or`: the levels end that it opens.
+    /// `expr = block | if | match | or`: the levels end that it opens.
     #[cycle(expr)]
     pub fn expr(&mut self) -> Result<Box<SurfaceExpr>, Fault>
         ensures reads { ReadsPhrase (rule OfExpr) boxed_expr result self.old self.new }
@@ -33,6 +33,11 @@ impl<'a> Parser<'a> {
         }
         if self.is_at_keyword(Keyword::If) {
             let value = self.if_()?;
+            self.depth = depth;
+            return Ok(value);
+        }
+        if self.is_at_keyword(Keyword::Match) {
+            let value = self.match_()?;
             self.depth = depth;
             return Ok(value);
         }
@@ -75,7 +80,7 @@ impl<'a> Parser<'a> {
 
     /// `or = and [ "||" or ]`
     #[cycle(expr)]
-    fn or(&mut self) -> Result<Box<SurfaceExpr>, Fault>
+    pub fn or(&mut self) -> Result<Box<SurfaceExpr>, Fault>
         ensures reads { ReadsPhrase (rule OfOr) boxed_expr result self.old self.new }
         ensures left { length self.new.rest.now ≤ length self.old.rest.now }
     {
@@ -355,7 +360,7 @@ impl<'a> Parser<'a> {
                 Token::Name(_) | Token::Constructor(_) | Token::Number(_) | Token::String(_) => {
                     true
                 }
-                Token::Keyword(word) => *word == Keyword::If,
+                Token::Keyword(word) => matches!(word, Keyword::If | Keyword::Match),
                 Token::Symbol(symbol) => matches!(
                     symbol,
                     Symbol::OpenBrace

@@ -6,6 +6,7 @@ mod declared;
 mod expr;
 mod fault;
 mod made;
+mod matching;
 mod name;
 mod operator;
 mod parser;
