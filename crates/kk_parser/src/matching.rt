@@ -10,9 +10,7 @@ ghost use Rattle.kk_parser.specs.Reading.{pattern_first};
 ghost use Rattle.kk_parser.specs.Views.{boxed_expr, boxed_pattern};
 
 use crate::fault::Fault;
-use crate::made::{
-    anything, constructor_pattern, exactly, match_of, pattern_variable, put,
-};
+use crate::made::{anything, constructor_pattern, exactly, match_of, pattern_variable, put};
 use crate::name::Names;
 use crate::parser::Parser;
 use kk_syntax::{Keyword, SurfaceExpr, SurfacePattern, SurfaceRow, Symbol, Token};

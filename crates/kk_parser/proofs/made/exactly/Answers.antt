@@ -7,6 +7,6 @@ use Rattle.kk_parser.proofs.Trees.{written-exactly, pattern_in_box}
 use Rattle.kk_parser.proofs.made.exactly.Goals as goal
 
 pub returns : goal.returns
-returns c = 
+returns c =
     let fits : SFits w32 c.args.value = search rules in
     pattern_in_box c.boxed.result _ _ c.boxed.ensures (written-exactly _ ∙ ap exactly (to_z-of_z w32 c.args.value fits))

@@ -170,12 +170,11 @@ row-returns-in_err-body-clause-reads t c =
     (λ f r. fails_rule (fails_behind c.in_ok-pattern.ensures.reads (fails_behind c.in_ok-expect.ensures.reads r))) c.from_residual-in_err-body.ensures.1 c.in_err-body.ensures.reads
 
 pub row-returns-clause-reads : goal.row-returns-clause-reads
-row-returns-clause-reads t c =
-    (
-      record { pattern = boxed_pattern c.in_ok-pattern.pattern; body = boxed_expr c.in_ok-body.body },
-      put_row c.args.rows.now.items c.put.new.items.items c.in_ok-pattern.pattern c.in_ok-body.body c.into_inner-pattern.result c.into_inner-body.result c.into_inner-pattern.ensures c.into_inner-body.ensures c.in_ok-put.ensures,
-      finds_rule (finds_both c.in_ok-pattern.ensures.reads (finds_both c.in_ok-expect.ensures.reads c.in_ok-body.ensures.reads)),
-    )
+row-returns-clause-reads t c = (
+  record { pattern = boxed_pattern c.in_ok-pattern.pattern; body = boxed_expr c.in_ok-body.body },
+  put_row c.args.rows.now.items c.put.new.items.items c.in_ok-pattern.pattern c.in_ok-body.body c.into_inner-pattern.result c.into_inner-body.result c.into_inner-pattern.ensures c.into_inner-body.ensures c.in_ok-put.ensures,
+  finds_rule (finds_both c.in_ok-pattern.ensures.reads (finds_both c.in_ok-expect.ensures.reads c.in_ok-body.ensures.reads)),
+)
 
 pub if_-returns-in_err-open_keyword-clause-reads : goal.if_-returns-in_err-open_keyword-clause-reads
 if_-returns-in_err-open_keyword-clause-reads t c =

@@ -8,7 +8,7 @@ use Rattle.kk_syntax.specs.Surface.{constructor as OfConstructor, exactly, patte
 use Rattle.kk_parser.specs.declared.parser.Parser.{Parser}
 use Rattle.kk_parser.specs.Forms.{open_pattern, pattern_of, constructor_of}
 use Rattle.kk_parser.specs.Grammar.{bracketed, listed, listed_of, parts, parts_of}
-use Rattle.kk_parser.specs.Kinds.{symbol, name, wildcard, number, constructor}
+use Rattle.kk_parser.specs.Kinds.{symbol, name, wildcard, constructor}
 use Rattle.kk_parser.specs.Methods.{Read}
 use Rattle.kk_parser.specs.Phrases.{Phrase, PhraseValue, token, opener, either, rule, ◌▸◌, pat}
 use Rattle.kk_parser.specs.Reading.{fails_rule, fails_level, fails_front, fails_behind, fails_first, fails_second, fails_presence, finds_rule, finds_level, finds_both, finds_first, finds_second, finds_absence, finds_presence}

@@ -1,9 +1,9 @@
-use Rattle.std.proofs.Common.{sym, ◌∙◌, subst, inl, inr}
+use Rattle.std.proofs.Common.{sym, ◌∙◌, subst}
 use Rattle.kk_parser.specs.declared.parser.Parser.{Parser}
-use Rattle.kk_parser.specs.Forms.{typed, form_meaning}
+use Rattle.kk_parser.specs.Forms.{typed}
 use Rattle.kk_parser.specs.Grammar.{declared_function}
 use Rattle.kk_parser.specs.Methods.{Read}
-use Rattle.kk_parser.specs.Phrases.{PhraseValue, rule, decl}
+use Rattle.kk_parser.specs.Phrases.{rule, decl}
 use Rattle.kk_parser.specs.Reading.{fails_rule, fails_level, fails_first, fails_second, finds_rule, finds_level, finds_first, finds_second}
 use Rattle.kk_parser.specs.Views.{boxed_declaration}
 use Rattle.kk_parser.proofs.Declarations.{function-means}

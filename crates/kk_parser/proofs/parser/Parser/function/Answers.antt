@@ -1,4 +1,4 @@
-use Rattle.std.proofs.Common.{refl, sym, ◌∙◌, ap}
+use Rattle.std.proofs.Common.{sym, ◌∙◌, ap}
 use Rattle.kk_syntax.specs.declared.token.Keyword.TheVariants.{Fun}
 use Rattle.kk_syntax.specs.Surface.{written_expr}
 use Rattle.kk_parser.specs.Forms.{head}

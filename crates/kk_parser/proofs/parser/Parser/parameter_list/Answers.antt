@@ -1,4 +1,4 @@
-use Rattle.std.proofs.Common.{None, map, ap, sym, ◌∙◌}
+use Rattle.std.proofs.Common.{map, ap, sym, ◌∙◌}
 use Rattle.kk_syntax.specs.Surface.{written_parameter}
 use Rattle.kk_parser.specs.Grammar.{listed_of, some_listed_of}
 use Rattle.kk_parser.specs.Phrases.{rule, param}

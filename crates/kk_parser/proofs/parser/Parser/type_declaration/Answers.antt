@@ -1,7 +1,7 @@
-use Rattle.std.proofs.Common.{map, ap, ◌∙◌}
+use Rattle.std.proofs.Common.{ap, ◌∙◌}
 use Rattle.kk_syntax.specs.declared.token.Keyword.TheVariants as Keyword
 use Rattle.kk_syntax.specs.declared.token.Symbol.TheVariants.{OpenBrace, CloseBrace}
-use Rattle.kk_syntax.specs.Surface.{type_declaration, written_constructor}
+use Rattle.kk_syntax.specs.Surface.{type_declaration}
 use Rattle.kk_parser.specs.Forms.{separated, separated_of, typed, typed_of}
 use Rattle.kk_parser.specs.Grammar.{type_parameters}
 use Rattle.kk_parser.specs.Kinds.{keyword, symbol, type_name}
