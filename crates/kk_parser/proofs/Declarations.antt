@@ -16,7 +16,8 @@ of_head (inl (name, (ps, None))) body = refl
 of_head (inl (name, (ps, Some r))) body = refl
 of_head (inr (name, (ps, r))) body = refl
 
-pub declaration_boxed : (r : Result (Box Declaration) Fault) (d : Declaration) → Makes (λ b. b.value) d r → Makes boxed_declaration (written_declaration d) r
+pub declaration_boxed : (r : Result (Box Declaration) Fault) (d : Declaration) → Makes (λ b. b.value) d r → Makes boxed_declaration
+    (written_declaration d) r
 declaration_boxed (Ok b) d h = ap written_declaration h
 declaration_boxed (Err y) d h = h
 
