@@ -129,7 +129,7 @@ say_formed (by_rule (by_second {v = v} r)) = record { value = inr (inr (inr (inl
 
 pub atom_formed : {n m : ℕ} {v : PhraseValue (production atom)} {ts us : List Marked} → Spells form_grammar (production atom) n v m ts us → Formed n (meaning atom v) m ts us
 atom_formed (by_first (by_both w r)) = name_formed w r
-atom_formed (by_second (by_first {v = v} r)) = record { value = inr (inl v); same = refl; spells = by_second (by_first r) }
+atom_formed (by_second (by_first {v = (name, arguments)} r)) = record { value = inr (inl (name, arguments)); same = refl; spells = by_second (by_first r) }
 atom_formed (by_second (by_second (by_first {v = v} r))) = record { value = inl v; same = refl; spells = by_first r }
 atom_formed (by_second (by_second (by_second (by_first {v = v} r)))) = record { value = inr (inr (inl (v.0, inl v.1))); same = refl; spells = by_second (by_second (by_first (none_inside form_grammar r))) }
 atom_formed (by_second (by_second (by_second (by_second (by_first {v = v} r))))) = record { value = inr (inr (inl (v.0, inr v.1))); same = refl; spells = by_second (by_second (by_first (one_inside form_grammar r))) }
@@ -160,7 +160,7 @@ printed_unformed (by_both {u = which} w (by_presence (by_both o (by_quoted {v = 
 
 pub atom_unformed : {n m : ℕ} {v : PhraseValue (form atom)} {ts us : List Marked} → Spells program_grammar (form atom) n v m ts us → Unformed n (form_meaning atom v) m ts us
 atom_unformed (by_first {v = v} r) = record { value = inr (inr (inl v)); same = refl; spells = by_second (by_second (by_first r)) }
-atom_unformed (by_second (by_first {v = v} r)) = record { value = inr (inl v); same = refl; spells = by_second (by_first r) }
+atom_unformed (by_second (by_first {v = (name, arguments)} r)) = record { value = inr (inl (name, arguments)); same = refl; spells = by_second (by_first r) }
 atom_unformed (by_second (by_second (by_first (by_both {u = b} o (by_first {v = c} r))))) = record { value = inr (inr (inr (inl (b, c)))); same = refl; spells = by_second (by_second (by_second (by_first (by_both o r)))) }
 atom_unformed (by_second (by_second (by_first (by_both {u = b} o (by_second {v = v} r))))) = record { value = inr (inr (inr (inr (inl (b, v))))); same = refl; spells = by_second (by_second (by_second (by_second (by_first (by_both o r))))) }
 atom_unformed (by_second (by_second (by_second (by_first {v = (text, (dot, (which, e)))} r)))) = record {

@@ -6,7 +6,7 @@ use Rattle.kk_syntax.specs.declared.token.LocatedToken.{LocatedToken}
 use Rattle.kk_syntax.specs.declared.token.Symbol.TheVariants.{CloseParenthesis}
 use Rattle.kk_parser.specs.Classes.{is_at}
 use Rattle.kk_parser.specs.Kinds.{Kind, symbol, string, Said, says, classes_of}
-use Rattle.kk_parser.specs.Phrases.{Nonterminal, program, decl, param, effect, eff, type, result_type, expr, block, stmt, if_, or, and, cmp, add, mul, un, post, atom, say, args, Phrase, token, opener, ◌▸◌, either, many, optional, level, rule, each, perhaps, quoted_or, PhraseValue}
+use Rattle.kk_parser.specs.Phrases.{Nonterminal, program, decl, con, param, effect, eff, type, result_type, expr, block, stmt, if_, match_, row, pat, or, and, cmp, add, mul, un, post, atom, say, args, Phrase, token, opener, ◌▸◌, either, many, optional, level, rule, each, perhaps, quoted_or, PhraseValue}
 use Rattle.kk_parser.specs.Forms.{form, form_meaning}
 use Rattle.kk_parser.specs.Reading.{first, nullable, is_quoted, quoted, Finds, finds_token, finds_opener, finds_both, finds_first, finds_second, finds_none, finds_more, finds_absence, finds_presence, finds_level, finds_rule, finds_no_more, finds_each, finds_nothing, finds_something, finds_quoted, finds_unquoted, Failure, unexpected, too_deep, ReadingFails, fails_token, fails_opener, fails_deep, fails_front, fails_behind, fails_first, fails_second, fails_one, fails_more, fails_presence, fails_level, fails_rule, fails_each_deep, fails_each, fails_each_more, fails_something, fails_quoted, fails_unquoted}
 use Rattle.kk_parser.proofs.Apart.{next_of}
@@ -49,7 +49,7 @@ print_starts : {k l : Kind} {b : Phrase} → readable b ≡ true → Starts (eit
 print_starts h = starts_passing refl (starts_either starts_token starts_token) h
 
 atom_starts : Starts (form atom)
-atom_starts = starts_either starts_token (starts_either starts_token (starts_either (by_opener refl) (starts_either (by_token refl) (starts_either (print_starts refl) (by_token refl)))))
+atom_starts = starts_either starts_token (starts_either (by_token refl) (starts_either (by_opener refl) (starts_either (by_token refl) (starts_either (print_starts refl) (by_token refl)))))
 
 post_starts : Starts (form post)
 post_starts = starts_passing refl (starts_rule atom_starts) refl
@@ -73,10 +73,13 @@ or_starts : Starts (form or)
 or_starts = starts_passing refl (starts_rule and_starts) refl
 
 expr_starts : Starts (form expr)
-expr_starts = starts_level (starts_either (starts_rule (by_opener refl)) (starts_either (starts_rule (by_opener refl)) (starts_rule or_starts)))
+expr_starts = starts_level (starts_either (starts_rule (by_opener refl)) (starts_either (starts_rule (by_opener refl)) (starts_either (starts_rule (by_token refl)) (starts_rule or_starts))))
 
 stmt_starts : Starts (form stmt)
 stmt_starts = starts_either (by_token refl) (starts_rule expr_starts)
+
+pat_starts : Starts (form pat)
+pat_starts = starts_level (starts_either starts_token (starts_either starts_token (starts_either starts_token (starts_either (by_token refl) (by_opener refl)))))
 
 args_starts : Starts (form args)
 args_starts = starts_optional (starts_passing refl (starts_rule expr_starts) refl)
@@ -90,8 +93,11 @@ eff_starts = starts_either starts_token (starts_either starts_token (starts_eith
 effect_starts : Starts (form effect)
 effect_starts = starts_either (starts_rule eff_starts) (by_token refl)
 
+type_starts : Starts (form type)
+type_starts = starts_level (starts_either starts_token (starts_either (by_token refl) (by_opener refl)))
+
 decl_starts : Starts (form decl)
-decl_starts = starts_level (by_token refl)
+decl_starts = starts_level (starts_either (by_token refl) (by_token refl))
 
 program_starts : Starts (form program)
 program_starts = starts_both (starts_many refl refl starts_token) (starts_optional (starts_passing refl (starts_rule decl_starts) refl))
@@ -99,15 +105,19 @@ program_starts = starts_both (starts_many refl refl starts_token) (starts_option
 starts-form : (x : Nonterminal) → Starts (form x)
 starts-form program = program_starts
 starts-form decl = decl_starts
+starts-form con = starts_level (by_token refl)
 starts-form param = by_token refl
 starts-form effect = effect_starts
 starts-form eff = eff_starts
-starts-form type = starts_level (starts_either starts_token (by_opener refl))
-starts-form result_type = starts_level (starts_either starts_token (by_opener refl))
+starts-form type = type_starts
+starts-form result_type = starts_level (starts_either starts_token (starts_either (by_token refl) (by_opener refl)))
 starts-form expr = expr_starts
 starts-form block = by_opener refl
 starts-form stmt = stmt_starts
 starts-form if_ = by_opener refl
+starts-form match_ = by_token refl
+starts-form row = starts_passing refl (starts_rule pat_starts) refl
+starts-form pat = pat_starts
 starts-form or = or_starts
 starts-form and = and_starts
 starts-form cmp = cmp_starts

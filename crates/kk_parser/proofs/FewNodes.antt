@@ -5,12 +5,12 @@ use Rattle.std.proofs.lemmas.List.Elements.{All-nil, All-cons}
 use Rattle.kk_syntax.specs.declared.token.LocatedToken.{LocatedToken}
 use Rattle.kk_syntax.specs.declared.token.Keyword.TheVariants.{Then, Elif, Else}
 use Rattle.kk_syntax.specs.declared.token.Symbol.TheVariants.{Dot}
-use Rattle.kk_syntax.specs.WrittenNodes.{binder_nodes, written_nodes, writtens_nodes, nodes_in}
-use Rattle.kk_syntax.specs.Surface.{Written, binary, dot_call, writtens_of, WrittenStatement, block_of, WrittenDeclaration}
+use Rattle.kk_syntax.specs.WrittenNodes.{pattern_nodes, patterns_nodes, binder_nodes, written_nodes, writtens_nodes, rows_nodes, nodes_in}
+use Rattle.kk_syntax.specs.Surface.{Written, binary, dot_call, writtens_of, WrittenStatement, block_of, WrittenDeclaration, WrittenPattern, patterns_of, WrittenRow, rows_of}
 use Rattle.kk_parser.specs.Classes.{word, main as main_name}
 use Rattle.kk_parser.specs.Kinds.{keyword, symbol, name, name_in, name_but_main}
-use Rattle.kk_parser.specs.Phrases.{Nonterminal, program, decl, param, effect, eff, type, result_type, expr, block, stmt, if_, or, and, cmp, add, mul, un, post, atom, say, args, Meant, Phrase, token, opener, ◌▸◌, either, many, optional, level, rule, each, perhaps, quoted_or, PhraseValue}
-use Rattle.kk_parser.specs.Grammar.{some_semicolons, bracketed, parameters, result, comparison, sum_operator, product_operator, unary_operator, sum_operator_of, product_operator_of, to_left, listed, listed_of, arguments_of, named_of, dotted, if_of, binder, binder_of, function_of, production, meaning, program_grammar}
+use Rattle.kk_parser.specs.Phrases.{Nonterminal, program, decl, con, param, effect, eff, type, result_type, expr, block, stmt, if_, match_, row, pat, or, and, cmp, add, mul, un, post, atom, say, args, Meant, Phrase, token, opener, ◌▸◌, either, many, optional, level, rule, each, perhaps, quoted_or, PhraseValue}
+use Rattle.kk_parser.specs.Grammar.{some_semicolons, bracketed, parameters, result, comparison, sum_operator, product_operator, unary_operator, sum_operator_of, product_operator_of, to_left, listed, listed_of, arguments_of, named_of, dotted, if_of, binder, binder_of, function_of, parts, parts_of, production, meaning, program_grammar}
 use Rattle.kk_parser.specs.Parses.{HasTree}
 use Rattle.kk_parser.specs.Spells.{Marked, tokens_of, Spells, by_token, by_opener, by_both, by_first, by_second, by_none, by_more, by_absence, by_presence, by_level, by_rule, by_no_more, by_each, by_nothing, by_something, by_quoted, by_unquoted}
 
@@ -22,10 +22,14 @@ summed f (x ∷ xs) = f x + summed f xs
 abbrev statement_nodes : WrittenStatement → ℕ
 statement_nodes s = binder_nodes s.binder + written_nodes s.value
 
+abbrev row_nodes : WrittenRow → ℕ
+row_nodes r = pattern_nodes r.pattern + written_nodes r.body
+
 -- the nodes of what a text of a nonterminal means
 abbrev nodes_meant : (x : Nonterminal) → Meant x → ℕ
 nodes_meant program declarations = summed nodes_in declarations
 nodes_meant decl d = nodes_in d
+nodes_meant con c = 0
 nodes_meant param p = 0
 nodes_meant effect es = 0
 nodes_meant eff e = 0
@@ -35,6 +39,9 @@ nodes_meant expr t = written_nodes t
 nodes_meant block t = written_nodes t
 nodes_meant stmt s = statement_nodes s
 nodes_meant if_ t = written_nodes t
+nodes_meant match_ t = written_nodes t
+nodes_meant row r = row_nodes r
+nodes_meant pat p = pattern_nodes p
 nodes_meant or t = written_nodes t
 nodes_meant and t = written_nodes t
 nodes_meant cmp t = written_nodes t
@@ -128,6 +135,24 @@ function_nodes (inl (_, ((_, (given, _)), None))) body = refl
 function_nodes (inl (_, ((_, (given, _)), Some r))) body = refl
 function_nodes (inr (_, ((_, (given, _)), r))) body = refl
 
+-- rows, and the patterns of a constructor's fields
+rows_few : (rs : List WrittenRow) → rows_nodes (rows_of rs) ≡ summed row_nodes rs
+rows_few [] = refl
+rows_few (r ∷ rs) = omega (arith, rows_few rs)
+
+rows_behind : (more : PhraseValue (many (some_semicolons ▸ rule row))) → summed row_nodes (map (λ m. m.1) more) ≤ size (many (some_semicolons ▸ rule row)) more
+rows_behind [] = omega arith
+rows_behind (m ∷ more) = omega (arith, rows_behind more)
+
+patterns_few : (ps : List WrittenPattern) → patterns_nodes (patterns_of ps) ≡ summed pattern_nodes ps
+patterns_few [] = refl
+patterns_few (p ∷ ps) = omega (arith, patterns_few ps)
+
+parts_few : (given : PhraseValue parts) → patterns_nodes (patterns_of (parts_of given)) ≤ size parts given
+parts_few None = omega arith
+parts_few (Some (_, (None, _))) = omega arith
+parts_few (Some (_, (Some (first, more), _))) = omega (arith, patterns_few (map (λ m. m.1) more), behind_few pattern_nodes more)
+
 -- names with arguments
 arguments_few : (others : PhraseValue (optional (bracketed (rule args)))) → writtens_nodes (writtens_of (arguments_of others)) ≤ size (optional (bracketed (rule args))) others
 arguments_few None = omega arith
@@ -155,7 +180,9 @@ if_few condition positive ((next, (_, second)) ∷ more) last = omega (arith, if
 meant_few : (x : Nonterminal) (v : PhraseValue (production x)) → nodes_meant x (meaning x v) ≤ size (production x) v
 meant_few program (_, None) = omega arith
 meant_few program (_, Some (first, (more, _))) = omega (arith, declarations_few more)
-meant_few decl (_, (head, body)) = omega (arith, function_nodes head body)
+meant_few decl (inl (_, (name, (given, (_, (_, (first, (more, _)))))))) = omega arith
+meant_few decl (inr (_, (head, body))) = omega (arith, function_nodes head body)
+meant_few con v = omega arith
 meant_few param v = omega arith
 meant_few effect v = omega arith
 meant_few eff v = omega arith
@@ -163,11 +190,19 @@ meant_few type v = omega arith
 meant_few result_type v = omega arith
 meant_few expr (inl t) = omega arith
 meant_few expr (inr (inl t)) = omega arith
-meant_few expr (inr (inr t)) = omega arith
+meant_few expr (inr (inr (inl t))) = omega arith
+meant_few expr (inr (inr (inr t))) = omega arith
 meant_few block (_, (_, (ss, (last, _)))) = omega (arith, block_few ss last)
 meant_few stmt (inl (_, (binder, (_, value)))) = omega (arith, binder_few binder)
 meant_few stmt (inr value) = omega arith
 meant_few if_ (_, (condition, (_, (positive, (more, last))))) = omega (arith, if_few condition positive more last)
+meant_few match_ (_, (scrutinee, (_, (_, (first, (more, _)))))) = omega (arith, rows_few (map (λ m. m.1) more), rows_behind more)
+meant_few row (pattern, (_, body)) = omega arith
+meant_few pat (inl _) = omega arith
+meant_few pat (inr (inl name)) = omega arith
+meant_few pat (inr (inr (inl value))) = omega arith
+meant_few pat (inr (inr (inr (inl (name, given))))) = omega (arith, parts_few given)
+meant_few pat (inr (inr (inr (inr (_, (pattern, _)))))) = omega arith
 meant_few or (left, None) = omega arith
 meant_few or (left, Some (_, right)) = omega arith
 meant_few and (left, None) = omega arith
@@ -180,7 +215,7 @@ meant_few un (inl (operator, operand)) = omega (arith, unary_size operator)
 meant_few un (inr t) = omega arith
 meant_few post (first, more) = dotted_few first more
 meant_few atom (inl (name, arguments)) = omega (arith, named_few name arguments)
-meant_few atom (inr (inl name)) = omega arith
+meant_few atom (inr (inl (name, arguments))) = omega (arith, arguments_few arguments)
 meant_few atom (inr (inr (inl value))) = omega arith
 meant_few atom (inr (inr (inr (inl _)))) = omega arith
 meant_few atom (inr (inr (inr (inr (inl (_, (t, _))))))) = omega arith

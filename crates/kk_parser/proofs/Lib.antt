@@ -5,6 +5,7 @@ pub mod Begins
 pub mod Blocks
 pub mod Branches
 pub mod Complete
+pub mod Declarations
 pub mod EachList
 pub mod FewNodes
 pub mod Functional
@@ -16,6 +17,7 @@ pub mod OneOutcome
 pub mod Operators
 pub mod Passing
 pub mod ReadAtoms
+pub mod Rows
 pub mod Samples
 pub mod Semicolons
 pub mod Sound

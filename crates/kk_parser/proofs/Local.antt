@@ -5,7 +5,7 @@ use Rattle.kk_syntax.specs.declared.token.LocatedToken.{LocatedToken}
 use Rattle.kk_syntax.specs.declared.token.Symbol.TheVariants.{Dot}
 use Rattle.kk_parser.specs.Classes.{Class, symbol, string, class_of, is_one_of, is_at}
 use Rattle.kk_parser.specs.Kinds.{classes_of}
-use Rattle.kk_parser.specs.Phrases.{Nonterminal, program, decl, param, effect, eff, type, result_type, expr, block, stmt, if_, or, and, cmp, add, mul, un, post, atom, say, args, Phrase, ◌▸◌, either, many, optional, level, each, perhaps, quoted_or, PhraseValue}
+use Rattle.kk_parser.specs.Phrases.{Nonterminal, program, decl, con, param, effect, eff, type, result_type, expr, block, stmt, if_, match_, row, pat, or, and, cmp, add, mul, un, post, atom, say, args, Phrase, ◌▸◌, either, many, optional, level, each, perhaps, quoted_or, PhraseValue}
 use Rattle.kk_parser.specs.Forms.{form}
 use Rattle.kk_parser.specs.Reading.{is_quoted, Finds, finds_token, finds_opener, finds_both, finds_first, finds_second, finds_none, finds_more, finds_absence, finds_presence, finds_level, finds_rule, finds_no_more, finds_each, finds_nothing, finds_something, finds_quoted, finds_unquoted, Failure, unexpected, too_deep, ReadingFails, fails_token, fails_opener, fails_deep, fails_front, fails_behind, fails_first, fails_second, fails_one, fails_more, fails_presence, fails_level, fails_rule, fails_each_deep, fails_each, fails_each_more, fails_something, fails_quoted, fails_unquoted}
 use Rattle.kk_parser.proofs.Passing.{passes, at_string, takes_string, passes_string, fails_past_string}
@@ -53,6 +53,7 @@ settled _ = true
 settled-form : (x : Nonterminal) → settled (form x) ≡ true
 settled-form program = refl
 settled-form decl = refl
+settled-form con = refl
 settled-form param = refl
 settled-form effect = refl
 settled-form eff = refl
@@ -62,6 +63,9 @@ settled-form expr = refl
 settled-form block = refl
 settled-form stmt = refl
 settled-form if_ = refl
+settled-form match_ = refl
+settled-form row = refl
+settled-form pat = refl
 settled-form or = refl
 settled-form and = refl
 settled-form cmp = refl

@@ -6,7 +6,7 @@ use Rattle.kk_syntax.specs.declared.token.LocatedToken.{LocatedToken}
 use Rattle.kk_syntax.specs.declared.token.Symbol.TheVariants.{CloseParenthesis, Dot}
 use Rattle.kk_parser.specs.Classes.{Class, symbol, string, is_at}
 use Rattle.kk_parser.specs.Kinds.{Kind, Said, says, classes_of, symbol as symbol_kind}
-use Rattle.kk_parser.specs.Phrases.{Nonterminal, program, decl, param, effect, eff, type, result_type, expr, block, stmt, if_, or, and, cmp, add, mul, un, post, atom, say, args, Phrase, token, opener, ◌▸◌, either, many, optional, level, rule, each, perhaps, quoted_or, PhraseValue}
+use Rattle.kk_parser.specs.Phrases.{Nonterminal, program, decl, con, param, effect, eff, type, result_type, expr, block, stmt, if_, match_, row, pat, or, and, cmp, add, mul, un, post, atom, say, args, Phrase, token, opener, ◌▸◌, either, many, optional, level, rule, each, perhaps, quoted_or, PhraseValue}
 use Rattle.kk_parser.specs.Forms.{form, form_grammar}
 use Rattle.kk_parser.specs.Spells.{Marked, tokens_of, Spells, by_token, by_opener, by_both, by_first, by_second, by_none, by_more, by_absence, by_presence, by_level, by_rule, by_no_more, by_each, by_nothing, by_something, by_quoted, by_unquoted}
 use Rattle.kk_parser.specs.Reading.{first, nullable, behind, is_quoted, quoted}
@@ -49,6 +49,7 @@ speaks (quoted_or a) = false
 pub speaks-production : (x : Nonterminal) → speaks (form x) ≡ true
 speaks-production program = refl
 speaks-production decl = refl
+speaks-production con = refl
 speaks-production param = refl
 speaks-production effect = refl
 speaks-production eff = refl
@@ -58,6 +59,9 @@ speaks-production expr = refl
 speaks-production block = refl
 speaks-production stmt = refl
 speaks-production if_ = refl
+speaks-production match_ = refl
+speaks-production row = refl
+speaks-production pat = refl
 speaks-production or = refl
 speaks-production and = refl
 speaks-production cmp = refl
@@ -88,6 +92,7 @@ decided (quoted_or a) cs end = both (not (nullable a)) (both (speaks a) (decided
 pub decided-production : (x : Nonterminal) → decided (form x) (follow_of x) (end_of x) ≡ true
 decided-production program = refl
 decided-production decl = refl
+decided-production con = refl
 decided-production param = refl
 decided-production effect = refl
 decided-production eff = refl
@@ -97,6 +102,9 @@ decided-production expr = refl
 decided-production block = refl
 decided-production stmt = refl
 decided-production if_ = refl
+decided-production match_ = refl
+decided-production row = refl
+decided-production pat = refl
 decided-production or = refl
 decided-production and = refl
 decided-production cmp = refl

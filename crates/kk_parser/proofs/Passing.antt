@@ -5,7 +5,7 @@ use Rattle.std.proofs.lemmas.Bool.{and_parts, both_ways}
 use Rattle.kk_syntax.specs.declared.token.LocatedToken.{LocatedToken}
 use Rattle.kk_parser.specs.Classes.{Class, string, same_class, class_of, is_one_of, is_at}
 use Rattle.kk_parser.specs.Kinds.{classes_of}
-use Rattle.kk_parser.specs.Phrases.{Nonterminal, program, decl, param, effect, eff, type, result_type, expr, block, stmt, if_, or, and, cmp, add, mul, un, post, atom, say, args, Phrase, token, ◌▸◌, either, many, optional, level, rule, quoted_or, PhraseValue}
+use Rattle.kk_parser.specs.Phrases.{Nonterminal, program, decl, con, param, effect, eff, type, result_type, expr, block, stmt, if_, match_, row, pat, or, and, cmp, add, mul, un, post, atom, say, args, Phrase, token, ◌▸◌, either, many, optional, level, rule, quoted_or, PhraseValue}
 use Rattle.kk_parser.specs.Forms.{form}
 use Rattle.kk_parser.specs.Reading.{first, first_of, nullable, Finds, finds_token, finds_opener, finds_both, finds_first, finds_second, finds_none, finds_more, finds_absence, finds_presence, finds_level, finds_rule, finds_no_more, finds_each, finds_nothing, finds_something, finds_quoted, finds_unquoted, Failure, ReadingFails, fails_token, fails_opener, fails_deep, fails_front, fails_behind, fails_first, fails_second, fails_one, fails_more, fails_presence, fails_level, fails_rule, fails_each_deep, fails_each, fails_each_more, fails_something, fails_quoted, fails_unquoted}
 use Rattle.kk_parser.proofs.Apart.{same_class-one}
@@ -104,6 +104,7 @@ takes_string _ = false
 takes_string-form : (x : Nonterminal) → takes_string (form x) ≡ takes_string (rule x)
 takes_string-form program = refl
 takes_string-form decl = refl
+takes_string-form con = refl
 takes_string-form param = refl
 takes_string-form effect = refl
 takes_string-form eff = refl
@@ -113,6 +114,9 @@ takes_string-form expr = refl
 takes_string-form block = refl
 takes_string-form stmt = refl
 takes_string-form if_ = refl
+takes_string-form match_ = refl
+takes_string-form row = refl
+takes_string-form pat = refl
 takes_string-form or = refl
 takes_string-form and = refl
 takes_string-form cmp = refl

@@ -11,7 +11,7 @@ use Rattle.kk_syntax.specs.contracts.token.Keyword.{the_type as the_keywords}
 use Rattle.kk_syntax.specs.contracts.token.Symbol.{the_type as the_symbols}
 use Rattle.kk_parser.specs.Classes.{Class, keyword as keyword_class, print, println, main, total, div, exn, console, NameClass, word, type_variable, other, spelling_of, name_class, is_at}
 use Rattle.kk_parser.specs.Kinds.{Kind, keyword, symbol, name_in, constructor, wildcard, number, string, Said, says, classes_of}
-use Rattle.kk_parser.specs.Phrases.{Nonterminal, program, decl, param, effect, eff, type, result_type, expr, block, stmt, if_, or, and, cmp, add, mul, un, post, atom, say, args, Phrase, token, opener, ◌▸◌, either, many, optional, level, rule, each, perhaps, quoted_or, PhraseValue}
+use Rattle.kk_parser.specs.Phrases.{Nonterminal, program, decl, con, param, effect, eff, type, result_type, expr, block, stmt, if_, match_, row, pat, or, and, cmp, add, mul, un, post, atom, say, args, Phrase, token, opener, ◌▸◌, either, many, optional, level, rule, each, perhaps, quoted_or, PhraseValue}
 use Rattle.kk_parser.specs.Forms.{form, form_meaning, form_grammar}
 use Rattle.kk_parser.specs.Spells.{Marked, tokens_of, Spells, by_token, by_opener, by_both, by_first, by_second, by_none, by_absence, by_level, by_rule, by_no_more, by_nothing, by_unquoted}
 use Rattle.kk_parser.proofs.Apart.{is_at-one, same_name_class-self, apart, apart-is_at, within, within-is_at, not_at}
@@ -50,6 +50,7 @@ plain (quoted_or a) = plain a
 pub plain-form : (x : Nonterminal) → plain (form x) ≡ true
 plain-form program = refl
 plain-form decl = refl
+plain-form con = refl
 plain-form param = refl
 plain-form effect = refl
 plain-form eff = refl
@@ -59,6 +60,9 @@ plain-form expr = refl
 plain-form block = refl
 plain-form stmt = refl
 plain-form if_ = refl
+plain-form match_ = refl
+plain-form row = refl
+plain-form pat = refl
 plain-form or = refl
 plain-form and = refl
 plain-form cmp = refl
@@ -208,10 +212,19 @@ an_or : Sample (rule or)
 an_or = of_rule (of_both an_and of_absence)
 
 an_expr : Sample (rule expr)
-an_expr = of_rule (of_level (of_second (of_second an_or)))
+an_expr = of_rule (of_level (of_second (of_second (of_second an_or))))
 
 an_if : Sample (rule if_)
 an_if = of_rule (of_both (of_opener _ refl) (of_both an_or (of_both (of_token _ refl) (of_both an_expr (of_both (of_no_more _ refl) (of_nothing _ refl))))))
+
+a_pat : Sample (rule pat)
+a_pat = of_rule (of_level (of_first (of_token _ refl)))
+
+a_row : Sample (rule row)
+a_row = of_rule (of_both a_pat (of_both (of_token _ refl) an_expr))
+
+a_match : Sample (rule match_)
+a_match = of_rule (of_both (of_token _ refl) (of_both an_or (of_both (of_opener _ refl) (of_both (of_both of_none (of_both a_row of_none)) (of_token _ refl)))))
 
 a_stmt : Sample (rule stmt)
 a_stmt = of_rule (of_second an_expr)
@@ -241,7 +254,10 @@ a_param : Sample (rule param)
 a_param = of_rule (of_both (of_token _ refl) (of_both (of_token _ refl) a_type))
 
 a_decl : Sample (rule decl)
-a_decl = of_rule (of_level (of_both (of_token _ refl) (of_both (of_first (of_both (of_token _ refl) (of_both (of_both (of_opener _ refl) (of_both of_absence (of_token _ refl))) of_absence))) an_expr)))
+a_decl = of_rule (of_level (of_second (of_both (of_token _ refl) (of_both (of_first (of_both (of_token _ refl) (of_both (of_both (of_opener _ refl) (of_both of_absence (of_token _ refl))) of_absence))) an_expr))))
+
+a_con : Sample (rule con)
+a_con = of_rule (of_level (of_both (of_token _ refl) of_absence))
 
 a_program : Sample (rule program)
 a_program = of_rule (of_both of_none of_absence)
@@ -249,6 +265,7 @@ a_program = of_rule (of_both of_none of_absence)
 of_nonterminal : (x : Nonterminal) → Sample (rule x)
 of_nonterminal program = a_program
 of_nonterminal decl = a_decl
+of_nonterminal con = a_con
 of_nonterminal param = a_param
 of_nonterminal effect = an_effect
 of_nonterminal eff = an_eff
@@ -258,6 +275,9 @@ of_nonterminal expr = an_expr
 of_nonterminal block = a_block
 of_nonterminal stmt = a_stmt
 of_nonterminal if_ = an_if
+of_nonterminal match_ = a_match
+of_nonterminal row = a_row
+of_nonterminal pat = a_pat
 of_nonterminal or = an_or
 of_nonterminal and = an_and
 of_nonterminal cmp = a_cmp

@@ -259,3 +259,8 @@ continues_to p q says start here next d e c = record {
 pub reads_as_on : {A : Type 0} {p q : Phrase} {says : PhraseValue q → PhraseValue p} {start here : Parser} → Continues p q says start here → (view : A → PhraseValue p) (means : PhraseValue q → PhraseValue p) (r : Result A Fault) (next : Parser) → ((v : PhraseValue q) → says v ≡ means v) → ReadsAs q means view r here next → ReadsPhrase p view r start next
 reads_as_on {p = p} {start = start} c view means (Ok x) next e r = subst (λ v. Read p v start next) (e r.0 ∙ r.1) (c.found r.0 next.depth next.rest.now r.2)
 reads_as_on {p = p} {q = q} {start = start} {here = here} c view means (Err e) next d r = passed_on p q start here next c.failed e r
+
+-- a part of a phrase was read for what the phrase means, or failed
+pub reads_as_within : {A B : Type 0} {p q : Phrase} {says : PhraseValue q → PhraseValue p} {start here : Parser} → Continues p q says start here → (means : PhraseValue p → B) (part : PhraseValue q → B) (view : A → B) (r : Result A Fault) (next : Parser) → ((v : PhraseValue q) → means (says v) ≡ part v) → ReadsAs q part view r here next → ReadsAs p means view r start next
+reads_as_within {says = says} c means part view (Ok x) next e r = (says r.0, e r.0 ∙ r.1, c.found r.0 next.depth next.rest.now r.2)
+reads_as_within {p = p} {q = q} {start = start} {here = here} c means part view (Err y) next e r = passed_on p q start here next c.failed y r

@@ -1,9 +1,10 @@
 -- The grammar of programs: the right side of each production, and what a text of it means.
 use Rattle.std.specs.Prelude.{ℕ, List, [], ◌∷◌, Option, Some, None}
 use Rattle.std.proofs.Common.{inl, inr}
-use Rattle.kk_syntax.specs.Surface.{Written, number as number_written, unit, variable, call, dot_call, construct, unary, binary, both, either as either_written, print_text, branch, branch_alone, no_written, writtens_of, block_of, WrittenType, unit_type, named, no_type, WrittenDeclaration, function_declaration}
-use Rattle.kk_syntax.specs.declared.token.Keyword.TheVariants.{Fun, Val, If, Then, Elif, Else}
-use Rattle.kk_syntax.specs.declared.token.Symbol.TheVariants.{OpenParenthesis, CloseParenthesis, OpenBrace, CloseBrace, Comma, Semicolon, Colon, Dot, Equals, Plus, Minus, Star, Slash, Percent, EqualEqual, NotEqual, Less, LessEqual, Greater, GreaterEqual, AndAnd, OrOr, Exclamation, Tilde}
+use Rattle.kk_syntax.specs.Surface.{Written, number as number_written, unit, variable, call, dot_call, construct, unary, binary, both, either as either_written, print_text, branch, branch_alone, writtens_of, block_of, match as match_written, rows_of, WrittenPattern, anything, pattern_variable, exactly, constructor as constructor_pattern, patterns_of, WrittenType, unit_type, type_variable, named, types_of, WrittenDeclaration, WrittenParameter, type_declaration, function_declaration}
+use Rattle.kk_syntax.specs.declared.token.Keyword.TheVariants.{Fun, Val, Match, If, Then, Elif, Else}
+use Rattle.kk_syntax.specs.declared.token.Keyword.TheVariants as Keyword
+use Rattle.kk_syntax.specs.declared.token.Symbol.TheVariants.{OpenParenthesis, CloseParenthesis, OpenBrace, CloseBrace, Comma, Semicolon, Colon, Dot, Equals, Arrow, Plus, Minus, Star, Slash, Percent, EqualEqual, NotEqual, Less, LessEqual, Greater, GreaterEqual, AndAnd, OrOr, Exclamation, Tilde}
 use Rattle.kk_syntax.specs.declared.operator.BinaryOperator.{BinaryOperator}
 use Rattle.kk_syntax.specs.declared.operator.BinaryOperator.TheVariants as Operator
 use Rattle.kk_syntax.specs.declared.operator.UnaryOperator.{UnaryOperator}
@@ -16,8 +17,8 @@ use Rattle.kk_syntax.specs.declared.tree.Effect.TheVariants.{Total, Div, Exn, Co
 use Rattle.kk_syntax.specs.declared.tree.SurfaceBinder.{SurfaceBinder}
 use Rattle.kk_syntax.specs.declared.tree.SurfaceBinder.TheVariants as Binder
 use Rattle.kk_parser.specs.Classes.{word, print as print_name, println as println_name, main as main_name, total as total_name, div as div_name, exn as exn_name, console as console_name}
-use Rattle.kk_parser.specs.Kinds.{keyword, symbol, name_in, name, name_but_main, type_name, type_name_but_effect, constructor, wildcard, number, string}
-use Rattle.kk_parser.specs.Phrases.{Nonterminal, program, decl, param, effect, eff, type, result_type, expr, block, stmt, if_, or, and, cmp, add, mul, un, post, atom, say, args, Meant, Phrase, token, opener, ◌▸◌, either, many, optional, level, rule, each, perhaps, PhraseValue, Grammar}
+use Rattle.kk_parser.specs.Kinds.{keyword, symbol, name_in, name, name_but_main, type_variable_name, type_name, type_name_but_effect, constructor, wildcard, number, string}
+use Rattle.kk_parser.specs.Phrases.{Nonterminal, program, decl, con, param, effect, eff, type, result_type, expr, block, stmt, if_, match_, row, pat, or, and, cmp, add, mul, un, post, atom, say, args, Meant, Phrase, token, opener, ◌▸◌, either, many, optional, level, rule, each, perhaps, PhraseValue, Grammar}
 
 -- ";"* and ";"+
 abbrev pub semicolons : Phrase
@@ -26,9 +27,12 @@ semicolons = many (token (symbol Semicolon))
 abbrev pub some_semicolons : Phrase
 some_semicolons = token (symbol Semicolon) ▸ semicolons
 
--- phrases with commas between them, or none
+-- phrases with commas between them, at least one; and these or none
+abbrev pub some_listed : Phrase → Phrase
+some_listed a = a ▸ many (token (symbol Comma) ▸ a)
+
 abbrev pub listed : Phrase → Phrase
-listed a = optional (a ▸ many (token (symbol Comma) ▸ a))
+listed a = optional (some_listed a)
 
 -- "(", which opens a level; a phrase in round brackets; and these alone
 abbrev pub bracket : Phrase
@@ -61,38 +65,70 @@ unary_operator = either (opener (symbol Exclamation)) (opener (symbol Tilde))
 abbrev pub parameters : Phrase
 parameters = bracketed (listed (rule param))
 
+-- "<" tvar { "," tvar } ">"
+abbrev pub type_parameters : Phrase
+type_parameters = token (symbol Less) ▸ some_listed (token type_variable_name) ▸ token (symbol Greater)
+
+-- [ "(" param { "," param } ")" ]
+abbrev pub fields : Phrase
+fields = optional (bracketed (some_listed (rule param)))
+
 -- ":" [ effect ] type, where one of the four effect words is always the effect
 abbrev pub result : Phrase
 result = token (symbol Colon) ▸ either (rule effect ▸ rule type) (rule result_type)
+
+-- "<" type { "," type } ">": it opens a level
+abbrev pub type_arguments : Phrase
+type_arguments = opener (symbol Less) ▸ some_listed (rule type) ▸ token (symbol Greater)
 
 -- name | wildcard
 abbrev pub binder : Phrase
 binder = either (token name) (token wildcard)
 
+-- "type" tname [ type_parameters ] "{" ;* con { ;+ con } ;* "}"
+abbrev pub declared_type : Phrase
+declared_type = token (keyword Keyword.Type) ▸ token type_name ▸ optional type_parameters ▸ opener (symbol OpenBrace) ▸ semicolons ▸ rule con ▸ many (some_semicolons ▸ rule con) ▸ semicolons ▸ token (symbol CloseBrace)
+
+-- "fun" name parameters [ result ] expr; the result may be missing for `main` alone
+abbrev pub declared_function : Phrase
+declared_function = token (keyword Fun) ▸ either (token (name_in (word main_name ∷ [])) ▸ parameters ▸ optional result) (token name_but_main ▸ parameters ▸ result) ▸ rule expr
+
+-- [ "(" [ pat { "," pat } ] ")" ]
+abbrev pub parts : Phrase
+parts = optional (bracketed (listed (rule pat)))
+
 -- the right side of a production
 abbrev pub production : Nonterminal → Phrase
 -- program = ;* [ decl { ;+ decl } ;* ]
 production program = semicolons ▸ optional (rule decl ▸ many (some_semicolons ▸ rule decl) ▸ semicolons)
--- decl = "fun" name "(" [ param { "," param } ] ")" [ ":" [ effect ] type ] expr; the result may be missing for `main` alone
-production decl = level (token (keyword Fun) ▸ either (token (name_in (word main_name ∷ [])) ▸ parameters ▸ optional result) (token name_but_main ▸ parameters ▸ result) ▸ rule expr)
+-- decl = declared_type | declared_function
+production decl = level (either declared_type declared_function)
+-- con = Con [ "(" param { "," param } ")" ]
+production con = level (token constructor ▸ fields)
 -- param = name ":" type
 production param = token name ▸ token (symbol Colon) ▸ rule type
 -- effect = eff | "<" [ eff { "," eff } ] ">"
 production effect = either (rule eff) (token (symbol Less) ▸ listed (rule eff) ▸ token (symbol Greater))
 -- eff = "total" | "div" | "exn" | "console"
 production eff = either (token (name_in (word total_name ∷ []))) (either (token (name_in (word div_name ∷ []))) (either (token (name_in (word exn_name ∷ []))) (token (name_in (word console_name ∷ [])))))
--- type = tname | "(" ")" | "(" type ")"
-production type = level (either (token type_name) (either no_arguments (bracketed (rule type))))
+-- type = tvar | tname [ "<" type { "," type } ">" ] | "(" ")" | "(" type ")"
+production type = level (either (token type_variable_name) (either (token type_name ▸ optional type_arguments) (either no_arguments (bracketed (rule type)))))
 -- result_type = type that begins with no effect word
-production result_type = level (either (token type_name_but_effect) (either no_arguments (bracketed (rule type))))
--- expr = block | if | or
-production expr = level (either (rule block) (either (rule if_) (rule or)))
+production result_type = level (either (token type_variable_name) (either (token type_name_but_effect ▸ optional type_arguments) (either no_arguments (bracketed (rule type)))))
+-- expr = block | if | match | or
+production expr = level (either (rule block) (either (rule if_) (either (rule match_) (rule or))))
 -- block = "{" ;* { stmt ;+ } expr ;* "}"
 production block = opener (symbol OpenBrace) ▸ semicolons ▸ many (rule stmt ▸ some_semicolons) ▸ rule expr ▸ semicolons ▸ token (symbol CloseBrace)
 -- stmt = "val" ( name | wildcard ) "=" expr | expr
 production stmt = either (token (keyword Val) ▸ binder ▸ token (symbol Equals) ▸ rule expr) (rule expr)
 -- if = "if" or "then" expr { "elif" or "then" expr } [ "else" expr ]
 production if_ = opener (keyword If) ▸ rule or ▸ token (keyword Then) ▸ rule expr ▸ each (keyword Elif) (rule or ▸ token (keyword Then) ▸ rule expr) ▸ perhaps (keyword Else) (rule expr)
+-- match = "match" or "{" ;* row { ;+ row } ;* "}"
+production match_ = token (keyword Match) ▸ rule or ▸ opener (symbol OpenBrace) ▸ semicolons ▸ rule row ▸ many (some_semicolons ▸ rule row) ▸ semicolons ▸ token (symbol CloseBrace)
+-- row = pat "->" expr
+production row = rule pat ▸ token (symbol Arrow) ▸ rule expr
+-- pat = wildcard | name | number | Con [ "(" [ pat { "," pat } ] ")" ] | "(" pat ")"
+production pat = level (either (token wildcard) (either (token name) (either (token number) (either (token constructor ▸ parts) (bracketed (rule pat))))))
 -- or = and [ "||" or ]
 production or = rule and ▸ optional (opener (symbol OrOr) ▸ rule or)
 -- and = cmp [ "&&" and ]
@@ -107,8 +143,8 @@ production mul = rule un ▸ many (product_operator ▸ rule un)
 production un = either (unary_operator ▸ rule un) (rule post)
 -- post = atom { "." name [ "(" args ")" ] }
 production post = rule atom ▸ many (opener (symbol Dot) ▸ token name ▸ optional (bracketed (rule args)))
--- atom = name [ "(" args ")" ] | Con | number | "(" ")" | "(" expr ")" | say
-production atom = either (token name ▸ optional (bracketed (rule args))) (either (token constructor) (either (token number) (either no_arguments (either (bracketed (rule expr)) (rule say)))))
+-- atom = name [ "(" args ")" ] | Con [ "(" args ")" ] | number | "(" ")" | "(" expr ")" | say
+production atom = either (token name ▸ optional (bracketed (rule args))) (either (token constructor ▸ optional (bracketed (rule args))) (either (token number) (either no_arguments (either (bracketed (rule expr)) (rule say)))))
 -- say = ( "print" | "println" ) "(" string ")" | string "." ( "print" | "println" ) [ "(" ")" ]
 production say = either (print_word ▸ bracketed (token string)) (token string ▸ opener (symbol Dot) ▸ print_word ▸ optional no_arguments)
 -- args = [ expr { "," expr } ]
@@ -146,6 +182,9 @@ to_left operator left [] = left
 to_left operator left ((a, right) ∷ more) = to_left operator (binary (operator a) left right) more
 
 -- what stands in a list with commas
+abbrev pub some_listed_of : {A : Type 0} → A × List (Unit {0} × A) → List A
+some_listed_of (first, more) = first ∷ Rattle.std.specs.Prelude.map (λ m. m.1) more
+
 abbrev pub listed_of : {A : Type 0} → Option (A × List (Unit {0} × A)) → List A
 listed_of None = []
 listed_of (Some (first, more)) = first ∷ Rattle.std.specs.Prelude.map (λ m. m.1) more
@@ -189,13 +228,32 @@ abbrev pub type_of : PhraseValue (either (rule effect ▸ rule type) (rule resul
 type_of (inl (_, t)) = t
 type_of (inr t) = t
 
+-- the type variables and the fields of a declared type
+abbrev pub type_parameters_of : PhraseValue (optional type_parameters) → List Identifier
+type_parameters_of None = []
+type_parameters_of (Some (_, (names, _))) = some_listed_of names
+
+abbrev pub fields_of : PhraseValue fields → List WrittenParameter
+fields_of None = []
+fields_of (Some (_, (given, _))) = some_listed_of given
+
+-- the patterns of a constructor's fields
+abbrev pub parts_of : PhraseValue parts → List WrittenPattern
+parts_of None = []
+parts_of (Some (_, (given, _))) = listed_of given
+
 -- the declaration of a function: what stands between `fun` and its body, and the body
 abbrev pub function_of : PhraseValue (either (token (name_in (word main_name ∷ [])) ▸ parameters ▸ optional result) (token name_but_main ▸ parameters ▸ result)) → Written → WrittenDeclaration
 function_of (inl (name, ((_, (given, _)), None))) body = function_declaration name (listed_of given) [] None body
 function_of (inl (name, ((_, (given, _)), Some (_, result)))) body = function_declaration name (listed_of given) (effects_of result) (Some (type_of result)) body
 function_of (inr (name, ((_, (given, _)), (_, result)))) body = function_declaration name (listed_of given) (effects_of result) (Some (type_of result)) body
 
--- the type of a name, or one in brackets
+-- the arguments of a type, or none
+abbrev pub type_arguments_of : PhraseValue (optional type_arguments) → List WrittenType
+type_arguments_of None = []
+type_arguments_of (Some (_, (types, _))) = some_listed_of types
+
+-- `()`, or a type in brackets
 abbrev pub bracketed_type : PhraseValue (either no_arguments (bracketed (rule type))) → WrittenType
 bracketed_type (inl _) = unit_type
 bracketed_type (inr (_, (t, _))) = t
@@ -204,7 +262,9 @@ bracketed_type (inr (_, (t, _))) = t
 abbrev pub meaning : (x : Nonterminal) → PhraseValue (production x) → Meant x
 meaning program (_, None) = []
 meaning program (_, Some (first, (more, _))) = first ∷ Rattle.std.specs.Prelude.map (λ m. m.1) more
-meaning decl (_, (head, body)) = function_of head body
+meaning decl (inl (_, (name, (given, (_, (_, (first, (more, _)))))))) = type_declaration name (type_parameters_of given) (first ∷ Rattle.std.specs.Prelude.map (λ m. m.1) more)
+meaning decl (inr (_, (head, body))) = function_of head body
+meaning con (name, given) = record { name = name; fields = fields_of given }
 meaning param (name, (_, t)) = record { name = name; of_type = t }
 meaning effect (inl e) = e ∷ []
 meaning effect (inr (_, (es, _))) = listed_of es
@@ -212,17 +272,27 @@ meaning eff (inl _) = Total
 meaning eff (inr (inl _)) = Div
 meaning eff (inr (inr (inl _))) = Exn
 meaning eff (inr (inr (inr _))) = Console
-meaning type (inl name) = named name no_type
-meaning type (inr t) = bracketed_type t
-meaning result_type (inl name) = named name no_type
-meaning result_type (inr t) = bracketed_type t
+meaning type (inl name) = type_variable name
+meaning type (inr (inl (name, arguments))) = named name (types_of (type_arguments_of arguments))
+meaning type (inr (inr t)) = bracketed_type t
+meaning result_type (inl name) = type_variable name
+meaning result_type (inr (inl (name, arguments))) = named name (types_of (type_arguments_of arguments))
+meaning result_type (inr (inr t)) = bracketed_type t
 meaning expr (inl t) = t
 meaning expr (inr (inl t)) = t
-meaning expr (inr (inr t)) = t
+meaning expr (inr (inr (inl t))) = t
+meaning expr (inr (inr (inr t))) = t
 meaning block (_, (_, (statements, (last, _)))) = block_of (Rattle.std.specs.Prelude.map (λ s. s.0) statements) last
 meaning stmt (inl (_, (binder, (_, value)))) = record { binder = binder_of binder; value = value }
 meaning stmt (inr value) = record { binder = Binder.Nothing; value = value }
 meaning if_ (_, (condition, (_, (positive, (more, last))))) = if_of condition positive more last
+meaning match_ (_, (scrutinee, (_, (_, (first, (more, _)))))) = match_written scrutinee (rows_of (first ∷ Rattle.std.specs.Prelude.map (λ m. m.1) more))
+meaning row (pattern, (_, body)) = record { pattern = pattern; body = body }
+meaning pat (inl _) = anything
+meaning pat (inr (inl name)) = pattern_variable name
+meaning pat (inr (inr (inl value))) = exactly value
+meaning pat (inr (inr (inr (inl (name, given))))) = constructor_pattern name (patterns_of (parts_of given))
+meaning pat (inr (inr (inr (inr (_, (pattern, _)))))) = pattern
 meaning or (left, None) = left
 meaning or (left, Some (_, right)) = either_written left right
 meaning and (left, None) = left
@@ -235,7 +305,7 @@ meaning un (inl (operator, operand)) = unary (unary_operator_of operator) operan
 meaning un (inr t) = t
 meaning post (first, more) = dotted first more
 meaning atom (inl (name, arguments)) = named_of name arguments
-meaning atom (inr (inl name)) = construct name no_written
+meaning atom (inr (inl (name, arguments))) = construct name (writtens_of (arguments_of arguments))
 meaning atom (inr (inr (inl value))) = number_written value
 meaning atom (inr (inr (inr (inl _)))) = unit
 meaning atom (inr (inr (inr (inr (inl (_, (t, _))))))) = t

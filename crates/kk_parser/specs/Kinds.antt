@@ -21,8 +21,8 @@ pub data Kind : Type 0 where
   number : Kind
   string : Kind
 
--- the names; those that are no print; those but `main`; the names of types, which are no type variables; and those of
--- them that are no effect
+-- the names; those that are no print; those but `main`; those of type variables; the names of types, which are no type
+-- variables; and those of them that are no effect
 abbrev pub effect_words : List NameClass
 effect_words = word total ∷ word div ∷ word exn ∷ word console ∷ []
 
@@ -40,6 +40,9 @@ name_but_print = name_in (word main ∷ word total ∷ word div ∷ word exn ∷
 
 abbrev pub name_but_main : Kind
 name_but_main = name_in (word print ∷ word println ∷ word total ∷ word div ∷ word exn ∷ word console ∷ type_variable ∷ other ∷ [])
+
+abbrev pub type_variable_name : Kind
+type_variable_name = name_in (type_variable ∷ [])
 
 abbrev pub type_name : Kind
 type_name = name_in (word print ∷ word println ∷ word main ∷ word total ∷ word div ∷ word exn ∷ word console ∷ other ∷ [])

@@ -1,17 +1,17 @@
 -- What the methods of the parser promise: which phrase they read.
-use Rattle.std.specs.Prelude.{◌≡◌, ℕ, ◌+◌, ◌<◌, ◌≤◌, List, ◌++◌, Option, Some, None, Result, Ok, Err, true, false}
+use Rattle.std.specs.Prelude.{◌≡◌, ℕ, ◌+◌, ◌<◌, ◌≤◌, List, [], ◌∷◌, ◌++◌, Option, Some, None, Result, Ok, Err, true, false}
 use Rattle.std.specs.Global.{Box}
 use Rattle.kk_base.specs.declared.span.Span.{Span}
 use Rattle.kk_base.specs.declared.error.ParseError.{ParseError}
 use Rattle.kk_base.specs.declared.error.ParseError.TheVariants as OfError
 use Rattle.kk_syntax.specs.declared.tree.SurfaceExpr.{SurfaceExpr}
-use Rattle.kk_syntax.specs.Surface.{WrittenStatement}
+use Rattle.kk_syntax.specs.Surface.{WrittenRow, WrittenStatement}
 use Rattle.kk_parser.specs.Forms.{items, bindings_of}
 use Rattle.kk_parser.specs.declared.fault.Fault.{Fault}
 use Rattle.kk_parser.specs.declared.fault.Fault.TheVariants.{Unexpected, TooDeep, NoMemory}
 use Rattle.kk_parser.specs.declared.parser.Parser.{Parser}
 use Rattle.kk_parser.specs.Classes.{is_at}
-use Rattle.kk_parser.specs.Phrases.{Phrase, PhraseValue}
+use Rattle.kk_parser.specs.Phrases.{Phrase, PhraseValue, rule, row}
 use Rattle.kk_parser.specs.Views.{boxed_expr}
 pub use Rattle.kk_parser.specs.Reading.{behind}
 use Rattle.kk_parser.specs.Reading.{first, Finds, ReadingFails, unexpected, too_deep}
@@ -51,6 +51,11 @@ ReadsAs p means view (Err fault) old new = FailedBy fault p old new
 abbrev pub ReadsItems : List WrittenStatement → List WrittenStatement → Result (Box SurfaceExpr) Fault → Parser → Parser → Type 0
 ReadsItems before after (Ok value) old new = (v : PhraseValue items) × (after ≡ before ++ bindings_of v.0) × (v.1 ≡ boxed_expr value) × Read items v old new
 ReadsItems before after (Err fault) old new = FailedBy fault items old new
+
+-- a method read a row, and put it behind others
+abbrev pub ReadsRow : List WrittenRow → List WrittenRow → Result (Unit {0}) Fault → Parser → Parser → Type 0
+ReadsRow before after (Ok _) old new = (v : WrittenRow) × (after ≡ before ++ v ∷ []) × Read (rule row) v old new
+ReadsRow before after (Err fault) old new = FailedBy fault (rule row) old new
 
 -- a method read a phrase where the next token may begin one, and else nothing
 abbrev pub ReadsIfNext : {A : Type 0} (p : Phrase) → (PhraseValue p → A) → Result (Option A) Fault → Parser → Parser → Type 0

@@ -1,23 +1,26 @@
 -- The phrases of which the right sides of productions are made, as in extended Backus-Naur form.
 use Rattle.std.specs.Prelude.{List, Option, ◌⊎◌}
 use Rattle.kk_syntax.specs.declared.tree.Effect.{Effect}
-use Rattle.kk_syntax.specs.Surface.{Written, WrittenDeclaration, WrittenParameter, WrittenStatement, WrittenType}
+use Rattle.kk_syntax.specs.Surface.{Written, WrittenConstructor, WrittenDeclaration, WrittenParameter, WrittenPattern, WrittenRow, WrittenStatement, WrittenType}
 use Rattle.kk_parser.specs.Kinds.{Kind, Said}
 
 -- the names on the left sides of productions
 pub data Nonterminal : Type 0 where
-  program decl param effect eff type result_type expr block stmt if_ or and cmp add mul un post atom say args : Nonterminal
+  program decl con param effect eff type result_type expr block stmt if_ match_ row pat or and cmp add mul un post atom say args : Nonterminal
 
 -- what the text of a nonterminal means
 abbrev pub Meant : Nonterminal → Type 0
 Meant program = List WrittenDeclaration
 Meant decl = WrittenDeclaration
+Meant con = WrittenConstructor
 Meant param = WrittenParameter
 Meant effect = List Effect
 Meant eff = Effect
 Meant type = WrittenType
 Meant result_type = WrittenType
 Meant stmt = WrittenStatement
+Meant row = WrittenRow
+Meant pat = WrittenPattern
 Meant args = List Written
 Meant _ = Written
 

@@ -3,11 +3,12 @@
 use Rattle.std.specs.Prelude.{◌≡◌, ℕ, ◌+◌, ◌<◌, ◌≤◌, List, [], ◌∷◌, ◌++◌, Some, None, Bool, true, false, not, ◌&&◌, if◌then◌else◌}
 use Rattle.std.proofs.Common.{inl, inr}
 use Rattle.kk_syntax.specs.declared.token.LocatedToken.{LocatedToken}
-use Rattle.kk_syntax.specs.declared.token.Keyword.TheVariants.{Fun, Val, If}
+use Rattle.kk_syntax.specs.declared.token.Keyword.TheVariants.{Fun, Val, If, Match}
+use Rattle.kk_syntax.specs.declared.token.Keyword.TheVariants as Keyword
 use Rattle.kk_syntax.specs.declared.token.Symbol.TheVariants.{OpenParenthesis, CloseParenthesis, OpenBrace, Semicolon, Dot, Less, Exclamation, Tilde}
-use Rattle.kk_parser.specs.Classes.{Class, keyword as keyword_class, symbol as symbol_class, number as number_class, string as string_class, constructor as constructor_class, is_at}
-use Rattle.kk_parser.specs.Kinds.{Kind, Said, says, classes_of, symbol, name, type_name, type_name_but_effect, string, effect_words, print_words, name_in}
-use Rattle.kk_parser.specs.Phrases.{Nonterminal, program, decl, param, effect, eff, type, result_type, expr, block, stmt, if_, post, atom, say, args, Phrase, token, opener, ◌▸◌, either, many, optional, level, rule, each, perhaps, quoted_or, PhraseValue}
+use Rattle.kk_parser.specs.Classes.{Class, keyword as keyword_class, symbol as symbol_class, number as number_class, string as string_class, constructor as constructor_class, wildcard as wildcard_class, is_at}
+use Rattle.kk_parser.specs.Kinds.{Kind, Said, says, classes_of, symbol, name, type_variable_name, type_name, type_name_but_effect, string, effect_words, print_words, name_in}
+use Rattle.kk_parser.specs.Phrases.{Nonterminal, program, decl, con, param, effect, eff, type, result_type, expr, block, stmt, if_, match_, row, pat, post, atom, say, args, Phrase, token, opener, ◌▸◌, either, many, optional, level, rule, each, perhaps, quoted_or, PhraseValue}
 use Rattle.kk_parser.specs.Forms.{form, form_meaning}
 
 -- the tokens behind the next one
@@ -29,20 +30,28 @@ abbrev pub operand_first : List Class
 operand_first = symbol_class Exclamation ∷ symbol_class Tilde ∷ atom_first
 
 abbrev pub expr_first : List Class
-expr_first = symbol_class OpenBrace ∷ keyword_class If ∷ operand_first
+expr_first = symbol_class OpenBrace ∷ keyword_class If ∷ keyword_class Match ∷ operand_first
+
+-- and a pattern
+abbrev pub pattern_first : List Class
+pattern_first = wildcard_class ∷ classes_of name ++ number_class ∷ constructor_class ∷ symbol_class OpenParenthesis ∷ []
 
 -- the classes of token with which a text of a nonterminal begins
 abbrev pub first_of : Nonterminal → List Class
-first_of program = symbol_class Semicolon ∷ keyword_class Fun ∷ []
-first_of decl = keyword_class Fun ∷ []
+first_of program = symbol_class Semicolon ∷ keyword_class Keyword.Type ∷ keyword_class Fun ∷ []
+first_of decl = keyword_class Keyword.Type ∷ keyword_class Fun ∷ []
+first_of con = constructor_class ∷ []
 first_of param = classes_of name
 first_of effect = classes_of (name_in effect_words) ++ symbol_class Less ∷ []
 first_of eff = classes_of (name_in effect_words)
-first_of type = classes_of type_name ++ symbol_class OpenParenthesis ∷ []
-first_of result_type = classes_of type_name_but_effect ++ symbol_class OpenParenthesis ∷ []
+first_of type = classes_of type_variable_name ++ classes_of type_name ++ symbol_class OpenParenthesis ∷ []
+first_of result_type = classes_of type_variable_name ++ classes_of type_name_but_effect ++ symbol_class OpenParenthesis ∷ []
 first_of block = symbol_class OpenBrace ∷ []
 first_of stmt = keyword_class Val ∷ expr_first
 first_of if_ = keyword_class If ∷ []
+first_of match_ = keyword_class Match ∷ []
+first_of row = pattern_first
+first_of pat = pattern_first
 first_of atom = atom_first
 first_of post = atom_first
 first_of say = classes_of (name_in print_words) ++ string_class ∷ []

@@ -6,8 +6,9 @@ use Rattle.kk_syntax.specs.declared.tree.Effect.TheVariants.{Total, Div, Exn, Co
 use Rattle.kk_syntax.specs.declared.tree.Declaration.{Declaration}
 use Rattle.kk_syntax.specs.declared.tree.SurfaceBinder.{SurfaceBinder}
 use Rattle.kk_syntax.specs.declared.tree.SurfaceExpr.{SurfaceExpr}
+use Rattle.kk_syntax.specs.declared.tree.SurfacePattern.{SurfacePattern}
 use Rattle.kk_syntax.specs.declared.tree.SurfaceType.{SurfaceType}
-use Rattle.kk_syntax.specs.Surface.{Written, WrittenDeclaration, WrittenStatement, function_declaration, WrittenType, written_declaration, written_expr, written_parameter, written_result, written_type}
+use Rattle.kk_syntax.specs.Surface.{Written, WrittenDeclaration, WrittenPattern, WrittenStatement, written_pattern, function_declaration, WrittenType, written_declaration, written_expr, written_parameter, written_result, written_type}
 use Rattle.kk_parser.specs.declared.name.Names.{Names}
 use Rattle.kk_parser.specs.declared.name.Names.TheVariants as OfNames
 use Rattle.kk_parser.specs.declared.name.NameClass.{NameClass as CodeClass}
@@ -15,7 +16,7 @@ use Rattle.kk_parser.specs.declared.name.NameClass.TheVariants as OfClass
 use Rattle.kk_parser.specs.declared.program.Head.{Head}
 use Rattle.kk_parser.specs.Forms.{WrittenHead}
 use Rattle.kk_parser.specs.Classes.{Class, name as name_of_class, NameClass, word, type_variable, other, print, println, main, total, div, exn, console}
-use Rattle.kk_parser.specs.Kinds.{Kind, name_in, names_of, print_words, name, name_but_print, name_but_main, type_name, type_name_but_effect}
+use Rattle.kk_parser.specs.Kinds.{Kind, name_in, names_of, print_words, name, name_but_print, name_but_main, type_variable_name, type_name, type_name_but_effect}
 
 abbrev pub class_view : CodeClass → NameClass
 class_view OfClass.Print = word print
@@ -39,6 +40,7 @@ classes_in OfNames.Prints = print_words
 classes_in OfNames.ButPrints = names_of name_but_print
 classes_in OfNames.Main = word main ∷ []
 classes_in OfNames.ButMain = names_of name_but_main
+classes_in OfNames.TypeVariables = names_of type_variable_name
 classes_in OfNames.OfTypes = names_of type_name
 classes_in OfNames.OfTypesButEffects = names_of type_name_but_effect
 
@@ -48,6 +50,10 @@ kind_of names = name_in (classes_in names)
 -- what an expression in a box stands for
 abbrev pub boxed_expr : Box SurfaceExpr → Written
 boxed_expr e = written_expr e.value
+
+-- what a pattern in a box stands for
+abbrev pub boxed_pattern : Box SurfacePattern → WrittenPattern
+boxed_pattern p = written_pattern p.value
 
 -- what arguments in brackets stand for
 abbrev pub arguments_view : Option (Vec SurfaceExpr) → Option (List Written)

@@ -1,9 +1,9 @@
 ghost use Rattle.std.specs.Prelude.{◌≡◌, ◌+◌, ◌≤◌, [], ◌∷◌, map, length, IfOk, OnOk};
-ghost use Rattle.kk_syntax.specs.Surface.{written_expr, unit as OfUnit};
+ghost use Rattle.kk_syntax.specs.Surface.{written_expr, unit as OfUnit, construct as OfConstruct, writtens_of};
 ghost use Rattle.kk_parser.specs.Classes.{is_at};
 ghost use Rattle.kk_parser.specs.Forms.{branches, branches_of, in_brackets, inside, spoken as OfSpoken, spoken_of, printed as OfPrinted, printed_of};
-ghost use Rattle.kk_parser.specs.Grammar.{arguments_given, bracketed, if_of, named_of, print_form, no_arguments};
-ghost use Rattle.kk_parser.specs.Kinds.{name_but_print};
+ghost use Rattle.kk_parser.specs.Grammar.{arguments_of, arguments_given, bracketed, if_of, named_of, print_form, no_arguments};
+ghost use Rattle.kk_parser.specs.Kinds.{constructor, name_but_print};
 ghost use Rattle.kk_parser.specs.Methods.{ReadsPhrase, ReadsFor, ReadsAs};
 ghost use Rattle.kk_parser.specs.Phrases.{token, optional, ◌▸◌, rule, expr as OfExpr, if_ as OfIf, or as OfOr, and as OfAnd, cmp as OfCmp, add as OfAdd, mul as OfMul, un as OfUn, post as OfPost, atom as OfAtom, args as OfArgs};
 ghost use Rattle.kk_parser.specs.Reading.{expr_first, is_quoted};
@@ -19,7 +19,7 @@ use crate::parser::Parser;
 use kk_syntax::{Keyword, SurfaceExpr, Symbol, Token};
 
 impl<'a> Parser<'a> {
-    /// `expr = block | if | or`: the levels end that it opens.
+    /// `expr = block | if | match | or`: the levels end that it opens.
     #[cycle(expr)]
     pub fn expr(&mut self) -> Result<Box<SurfaceExpr>, Fault>
         ensures reads { ReadsPhrase (rule OfExpr) boxed_expr result self.old self.new }
@@ -33,6 +33,11 @@ impl<'a> Parser<'a> {
         }
         if self.is_at_keyword(Keyword::If) {
             let value = self.if_()?;
+            self.depth = depth;
+            return Ok(value);
+        }
+        if self.is_at_keyword(Keyword::Match) {
+            let value = self.match_()?;
             self.depth = depth;
             return Ok(value);
         }
@@ -75,7 +80,7 @@ impl<'a> Parser<'a> {
 
     /// `or = and [ "||" or ]`
     #[cycle(expr)]
-    fn or(&mut self) -> Result<Box<SurfaceExpr>, Fault>
+    pub fn or(&mut self) -> Result<Box<SurfaceExpr>, Fault>
         ensures reads { ReadsPhrase (rule OfOr) boxed_expr result self.old self.new }
         ensures left { length self.new.rest.now ≤ length self.old.rest.now }
     {
@@ -178,7 +183,7 @@ impl<'a> Parser<'a> {
         Ok(first)
     }
 
-    /// `atom = name [ "(" args ")" ] | Con | number | "(" ")" | "(" expr ")" | say`
+    /// `atom = name [ "(" args ")" ] | Con [ "(" args ")" ] | number | "(" ")" | "(" expr ")" | say`
     #[cycle(expr)]
     fn atom(&mut self) -> Result<Box<SurfaceExpr>, Fault>
         ensures reads { ReadsPhrase (rule OfAtom) boxed_expr result self.old self.new }
@@ -188,8 +193,7 @@ impl<'a> Parser<'a> {
             return number(self.alloc, value);
         }
         if self.is_at_constructor() {
-            let name = self.constructor()?;
-            return construct(self.alloc, name);
+            return self.constructed();
         }
         if self.is_at(Symbol::OpenParenthesis) {
             return self.in_brackets();
@@ -299,6 +303,19 @@ impl<'a> Parser<'a> {
         }
     }
 
+    // `Con [ "(" args ")" ]`
+    #[cycle(expr)]
+    fn constructed(&mut self) -> Result<Box<SurfaceExpr>, Fault>
+        ensures reads { ReadsAs (token constructor ▸ optional (bracketed (rule OfArgs))) (λ v. OfConstruct v.0 (writtens_of (arguments_of v.1))) boxed_expr result self.old self.new }
+        ensures left { length self.new.rest.now ≤ length self.old.rest.now }
+    {
+        let name = self.constructor()?;
+        match self.arguments()? {
+            Some(arguments) => construct(self.alloc, name, arguments),
+            None => construct(self.alloc, name, Vec::new(self.alloc)),
+        }
+    }
+
     // `[ "(" args ")" ]`
     #[cycle(expr)]
     fn arguments(&mut self) -> Result<Option<Vec<SurfaceExpr>>, Fault>
@@ -343,7 +360,7 @@ impl<'a> Parser<'a> {
                 Token::Name(_) | Token::Constructor(_) | Token::Number(_) | Token::String(_) => {
                     true
                 }
-                Token::Keyword(word) => *word == Keyword::If,
+                Token::Keyword(word) => matches!(word, Keyword::If | Keyword::Match),
                 Token::Symbol(symbol) => matches!(
                     symbol,
                     Symbol::OpenBrace

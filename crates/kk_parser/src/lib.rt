@@ -2,9 +2,11 @@
 #![tactic(auto)]
 
 mod block;
+mod declared;
 mod expr;
 mod fault;
 mod made;
+mod matching;
 mod name;
 mod operator;
 mod parser;

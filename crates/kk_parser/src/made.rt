@@ -1,15 +1,15 @@
 //! Expressions made of their parts. They stand in boxes: so a method that gives one up frees it by one call.
 
 ghost use Rattle.std.specs.Prelude.{◌≡◌, ◌++◌, ◌∷◌, [], map, OnOk};
-ghost use Rattle.kk_syntax.specs.Surface.{number, unit, variable, call, construct, print_text, unary as OfUnary, binary as OfBinary, both, either, branch, branch_alone, dot_call, writtens_of, block_of, written_expr, written_statement};
+ghost use Rattle.kk_syntax.specs.Surface.{number, unit, variable, call, construct, print_text, unary as OfUnary, binary as OfBinary, both, either, branch, branch_alone, dot_call, writtens_of, block_of, match, rows_of, written_expr, written_row, written_statement, anything, pattern_variable, exactly, constructor as OfConstructor, patterns_of, written_pattern};
 ghost use Rattle.kk_parser.specs.Methods.{Makes};
-ghost use Rattle.kk_parser.specs.Views.{boxed_expr};
+ghost use Rattle.kk_parser.specs.Views.{boxed_expr, boxed_pattern};
 
 use crate::fault::Fault;
 use kk_base::NoMemory;
 use kk_syntax::{
-    BinaryOperator, Identifier, PrintForm, StringLiteral, SurfaceExpr, SurfaceStatement,
-    UnaryOperator,
+    BinaryOperator, Identifier, PrintForm, StringLiteral, SurfaceExpr, SurfacePattern, SurfaceRow,
+    SurfaceStatement, UnaryOperator,
 };
 use std::alloc::Global;
 
@@ -51,11 +51,15 @@ pub fn variable(alloc: Global, name: Identifier) -> Result<Box<SurfaceExpr>, Fau
     boxed(alloc, SurfaceExpr::Variable(name))
 }
 
-/// A construction without arguments.
-pub fn construct(alloc: Global, name: Identifier) -> Result<Box<SurfaceExpr>, Fault>
-    ensures { Makes boxed_expr (construct name (writtens_of [])) result }
+/// `Name(arguments ..)`
+pub fn construct(
+    alloc: Global,
+    name: Identifier,
+    arguments: Vec<SurfaceExpr>,
+) -> Result<Box<SurfaceExpr>, Fault>
+    ensures { Makes boxed_expr (construct name (writtens_of (map written_expr arguments.items))) result }
 {
-    boxed(alloc, SurfaceExpr::Construct(name, Vec::new(alloc)))
+    boxed(alloc, SurfaceExpr::Construct(name, arguments))
 }
 
 /// `name(arguments ..)`
@@ -158,6 +162,49 @@ pub fn dot_call(
     ensures { Makes boxed_expr (dot_call (boxed_expr first) name (writtens_of (map written_expr others.items))) result }
 {
     boxed(alloc, SurfaceExpr::DotCall(first, name, others))
+}
+
+/// A match with its rows.
+pub fn match_of(
+    alloc: Global,
+    scrutinee: Box<SurfaceExpr>,
+    rows: Vec<SurfaceRow>,
+) -> Result<Box<SurfaceExpr>, Fault>
+    ensures { Makes boxed_expr (match (boxed_expr scrutinee) (rows_of (map written_row rows.items))) result }
+{
+    boxed(alloc, SurfaceExpr::Match(scrutinee, rows))
+}
+
+/// `_`
+pub fn anything(alloc: Global) -> Result<Box<SurfacePattern>, Fault>
+    ensures { Makes boxed_pattern anything result }
+{
+    boxed(alloc, SurfacePattern::Wildcard)
+}
+
+/// A variable in a pattern.
+pub fn pattern_variable(alloc: Global, name: Identifier) -> Result<Box<SurfacePattern>, Fault>
+    ensures { Makes boxed_pattern (pattern_variable name) result }
+{
+    boxed(alloc, SurfacePattern::Variable(name))
+}
+
+/// A number in a pattern.
+pub fn exactly(alloc: Global, value: i32) -> Result<Box<SurfacePattern>, Fault>
+    ensures { Makes boxed_pattern (exactly value) result }
+{
+    boxed(alloc, SurfacePattern::Number(value))
+}
+
+/// A constructor and the patterns of its fields.
+pub fn constructor_pattern(
+    alloc: Global,
+    name: Identifier,
+    parts: Vec<SurfacePattern>,
+) -> Result<Box<SurfacePattern>, Fault>
+    ensures { Makes boxed_pattern (OfConstructor name (patterns_of (map written_pattern parts.items))) result }
+{
+    boxed(alloc, SurfacePattern::Constructor(name, parts))
 }
 
 /// Statements and the value behind them; a value without statements is no block.

@@ -31,6 +31,8 @@ pub enum Names {
     Main,
     /// All but `main`.
     ButMain,
+    /// The names of type variables.
+    TypeVariables,
     /// The names of types: all but those with the shape of a type variable.
     OfTypes,
     /// The names of types, the words of effects aside.
@@ -48,6 +50,7 @@ impl Names {
             Names::ButPrints => !matches!(class, NameClass::Print | NameClass::PrintLine),
             Names::Main => matches!(class, NameClass::Main),
             Names::ButMain => !matches!(class, NameClass::Main),
+            Names::TypeVariables => matches!(class, NameClass::TypeVariable),
             Names::OfTypes => !matches!(class, NameClass::TypeVariable),
             Names::OfTypesButEffects => {
                 !matches!(class, NameClass::TypeVariable | NameClass::Effect(_))

@@ -1,5 +1,5 @@
 ghost use Rattle.std.specs.Prelude.{◌≡◌, ℕ, ◌+◌, ◌<◌, ◌≤◌, ◌∷◌, [], length, IsTrue, IfOk, IfErr, OnOk};
-ghost use Rattle.kk_parser.specs.Classes.{is_at, keyword as OfKeyword, symbol as OfSymbol, string as OfString, constructor as OfConstructor};
+ghost use Rattle.kk_parser.specs.Classes.{is_at, keyword as OfKeyword, symbol as OfSymbol, string as OfString, constructor as OfConstructor, wildcard as OfWildcard};
 ghost use Rattle.kk_parser.specs.Grammar.{semicolons, some_semicolons, print_word, print_form};
 ghost use Rattle.kk_parser.specs.Forms.{print_identifier};
 ghost use Rattle.kk_parser.specs.Kinds.{keyword, symbol as symbol_kind, constructor, wildcard, number, string, classes_of};
@@ -77,6 +77,19 @@ impl<'a> Parser<'a> {
         match self.rest.first() {
             Some(next) => match &next.token {
                 Token::Constructor(_) => true,
+                _ => false,
+            },
+            None => false,
+        }
+    }
+
+    /// Whether the next token is a wildcard.
+    pub fn is_at_wildcard(&self) -> bool
+        ensures { result ≡ is_at (OfWildcard ∷ []) self.now.rest.now }
+    {
+        match self.rest.first() {
+            Some(next) => match &next.token {
+                Token::Wildcard => true,
                 _ => false,
             },
             None => false,

@@ -2,10 +2,12 @@ ghost use Rattle.std.specs.Prelude.{◌≡◌, ◌-◌, ◌*◌, ◌≤◌, [], 
 ghost use Rattle.kk_syntax.specs.Surface.{written_declaration, written_expr, written_parameter};
 ghost use Rattle.kk_syntax.specs.WrittenNodes.{nodes_in};
 ghost use Rattle.kk_parser.specs.Forms.{head as OfHead, head_of};
-ghost use Rattle.kk_parser.specs.Grammar.{parameters as OfParameters, listed, listed_of};
+ghost use Rattle.kk_parser.specs.Grammar.{parameters as OfParameters, declared_function, function_of as OfFunction, listed, listed_of, some_listed, some_listed_of};
 ghost use Rattle.kk_parser.specs.Methods.{ReadsPhrase, ReadsFor, ReadsAs, error_for};
 ghost use Rattle.kk_parser.specs.Parses.{AnswersParse, EachListIsParsed, OneProgram, in_u32, next_place};
 ghost use Rattle.kk_parser.specs.Phrases.{rule, program as OfProgram, decl as OfDecl, param as OfParam};
+ghost use Rattle.kk_parser.specs.Classes.{is_at};
+ghost use Rattle.kk_parser.specs.Reading.{first};
 ghost use Rattle.kk_parser.specs.Views.{boxed_declaration, declaration_of, head_view};
 
 use crate::fault::Fault;
@@ -100,14 +102,14 @@ impl<'a> Parser<'a> {
     {
         self.skip_semicolons();
         let mut declarations = Vec::new(self.alloc);
-        if !self.is_at_keyword(Keyword::Fun) {
+        if !self.is_at_declaration() {
             return Ok(declarations);
         }
         let first = self.declaration()?;
         put(&mut declarations, Box::into_inner(first))?;
         while self.is_at(Symbol::Semicolon) {
             self.advance();
-            if self.is_at_keyword(Keyword::Fun) {
+            if self.is_at_declaration() {
                 let next = self.declaration()?;
                 put(&mut declarations, Box::into_inner(next))?;
             }
@@ -115,17 +117,37 @@ impl<'a> Parser<'a> {
         Ok(declarations)
     }
 
-    /// `decl = "fun" name "(" [ param { "," param } ] ")" [ ":" [ effect ] type ] expr`: the levels end that it opens. Only
-    /// `main` may leave its result out.
+    // Whether a declaration begins with the next token.
+    fn is_at_declaration(&self) -> bool
+        ensures { result ≡ is_at (first (rule OfDecl)) self.now.rest.now }
+    {
+        self.is_at_keyword(Keyword::Type) || self.is_at_keyword(Keyword::Fun)
+    }
+
+    /// The declaration of a type or of a function: the levels end that it opens.
     fn declaration(&mut self) -> Result<Box<Declaration>, Fault>
         ensures reads { ReadsPhrase (rule OfDecl) boxed_declaration result self.old self.new }
         ensures left { length self.new.rest.now ≤ length self.old.rest.now }
     {
         let depth = self.depth;
+        if self.is_at_keyword(Keyword::Type) {
+            let declaration = self.type_declaration()?;
+            self.depth = depth;
+            return Ok(declaration);
+        }
+        let declaration = self.function()?;
+        self.depth = depth;
+        Ok(declaration)
+    }
+
+    // `"fun" name "(" [ param { "," param } ] ")" [ ":" [ effect ] type ] expr`. Only `main` may leave its result out.
+    fn function(&mut self) -> Result<Box<Declaration>, Fault>
+        ensures reads { ReadsAs declared_function (λ v. OfFunction v.1.0 v.1.1) boxed_declaration result self.old self.new }
+        ensures left { length self.new.rest.now ≤ length self.old.rest.now }
+    {
         self.expect_keyword(Keyword::Fun)?;
         let head = self.head()?;
         let body = self.expr()?;
-        self.depth = depth;
         let declaration = function_of(head, Box::into_inner(body));
         boxed(self.alloc, declaration)
     }
@@ -181,10 +203,18 @@ impl<'a> Parser<'a> {
         ensures reads { ReadsAs (listed (rule OfParam)) listed_of (λ ps. map written_parameter ps.items) result self.old self.new }
         ensures left { length self.new.rest.now ≤ length self.old.rest.now }
     {
-        let mut parameters = Vec::new(self.alloc);
         if !self.is_at_name(Names::All) {
-            return Ok(parameters);
+            return Ok(Vec::new(self.alloc));
         }
+        self.some_parameters()
+    }
+
+    /// `param { "," param }`
+    pub fn some_parameters(&mut self) -> Result<Vec<Parameter>, Fault>
+        ensures reads { ReadsAs (some_listed (rule OfParam)) some_listed_of (λ ps. map written_parameter ps.items) result self.old self.new }
+        ensures left { length self.new.rest.now ≤ length self.old.rest.now }
+    {
+        let mut parameters = Vec::new(self.alloc);
         let first = self.parameter()?;
         put(&mut parameters, first)?;
         while self.is_at(Symbol::Comma) {

@@ -1,12 +1,12 @@
-ghost use Rattle.std.specs.Prelude.{◌≡◌, ◌+◌, ◌<◌, ◌≤◌, [], ◌∷◌, length, true, IfSome, OnOk, OnSome, is_some};
+ghost use Rattle.std.specs.Prelude.{◌≡◌, ◌+◌, ◌<◌, ◌≤◌, [], ◌∷◌, length, map, true, IfSome, OnOk, OnSome, is_some};
 ghost use Rattle.kk_syntax.specs.Surface.{written_type, unit_type};
-ghost use Rattle.kk_parser.specs.Forms.{in_brackets, inside};
+ghost use Rattle.kk_parser.specs.Forms.{in_brackets, inside, type_by, type_by_of};
 ghost use Rattle.kk_parser.specs.Classes.{is_at};
-ghost use Rattle.kk_parser.specs.Grammar.{effects_of, type_of, result as OfResult, listed, listed_of};
+ghost use Rattle.kk_parser.specs.Grammar.{effects_of, type_of, result as OfResult, listed, listed_of, some_listed, some_listed_of, type_arguments, type_arguments_of};
 ghost use Rattle.kk_parser.specs.Methods.{ReadsPhrase, ReadsFor, ReadsAs};
-ghost use Rattle.kk_parser.specs.Phrases.{rule, type as OfType, result_type as OfResultType, effect as OfEffect, eff as OfEff};
+ghost use Rattle.kk_parser.specs.Phrases.{optional, rule, type as OfType, result_type as OfResultType, effect as OfEffect, eff as OfEff};
 ghost use Rattle.kk_parser.specs.Reading.{first};
-ghost use Rattle.kk_parser.specs.Views.{class_of_effect, result_view};
+ghost use Rattle.kk_parser.specs.Views.{class_of_effect, classes_in, result_view};
 
 use crate::fault::Fault;
 use crate::made::put;
@@ -30,21 +30,16 @@ impl<'a> Parser<'a> {
         Ok((Vec::new(self.alloc), of_type))
     }
 
-    /// `type = tname | "(" ")" | "(" type ")"`: the levels end that it opens.
+    /// `type = tvar | tname [ "<" type { "," type } ">" ] | "(" ")" | "(" type ")"`: the levels end that it opens.
     #[cycle(types)]
     pub fn type_(&mut self) -> Result<SurfaceType, Fault>
         ensures reads { ReadsPhrase (rule OfType) written_type result self.old self.new }
         ensures left { length self.new.rest.now ≤ length self.old.rest.now }
     {
         let depth = self.depth;
-        if self.is_at_name(Names::OfTypes) {
-            let name = self.identifier(Names::OfTypes)?;
-            self.depth = depth;
-            return Ok(SurfaceType::Named(name, Vec::new(self.alloc)));
-        }
-        let inner = self.bracketed_type()?;
+        let of_type = self.type_by(Names::OfTypes)?;
         self.depth = depth;
-        Ok(inner)
+        Ok(of_type)
     }
 
     // The same, where the first token is no effect.
@@ -53,14 +48,59 @@ impl<'a> Parser<'a> {
         ensures left { length self.new.rest.now ≤ length self.old.rest.now }
     {
         let depth = self.depth;
-        if self.is_at_name(Names::OfTypesButEffects) {
-            let name = self.identifier(Names::OfTypesButEffects)?;
-            self.depth = depth;
-            return Ok(SurfaceType::Named(name, Vec::new(self.alloc)));
-        }
-        let inner = self.bracketed_type()?;
+        let of_type = self.type_by(Names::OfTypesButEffects)?;
         self.depth = depth;
-        Ok(inner)
+        Ok(of_type)
+    }
+
+    // A type whose name is of this set. The levels stay open that it opens.
+    #[cycle(types)]
+    fn type_by(&mut self, names: Names) -> Result<SurfaceType, Fault>
+        ensures reads { ReadsAs (type_by (classes_in names)) type_by_of written_type result self.old self.new }
+        ensures left { length self.new.rest.now ≤ length self.old.rest.now }
+    {
+        if self.is_at_name(Names::TypeVariables) {
+            let name = self.identifier(Names::TypeVariables)?;
+            return Ok(SurfaceType::Variable(name));
+        }
+        if self.is_at_name(names) {
+            let name = self.identifier(names)?;
+            let arguments = self.type_arguments()?;
+            return Ok(SurfaceType::Named(name, arguments));
+        }
+        self.bracketed_type()
+    }
+
+    // `[ "<" type { "," type } ">" ]`
+    #[cycle(types)]
+    fn type_arguments(&mut self) -> Result<Vec<SurfaceType>, Fault>
+        ensures reads { ReadsAs (optional type_arguments) type_arguments_of (λ ts. map written_type ts.items) result self.old self.new }
+        ensures left { length self.new.rest.now ≤ length self.old.rest.now }
+    {
+        if !self.is_at(Symbol::Less) {
+            return Ok(Vec::new(self.alloc));
+        }
+        self.open(Symbol::Less)?;
+        let types = self.types()?;
+        self.expect(Symbol::Greater)?;
+        Ok(types)
+    }
+
+    // `type { "," type }`
+    #[cycle(types)]
+    fn types(&mut self) -> Result<Vec<SurfaceType>, Fault>
+        ensures reads { ReadsAs (some_listed (rule OfType)) some_listed_of (λ ts. map written_type ts.items) result self.old self.new }
+        ensures left { length self.new.rest.now ≤ length self.old.rest.now }
+    {
+        let mut types = Vec::new(self.alloc);
+        let first = self.type_()?;
+        put(&mut types, first)?;
+        while self.is_at(Symbol::Comma) {
+            self.advance();
+            let next = self.type_()?;
+            put(&mut types, next)?;
+        }
+        Ok(types)
     }
 
     // `"(" ")" | "(" type ")"`

@@ -3,19 +3,21 @@ use Rattle.std.proofs.lemmas.List.{append-nil}
 use Rattle.std.proofs.lemmas.Int.{to_z-of_z}
 use mir.Syntax.{w32}
 use mir.Val.{SFits}
-use Rattle.kk_syntax.specs.Surface.{written_expr, written_statement, unary, binary, branch, variable, call, print_text, unit, writtens_of, number as OfNumber}
-use Rattle.kk_syntax.specs.declared.token.Keyword.TheVariants.{If, Then, Elif, Else, Val}
-use Rattle.kk_syntax.specs.declared.token.Symbol.TheVariants.{OpenParenthesis, CloseParenthesis, OpenBrace, CloseBrace, Semicolon, Comma, Dot, Equals, OrOr, AndAnd}
-use Rattle.kk_parser.specs.Forms.{branches, branches_of, inside, spoken_of, printed, printed_of, binding, binding_of, bindings_of, items}
+use Rattle.kk_syntax.specs.Surface.{written_expr, written_row, written_statement, match, rows_of, unary, binary, branch, variable, call, construct, print_text, unit, writtens_of, number as OfNumber}
+use Rattle.kk_syntax.specs.declared.token.Keyword.TheVariants.{If, Match, Then, Elif, Else, Val}
+use Rattle.kk_syntax.specs.declared.token.Symbol.TheVariants.{OpenParenthesis, CloseParenthesis, OpenBrace, CloseBrace, Semicolon, Comma, Dot, Equals, Arrow, OrOr, AndAnd}
+use Rattle.kk_parser.specs.Forms.{separated, separated_of, branches, branches_of, inside, spoken_of, printed, printed_of, binding, binding_of, bindings_of, items}
 use Rattle.kk_parser.specs.Grammar.{print_word, comparison, sum_operator, sum_operator_of, product_operator, product_operator_of, unary_operator, to_left, bracketed, arguments_of, arguments_given, named_of, binder, some_semicolons}
-use Rattle.kk_parser.specs.Kinds.{keyword, symbol, name, name_but_print}
+use Rattle.kk_parser.specs.Kinds.{keyword, symbol, name, name_but_print, constructor}
 use Rattle.kk_parser.specs.Methods.{Read}
-use Rattle.kk_parser.specs.Phrases.{token, opener, optional, rule, ◌▸◌, expr, block, if_, or, and, cmp, add, mul, un, post, atom, args}
+use Rattle.kk_parser.specs.Phrases.{token, opener, optional, rule, ◌▸◌, expr, block, if_, match_, row, pat, or, and, cmp, add, mul, un, post, atom, args}
 use Rattle.kk_parser.specs.Reading.{fails_rule, fails_level, fails_front, fails_behind, fails_first, fails_second, fails_one, fails_presence, fails_quoted, fails_unquoted, fails_each_deep, finds_rule, finds_level, finds_both, finds_first, finds_second, finds_none, finds_absence, finds_presence, finds_no_more, finds_nothing, finds_quoted, finds_unquoted}
-use Rattle.kk_parser.specs.Views.{arguments_view, binding_view, boxed_expr}
-use Rattle.kk_parser.proofs.Arguments.{given-view-some, given-view-none, named-some, named-none, continues_dot, more_args, one_more}
-use Rattle.kk_parser.proofs.ReadAtoms.{brackets, other_name, atom_but_number, spoken-means, named-means}
+use Rattle.kk_parser.specs.Views.{arguments_view, binding_view, boxed_expr, boxed_pattern}
+use Rattle.kk_parser.proofs.Arguments.{given-some, given-none, given-view-some, given-view-none, named-some, named-none, continues_dot, more_args, one_more}
+use Rattle.kk_parser.proofs.ReadAtoms.{brackets, construction, construction-means, other_name, atom_but_number, spoken-means, named-means}
 use Rattle.kk_parser.proofs.Blocks.{block_begins, block_goes_on, block_passes, stated, bound, items_go_on, items_end}
+use Rattle.kk_parser.proofs.Lists.{Separated, separated_one, separated_more, separated_passed, separated_end}
+use Rattle.kk_parser.proofs.Rows.{gives_up_row, put_row}
 use Rattle.kk_parser.proofs.Branches.{other_branches, behind_first, continues_elif, turn, turn-means, perhaps_found, perhaps_failed, if-means}
 use Rattle.kk_parser.proofs.Steps.{gives_up_in, gives_up_as, gives_up_as_in, gives_up_items, reads_made, reads_made_as, passed_on, too_deep_failed, deepen_reads_keyword, symbol_read, keyword_read, continues_rule, continues_left, continues_to, continues_many, continues_as, ends_many, first_next, first_absent, front_read, read_to, reads_on, reads_as_on}
 use Rattle.kk_parser.proofs.parser.Parser.+expr.Goals as goal
@@ -47,13 +49,132 @@ pub expr-returns-in_err-value-3-clause-reads : goal.expr-returns-in_err-value-3-
 expr-returns-in_err-value-3-clause-reads t c =
     let h0 = sym c.is_at.ensures.value ∙ c.if-is_at.false in
     let h1 = sym c.is_at_keyword.ensures.value ∙ c.if-is_at_keyword.false in
-    gives_up_in (rule expr) (rule or) boxed_expr c.from_residual-in_err-value-3.result c.in_err-value-3.field-0.0 c.args.self.now c.args.self.now c.or.new.self (λ f r. fails_rule (fails_level (fails_second h0 (fails_second h1 r)))) c.from_residual-in_err-value-3.ensures.1 c.in_err-value-3.ensures.reads
+    let h = sym c.is_at_keyword-2.ensures.value ∙ c.if-is_at_keyword-2.true in
+    gives_up_in (rule expr) (rule match_) boxed_expr c.from_residual-in_err-value-3.result c.in_err-value-3.field-0.0 c.args.self.now c.args.self.now c.match_.new.self (λ f r. fails_rule (fails_level (fails_second h0 (fails_second h1 (fails_first h r))))) c.from_residual-in_err-value-3.ensures.1 c.in_err-value-3.ensures.reads
+
+pub expr-returns-then-is_at_keyword-2-clause-reads : goal.expr-returns-then-is_at_keyword-2-clause-reads
+expr-returns-then-is_at_keyword-2-clause-reads t c =
+    let h0 = sym c.is_at.ensures.value ∙ c.if-is_at.false in
+    let h1 = sym c.is_at_keyword.ensures.value ∙ c.if-is_at_keyword.false in
+    let h = sym c.is_at_keyword-2.ensures.value ∙ c.if-is_at_keyword-2.true in
+    finds_rule (finds_level (finds_second h0 (finds_second h1 (finds_first h c.in_ok-value-3.ensures.reads))))
+
+pub expr-returns-in_err-value-4-clause-reads : goal.expr-returns-in_err-value-4-clause-reads
+expr-returns-in_err-value-4-clause-reads t c =
+    let h0 = sym c.is_at.ensures.value ∙ c.if-is_at.false in
+    let h1 = sym c.is_at_keyword.ensures.value ∙ c.if-is_at_keyword.false in
+    let h2 = sym c.is_at_keyword-2.ensures.value ∙ c.if-is_at_keyword-2.false in
+    gives_up_in (rule expr) (rule or) boxed_expr c.from_residual-in_err-value-4.result c.in_err-value-4.field-0.0 c.args.self.now c.args.self.now c.or.new.self (λ f r. fails_rule (fails_level (fails_second h0 (fails_second h1 (fails_second h2 r))))) c.from_residual-in_err-value-4.ensures.1 c.in_err-value-4.ensures.reads
 
 pub expr-returns-clause-reads : goal.expr-returns-clause-reads
 expr-returns-clause-reads t c =
     let h0 = sym c.is_at.ensures.value ∙ c.if-is_at.false in
     let h1 = sym c.is_at_keyword.ensures.value ∙ c.if-is_at_keyword.false in
-    finds_rule (finds_level (finds_second h0 (finds_second h1 c.in_ok-value-3.ensures.reads)))
+    let h2 = sym c.is_at_keyword-2.ensures.value ∙ c.if-is_at_keyword-2.false in
+    finds_rule (finds_level (finds_second h0 (finds_second h1 (finds_second h2 c.in_ok-value-4.ensures.reads))))
+
+pub match_-returns-in_err-expect_keyword-clause-reads : goal.match_-returns-in_err-expect_keyword-clause-reads
+match_-returns-in_err-expect_keyword-clause-reads t c =
+    gives_up_in (rule match_) (token (keyword Match)) boxed_expr c.from_residual.result c.in_err-expect_keyword.field-0.0 c.args.self.now c.args.self.now c.expect_keyword.new.self
+    (λ f r. fails_rule (fails_front r)) c.from_residual.ensures.1 c.in_err-expect_keyword.ensures.reads
+
+pub match_-returns-in_err-scrutinee-clause-reads : goal.match_-returns-in_err-scrutinee-clause-reads
+match_-returns-in_err-scrutinee-clause-reads t c =
+    gives_up_in (rule match_) (rule or) boxed_expr c.from_residual-in_err-scrutinee.result c.in_err-scrutinee.field-0.0 c.args.self.now c.expect_keyword.new.self c.or.new.self
+    (λ f r. fails_rule (fails_behind c.in_ok-expect_keyword.ensures.reads (fails_front r))) c.from_residual-in_err-scrutinee.ensures.1 c.in_err-scrutinee.ensures.reads
+
+pub match_-returns-in_err-open-clause-reads : goal.match_-returns-in_err-open-clause-reads
+match_-returns-in_err-open-clause-reads t c =
+    gives_up_in (rule match_) (opener (symbol OpenBrace)) boxed_expr c.from_residual-in_err-open.result c.in_err-open.field-0.0 c.args.self.now c.or.new.self c.open.new.self
+    (λ f r. fails_rule (fails_behind c.in_ok-expect_keyword.ensures.reads (fails_behind c.in_ok-scrutinee.ensures.reads (fails_front r)))) c.from_residual-in_err-open.ensures.1 c.in_err-open.ensures.reads
+
+pub match_-returns-in_err-rows-clause-reads : goal.match_-returns-in_err-rows-clause-reads
+match_-returns-in_err-rows-clause-reads t c =
+    gives_up_in (rule match_) (separated (rule row)) boxed_expr c.from_residual-in_err-rows.result c.in_err-rows.field-0.0 c.args.self.now c.open.new.self c.rows.new.self
+    (λ f r. fails_rule (fails_behind c.in_ok-expect_keyword.ensures.reads (fails_behind c.in_ok-scrutinee.ensures.reads (fails_behind c.in_ok-open.ensures.reads (fails_front r))))) c.from_residual-in_err-rows.ensures.1 c.in_err-rows.ensures.reads
+
+pub match_-returns-in_err-expect-clause-reads : goal.match_-returns-in_err-expect-clause-reads
+match_-returns-in_err-expect-clause-reads t c =
+    gives_up_in (rule match_) (token (symbol CloseBrace)) boxed_expr c.from_residual-in_err-expect.result c.in_err-expect.field-0.0 c.args.self.now c.rows.new.self c.expect.new.self
+    (λ f r. fails_rule (fails_behind c.in_ok-expect_keyword.ensures.reads (fails_behind c.in_ok-scrutinee.ensures.reads (fails_behind c.in_ok-open.ensures.reads (fails_behind c.in_ok-rows.ensures.reads.2 r))))) c.from_residual-in_err-expect.ensures.1 c.in_err-expect.ensures.reads
+
+pub match_-returns-clause-reads : goal.match_-returns-clause-reads
+match_-returns-clause-reads t c =
+    let list = c.in_ok-rows.ensures.reads in
+    reads_made (rule match_) boxed_expr _ c.match_of.result c.args.self.now c.expect.new.self c.match_of.ensures
+    (subst (λ rows. Read (rule match_) (match (boxed_expr c.in_ok-scrutinee.scrutinee) (rows_of rows)) c.args.self.now c.expect.new.self) list.1
+    (finds_rule (finds_both c.in_ok-expect_keyword.ensures.reads (finds_both c.in_ok-scrutinee.ensures.reads (finds_both c.in_ok-open.ensures.reads (finds_both list.2 c.in_ok-expect.ensures.reads))))))
+
+pub rows-returns-in_err-row-clause-reads : goal.rows-returns-in_err-row-clause-reads
+rows-returns-in_err-row-clause-reads t c =
+    gives_up_as_in (separated (rule row)) (rule row) separated_of (λ rows. map written_row rows.items) c.from_residual.result c.in_err-row.field-0.0 c.args.self.now c.skip_semicolons.new.self c.row.new.self
+    (λ f r. fails_behind c.skip_semicolons.ensures.reads.1 (fails_front r)) c.from_residual.ensures.1 c.in_err-row.ensures.reads
+
+pub rows-loop-self-init : goal.rows-loop-self-init
+rows-loop-self-init t c =
+    let r = c.in_ok-row.ensures.reads in
+    let is = r.1 ∙ ap (λ rs. map written_row rs ++ r.0 ∷ []) c.new-rows.ensures.items in
+    let semis = c.skip_semicolons.ensures.reads in
+    record {
+      left = omega (arith, c.in_ok-row.ensures.left);
+      read = subst (λ rs. Separated (rule row) rs c.args.self.now c.row.new.self) (sym is) (separated_one (rule row) semis.0 r.0 c.args.self.now c.skip_semicolons.new.self c.row.new.self semis.1 r.2);
+    }
+
+pub rows-returns-in_err-row-2-clause-reads : goal.rows-returns-in_err-row-2-clause-reads
+rows-returns-in_err-row-2-clause-reads t c =
+    let h = sym c.is_at.ensures.value ∙ c.loop-self-test.true in
+    let g = sym c.is_at_pattern.ensures ∙ c.if-is_at_pattern.true in
+    let semi = symbol_read Semicolon c.loop-self.self c.advance.new.self h c.advance.ensures.rest c.advance.ensures.depth in
+    gives_up_as_in (separated (rule row)) (rule row) separated_of (λ rows. map written_row rows.items) c.from_residual-in_err-row-2.result c.in_err-row-2.field-0.0 c.args.self.now c.advance.new.self c.row-then-is_at_pattern.new.self
+    (λ f r. c.loop-self.invariant.read.read.failed f (fails_one h (fails_behind semi (fails_presence g r)))) c.from_residual-in_err-row-2.ensures.1 c.in_err-row-2.ensures.reads
+
+pub rows-loop-self-preserved-in-Continue-branch-2 : goal.rows-loop-self-preserved-in-Continue-branch-2
+rows-loop-self-preserved-in-Continue-branch-2 t c =
+    let h = sym c.is_at.ensures.value ∙ c.loop-self-test.true in
+    let g = sym c.is_at_pattern.ensures ∙ c.if-is_at_pattern.true in
+    let semi = symbol_read Semicolon c.loop-self.self c.advance.new.self h c.advance.ensures.rest c.advance.ensures.depth in
+    let r = c.in_ok-row-2.ensures.reads in
+    record {
+      left = omega (arith, c.in_ok-row-2.ensures.left);
+      read = subst (λ rs. Separated (rule row) rs c.args.self.now c.row-then-is_at_pattern.new.self) (sym r.1)
+          (separated_more (rule row) (map written_row c.loop-self.rows.items) r.0 c.args.self.now c.loop-self.self c.advance.new.self c.row-then-is_at_pattern.new.self c.loop-self.invariant.read h semi g r.2);
+    }
+
+pub rows-loop-self-preserved : goal.rows-loop-self-preserved
+rows-loop-self-preserved t c =
+    let h = sym c.is_at.ensures.value ∙ c.loop-self-test.true in
+    let g = sym c.is_at_pattern.ensures ∙ c.if-is_at_pattern.false in
+    let semi = symbol_read Semicolon c.loop-self.self c.advance.new.self h c.advance.ensures.rest c.advance.ensures.depth in
+    record {
+      left = omega arith;
+      read = separated_passed (rule row) (map written_row c.loop-self.rows.items) c.args.self.now c.loop-self.self c.advance.new.self c.loop-self.invariant.read h semi g;
+    }
+
+pub rows-returns-clause-reads : goal.rows-returns-clause-reads
+rows-returns-clause-reads t c =
+    separated_end (rule row) (map written_row c.loop-self.rows.items) c.args.self.now c.loop-self.self c.loop-self.invariant.read (sym c.is_at.ensures.value ∙ c.loop-self-test.false)
+
+pub row-returns-in_err-pattern-clause-reads : goal.row-returns-in_err-pattern-clause-reads
+row-returns-in_err-pattern-clause-reads t c =
+    gives_up_row _ _ (rule pat) c.from_residual.result c.in_err-pattern.field-0.0 c.args.self.now c.args.self.now c.pattern.new.self
+    (λ f r. fails_rule (fails_front r)) c.from_residual.ensures.1 c.in_err-pattern.ensures.reads
+
+pub row-returns-in_err-expect-clause-reads : goal.row-returns-in_err-expect-clause-reads
+row-returns-in_err-expect-clause-reads t c =
+    gives_up_row _ _ (token (symbol Arrow)) c.from_residual-in_err-expect.result c.in_err-expect.field-0.0 c.args.self.now c.pattern.new.self c.expect.new.self
+    (λ f r. fails_rule (fails_behind c.in_ok-pattern.ensures.reads (fails_front r))) c.from_residual-in_err-expect.ensures.1 c.in_err-expect.ensures.reads
+
+pub row-returns-in_err-body-clause-reads : goal.row-returns-in_err-body-clause-reads
+row-returns-in_err-body-clause-reads t c =
+    gives_up_row _ _ (rule expr) c.from_residual-in_err-body.result c.in_err-body.field-0.0 c.args.self.now c.expect.new.self c.expr.new.self
+    (λ f r. fails_rule (fails_behind c.in_ok-pattern.ensures.reads (fails_behind c.in_ok-expect.ensures.reads r))) c.from_residual-in_err-body.ensures.1 c.in_err-body.ensures.reads
+
+pub row-returns-clause-reads : goal.row-returns-clause-reads
+row-returns-clause-reads t c = (
+  record { pattern = boxed_pattern c.in_ok-pattern.pattern; body = boxed_expr c.in_ok-body.body },
+  put_row c.args.rows.now.items c.put.new.items.items c.in_ok-pattern.pattern c.in_ok-body.body c.into_inner-pattern.result c.into_inner-body.result c.into_inner-pattern.ensures c.into_inner-body.ensures c.in_ok-put.ensures,
+  finds_rule (finds_both c.in_ok-pattern.ensures.reads (finds_both c.in_ok-expect.ensures.reads c.in_ok-body.ensures.reads)),
+)
 
 pub if_-returns-in_err-open_keyword-clause-reads : goal.if_-returns-in_err-open_keyword-clause-reads
 if_-returns-in_err-open_keyword-clause-reads t c =
@@ -361,10 +482,7 @@ atom-returns-in-Some-clause-reads t c =
 pub atom-returns-then-is_at_constructor-clause-reads : goal.atom-returns-then-is_at_constructor-clause-reads
 atom-returns-then-is_at_constructor-clause-reads t c =
     let n = rw c.in_default.is at c.number.ensures.takes in
-    let new = c.constructor.new.self in
-    let atom-is = first_next (atom_but_number c.args.self.now c.number.new.self n.0 n.1 n.2) (sym c.is_at_constructor.ensures ∙ c.if-is_at_constructor.true) in
-    reads_made (rule atom) boxed_expr _ c.construct.result c.args.self.now new c.construct.ensures
-    (atom-is.found c.in_ok-name.name new.depth new.rest.now c.in_ok-name.ensures.reads)
+    reads_as_on (first_next (atom_but_number c.args.self.now c.number.new.self n.0 n.1 n.2) (sym c.is_at_constructor.ensures ∙ c.if-is_at_constructor.true)) boxed_expr (λ v. construct v.0 (writtens_of (arguments_of v.1))) c.constructed.result c.constructed.new.self construction-means c.constructed.ensures.reads
 
 pub atom-returns-then-is_at-clause-reads : goal.atom-returns-then-is_at-clause-reads
 atom-returns-then-is_at-clause-reads t c =
@@ -492,6 +610,31 @@ named-returns-in-None-clause-reads t c =
     let a = rw c.in-None.is at c.in_ok-arguments.ensures.reads in
     let called = c.in_ok-name.name in
     reads_made_as other_name (λ v. named_of v.0 v.1) boxed_expr (called, a.0) _ c.variable.result c.args.self.now c.arguments.new.self c.variable.ensures (named-none called a.0 a.1)
+    (finds_both c.in_ok-name.ensures.reads a.2)
+
+pub constructed-returns-in_err-name-clause-reads : goal.constructed-returns-in_err-name-clause-reads
+constructed-returns-in_err-name-clause-reads t c =
+    gives_up_as_in construction (token constructor) (λ v. construct v.0 (writtens_of (arguments_of v.1))) boxed_expr c.from_residual.result c.in_err-name.field-0.0 c.args.self.now c.args.self.now c.constructor.new.self (λ f r. fails_front r) c.from_residual.ensures.1 c.in_err-name.ensures.reads
+
+pub constructed-returns-in_err-arguments-clause-reads : goal.constructed-returns-in_err-arguments-clause-reads
+constructed-returns-in_err-arguments-clause-reads t c =
+    gives_up_as_in construction (optional (bracketed (rule args))) (λ v. construct v.0 (writtens_of (arguments_of v.1))) boxed_expr c.from_residual-in_err-arguments.result c.in_err-arguments.field-0.0 c.args.self.now c.constructor.new.self c.arguments.new.self
+    (λ f r. fails_behind c.in_ok-name.ensures.reads r) c.from_residual-in_err-arguments.ensures.1 c.in_err-arguments.ensures.reads
+
+pub constructed-returns-in-Some-clause-reads : goal.constructed-returns-in-Some-clause-reads
+constructed-returns-in-Some-clause-reads t c =
+    let a = rw c.in-Some.is at c.in_ok-arguments.ensures.reads in
+    let called = c.in_ok-name.name in
+    reads_made_as construction (λ v. construct v.0 (writtens_of (arguments_of v.1))) boxed_expr (called, a.0) _ c.construct.result c.args.self.now c.arguments.new.self c.construct.ensures
+    (ap (λ es. construct called (writtens_of es)) (given-some a.0 (map written_expr c.in-Some.arguments.items) a.1))
+    (finds_both c.in_ok-name.ensures.reads a.2)
+
+pub constructed-returns-in-None-clause-reads : goal.constructed-returns-in-None-clause-reads
+constructed-returns-in-None-clause-reads t c =
+    let a = rw c.in-None.is at c.in_ok-arguments.ensures.reads in
+    let called = c.in_ok-name.name in
+    reads_made_as construction (λ v. construct v.0 (writtens_of (arguments_of v.1))) boxed_expr (called, a.0) _ c.construct-in-None.result c.args.self.now c.arguments.new.self c.construct-in-None.ensures
+    (ap (λ es. construct called (writtens_of es)) (given-none a.0 a.1 ∙ sym (ap (map written_expr) c.new.ensures.items)))
     (finds_both c.in_ok-name.ensures.reads a.2)
 
 pub arguments-returns-then-not-is_at-clause-reads : goal.arguments-returns-then-not-is_at-clause-reads

@@ -1,12 +1,13 @@
 use Rattle.std.proofs.Common.{◌≡◌, ◌≤◌, length, ◌+◌, ◌*◌, ◌++◌, map}
-use Rattle.kk_syntax.specs.Surface.{written_expr, written_statement}
+use Rattle.kk_syntax.specs.Surface.{written_expr, written_row, written_statement}
 use Rattle.kk_syntax.specs.declared.token.Symbol.TheVariants.{Comma, Dot}
 use Rattle.kk_parser.specs.Forms.{items, binding, bindings_of}
 use Rattle.kk_parser.specs.Grammar.{sum_operator, sum_operator_of, product_operator, product_operator_of, to_left, dotted, bracketed, some_semicolons}
 use Rattle.kk_parser.specs.Kinds.{symbol, name}
-use Rattle.kk_parser.specs.Phrases.{PhraseValue, token, opener, optional, rule, expr, block, add, mul, un, post, args, many, ◌▸◌}
+use Rattle.kk_parser.specs.Phrases.{PhraseValue, token, opener, optional, rule, expr, block, row, add, mul, un, post, args, many, ◌▸◌}
 use Rattle.kk_parser.specs.Views.{boxed_expr}
 use Rattle.kk_parser.proofs.Blocks.{block_end, block_says}
+use Rattle.kk_parser.proofs.Lists.{Separated}
 use Rattle.kk_parser.proofs.Steps.{Continues}
 use Rattle.kk_parser.proofs.parser.Parser.+expr.Given as goal
 
@@ -30,6 +31,24 @@ decreases-block l = 20 * length l.self.now.rest.now + 11
 
 abbrev pub decreases-if_ : goal.decreases-if_
 decreases-if_ l = 20 * length l.self.now.rest.now + 11
+
+abbrev pub decreases-match_ : goal.decreases-match_
+decreases-match_ l = 20 * length l.self.now.rest.now + 11
+
+abbrev pub decreases-rows : goal.decreases-rows
+decreases-rows l = 20 * length l.self.now.rest.now + 14
+
+abbrev pub decreases-row : goal.decreases-row
+decreases-row l = 20 * length l.self.now.rest.now + 13
+
+abbrev pub invariant-rows-loop-self : goal.invariant-rows-loop-self
+invariant-rows-loop-self l = record {
+  left : length l.self.rest.now ≤ length l.fn.self.rest.now;
+  read : Separated (rule row) (map written_row l.rows.items) l.fn.self l.self;
+}
+
+abbrev pub decreases-rows-loop-self : goal.decreases-rows-loop-self
+decreases-rows-loop-self l = length l.self.rest.now
 
 abbrev pub decreases-or : goal.decreases-or
 decreases-or l = 20 * length l.self.now.rest.now + 10
@@ -63,6 +82,9 @@ decreases-printed l = 20 * length l.self.now.rest.now + 2
 
 abbrev pub decreases-named : goal.decreases-named
 decreases-named l = 20 * length l.self.now.rest.now + 2
+
+abbrev pub decreases-constructed : goal.decreases-constructed
+decreases-constructed l = 20 * length l.self.now.rest.now + 2
 
 abbrev pub decreases-arguments : goal.decreases-arguments
 decreases-arguments l = 20 * length l.self.now.rest.now + 1

@@ -1,52 +1,18 @@
-use Rattle.std.proofs.Common.{◌∷◌, [], ◌++◌, map, sym, ◌∙◌, ap, subst, arith}
-use Rattle.std.proofs.lemmas.List.{map-append}
-use Rattle.kk_syntax.specs.declared.token.Symbol.TheVariants.{Comma}
+use Rattle.std.proofs.Common.{map, ap, sym, ◌∙◌}
 use Rattle.kk_syntax.specs.Surface.{written_parameter}
-use Rattle.kk_parser.specs.Grammar.{listed, listed_of}
+use Rattle.kk_parser.specs.Grammar.{listed_of, some_listed_of}
 use Rattle.kk_parser.specs.Phrases.{rule, param}
-use Rattle.kk_parser.proofs.Lists.{Lists, lists_none, lists_one, lists_more, lists_end, lists_fails_first, lists_fails}
-use Rattle.kk_parser.proofs.Steps.{gives_up_as_in, symbol_read}
+use Rattle.kk_parser.proofs.Lists.{lists_none, listed_some, continues_some}
+use Rattle.kk_parser.proofs.Steps.{reads_as_within}
 use Rattle.kk_parser.proofs.parser.Parser.parameter_list.Goals as goal
 
 pub returns-then-not-is_at_name-clause-reads : goal.returns-then-not-is_at_name-clause-reads
 returns-then-not-is_at_name-clause-reads c =
     let h = sym c.is_at_name.ensures.value ∙ c.if-not-is_at_name.true in
     let none = lists_none (rule param) c.args.self.now h in
-    (none.0, none.1 ∙ sym (ap (map written_parameter) c.new-parameters.ensures.items), none.2)
-
-pub returns-in_err-first-clause-reads : goal.returns-in_err-first-clause-reads
-returns-in_err-first-clause-reads c =
-    let h = sym c.is_at_name.ensures.value ∙ c.if-not-is_at_name.false in
-    gives_up_as_in (listed (rule param)) (rule param) listed_of (λ ps. map written_parameter ps.items) c.from_residual.result c.in_err-first.field-0.0 c.args.self.now c.args.self.now c.parameter.new.self (λ f r. lists_fails_first (rule param) c.args.self.now f h r) c.from_residual.ensures.1 c.in_err-first.ensures.reads
-
-pub loop-self-init : goal.loop-self-init
-loop-self-init c =
-    let h = sym c.is_at_name.ensures.value ∙ c.if-not-is_at_name.false in
-    let is = c.in_ok-put.ensures ∙ ap (λ ps. ps ++ c.in_ok-first.first ∷ []) c.new-parameters.ensures.items in
-    record {
-      left = omega (arith, c.in_ok-first.ensures.left);
-      read = subst (λ ps. Lists (rule param) ps c.args.self.now c.parameter.new.self) (sym (ap (map written_parameter) is)) (lists_one (rule param) (written_parameter c.in_ok-first.first) c.args.self.now c.parameter.new.self h c.in_ok-first.ensures.reads);
-    }
-
-pub returns-in_err-next-clause-reads : goal.returns-in_err-next-clause-reads
-returns-in_err-next-clause-reads c =
-    let h = sym c.is_at.ensures.value ∙ c.loop-self-test.true in
-    let comma = symbol_read Comma c.loop-self.self c.advance.new.self h c.advance.ensures.rest c.advance.ensures.depth in
-    gives_up_as_in (listed (rule param)) (rule param) listed_of (λ ps. map written_parameter ps.items) c.from_residual-in_err-next.result c.in_err-next.field-0.0 c.args.self.now c.advance.new.self c.parameter-in-loop-self.new.self
-    (λ f r. lists_fails (rule param) (map written_parameter c.loop-self.parameters.items) c.args.self.now c.loop-self.self c.advance.new.self f c.loop-self.invariant.read h comma r)
-    c.from_residual-in_err-next.ensures.1 c.in_err-next.ensures.reads
-
-pub loop-self-preserved : goal.loop-self-preserved
-loop-self-preserved c =
-    let h = sym c.is_at.ensures.value ∙ c.loop-self-test.true in
-    let comma = symbol_read Comma c.loop-self.self c.advance.new.self h c.advance.ensures.rest c.advance.ensures.depth in
-    let next = c.in_ok-next.next in
-    record {
-      left = omega (arith, c.in_ok-next.ensures.left);
-      read = subst (λ ps. Lists (rule param) ps c.args.self.now c.parameter-in-loop-self.new.self) (sym (ap (map written_parameter) c.in_ok-put-2.ensures ∙ map-append written_parameter c.loop-self.parameters.items (next ∷ [])))
-          (lists_more (rule param) (map written_parameter c.loop-self.parameters.items) (written_parameter next) c.args.self.now c.loop-self.self c.advance.new.self c.parameter-in-loop-self.new.self c.loop-self.invariant.read h comma c.in_ok-next.ensures.reads);
-    }
+    (none.0, none.1 ∙ sym (ap (map written_parameter) c.new.ensures.items), none.2)
 
 pub returns-clause-reads : goal.returns-clause-reads
 returns-clause-reads c =
-    lists_end (rule param) (map written_parameter c.loop-self.parameters.items) c.args.self.now c.loop-self.self c.loop-self.invariant.read (sym c.is_at.ensures.value ∙ c.loop-self-test.false)
+    let h = sym c.is_at_name.ensures.value ∙ c.if-not-is_at_name.false in
+    reads_as_within (continues_some (rule param) c.args.self.now h) listed_of some_listed_of (λ ps. map written_parameter ps.items) c.some_parameters.result c.some_parameters.new.self (λ v. listed_some v) c.some_parameters.ensures.reads

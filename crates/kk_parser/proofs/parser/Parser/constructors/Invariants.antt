@@ -1,13 +1,13 @@
 use Rattle.std.proofs.Common.{◌≤◌, length, map}
-use Rattle.kk_syntax.specs.Surface.{written_parameter}
-use Rattle.kk_parser.specs.Phrases.{rule, param}
-use Rattle.kk_parser.proofs.Lists.{Lists}
-use Rattle.kk_parser.proofs.parser.Parser.parameter_list.Given as goal
+use Rattle.kk_syntax.specs.Surface.{written_constructor}
+use Rattle.kk_parser.specs.Phrases.{rule, con}
+use Rattle.kk_parser.proofs.Lists.{Separated}
+use Rattle.kk_parser.proofs.parser.Parser.constructors.Given as goal
 
 abbrev pub invariant-loop-self : goal.invariant-loop-self
 invariant-loop-self l = record {
   left : length l.self.rest.now ≤ length l.fn.self.rest.now;
-  read : Lists (rule param) (map written_parameter l.parameters.items) l.fn.self l.self;
+  read : Separated (rule con) (map written_constructor l.constructors.items) l.fn.self l.self;
 }
 
 abbrev pub decreases-loop-self : goal.decreases-loop-self
