@@ -1,11 +1,11 @@
 -- A construction in a token's cell takes no other cell.
-use Rattle.std.proofs.Common.{◌≡◌, ℕ, List, ◌∷◌, map, length, Some, arith, refl, ap}
+use Rattle.std.proofs.Common.{◌≡◌, ℕ, List, ◌∷◌, map, length, arith, refl, ap}
 use Rattle.kk_source.specs.State.{Value, Environment}
 use Rattle.kk_source.specs.Live.{value_of}
 use Rattle.kk_source.specs.Actions.{goes, builds}
 use Rattle.kk_counted.specs.Heaps.{Heap, busy, fields_held}
 use Rattle.kk_counted.specs.TokenedCodes.{Tokened}
-use Rattle.kk_counted.specs.Tokens.{spent, token, plain, token_of, Mark, one_if_token, Tokens, blanked, released, request}
+use Rattle.kk_counted.specs.Tokens.{spent, token, plain, token_of, Mark, one_if_token, Tokens, blanked, released, has_room, request}
 use Rattle.kk_counted.specs.TokenStates.{TokenSetting, TokenJoin, TokenControl, TokenConfiguration}
 use Rattle.kk_counted.specs.TokenMachine.{bound_to, token_at_stuck, to_made, make_step, filled, token_code_step}
 use Rattle.kk_counted.specs.TokenKeeping.{ArePooled, AreKeptAt}
@@ -33,7 +33,7 @@ takes_no_cell setting x y c first p arguments kept others rest environment joins
     by_cell setting.cells (goes (token_at_stuck from))
         (make_step (request setting.cells others (length from.frames) from.heap (blanked (length from.frames) y spent from.tokens))
         c values to from)
-        (λ q. make_step (Some (released (length from.frames) y q spent from.tokens)) c
+        (λ q. make_step (has_room (released (length from.frames) y q spent from.tokens)) c
         (filled setting.leaves kept (fields_held from.heap q) values) to from)
         (length from.frames) y p from.heap from.tokens pooled is,
     record {
@@ -60,5 +60,5 @@ takes_no_cell setting x y c first p arguments kept others rest environment joins
 
     made : ℕ → TokenConfiguration
     made q =
-        to_made (Some (released (length from.frames) y q spent from.tokens)) c
+        to_made (has_room (released (length from.frames) y q spent from.tokens)) c
         (filled setting.leaves kept (fields_held from.heap q) values) to from

@@ -16,7 +16,7 @@ use Rattle.kk_core.specs.Decisions.{chosen}
 use Rattle.kk_counted.specs.Heaps.{Heap, count_at, cell_at, fields_held, dup_value, drop_value}
 use Rattle.kk_counted.specs.CountedMachine.{Named, cell_named, used_values, other_values, opened_heap, unique_heap}
 use Rattle.kk_counted.specs.TokenedCodes.{Tokened, TokenedFunction}
-use Rattle.kk_counted.specs.Tokens.{Link, Slot, spent, null, token, Mark, plain, token_of, Tokens, marks_with, blanked, released, gained, opened_tokens, by_slot, by_token, freed, moved, held, is_linked, unlinked, with_chain, hold_link, unheld, request, is_of}
+use Rattle.kk_counted.specs.Tokens.{Link, Slot, spent, null, token, Mark, plain, token_of, Tokens, marks_with, blanked, released, gained, opened_tokens, by_slot, by_token, freed, moved, held, is_linked, unlinked, with_chain, hold_link, unheld, Room, has_room, request, is_of}
 use Rattle.kk_counted.specs.TokenStates.{TokenSetting, TokenJoin, TokenFrame, TokenControl, TokenConfiguration}
 use Rattle.kk_counted.specs.TokenMachine.{at_code, bound_to, token_at_stuck, to_heap, to_tokens, in_body, tokened_arm_at, token_case_step, token_give_step, token_tail_step, token_read_step, to_opened, token_open_step, make_step, fill_step, filled, token_call_step, token_form_step, token_code_step}
 use Rattle.kk_counted.specs.TokenSpending.{AreSame, AtForm}
@@ -134,7 +134,7 @@ module _ (setting : TokenSetting) (environment : Environment) (joins : List Toke
           (opened_tokens (count_at after named.at) (length from.frames) y named.at from.tokens).marks
           (opened_before (count_at after named.at) after less))
 
-  made_grows : (x c : ℕ) (fields : List Value) (rest : Tokened) (before : Tokens) (older : List (List ℕ)) (result : Option Tokens)
+  made_grows : (x c : ℕ) (fields : List Value) (rest : Tokened) (before : Tokens) (older : List (List ℕ)) (result : Room)
       → ((p f y : ℕ) → before.marks p ≡ token_of f y → from.tokens.marks p ≡ token_of f y)
       → Asked setting.cells from.heap before ([] ∷ older) result
       → AllLead (Growth setting.cells from) (make_step result c fields (λ v. bound_to x v rest environment joins from) from)
@@ -170,14 +170,14 @@ module _ (setting : TokenSetting) (environment : Environment) (joins : List Toke
         (λ v. bound_to x v rest environment joins from) from)
     fill_grows x y c fields kept others rest among all = by_has (has_slot y among)
       where
-        make : Option Tokens → List Value → Action TokenConfiguration
+        make : Room → List Value → Action TokenConfiguration
         make result values = make_step result c values (λ v. bound_to x v rest environment joins from) from
 
         step : ℕ → Action TokenConfiguration
         step d =
             by_token (goes (token_at_stuck from)) (make (request setting.cells others d from.heap (blanked d y spent from.tokens))
             fields)
-            (λ p. make (Some (released d y p spent from.tokens)) (filled setting.leaves kept (fields_held from.heap p) fields)) d y
+            (λ p. make (has_room (released d y p spent from.tokens)) (filled setting.leaves kept (fields_held from.heap p) fields)) d y
             from.tokens
 
         by_has : Has (from.tokens.slots (length lists.older) y) → AllLead (Growth setting.cells from) (step (length from.frames))
@@ -187,7 +187,7 @@ module _ (setting : TokenSetting) (environment : Environment) (joins : List Toke
             (sym (ap step many ∙ by_null setting.cells (goes (token_at_stuck from))
             (make (request setting.cells others (length lists.older) from.heap
             (blanked (length lists.older) y spent from.tokens)) fields)
-            (λ p. make (Some (released (length lists.older) y p spent from.tokens))
+            (λ p. make (has_room (released (length lists.older) y p spent from.tokens))
             (filled setting.leaves kept (fields_held from.heap p) fields)) (length lists.older) y from.tokens is))
             (made_grows x c fields rest (blanked (length lists.older) y spent from.tokens) lists.older
             (request setting.cells others (length lists.older) from.heap (blanked (length lists.older) y spent from.tokens))
@@ -199,7 +199,7 @@ module _ (setting : TokenSetting) (environment : Environment) (joins : List Toke
             (sym (ap step many ∙ by_cell setting.cells (goes (token_at_stuck from))
             (make (request setting.cells others (length lists.older) from.heap
             (blanked (length lists.older) y spent from.tokens)) fields)
-            (λ q. make (Some (released (length lists.older) y q spent from.tokens))
+            (λ q. make (has_room (released (length lists.older) y q spent from.tokens))
             (filled setting.leaves kept (fields_held from.heap q) fields)) (length lists.older) y p from.heap from.tokens
             now.are.pooled is))
             (grows (record {

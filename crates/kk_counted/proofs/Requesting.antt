@@ -3,7 +3,7 @@ use Rattle.std.proofs.Common.{◌≡◌, ℕ, suc, ◌+◌, ◌≤◌, ◌<◌, 
 use Rattle.std.specs.Prelude.{if◌then◌else◌, nat_le}
 use Rattle.kk_syntax.specs.Shapes.{is_among}
 use Rattle.kk_counted.specs.Heaps.{Heap, busy}
-use Rattle.kk_counted.specs.Tokens.{Slot, spent, null, token, is_unspent, is_token, Mark, plain, token_of, one_if_token, Link, Tokens, marked, slots_with, marks_with, released, first_token, taken, from_link, from_chain, from_tokens, request}
+use Rattle.kk_counted.specs.Tokens.{Slot, spent, null, token, is_unspent, is_token, Mark, plain, token_of, one_if_token, Link, Tokens, marked, slots_with, marks_with, released, first_token, taken, Room, has_room, no_room, from_link, from_chain, from_tokens, request}
 use Rattle.kk_counted.specs.TokenStates.{TokenFrame}
 use Rattle.kk_counted.specs.TokenSpending.{AreSame}
 use Rattle.kk_counted.specs.TokenKeeping.{ArePooled, chain_of, AreTokens, AreUnspent, AreHeldFrames}
@@ -18,9 +18,9 @@ pub record IsServed (cells : ℕ) (heap : Heap) (before after : Tokens) (helds :
   pub unspent : (f y : ℕ) → is_unspent (after.slots f y) ≡ is_unspent (before.slots f y)
   pub fewer : (p f y : ℕ) → after.marks p ≡ token_of f y → before.marks p ≡ token_of f y
 
-pub data Asked (cells : ℕ) (heap : Heap) (before : Tokens) (helds : List (List ℕ)) (result : Option Tokens) : Type 0 where
-  full : cells ≤ busy heap → result ≡ None → Asked cells heap before helds result
-  served : (after : Tokens) → result ≡ Some after → IsServed cells heap before after helds → Asked cells heap before helds result
+pub data Asked (cells : ℕ) (heap : Heap) (before : Tokens) (helds : List (List ℕ)) (result : Room) : Type 0 where
+  full : cells ≤ busy heap → result ≡ no_room → Asked cells heap before helds result
+  served : (after : Tokens) → result ≡ has_room after → IsServed cells heap before after helds → Asked cells heap before helds result
 
 first_none : (slots : ℕ → Slot) (ys : List ℕ) (y : ℕ) → first_token slots ys ≡ None → is_among ys y ≡ true
     → is_token (slots y) ≡ false
@@ -159,7 +159,7 @@ asked cells unspent others older frames heap tokens are waiting slots_are all =
     by_first (Some y) is filled =
         let cell = token_is (tokens.slots (length older) y) (first_some (tokens.slots (length older)) others y is) in
         served (record (released (length older) y cell.0 null tokens) { chain = tokens.chain })
-        (ap (λ slot. Some (taken (length older) y slot tokens)) cell.1)
+        (ap (λ slot. has_room (taken (length older) y slot tokens)) cell.1)
         (taken_served cells heap tokens ([] ∷ older) (length older) y cell.0 tokens.chain cell.1 (omega arith) are
         (chain_same tokens.slots (slots_with (length older) y null tokens.slots) older
         (equal_one (length older) (length older) y null tokens.slots (omega arith)) ∙ sym older_chain))
@@ -174,7 +174,7 @@ asked cells unspent others older frames heap tokens are waiting slots_are all =
 
     by_room : (t : Bool) → nat_le cells (busy heap + marked tokens.marks (length heap)) ≡ t
         → Asked cells heap tokens ([] ∷ older) (if t then from_tokens (first_token (tokens.slots (length older)) others)
-        (length older) tokens else Some tokens)
+        (length older) tokens else has_room tokens)
     by_room true test = by_first (first_token (tokens.slots (length older)) others) refl (filled_is test)
     by_room false test =
         served tokens refl (record { are = are; room = room_is test; unspent = λ f y. refl; fewer = λ p f y is. is })

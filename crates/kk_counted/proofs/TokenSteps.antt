@@ -21,7 +21,7 @@ use Rattle.kk_counted.specs.CountedStates.{CountedConfiguration}
 use Rattle.kk_counted.specs.CountedMachine.{at_counted, bound_then, at_end, in_code, with_heap, arm_at, case_step, give_step, tail_step, Named, cell_named, used_values, other_values, opened_heap, unique_heap, open_step, construct_step, call_step, form_step, counted_code_step}
 use Rattle.kk_counted.specs.TokenedCodes.{Tokened, TokenedArms, TokenedFunction}
 use Rattle.kk_counted.specs.BareForms.{bare, bare_arms, bare_function}
-use Rattle.kk_counted.specs.Tokens.{spent, token, is_unspent, Tokens, marked, blanked, released, opened_tokens, by_token, held, request}
+use Rattle.kk_counted.specs.Tokens.{spent, token, is_unspent, Tokens, marked, blanked, released, opened_tokens, by_token, held, Room, has_room, request}
 use Rattle.kk_counted.specs.TokenStates.{TokenSetting, TokenJoin, TokenFrame, TokenControl, TokenConfiguration, bare_join, bare_frame, bare_configuration, bare_setting}
 use Rattle.kk_counted.specs.TokenMachine.{at_code, bound_to, token_at_end, token_at_stuck, to_heap, tokened_arm_at, token_case_step, token_give_step, in_body, token_tail_step, token_read_step, to_opened, token_open_step, make_step, filled, fill_step, token_call_step, token_form_step, token_code_step}
 use Rattle.kk_counted.specs.TokenSpending.{AreSame, AtForm, SpendsTokens, SpendAllTokens, AreTokensSpent}
@@ -266,7 +266,7 @@ module _ (setting : TokenSetting) (program_spends : AreTokensSpent setting.progr
 
     -- where the request has been answered, the construction follows
     made_followed : (P : Lists → Type 0) (x c : ℕ) (fields : List Value) (before : Tokens) (helds : List (List ℕ))
-        (result : Option Tokens) → P (lists_of left unspent [] older) → AreTokens setting.cells from.heap from.tokens helds
+        (result : Room) → P (lists_of left unspent [] older) → AreTokens setting.cells from.heap from.tokens helds
         → SpendsTokens left unspent [] rest → AreNow setting.cells unspent older from.frames from.heap before
         → Asked setting.cells from.heap before ([] ∷ older) result
         → IsFollowed setting.cells P (make_step result c fields (λ v. bound_to x v rest environment joins from) from)
@@ -451,14 +451,14 @@ module _ (setting : TokenSetting) (program_spends : AreTokensSpent setting.progr
             (λ v. bound_then x v (bare rest) environment (map bare_join joins) (bare_configuration from))
             (bare_configuration from)
 
-        make : Option Tokens → List Value → Action TokenConfiguration
+        make : Room → List Value → Action TokenConfiguration
         make result values = make_step result c values (λ v. bound_to x v rest environment joins from) from
 
         step : ℕ → Action TokenConfiguration
         step d =
             by_token (goes (token_at_stuck from)) (make (request setting.cells others d from.heap (blanked d y spent from.tokens))
             fields)
-            (λ p. make (Some (released d y p spent from.tokens)) (filled setting.leaves kept (fields_held from.heap p) fields)) d y
+            (λ p. make (has_room (released d y p spent from.tokens)) (filled setting.leaves kept (fields_held from.heap p) fields)) d y
             from.tokens
 
         by_has : Has (from.tokens.slots (length older) y) → IsFollowed setting.cells P (step (length from.frames)) below
@@ -469,7 +469,7 @@ module _ (setting : TokenSetting) (program_spends : AreTokensSpent setting.progr
             subst (λ (act : Action TokenConfiguration). IsFollowed setting.cells P act below)
             (sym (ap step many ∙ by_null setting.cells (goes (token_at_stuck from))
             (make (request setting.cells others (length older) from.heap (blanked (length older) y spent from.tokens)) fields)
-            (λ p. make (Some (released (length older) y p spent from.tokens))
+            (λ p. make (has_room (released (length older) y p spent from.tokens))
             (filled setting.leaves kept (fields_held from.heap p) fields)) (length older) y from.tokens is))
             (made_followed P x c fields (blanked (length older) y spent from.tokens) ([] ∷ older)
             (request setting.cells others (length older) from.heap (blanked (length older) y spent from.tokens))
@@ -483,13 +483,13 @@ module _ (setting : TokenSetting) (program_spends : AreTokensSpent setting.progr
             subst (λ (act : Action TokenConfiguration). IsFollowed setting.cells P act below)
             (sym (ap step many ∙ (by_cell setting.cells (goes (token_at_stuck from))
             (make (request setting.cells others (length older) from.heap (blanked (length older) y spent from.tokens)) fields)
-            (λ p. make (Some (released (length older) y p spent from.tokens))
+            (λ p. make (has_room (released (length older) y p spent from.tokens))
             (filled setting.leaves kept (fields_held from.heap p) fields)) (length older) y p from.heap from.tokens
             now.are.pooled is
-            ∙ ap (make (Some (released (length older) y p spent from.tokens)))
+            ∙ ap (make (has_room (released (length older) y p spent from.tokens)))
             (fills p (ap (λ d. from.tokens.slots d y) many ∙ is)))))
             (made_followed P x c fields (released (length older) y p spent from.tokens) ([] ∷ older)
-            (Some (released (length older) y p spent from.tokens))
+            (has_room (released (length older) y p spent from.tokens))
             next now.are spends after
             (served (released (length older) y p spent from.tokens) refl (record {
               are = after.are;

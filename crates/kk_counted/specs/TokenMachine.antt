@@ -15,7 +15,7 @@ use Rattle.kk_core.specs.Decisions.{chosen}
 use Rattle.kk_counted.specs.Heaps.{Heap, count_at, cell_at, fields_held, busy, dup_value, drop_value}
 use Rattle.kk_counted.specs.CountedMachine.{Named, cell_named, used_values, other_values, opened_heap, unique_heap}
 use Rattle.kk_counted.specs.TokenedCodes.{Tokened, TokenedArms, TokenedFunction}
-use Rattle.kk_counted.specs.Tokens.{spent, null, is_token, Tokens, blanked, released, opened_tokens, by_token, freed, moved, held, unheld, request}
+use Rattle.kk_counted.specs.Tokens.{spent, null, is_token, Tokens, blanked, released, opened_tokens, by_token, freed, moved, held, unheld, Room, has_room, no_room, no_token, request}
 use Rattle.kk_counted.specs.TokenStates.{TokenSetting, TokenJoin, TokenFrame, TokenControl, TokenConfiguration, TokenState, token_end_at}
 
 -- ---- the machine at another place
@@ -91,16 +91,17 @@ token_open_step (Some named) heap fields y rest environment joins from =
     goes (to_opened (heap named) named.at y from (at_code rest (bind_fields fields named.fields environment) joins from))
 
 -- A construction with fields, by the tokens that are left when it has got its cell: its value is that cell, with one reference.
--- Where it has got none, it stops with a full heap.
-abbrev pub to_made : Option Tokens → ℕ → List Value → (Value → TokenConfiguration) → TokenConfiguration → TokenConfiguration
-to_made None c fields to from = token_at_end heap_full from
-to_made (Some tokens) c fields to from =
+-- Where it has got none, it stops with a full heap; and it is stuck where the chain is wrong.
+abbrev pub to_made : Room → ℕ → List Value → (Value → TokenConfiguration) → TokenConfiguration → TokenConfiguration
+to_made no_room c fields to from = token_at_end heap_full from
+to_made no_token c fields to from = token_at_stuck from
+to_made (has_room tokens) c fields to from =
     record (to (place (length from.heap))) {
       heap = record { count = 1; cell = record { made_by = c; fields = fields } } ∷ from.heap;
       tokens = tokens;
     }
 
-abbrev pub make_step : Option Tokens → ℕ → List Value → (Value → TokenConfiguration) → TokenConfiguration
+abbrev pub make_step : Room → ℕ → List Value → (Value → TokenConfiguration) → TokenConfiguration
     → Action TokenConfiguration
 make_step tokens c fields to from = builds (busy from.heap) (to_made tokens c fields to from)
 
@@ -126,7 +127,7 @@ module _ (setting : TokenSetting) where
       (make_step (request setting.cells others (frame_of from) from.heap (blanked (frame_of from) y spent from.tokens)) c fields to
       from)
       (λ p.
-      make_step (Some (released (frame_of from) y p spent from.tokens)) c
+      make_step (has_room (released (frame_of from) y p spent from.tokens)) c
       (filled setting.leaves kept (fields_held from.heap p) fields)
       to from)
       (frame_of from) y from.tokens

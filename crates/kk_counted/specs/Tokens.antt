@@ -125,6 +125,12 @@ unheld f y tokens = by_token None (Some tokens) (λ p. with_chain tokens (unlink
 
 -- ---- requests for a cell
 
+-- What a request gets: a cell, with the tokens that are left; none, since the heap is full; or nothing, since the chain is wrong.
+pub data Room : Type 0 where
+  has_room : (left : Tokens) → Room
+  no_room : Room
+  no_token : Room
+
 -- the first of some slots that has a token
 abbrev pub first_token : (ℕ → Slot) → List ℕ → Option ℕ
 first_token slots [] = None
@@ -135,23 +141,23 @@ abbrev pub taken : ℕ → ℕ → Slot → Tokens → Tokens
 taken f y (token p) tokens = released f y p null tokens
 taken f y _ tokens = tokens
 
--- the token of the top of a chain; none where it has no token
-abbrev pub from_link : Link → List Link → Slot → Tokens → Option Tokens
-from_link link links (token p) tokens = Some (record (released link.frame link.slot p null tokens) { chain = links })
-from_link link links _ tokens = None
+-- the token of the top of a chain, which is wrong where that slot has none
+abbrev pub from_link : Link → List Link → Slot → Tokens → Room
+from_link link links (token p) tokens = has_room (record (released link.frame link.slot p null tokens) { chain = links })
+from_link link links _ tokens = no_token
 
-abbrev pub from_chain : List Link → Tokens → Option Tokens
-from_chain [] tokens = None
+abbrev pub from_chain : List Link → Tokens → Room
+from_chain [] tokens = no_room
 from_chain (link ∷ links) tokens = from_link link links (tokens.slots link.frame link.slot) tokens
 
-abbrev pub from_tokens : Option ℕ → ℕ → Tokens → Option Tokens
-from_tokens (Some y) f tokens = Some (taken f y (tokens.slots f y) tokens)
+abbrev pub from_tokens : Option ℕ → ℕ → Tokens → Room
+from_tokens (Some y) f tokens = has_room (taken f y (tokens.slots f y) tokens)
 from_tokens None f tokens = from_chain tokens.chain tokens
 
 -- A request for a cell, of so many, by a function with these unspent tokens: a free cell; else one of those tokens; else the
 -- newest held one; else none is there.
-abbrev pub request : ℕ → List ℕ → ℕ → Heap → Tokens → Option Tokens
+abbrev pub request : ℕ → List ℕ → ℕ → Heap → Tokens → Room
 request cells others f heap tokens =
     if nat_le cells (busy heap + marked tokens.marks (length heap))
     then from_tokens (first_token (tokens.slots f) others) f tokens
-    else Some tokens
+    else has_room tokens
