@@ -183,21 +183,19 @@ form_of shape literals functions each texts lowerable are = record {
       let written = subst (λ ts. IsWritten shape literals ts f function own.0) (append-nil texts) own.1.1 in
       let found = known (table_of shape) f function (lowerable f function is) in (
         own.0,
-        (
-          own.1.0,
-          record {
-            lowered = record {
-              holds = holds_in (function_marks (table_of shape) f function);
-              base = length (function_marks (table_of shape) f function);
-              params = written.params;
-              labels = written.labels;
-              code = written.code;
-            };
-            marked = found.marked;
-            few = found.few;
-            numbered = found.numbered;
-          },
-        ),
+        own.1.0,
+        record {
+          lowered = record {
+            holds = holds_in (function_marks (table_of shape) f function);
+            base = length (function_marks (table_of shape) f function);
+            params = written.params;
+            labels = written.labels;
+            code = written.code;
+          };
+          marked = found.marked;
+          few = found.few;
+          numbered = found.numbered;
+        },
       );
   as_many = are.as_many;
   few_bytes = are.few;
