@@ -7,6 +7,7 @@ mod law;
 mod lending;
 mod passing;
 mod program;
+mod shaping;
 mod variables;
 mod writing;
 
