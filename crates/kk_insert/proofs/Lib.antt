@@ -14,6 +14,8 @@ pub mod Backwards
 pub mod Cases
 pub mod Rows
 pub mod Instances
+pub mod Consistent
+pub mod Shaped
 pub mod Calling
 pub mod Computing
 pub mod Simulating

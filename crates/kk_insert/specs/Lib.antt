@@ -4,3 +4,4 @@ pub mod Meaning
 pub mod Promise
 pub mod Steps
 pub mod Parts
+pub mod Shapes

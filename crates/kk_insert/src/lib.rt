@@ -7,6 +7,7 @@ mod law;
 mod lending;
 mod passing;
 mod program;
+mod shaping;
 mod variables;
 mod writing;
 
@@ -14,4 +15,4 @@ pub use law::{
     counted_cells_are_the_live_places, inserted_code_is_spent, inserted_code_keeps_meaning,
     typed_code_is_insertable,
 };
-pub use program::inserted;
+pub use program::run;
