@@ -88,9 +88,7 @@ fn write_last(
 {
     match last {
         Last::Return(variable) => write_value(lowering, *variable, goal),
-        Last::TailCall(function, arguments) => {
-            write_tail_call(lowering, *function, arguments)
-        }
+        Last::TailCall(function, arguments) => { write_tail_call(lowering, *function, arguments) }
         Last::If(variable, positive, negative) => {
             let label = lowering.take_label()?;
             write_test(lowering, *variable, label)?;
