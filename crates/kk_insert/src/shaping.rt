@@ -12,7 +12,11 @@ use kk_syntax::{Ownership, Positions};
 use std::alloc::Global;
 
 /// The instance of a function whose parameters are passed so.
-fn instance(alloc: Global, passed: &[Ownership], function: &CoreFunction) -> Result<InstanceShape, NoMemory>
+fn instance(
+    alloc: Global,
+    passed: &[Ownership],
+    function: &CoreFunction,
+) -> Result<InstanceShape, NoMemory>
     requires { length passed.now ≡ length function.now.parameters_have_cells.items }
     ensures passed { IfOk result (λ made. passed_to made ≡ passed.now) }
     ensures cells { IfOk result (λ made. cells_in made ≡ cells_told function.now) }
@@ -33,11 +37,16 @@ fn instance(alloc: Global, passed: &[Ownership], function: &CoreFunction) -> Res
 }
 
 /// The instances of some functions, by how their parameters are passed.
-pub fn instances(alloc: Global, positions: &Positions, functions: &[CoreFunction]) -> Result<Vec<InstanceShape>, NoMemory>
+pub fn instances(
+    alloc: Global,
+    positions: &Positions,
+    functions: &[CoreFunction],
+) -> Result<Vec<InstanceShape>, NoMemory>
     requires { TellsAsMany (positions_of positions.now) functions.now }
     ensures passed { IfOk result (λ made. positions_in made.items ≡ positions_of positions.now) }
     ensures cells { IfOk result (λ made. map cells_in made.items ≡ map cells_told functions.now) }
-    ensures results { IfOk result (λ made. map (λ (i : InstanceOf). i.result_has_cells) made.items ≡ map (λ (f : CoreFunctionOf). f.result_has_cells) functions.now) }
+    ensures results { IfOk result (λ made. map (λ (i : InstanceOf). i.result_has_cells) made.items
+        ≡ map (λ (f : CoreFunctionOf). f.result_has_cells) functions.now) }
 {
     let mut made = Vec::new(alloc);
     for at in 0..functions.len() {
@@ -48,7 +57,10 @@ pub fn instances(alloc: Global, positions: &Positions, functions: &[CoreFunction
 }
 
 /// The same constructors again.
-pub fn constructors(alloc: Global, given: &[ConstructorShape]) -> Result<Vec<ConstructorShape>, NoMemory>
+pub fn constructors(
+    alloc: Global,
+    given: &[ConstructorShape],
+) -> Result<Vec<ConstructorShape>, NoMemory>
     ensures { IfOk result (λ made. map facts_of made.items ≡ map facts_of given.now) }
 {
     let mut made = Vec::new(alloc);

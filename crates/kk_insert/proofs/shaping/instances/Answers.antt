@@ -1,4 +1,4 @@
-use Rattle.std.proofs.Common.{◌≡◌, ◌<◌, length, arith, sym, ap, ◌∙◌, subst}
+use Rattle.std.proofs.Common.{◌<◌, length, arith, sym, ap, ◌∙◌}
 use Rattle.kk_core.specs.declared.form.CoreFunction.{CoreFunction}
 use Rattle.kk_counted.specs.declared.shape.InstanceShape.{InstanceShape}
 use Rattle.kk_counted.specs.Shaping.{passed_to}
@@ -10,7 +10,7 @@ pub instance-requires : goal.instance-requires
 instance-requires c =
     ap length c.deref.ensures.value
     ∙ as_many_at c.args.positions.now.functions.items c.args.functions.now c.loop-at.at c.index.result.now
-        c.index-functions-at.result c.requires c.loop-at-test.true (sym c.index.ensures) (sym c.index-functions-at.is)
+    c.index-functions-at.result c.requires c.loop-at-test.true (sym c.index.ensures) (sym c.index-functions-at.is)
 
 pub loop-at-preserved : goal.loop-at-preserved
 loop-at-preserved c =
@@ -18,8 +18,7 @@ loop-at-preserved c =
     let functions = c.args.functions.now in
     let function = c.index-functions-at.result in
     let made = c.loop-at.made.items in
-    let less : c.loop-at.at < length tables = omega (arith, as_long tables functions c.requires, c.loop-at-test.true) in
-    (
+    let less : c.loop-at.at < length tables = omega (arith, as_long tables functions c.requires, c.loop-at-test.true) in (
       grown passed_to made _ c.in_ok-one.one _ _ (told_by c.index.result.now) c.in_ok-push.ensures.items
           (c.in_ok-one.ensures.passed ∙ c.deref.ensures.value) c.loop-at.invariant.0
           (take_next told_by tables c.loop-at.at c.index.result.now less (sym c.index.ensures)),
