@@ -36,8 +36,10 @@ impl<'a> Insertion<'a> {
     /// A block with its dups and drops, where `left` is owned at its end.
     #[cycle(block)]
     pub fn block(&self, left: &[u32], block: &kk_core::Block) -> Result<Part, NoMemory>
-        ensures owned { IfOk result (λ part. part.owned.items ≡ own (positions_of self.now.positions.now) self.now.lent.now left.now (core_block_code block.now)) }
-        ensures code { IfOk result (λ part. block_code part.block ≡ insert (positions_of self.now.positions.now) self.now.lent.now left.now (core_block_code block.now)) }
+        ensures owned { IfOk result (λ part. part.owned.items
+            ≡ own (positions_of self.now.positions.now) self.now.lent.now left.now (core_block_code block.now)) }
+        ensures code { IfOk result (λ part. block_code part.block
+            ≡ insert (positions_of self.now.positions.now) self.now.lent.now left.now (core_block_code block.now)) }
     {
         let mut part = self.last(left, &block.last)?;
         let mut count = block.steps.len();
@@ -51,8 +53,11 @@ impl<'a> Insertion<'a> {
     // A step with its dups and drops, before the others.
     #[cycle(block)]
     fn step(&self, step: &kk_core::Step, rest: Part) -> Result<Part, NoMemory>
-        ensures owned { IfOk result (λ part. part.owned.items ≡ own_before (positions_of self.now.positions.now) self.now.lent.now (step_piece step.now) rest.owned.items) }
-        ensures code { IfOk result (λ part. block_code part.block ≡ insert_before (positions_of self.now.positions.now) self.now.lent.now (step_piece step.now) rest.owned.items (block_code rest.block)) }
+        ensures owned { IfOk result (λ part. part.owned.items
+            ≡ own_before (positions_of self.now.positions.now) self.now.lent.now (step_piece step.now) rest.owned.items) }
+        ensures code { IfOk result (λ part. block_code part.block
+            ≡ insert_before (positions_of self.now.positions.now) self.now.lent.now (step_piece step.now)
+            rest.owned.items (block_code rest.block)) }
     {
         match step {
             kk_core::Step::Let(variable, form, arguments) => {
@@ -71,8 +76,12 @@ impl<'a> Insertion<'a> {
         arguments: &[u32],
         rest: Part,
     ) -> Result<Part, NoMemory>
-        ensures owned { IfOk result (λ part. part.owned.items ≡ own_before (positions_of self.now.positions.now) self.now.lent.now (computes variable form arguments.now) rest.owned.items) }
-        ensures code { IfOk result (λ part. block_code part.block ≡ insert_before (positions_of self.now.positions.now) self.now.lent.now (computes variable form arguments.now) rest.owned.items (block_code rest.block)) }
+        ensures owned { IfOk result (λ part. part.owned.items
+            ≡ own_before (positions_of self.now.positions.now) self.now.lent.now (computes variable form arguments.now)
+            rest.owned.items) }
+        ensures code { IfOk result (λ part. block_code part.block
+            ≡ insert_before (positions_of self.now.positions.now) self.now.lent.now (computes variable form arguments.now)
+            rest.owned.items (block_code rest.block)) }
     {
         let Part {
             owned: now,
@@ -93,8 +102,11 @@ impl<'a> Insertion<'a> {
     }
 
     fn use_of(&self, variable: u32, rest: Part) -> Result<Part, NoMemory>
-        ensures owned { IfOk result (λ part. part.owned.items ≡ own_before (positions_of self.now.positions.now) self.now.lent.now (uses variable) rest.owned.items) }
-        ensures code { IfOk result (λ part. block_code part.block ≡ insert_before (positions_of self.now.positions.now) self.now.lent.now (uses variable) rest.owned.items (block_code rest.block)) }
+        ensures owned { IfOk result (λ part. part.owned.items
+            ≡ own_before (positions_of self.now.positions.now) self.now.lent.now (uses variable) rest.owned.items) }
+        ensures code { IfOk result (λ part. block_code part.block
+            ≡ insert_before (positions_of self.now.positions.now) self.now.lent.now (uses variable)
+            rest.owned.items (block_code rest.block)) }
     {
         let Part {
             owned: now,
@@ -106,8 +118,12 @@ impl<'a> Insertion<'a> {
     }
 
     fn unpack(&self, variable: u32, by: u32, fields: &[u32], rest: Part) -> Result<Part, NoMemory>
-        ensures owned { IfOk result (λ part. part.owned.items ≡ own_before (positions_of self.now.positions.now) self.now.lent.now (unpacks variable by fields.now) rest.owned.items) }
-        ensures code { IfOk result (λ part. block_code part.block ≡ insert_before (positions_of self.now.positions.now) self.now.lent.now (unpacks variable by fields.now) rest.owned.items (block_code rest.block)) }
+        ensures owned { IfOk result (λ part. part.owned.items
+            ≡ own_before (positions_of self.now.positions.now) self.now.lent.now (unpacks variable by fields.now)
+            rest.owned.items) }
+        ensures code { IfOk result (λ part. block_code part.block
+            ≡ insert_before (positions_of self.now.positions.now) self.now.lent.now (unpacks variable by fields.now)
+            rest.owned.items (block_code rest.block)) }
     {
         let Part {
             owned: now,
@@ -128,8 +144,12 @@ impl<'a> Insertion<'a> {
 
     #[cycle(block)]
     fn inside(&self, variable: u32, inner: &kk_core::Block, rest: Part) -> Result<Part, NoMemory>
-        ensures owned { IfOk result (λ part. part.owned.items ≡ own_before (positions_of self.now.positions.now) self.now.lent.now (runs variable (core_block_code inner.now)) rest.owned.items) }
-        ensures code { IfOk result (λ part. block_code part.block ≡ insert_before (positions_of self.now.positions.now) self.now.lent.now (runs variable (core_block_code inner.now)) rest.owned.items (block_code rest.block)) }
+        ensures owned { IfOk result (λ part. part.owned.items
+            ≡ own_before (positions_of self.now.positions.now) self.now.lent.now (runs variable (core_block_code inner.now))
+            rest.owned.items) }
+        ensures code { IfOk result (λ part. block_code part.block
+            ≡ insert_before (positions_of self.now.positions.now) self.now.lent.now (runs variable (core_block_code inner.now))
+            rest.owned.items (block_code rest.block)) }
     {
         let Part {
             owned: now,
@@ -148,8 +168,10 @@ impl<'a> Insertion<'a> {
     // How a block ends, with its dups and drops.
     #[cycle(block)]
     fn last(&self, left: &[u32], last: &kk_core::Last) -> Result<Part, NoMemory>
-        ensures owned { IfOk result (λ part. part.owned.items ≡ own (positions_of self.now.positions.now) self.now.lent.now left.now (core_last_code last.now)) }
-        ensures code { IfOk result (λ part. block_code part.block ≡ insert (positions_of self.now.positions.now) self.now.lent.now left.now (core_last_code last.now)) }
+        ensures owned { IfOk result (λ part. part.owned.items
+            ≡ own (positions_of self.now.positions.now) self.now.lent.now left.now (core_last_code last.now)) }
+        ensures code { IfOk result (λ part. block_code part.block
+            ≡ insert (positions_of self.now.positions.now) self.now.lent.now left.now (core_last_code last.now)) }
     {
         match last {
             kk_core::Last::Return(variable) => {
@@ -176,7 +198,8 @@ impl<'a> Insertion<'a> {
     // An end that uses variables up.
     fn end(&self, left: &[u32], spent: &[u32], last: Last) -> Result<Part, NoMemory>
         ensures owned { IfOk result (λ part. part.owned.items ≡ owns self.now.lent.now spent.now left.now) }
-        ensures code { IfOk result (λ part. block_code part.block ≡ dups (wants self.now.lent.now spent.now left.now) (last_code last)) }
+        ensures code { IfOk result (λ part. block_code part.block
+            ≡ dups (wants self.now.lent.now spent.now left.now) (last_code last)) }
     {
         let owned = owns(self.alloc, self.lent, spent, left)?;
         let wanted = wants(self.alloc, self.lent, spent, left)?;
@@ -189,8 +212,11 @@ impl<'a> Insertion<'a> {
     }
 
     fn branch(&self, variable: u32, positive: Part, negative: Part) -> Result<Part, NoMemory>
-        ensures owned { IfOk result (λ part. part.owned.items ≡ owns self.now.lent.now (variable ∷ []) (before positive.owned.items negative.owned.items)) }
-        ensures code { IfOk result (λ part. block_code part.block ≡ branch variable (dropping part.owned.items positive.owned.items (block_code positive.block)) (dropping part.owned.items negative.owned.items (block_code negative.block))) }
+        ensures owned { IfOk result (λ part. part.owned.items
+            ≡ owns self.now.lent.now (variable ∷ []) (before positive.owned.items negative.owned.items)) }
+        ensures code { IfOk result (λ part. block_code part.block
+            ≡ branch variable (dropping part.owned.items positive.owned.items (block_code positive.block))
+            (dropping part.owned.items negative.owned.items (block_code negative.block))) }
     {
         let either = before(self.alloc, &positive.owned, &negative.owned)?;
         let owned = owns(self.alloc, self.lent, &[variable], &either)?;
@@ -210,8 +236,10 @@ impl<'a> Insertion<'a> {
         decisions: &Decisions,
         parts: Vec<Part>,
     ) -> Result<Part, NoMemory>
-        ensures owned { IfOk result (λ part. part.owned.items ≡ owns self.now.lent.now (variable ∷ []) (own_each left.now (map part_of parts.items))) }
-        ensures code { IfOk result (λ part. block_code part.block ≡ case variable (decisions_of decisions.now) (insert_each part.owned.items (map part_of parts.items))) }
+        ensures owned { IfOk result (λ part. part.owned.items
+            ≡ owns self.now.lent.now (variable ∷ []) (own_each left.now (map part_of parts.items))) }
+        ensures code { IfOk result (λ part. block_code part.block
+            ≡ case variable (decisions_of decisions.now) (insert_each part.owned.items (map part_of parts.items))) }
     {
         let each = self.own_each(left, &parts)?;
         let owned = owns(self.alloc, self.lent, &[variable], &each)?;
@@ -259,7 +287,8 @@ impl<'a> Insertion<'a> {
 
     #[cycle(block)]
     fn arms(&self, left: &[u32], arms: &[Arm]) -> Result<Vec<Part>, NoMemory>
-        ensures { IfOk result (λ parts. map part_of parts.items ≡ map (part_in (positions_of self.now.positions.now) self.now.lent.now left.now) (map arm_code arms.now)) }
+        ensures { IfOk result (λ parts. map part_of parts.items
+            ≡ map (part_in (positions_of self.now.positions.now) self.now.lent.now left.now) (map arm_code arms.now)) }
     {
         let mut parts = Vec::new(self.alloc);
         for arm in arms {

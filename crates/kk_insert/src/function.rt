@@ -23,7 +23,8 @@ pub fn inserted(
     function: &CoreFunction,
 ) -> Result<CountedFun, NoMemory>
     ensures number { IfOk result (λ fun. fun.instance ≡ number) }
-    ensures function { IfOk result (λ fun. function_of fun ≡ inserted_function (positions_of positions.now) number (function_code function.now)) }
+    ensures function { IfOk result (λ fun. function_of fun
+        ≡ inserted_function (positions_of positions.now) number (function_code function.now)) }
 {
     let parameters = numbers(alloc, function.parameters)?;
     let given = at_lent(alloc, positions, number, &parameters)?;

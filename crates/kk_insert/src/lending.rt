@@ -40,7 +40,8 @@ fn lent_fields(
     variable: u32,
     fields: &[u32],
 ) -> Result<Vec<u32>, NoMemory>
-    ensures { IfOk result (λ found. found.items ≡ (if is_among lent.items variable then fields.now ++ lent.items else lent.items)) }
+    ensures { IfOk result (λ found. found.items
+        ≡ (if is_among lent.items variable then fields.now ++ lent.items else lent.items)) }
 {
     if !is_in(&lent, variable) {
         return Ok(lent);

@@ -14,7 +14,8 @@ pub fn at_owned(
     function: u32,
     arguments: &[u32],
 ) -> Result<Vec<u32>, NoMemory>
-    ensures { IfOk result (λ found. found.items ≡ at_positions (is_owned (positions_of positions.now) [] function) 0 arguments.now) }
+    ensures { IfOk result (λ found. found.items
+        ≡ at_positions (is_owned (positions_of positions.now) [] function) 0 arguments.now) }
 {
     let mut found = Vec::new(alloc);
     for at in 0..arguments.len() {

@@ -28,12 +28,14 @@ pub fn run(alloc: Global, core: &Core, positions: &Positions) -> Result<Counted,
     requires told { TellsParameters (positions_of positions.now) (core_code core.now) }
     requires cells { TellsAsMany (positions_of positions.now) core.now.functions.items }
     requires consistent { AreConsistent core.now.constructors.items }
-    ensures functions { IfOk result (λ made. map function_of made.functions.items ≡ (inserted (positions_of positions.now) (core_code core.now)).functions) }
+    ensures functions { IfOk result (λ made. map function_of made.functions.items
+        ≡ (inserted (positions_of positions.now) (core_code core.now)).functions) }
     ensures positions { IfOk result (λ made. positions_in made.shape.instances.items ≡ positions_of positions.now) }
     ensures cells { IfOk result (λ made. map cells_in made.shape.instances.items ≡ map cells_told core.now.functions.items) }
     ensures results { IfOk result (λ made. map (λ (i : InstanceOf). i.result_has_cells) made.shape.instances.items
         ≡ map (λ (f : CoreFunctionOf). f.result_has_cells) core.now.functions.items) }
-    ensures constructors { IfOk result (λ made. map facts_of made.shape.constructors.items ≡ map facts_of core.now.constructors.items) }
+    ensures constructors { IfOk result (λ made. map facts_of made.shape.constructors.items
+        ≡ map facts_of core.now.constructors.items) }
     ensures body_nodes { IfOk result (λ made. made.body_nodes ≡ core.now.greatest_nodes) }
     ensures nodes { IfOk result (λ made. made.nodes ≡ core.now.summed_nodes) }
 {
@@ -56,7 +58,8 @@ fn inserted(
     requires told { TellsParameters (positions_of positions.now) (core_code core.now) }
     requires passed { positions_in shape.instances.items ≡ positions_of positions.now }
     ensures shape { IfOk result (λ made. made.shape ≡ shape) }
-    ensures functions { IfOk result (λ made. map function_of made.functions.items ≡ (inserted (positions_of positions.now) (core_code core.now)).functions) }
+    ensures functions { IfOk result (λ made. map function_of made.functions.items
+        ≡ (inserted (positions_of positions.now) (core_code core.now)).functions) }
     ensures body_nodes { IfOk result (λ made. made.body_nodes ≡ core.now.greatest_nodes) }
     ensures nodes { IfOk result (λ made. made.nodes ≡ core.now.summed_nodes) }
 {

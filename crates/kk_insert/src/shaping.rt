@@ -45,7 +45,8 @@ pub fn instances(
     requires { TellsAsMany (positions_of positions.now) functions.now }
     ensures passed { IfOk result (λ made. positions_in made.items ≡ positions_of positions.now) }
     ensures cells { IfOk result (λ made. map cells_in made.items ≡ map cells_told functions.now) }
-    ensures results { IfOk result (λ made. map (λ (i : InstanceOf). i.result_has_cells) made.items ≡ map (λ (f : CoreFunctionOf). f.result_has_cells) functions.now) }
+    ensures results { IfOk result (λ made. map (λ (i : InstanceOf). i.result_has_cells) made.items
+        ≡ map (λ (f : CoreFunctionOf). f.result_has_cells) functions.now) }
 {
     let mut made = Vec::new(alloc);
     for at in 0..functions.len() {

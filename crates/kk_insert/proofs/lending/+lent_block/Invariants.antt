@@ -1,5 +1,5 @@
 use Rattle.std.proofs.Common.{◌≡◌, map, drop}
-use Rattle.kk_core.specs.Codes.{block_code, last_code, step_piece, arm_code, arms_of, plug}
+use Rattle.kk_core.specs.Codes.{last_code, step_piece, arm_code, arms_of, plug}
 use Rattle.kk_insert.specs.Insertion.{lent_in, lent_in_arms}
 use Rattle.kk_insert.proofs.lending.+lent_block.Given as goal
 

@@ -1,4 +1,4 @@
-use Rattle.std.proofs.Common.{◌≡◌, ◌++◌, [], drop}
+use Rattle.std.proofs.Common.{◌≡◌, ◌++◌, drop}
 use Rattle.kk_syntax.specs.PositionsOf.{is_lent, positions_of}
 use Rattle.kk_counted.specs.Spending.{at_positions}
 use Rattle.kk_insert.proofs.passing.at_lent.Given as goal

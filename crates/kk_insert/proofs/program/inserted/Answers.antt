@@ -1,9 +1,9 @@
-use Rattle.std.proofs.Common.{◌≡◌, ◌+◌, ◌<◌, [], ◌∷◌, map, length, get_or, length-append, arith, refl, sym, ap, ◌∙◌}
+use Rattle.std.proofs.Common.{◌+◌, [], ◌∷◌, map, length, length-append, arith, sym, ap, ◌∙◌}
 use Rattle.kk_syntax.specs.PositionsOf.{positions_of}
 use Rattle.kk_core.specs.Codes.{function_code}
 use Rattle.kk_counted.specs.Programs.{function_of}
 use Rattle.kk_counted.specs.Shaping.{positions_in}
-use Rattle.kk_insert.specs.Insertion.{inserted_function, inserted_functions}
+use Rattle.kk_insert.specs.Insertion.{inserted_function}
 use Rattle.kk_insert.proofs.Instances.{functions_next, functions_added, next_function}
 use Rattle.kk_insert.proofs.program.inserted.Goals as goal
 

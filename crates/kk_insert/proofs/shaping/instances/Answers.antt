@@ -1,4 +1,4 @@
-use Rattle.std.proofs.Common.{◌≡◌, ◌<◌, length, arith, sym, ap, ◌∙◌, subst}
+use Rattle.std.proofs.Common.{◌<◌, length, arith, sym, ap, ◌∙◌}
 use Rattle.kk_core.specs.declared.form.CoreFunction.{CoreFunction}
 use Rattle.kk_counted.specs.declared.shape.InstanceShape.{InstanceShape}
 use Rattle.kk_counted.specs.Shaping.{passed_to}

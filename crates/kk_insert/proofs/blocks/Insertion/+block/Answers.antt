@@ -1,4 +1,4 @@
-use Rattle.std.proofs.Common.{map, refl, ap, ◌∙◌}
+use Rattle.std.proofs.Common.{map, ap, ◌∙◌}
 use Rattle.kk_syntax.specs.PositionsOf.{positions_of}
 use Rattle.kk_core.specs.Codes.{arm_code}
 use Rattle.kk_insert.specs.Parts.{part_in}
