@@ -47,12 +47,7 @@ pub fn build(alloc: Global, text: &[u8], cells: u32, depth: u32) -> Result<Bytes
 
 /// The file of the image of a program of instances; none where one has a match, or constructs something else than `False` and
 /// `True`.
-fn file_of(
-    alloc: Global,
-    given: &Ground,
-    cells: u32,
-    depth: u32,
-) -> Result<Option<Bytes>, NoMemory>
+fn file_of(alloc: Global, given: &Ground, cells: u32, depth: u32) -> Result<Option<Bytes>, NoMemory>
     requires typed { IsGroundTyped (ground_program given.now) }
     requires small { IsWithin (ground_program given.now) }
     requires sizes { AreSizes cells depth }
