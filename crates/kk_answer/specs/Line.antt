@@ -98,6 +98,7 @@ refusal_line (OfText.Name error) = name_line error
 refusal_line (OfText.NotTyped function) = codes "refused: type in " ++ (function ++ line_feed)
 refusal_line (OfText.NotCovered function example) = not_covered_line function example
 refusal_line (OfText.Over limit) = limit_line limit
+refusal_line OfText.NotBuilt = codes "refused: this version builds no match and no constructor with fields" ++ line_feed
 refusal_line OfText.NoMemory = no_memory_line
 
 -- a budget of instructions is spent; a device of the image failed

@@ -13,6 +13,8 @@ use rv_sim::Halt;
 const USAGE: &str =
     "usage: kokarv check FILE, build FILE -o OUT, run FILE, sim IMAGE, eval FILE, bench SEED SIZE\n";
 
+const NOT_BUILT: &str = "refused: this version builds no match and no constructor with fields\n";
+
 /// A part of a line.
 #[derive(Clone, Copy)]
 pub enum Piece<'a> {
@@ -202,6 +204,7 @@ fn refusal_line(refusal: &Refusal) -> Line<'_>
             Piece::Text("\n"),
         ]),
         Refusal::Over(limit) => limit_line(*limit),
+        Refusal::NotBuilt => Line::text(NOT_BUILT),
         Refusal::NoMemory => no_memory_line(),
     }
 }

@@ -14,7 +14,7 @@ use Rattle.rv_sim.specs.declared.halt.Halt.{Halt}
 use Rattle.rv_sim.specs.declared.halt.Halt.TheVariants as OfHalt
 use Rattle.kk_answer.specs.Ending.{EndsWith}
 use Rattle.kk_answer.specs.Answer.{fault_status, run_status, halt_status, status_of}
-use Rattle.kk_perform.specs.Answers.{Answers, usage, no_memory, unread, refused, checked, built, unwritten, ran, measured, bad_image, simulated, evaluated, cut_short, Faultless, is_fault_status}
+use Rattle.kk_perform.specs.Answers.{Answers, usage, no_memory, unread, refused, not_built, checked, built, unwritten, ran, measured, bad_image, simulated, evaluated, cut_short, Faultless, is_fault_status}
 use Rattle.kk_source.specs.State.{Setting}
 use Rattle.kk_eval.specs.Evaluations.{RunsSource}
 use Rattle.kk_perform.specs.ImageRuns.{RunsImage}
@@ -29,6 +29,7 @@ fault_no_fault (OfText.Parse error) = refl
 fault_no_fault (OfText.Name error) = refl
 fault_no_fault (OfText.NotTyped function) = refl
 fault_no_fault (OfText.NotCovered function example) = refl
+fault_no_fault OfText.NotBuilt = refl
 fault_no_fault OfText.NoMemory = refl
 
 by_want : (refusal : Refusal) (wants : Bool) → is_fault_status (cond wants OfStatus.NoMemory (fault_status refusal)) ≡ false
@@ -74,6 +75,7 @@ module _ (before after : Outside) (err err' : SinkState) (faultless : Faultless 
   no_answer_fault _ _ (no_memory request files streams image) = refl
   no_answer_fault _ _ (unread request name is fails streams image) = absurd (faultless.files fails.fails.faults)
   no_answer_fault _ _ (refused request text refusal has is kept) = by_want refusal (wants_memory refusal)
+  no_answer_fault _ _ (not_built request text asked has is kept) = refl
   no_answer_fault _ _ (checked file text program has is kept) = refl
   no_answer_fault _ _ (built file out cells depth made written streams) = refl
   no_answer_fault _ _ (unwritten file out cells depth name is made fails streams) = absurd (faultless.files fails.fails.faults)

@@ -10,10 +10,11 @@ use Rattle.kk_base.specs.Sink.{SinkState}
 use Rattle.kk_base.specs.Store.{Files, StoreState}
 use Rattle.kk_base.specs.declared.limit.LimitKind.TheVariants.{Source}
 use Rattle.kk_base.specs.declared.refusal.Refusal.{Refusal}
+use Rattle.kk_base.specs.declared.refusal.Refusal.TheVariants.{NotBuilt}
 use Rattle.kk_base.specs.declared.status.Status.{Status}
 use Rattle.kk_base.specs.declared.status.Status.TheVariants as OfStatus
 use Rattle.kk_front.specs.Judgement.{IsProgramOf, IsRefusalOf}
-use Rattle.kk_build.specs.Built.{ProgramTree, IsBuilt}
+use Rattle.kk_build.specs.Built.{ProgramTree, IsBuilt, IsNotBuilt}
 use Rattle.rv_sim.specs.declared.halt.Halt.{Halt}
 use Rattle.kk_answer.specs.declared.answer.Answer.{Answer}
 use Rattle.kk_answer.specs.declared.answer.Answer.TheVariants.{Done, Usage, Refused, NoMemory, FileFault, Ran, Measured, BadImage, Simulated}
@@ -59,6 +60,12 @@ abbrev pub tells_statistics : Bool → RunEnd → Bool
 tells_statistics stats OfRun.Ended = stats
 tells_statistics stats _ = false
 
+-- what is asked for needs an image of a text
+abbrev pub builds : Request → Bool
+builds (build file out cells depth) = true
+builds (run file cells depth steps stats) = true
+builds _ = false
+
 -- The answers that the words of a line may have, with what each does to the outside. There is no other.
 pub data Answers (before after : Outside) : Option Request → Answer → Type 0 where
   -- the words are no command
@@ -72,6 +79,9 @@ pub data Answers (before after : Outside) : Option Request → Answer → Type 0
   -- the text is refused, for its first failure
   refused : (request : Request) (text : List ℕ) (refusal : Refusal) → HasText (file_of request) text before.files → IsRefusalOf text refusal
       → KeepsAll before after → Answers before after (Some request) (Refused refusal)
+  -- build, run: the text is accepted, and no image of its program can be built yet
+  not_built : (request : Request) (text : List ℕ) → builds request ≡ true → HasText (file_of request) text before.files → IsNotBuilt text
+      → KeepsAll before after → Answers before after (Some request) (Refused NotBuilt)
   -- check: the text is accepted
   checked : (file text : List ℕ) (program : ProgramTree) → HasText file text before.files → IsProgramOf text program
       → KeepsAll before after → Answers before after (Some (check file)) Done

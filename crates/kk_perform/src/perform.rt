@@ -1,5 +1,5 @@
 //! What the commands do.
-ghost use Rattle.std.specs.Prelude.{◌≡◌, ℕ, List, Some, None, IfOk, IfErr, OnOk, OnErr};
+ghost use Rattle.std.specs.Prelude.{◌≡◌, ℕ, List, true, Some, None, IfOk, IfErr, OnOk, OnErr};
 ghost use Rattle.elf_image.specs.Loaded.{IsLoaded, reason_of};
 ghost use Rattle.elf_image.specs.Reasons.{reason_number_of};
 ghost use Rattle.kk_base.specs.Sink.{SinkState};
@@ -9,7 +9,7 @@ ghost use Rattle.kk_build.specs.ImageAfter.{exited, ExitsWell};
 ghost use Rattle.kk_syntax.specs.Programs.{program_tree};
 ghost use Rattle.rv_sim.specs.Devices.{ending_at};
 ghost use Rattle.rv_sim.specs.declared.halt.Halt.TheVariants.{Exit};
-ghost use Rattle.kk_perform.specs.Answers.{Answers, BeginsFile, HasText, HasImage, IsImageOfFile, tells_statistics};
+ghost use Rattle.kk_perform.specs.Answers.{Answers, BeginsFile, HasText, HasImage, IsImageOfFile, builds, tells_statistics};
 ghost use Rattle.kk_eval.specs.Evaluating.{HasRun};
 ghost use Rattle.kk_perform.specs.Internal.{answer_of_refusal, answer_of_condition, AnswersRun, HasStopped};
 ghost use Rattle.kk_command.specs.Requests.{Request, check, build, run, sim, eval, file_of};
@@ -251,7 +251,7 @@ fn build_image<'a, F: Store>(
 ) -> Result<(), Answer<'a>>
     ensures built { OnOk result (IsImageOfFile file.now sizes.cells sizes.depth (F.state files.old) image.new) }
     ensures kept { OnOk result (KeepsFiles (F.state files.old) (F.state files.new)) }
-    ensures err { IfErr result (λ answer. (input : SourceState) (out : SinkState) (request : Request) → file_of request ≡ file.now → Answers (outside (F.state files.old) input out image.old) (outside (F.state files.new) input out image.new) (Some request) answer) }
+    ensures err { IfErr result (λ answer. (input : SourceState) (out : SinkState) (request : Request) → builds request ≡ true → file_of request ≡ file.now → Answers (outside (F.state files.old) input out image.old) (outside (F.state files.new) input out image.new) (Some request) answer) }
 {
     let text = match read_text(alloc, file, files) {
         Ok(text) => text,
