@@ -12,7 +12,5 @@ pub enum Refusal {
     NotTyped { function: Name },
     NotCovered { function: Name, example: Text },
     Over(Limit),
-    /// The text is accepted, and its program has a form of which no image can be built yet.
-    NotBuilt,
     NoMemory,
 }
