@@ -14,7 +14,7 @@ use Rattle.kk_base.specs.declared.refusal.Refusal.TheVariants as OfText
 use Rattle.rv_sim.specs.declared.halt.Halt.{Halt}
 use Rattle.rv_sim.specs.declared.halt.Halt.TheVariants as OfHalt
 use Rattle.kk_answer.specs.declared.answer.Answer.{Answer}
-use Rattle.kk_answer.specs.declared.answer.Answer.TheVariants.{Done, Usage, Refused, NoMemory, FileFault, Ran, Measured, BadImage, Simulated}
+use Rattle.kk_answer.specs.declared.answer.Answer.TheVariants.{Done, Usage, Refused, NotBuilt, NoMemory, FileFault, Ran, Measured, BadImage, Simulated}
 use Rattle.kk_answer.specs.declared.answer.RunEnd.{RunEnd}
 use Rattle.kk_answer.specs.declared.answer.RunEnd.TheVariants as OfRun
 
@@ -98,8 +98,11 @@ refusal_line (OfText.Name error) = name_line error
 refusal_line (OfText.NotTyped function) = codes "refused: type in " ++ (function ++ line_feed)
 refusal_line (OfText.NotCovered function example) = not_covered_line function example
 refusal_line (OfText.Over limit) = limit_line limit
-refusal_line OfText.NotBuilt = codes "refused: this version builds no match and no constructor with fields" ++ line_feed
 refusal_line OfText.NoMemory = no_memory_line
+
+-- the text is accepted, and no image of its program can be built yet
+abbrev pub not_built_line : List ℕ
+not_built_line = codes "refused: this version builds no match and no constructor with fields" ++ line_feed
 
 -- a budget of instructions is spent; a device of the image failed
 abbrev pub steps_spent_line : ℕ → List ℕ
@@ -143,6 +146,7 @@ abbrev pub line_of : Answer → Option (List ℕ)
 line_of Done = None
 line_of Usage = Some (codes "usage: kokarv check FILE, build FILE -o OUT, run FILE, sim IMAGE, eval FILE, bench SEED SIZE" ++ line_feed)
 line_of (Refused refusal) = Some (refusal_line refusal)
+line_of NotBuilt = Some not_built_line
 line_of NoMemory = Some no_memory_line
 line_of (FileFault name) = Some (codes "file fault: " ++ (name.now ++ line_feed))
 line_of (Ran end cells depth steps) = run_line end cells depth steps

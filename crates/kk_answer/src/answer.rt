@@ -14,6 +14,8 @@ pub enum Answer<'a> {
     Usage,
     /// The text is not accepted.
     Refused(Refusal),
+    /// The text is accepted, and no image of its program can be built yet.
+    NotBuilt,
     /// Memory was refused.
     NoMemory,
     /// The file of this name could not be read or written.
@@ -71,6 +73,7 @@ impl Answer<'_> {
             Answer::Done => Status::Done,
             Answer::Usage => Status::Usage,
             Answer::Refused(refusal) => refusal_status(refusal),
+            Answer::NotBuilt => Status::Refused,
             Answer::NoMemory => Status::NoMemory,
             Answer::FileFault { .. } => Status::FileFault,
             Answer::Ran { end, .. } => end.status(),

@@ -75,6 +75,7 @@ impl Answer<'_> {
             Answer::Done => None,
             Answer::Usage => Some(Line::text(USAGE)),
             Answer::Refused(refusal) => Some(refusal_line(refusal)),
+            Answer::NotBuilt => Some(Line::text(NOT_BUILT)),
             Answer::NoMemory => Some(no_memory_line()),
             Answer::FileFault { name } => Some(Line::new(&[
                 Piece::Text("file fault: "),
@@ -204,7 +205,6 @@ fn refusal_line(refusal: &Refusal) -> Line<'_>
             Piece::Text("\n"),
         ]),
         Refusal::Over(limit) => limit_line(*limit),
-        Refusal::NotBuilt => Line::text(NOT_BUILT),
         Refusal::NoMemory => no_memory_line(),
     }
 }

@@ -1,18 +1,14 @@
 -- The image of a program's instances is one of the program.
 use Rattle.std.proofs.Common.{ℕ, List, refl}
-use Rattle.kk_base.specs.declared.refusal.Refusal.{Refusal}
-use Rattle.kk_base.specs.declared.refusal.Refusal.TheVariants as OfText
 use Rattle.kk_syntax.proofs.LeastTables.{least_table}
 use Rattle.kk_syntax.specs.PositionsOf.{PositionTable}
 use Rattle.kk_syntax.specs.Programs.{ProgramTree}
 use Rattle.kk_source.specs.Ends.{exit_of}
 use Rattle.kk_source.specs.Notes.{events_of}
 use Rattle.kk_source.specs.SourceAfter.{store_machine, first_state}
-use Rattle.kk_front.specs.Judgement.{Refuses}
-use Rattle.kk_front.proofs.Unbuilt.{refused_otherwise}
 use Rattle.kk_instances.specs.Meaning.{MeansTheSame}
 use Rattle.kk_build.specs.Agreement.{Agrees, instructions_within, IsBounded}
-use Rattle.kk_build.specs.Built.{setting_of, IsReadAs, IsBuilt, RefusesToBuild}
+use Rattle.kk_build.specs.Built.{setting_of, IsReadAs, IsBuilt}
 use Rattle.kk_build.specs.FileOf.{IsFileOf}
 use Rattle.kk_build.specs.ImageAfter.{file_after}
 use Rattle.kk_build.proofs.Alike.{agrees_alike, keeps_up_alike}
@@ -53,13 +49,3 @@ built_by_instances text cells depth program made file read means is =
       agrees = agrees_by_instances program made means cells depth file least.0 is.agrees;
       bounded = bounded_by_instances program made means cells depth file least.0 is.bounded;
     }
-
-pub refused_by_front : (text : List ℕ) (refusal : Refusal) → Refuses text refusal → RefusesToBuild text refusal
-refused_by_front text OfText.NotBuilt refuses = absurd (refused_otherwise text (refuses refl))
-refused_by_front text (OfText.Lex error) refuses = refuses
-refused_by_front text (OfText.Parse error) refuses = refuses
-refused_by_front text (OfText.Name error) refuses = refuses
-refused_by_front text (OfText.NotTyped function) refuses = refuses
-refused_by_front text (OfText.NotCovered function example) refuses = refuses
-refused_by_front text (OfText.Over limit) refuses = refuses
-refused_by_front text OfText.NoMemory refuses = refuses

@@ -1,7 +1,5 @@
 -- What is built of a text, and of which texts nothing is built yet.
 use Rattle.std.specs.Prelude.{◌≡◌, ℕ, List, true, false}
-use Rattle.kk_base.specs.declared.refusal.Refusal.{Refusal}
-use Rattle.kk_base.specs.declared.refusal.Refusal.TheVariants.{NotBuilt}
 use Rattle.kk_syntax.specs.Checked.{IsChecked}
 pub use Rattle.kk_syntax.specs.Programs.{ProgramTree, program_tree}
 use Rattle.kk_syntax.specs.Typing.{Choice, ArePrincipal}
@@ -12,6 +10,8 @@ use Rattle.kk_norm.specs.PlainTrees.{are_plain_functions}
 use Rattle.kk_front.specs.Judgement.{IsProgramOf, Refuses}
 use Rattle.kk_build.specs.Agreement.{Agrees, IsBounded}
 use Rattle.kk_build.specs.Images.{IsImageFile}
+use Rattle.kk_build.specs.declared.error.BuildError.{BuildError}
+use Rattle.kk_build.specs.declared.error.BuildError.TheVariants.{Refused, NotBuilt}
 
 -- A text is accepted as a program, which is checked with its principal typings; and the functions of `made` are the
 -- program's instances.
@@ -46,6 +46,6 @@ pub record IsNotBuilt (text : List ℕ) : Type 0 where
   pub not_plain : are_plain_functions made.functions ≡ false
 
 -- why nothing is built: the text is refused, unless memory is wanted; or nothing is built of it yet
-abbrev pub RefusesToBuild : List ℕ → Refusal → Type 0
+abbrev pub RefusesToBuild : List ℕ → BuildError → Type 0
+RefusesToBuild text (Refused refusal) = Refuses text refusal
 RefusesToBuild text NotBuilt = IsNotBuilt text
-RefusesToBuild text refusal = Refuses text refusal

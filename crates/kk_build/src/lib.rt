@@ -1,6 +1,8 @@
 //! From the bytes of a text to the bytes of its image.
 #![tactic(auto)]
 
+mod error;
+
 ghost use Rattle.std.specs.Prelude.{◌≡◌, Some, None, IfOk, IfErr, OnOk, OnSome, IfSome, true, false};
 ghost use Rattle.kk_base.specs.Sizes.{AreSizes};
 ghost use Rattle.kk_syntax.specs.PositionsOf.{PositionTable};
@@ -11,6 +13,7 @@ ghost use Rattle.kk_build.specs.Built.{IsBuilt, RefusesToBuild};
 ghost use Rattle.kk_build.specs.FileOf.{AnswersFile};
 
 pub use cell_runtime::Ending;
+pub use error::BuildError;
 use elf_image::write;
 use kk_back::image;
 use kk_base::{Bytes, NoMemory, Refusal};
@@ -27,21 +30,21 @@ use std::alloc::Global;
 /// The image has a heap of `cells` cells, and at most `depth` of its calls are open at a time. It agrees with the program: on
 /// every input it does on the outside what the program means, never traps, and exits exactly when and as the program ends;
 /// and it does so within a number of instructions that grows with the program's steps.
-pub fn build(alloc: Global, text: &[u8], cells: u32, depth: u32) -> Result<Bytes, Refusal>
+pub fn build(alloc: Global, text: &[u8], cells: u32, depth: u32) -> Result<Bytes, BuildError>
     requires { AreSizes cells depth }
     ensures ok { IfOk result (IsBuilt text.now cells depth) }
     ensures err { IfErr result (RefusesToBuild text.now) }
 {
     let accepted = match read(alloc, text) {
         Ok(accepted) => accepted,
-        Err(refusal) => return Err(refusal),
+        Err(refusal) => return Err(BuildError::Refused(refusal)),
     };
     accepted_programs_are_typed();
     instances_mean_the_program();
     match file_of(alloc, &accepted.instances, cells, depth) {
         Ok(Some(bytes)) => Ok(bytes),
-        Ok(None) => Err(Refusal::NotBuilt),
-        Err(NoMemory) => Err(Refusal::NoMemory),
+        Ok(None) => Err(BuildError::NotBuilt),
+        Err(NoMemory) => Err(BuildError::Refused(Refusal::NoMemory)),
     }
 }
 

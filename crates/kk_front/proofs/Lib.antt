@@ -3,4 +3,3 @@ pub mod Bounds
 pub mod Chains
 pub mod Checking
 pub mod Judging
-pub mod Unbuilt

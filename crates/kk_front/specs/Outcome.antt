@@ -11,7 +11,6 @@ without_example (OfText.Name error) = OfText.Name error
 without_example (OfText.NotTyped function) = OfText.NotTyped function
 without_example (OfText.NotCovered function example) = OfText.NotCovered function []
 without_example (OfText.Over limit) = OfText.Over limit
-without_example OfText.NotBuilt = OfText.NotBuilt
 without_example OfText.NoMemory = OfText.NoMemory
 
 abbrev pub up_to_example : {A : Type 0} → Result A Refusal → Result A Refusal

@@ -29,7 +29,6 @@ fault_no_fault (OfText.Parse error) = refl
 fault_no_fault (OfText.Name error) = refl
 fault_no_fault (OfText.NotTyped function) = refl
 fault_no_fault (OfText.NotCovered function example) = refl
-fault_no_fault OfText.NotBuilt = refl
 fault_no_fault OfText.NoMemory = refl
 
 by_want : (refusal : Refusal) (wants : Bool) → is_fault_status (cond wants OfStatus.NoMemory (fault_status refusal)) ≡ false

@@ -12,9 +12,10 @@ use Rattle.kk_base.specs.Store.{StoreState, SameFiles, SameOthers, HasFile, Reme
 use Rattle.kk_base.specs.declared.outside.StoreCall.{StoreCall}
 use Rattle.kk_base.specs.declared.outside.StoreCall.TheVariants.{Reading, Writing}
 use Rattle.kk_base.specs.declared.refusal.Refusal.{Refusal}
-use Rattle.kk_base.specs.declared.refusal.Refusal.TheVariants as OfText
 use Rattle.kk_front.specs.Judgement.{IsProgramOf, Refuses, wants_memory}
 use Rattle.kk_build.specs.Built.{ProgramTree, IsBuilt, RefusesToBuild}
+use Rattle.kk_build.specs.declared.error.BuildError.{BuildError}
+use Rattle.kk_build.specs.declared.error.BuildError.TheVariants as OfBuild
 use Rattle.kk_build.specs.ImageAfter.{free_cells}
 use Rattle.rv_sim.specs.Simulation.{Simulation, processor_of}
 use Rattle.rv_sim.specs.declared.halt.Halt.{Halt}
@@ -25,7 +26,7 @@ use Rattle.kk_answer.specs.declared.answer.RunEnd.TheVariants as OfRun
 use Rattle.kk_perform.specs.Answers.{HasText, HasImage, IsImageOfFile, Answers, usage, no_memory, unread, refused, not_built, builds, checked, built, unwritten, ran, measured, bad_image, simulated, evaluated, cut_short, tells_statistics}
 use Rattle.kk_base.specs.declared.error.NoMemory.{NoMemory as OutOfMemory}
 use Rattle.kk_eval.specs.Evaluating.{HasRun}
-use Rattle.kk_perform.specs.Internal.{answer_of_refusal, answer_of_condition, HasStopped, AnswersRun, without_statistics, with_statistics}
+use Rattle.kk_perform.specs.Internal.{answer_of_refusal, answer_of_cause, answer_of_condition, HasStopped, AnswersRun, without_statistics, with_statistics}
 use Rattle.kk_perform.specs.ImageRuns.{IsMeasured}
 use Rattle.kk_command.specs.Requests.{Request, check, build, run, sim, eval, file_of}
 use Rattle.kk_perform.specs.Outside.{Outside, KeepsFiles, KeepsStreams, KeepsAll}
@@ -69,25 +70,19 @@ module _ (store store' : StoreState) (input : SourceState) (out : SinkState) (im
       let R : List ℕ → Type 0 = λ t. Refuses t refusal in
       subst A (sym told) (by_want request text refusal (wants_memory refusal) refl (subst H (sym is) has) kept (subst R same refuses))
 
-  by_cause : (request : Request) (text : List ℕ) (refusal : Refusal) → builds request ≡ true → HasText (file_of request) text store → KeepsFiles store store'
-      → RefusesToBuild text refusal → Answers (outside store input out image) (outside store' input out image) (Some request) (answer_of_refusal refusal)
-  by_cause request text OfText.NotBuilt asked has kept refuses = not_built request text asked has refuses (all_kept kept)
-  by_cause request text (OfText.Lex error) asked has kept refuses = by_want request text (OfText.Lex error) (wants_memory (OfText.Lex error)) refl has kept refuses
-  by_cause request text (OfText.Parse error) asked has kept refuses = by_want request text (OfText.Parse error) (wants_memory (OfText.Parse error)) refl has kept refuses
-  by_cause request text (OfText.Name error) asked has kept refuses = by_want request text (OfText.Name error) (wants_memory (OfText.Name error)) refl has kept refuses
-  by_cause request text (OfText.NotTyped function) asked has kept refuses = by_want request text (OfText.NotTyped function) (wants_memory (OfText.NotTyped function)) refl has kept refuses
-  by_cause request text (OfText.NotCovered function example) asked has kept refuses = by_want request text (OfText.NotCovered function example) (wants_memory (OfText.NotCovered function example)) refl has kept refuses
-  by_cause request text (OfText.Over limit) asked has kept refuses = by_want request text (OfText.Over limit) (wants_memory (OfText.Over limit)) refl has kept refuses
-  by_cause request text OfText.NoMemory asked has kept refuses = by_want request text OfText.NoMemory (wants_memory OfText.NoMemory) refl has kept refuses
+  by_cause : (request : Request) (text : List ℕ) (cause : BuildError) → builds request ≡ true → HasText (file_of request) text store → KeepsFiles store store'
+      → RefusesToBuild text cause → Answers (outside store input out image) (outside store' input out image) (Some request) (answer_of_cause cause)
+  by_cause request text (OfBuild.Refused refusal) asked has kept refuses = by_want request text refusal (wants_memory refusal) refl has kept refuses
+  by_cause request text OfBuild.NotBuilt asked has kept refuses = not_built request text asked has refuses (all_kept kept)
 
-  pub text_unbuilt : (file text slice : List ℕ) (refusal : Refusal) (answer : Answer) (request : Request) → builds request ≡ true → file_of request ≡ file → slice ≡ text
-      → answer ≡ answer_of_refusal refusal → HasText file text store → KeepsFiles store store' → RefusesToBuild slice refusal
+  pub text_unbuilt : (file text slice : List ℕ) (cause : BuildError) (answer : Answer) (request : Request) → builds request ≡ true → file_of request ≡ file → slice ≡ text
+      → answer ≡ answer_of_cause cause → HasText file text store → KeepsFiles store store' → RefusesToBuild slice cause
       → Answers (outside store input out image) (outside store' input out image) (Some request) answer
-  text_unbuilt file text slice refusal answer request asked is same told has kept refuses =
+  text_unbuilt file text slice cause answer request asked is same told has kept refuses =
       let A : Answer → Type 0 = λ a. Answers (outside store input out image) (outside store' input out image) (Some request) a in
       let H : List ℕ → Type 0 = λ name. HasText name text store in
-      let R : List ℕ → Type 0 = λ t. RefusesToBuild t refusal in
-      subst A (sym told) (by_cause request text refusal asked (subst H (sym is) has) kept (subst R same refuses))
+      let R : List ℕ → Type 0 = λ t. RefusesToBuild t cause in
+      subst A (sym told) (by_cause request text cause asked (subst H (sym is) has) kept (subst R same refuses))
 
   pub text_accepted : (file text slice : List ℕ) (program : ProgramTree) → slice ≡ text → HasText file text store → KeepsFiles store store' → IsProgramOf slice program
       → Answers (outside store input out image) (outside store' input out image) (Some (check file)) Done

@@ -10,14 +10,13 @@ use Rattle.kk_base.specs.Sink.{SinkState}
 use Rattle.kk_base.specs.Store.{Files, StoreState}
 use Rattle.kk_base.specs.declared.limit.LimitKind.TheVariants.{Source}
 use Rattle.kk_base.specs.declared.refusal.Refusal.{Refusal}
-use Rattle.kk_base.specs.declared.refusal.Refusal.TheVariants.{NotBuilt}
 use Rattle.kk_base.specs.declared.status.Status.{Status}
 use Rattle.kk_base.specs.declared.status.Status.TheVariants as OfStatus
 use Rattle.kk_front.specs.Judgement.{IsProgramOf, IsRefusalOf}
 use Rattle.kk_build.specs.Built.{ProgramTree, IsBuilt, IsNotBuilt}
 use Rattle.rv_sim.specs.declared.halt.Halt.{Halt}
 use Rattle.kk_answer.specs.declared.answer.Answer.{Answer}
-use Rattle.kk_answer.specs.declared.answer.Answer.TheVariants.{Done, Usage, Refused, NoMemory, FileFault, Ran, Measured, BadImage, Simulated}
+use Rattle.kk_answer.specs.declared.answer.Answer.TheVariants.{Done, Usage, Refused, NotBuilt, NoMemory, FileFault, Ran, Measured, BadImage, Simulated}
 use Rattle.kk_answer.specs.declared.answer.RunEnd.{RunEnd}
 use Rattle.kk_answer.specs.declared.answer.RunEnd.TheVariants as OfRun
 use Rattle.kk_source.specs.Settings.{IsRun}
@@ -81,7 +80,7 @@ pub data Answers (before after : Outside) : Option Request → Answer → Type 0
       → KeepsAll before after → Answers before after (Some request) (Refused refusal)
   -- build, run: the text is accepted, and no image of its program can be built yet
   not_built : (request : Request) (text : List ℕ) → builds request ≡ true → HasText (file_of request) text before.files → IsNotBuilt text
-      → KeepsAll before after → Answers before after (Some request) (Refused NotBuilt)
+      → KeepsAll before after → Answers before after (Some request) NotBuilt
   -- check: the text is accepted
   checked : (file text : List ℕ) (program : ProgramTree) → HasText file text before.files → IsProgramOf text program
       → KeepsAll before after → Answers before after (Some (check file)) Done

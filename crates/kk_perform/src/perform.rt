@@ -11,7 +11,7 @@ ghost use Rattle.rv_sim.specs.Devices.{ending_at};
 ghost use Rattle.rv_sim.specs.declared.halt.Halt.TheVariants.{Exit};
 ghost use Rattle.kk_perform.specs.Answers.{Answers, BeginsFile, HasText, HasImage, IsImageOfFile, builds, tells_statistics};
 ghost use Rattle.kk_eval.specs.Evaluating.{HasRun};
-ghost use Rattle.kk_perform.specs.Internal.{answer_of_refusal, answer_of_condition, AnswersRun, HasStopped};
+ghost use Rattle.kk_perform.specs.Internal.{answer_of_refusal, answer_of_cause, answer_of_condition, AnswersRun, HasStopped};
 ghost use Rattle.kk_command.specs.Requests.{Request, check, build, run, sim, eval, file_of};
 ghost use Rattle.kk_command.specs.Commands.{request_read};
 ghost use Rattle.kk_perform.specs.SourceRuns.{halt_for};
@@ -20,7 +20,7 @@ ghost use Rattle.kk_perform.specs.Outside.{KeepsFiles, outside};
 use elf_image::{BadImage, Image};
 use kk_answer::{Answer, RunEnd, wants_memory};
 use kk_base::{Bytes, NoMemory, Read, Refusal, Sink, Source, Store, Wrote};
-use kk_build::{Ending, build};
+use kk_build::{BuildError, Ending, build};
 use kk_command::{Command, RunOptions, Sizes};
 use kk_eval::evaluate;
 use kk_front::read;
@@ -262,7 +262,17 @@ fn build_image<'a, F: Store>(
             *image = bytes;
             Ok(())
         }
-        Err(refusal) => Err(refusal_answer(refusal)),
+        Err(cause) => Err(unbuilt_answer(cause)),
+    }
+}
+
+/// The answer to a text of which nothing is built.
+fn unbuilt_answer<'a>(cause: BuildError) -> Answer<'a>
+    ensures { result ≡ answer_of_cause cause }
+{
+    match cause {
+        BuildError::Refused(refusal) => refusal_answer(refusal),
+        BuildError::NotBuilt => Answer::NotBuilt,
     }
 }
 

@@ -1,7 +1,7 @@
 use Rattle.kk_syntax.specs.GroundPrograms.{ground_program}
 use Rattle.kk_syntax.specs.Programs.{ProgramTree, program_tree}
 use Rattle.kk_build.specs.Built.{IsReadAs}
-use Rattle.kk_build.proofs.Instances.{built_by_instances, refused_by_front}
+use Rattle.kk_build.proofs.Instances.{built_by_instances}
 use Rattle.kk_build.proofs.Within.{instances_are_within}
 use Rattle.kk_build.proofs.build.Goals as goal
 
@@ -15,9 +15,6 @@ pub file_of-requires-clause-small : goal.file_of-requires-clause-small
 file_of-requires-clause-small c =
     let parameters = c.accepted_programs_are_typed.ensures.parameters _ _ c.in-Ok.ensures.program in
     instances_are_within _ _ _ _ parameters c.in-Ok.ensures.instances.instances c.in-Ok.ensures.instances.small
-
-pub returns-in-Err-clause-err : goal.returns-in-Err-clause-err
-returns-in-Err-clause-err c = refused_by_front c.args.text.now c.in-Err.refusal c.in-Err.ensures.err
 
 pub returns-in-Ok-Some-clause-ok : goal.returns-in-Ok-Some-clause-ok
 returns-in-Ok-Some-clause-ok c =
