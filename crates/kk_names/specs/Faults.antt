@@ -4,14 +4,14 @@ use Rattle.std.specs.Prelude.{◌≡◌, ◌<◌, ◌==◌, ℕ, ◌+◌, List, 
 use Rattle.kk_base.specs.declared.error.NameError.{NameError}
 use Rattle.kk_base.specs.declared.error.NameError.TheVariants as OfError
 use Rattle.kk_syntax.specs.declared.tree.Identifier.{Identifier}
-use Rattle.kk_syntax.specs.Surface.{WrittenType, WrittenTypes, unit_type, type_variable, named, no_type, type, Written, variable, call, dot_call, construct, unary, binary, both, either, branch, branch_alone, sequence, Writtens, no_written, written, WrittenParameter, WrittenDeclaration, type_declaration, function_declaration}
+use Rattle.kk_syntax.specs.Surface.{WrittenType, WrittenTypes, unit_type, type_variable, named, no_type, type, WrittenPattern, anything, pattern_variable, exactly, constructor, WrittenPatterns, no_part, part, Written, number, unit, variable, call, dot_call, construct, unary, binary, both, either, print_text, branch, branch_alone, match, sequence, Writtens, no_written, written, WrittenRows, no_row, row, WrittenParameter, WrittenDeclaration, type_declaration, function_declaration}
 use Rattle.kk_syntax.specs.Types.{TypeTree}
 use Rattle.kk_names.specs.declared.fault.Fault.{Fault}
 use Rattle.kk_names.specs.declared.fault.FaultKind.{FaultKind}
 use Rattle.kk_names.specs.declared.fault.FaultKind.TheVariants.{Twice, Unknown, Arity}
 use Rattle.kk_names.specs.declared.table.Callee.{Callee}
 use Rattle.kk_names.specs.declared.table.Declared.{Declared}
-use Rattle.kk_names.specs.Scopes.{is_among, parameter_names, binder_names}
+use Rattle.kk_names.specs.Scopes.{is_among, parameter_names, binder_names, pattern_names}
 use Rattle.kk_names.specs.Tables.{constructors, functions_in, meaning_in}
 use Rattle.kk_names.specs.TypeNames.{type_named}
 
@@ -72,9 +72,29 @@ abbrev pub count_of : Writtens → ℕ
 count_of no_written = 0
 count_of (written first rest) = 1 + count_of rest
 
--- The faults of an expression, where variables of these names are seen. A match stands for nothing yet.
+abbrev pub parts_count : WrittenPatterns → ℕ
+parts_count no_part = 0
+parts_count (part first rest) = 1 + parts_count rest
+
+-- the faults of a pattern, of which variables of these names stand before
+abbrev mutual
+  pub pattern_faults : List (List ℕ) → WrittenPattern → List Fault
+  pattern_faults names anything = []
+  pattern_faults names (pattern_variable name) = twice_faults names name
+  pattern_faults names (exactly value) = []
+  pattern_faults names (constructor name parts) =
+      parts_faults names parts ++ use_faults (meaning_in constructors name.name) name (parts_count parts)
+
+  pub parts_faults : List (List ℕ) → WrittenPatterns → List Fault
+  parts_faults names no_part = []
+  parts_faults names (part first rest) = pattern_faults names first ++ parts_faults (pattern_names first names) rest
+
+-- the faults of an expression, where variables of these names are seen
 abbrev mutual
   pub faults_in : List Declared → List (List ℕ) → Written → List Fault
+  faults_in functions names (number value) = []
+  faults_in functions names unit = []
+  faults_in functions names (print_text form text) = []
   faults_in functions names (variable name) = if is_among names name.name then [] else fault_at Unknown name ∷ []
   faults_in functions names (call name arguments) =
       faults_in_all functions names arguments ++ use_faults (meaning_in functions name.name) name (count_of arguments)
@@ -91,11 +111,16 @@ abbrev mutual
   faults_in functions names (branch_alone condition positive) = faults_in functions names condition ++ faults_in functions names positive
   faults_in functions names (sequence binder first rest) =
       faults_in functions names first ++ faults_in functions (binder_names binder names) rest
-  faults_in functions names _ = []
+  faults_in functions names (match scrutinee rows) = faults_in functions names scrutinee ++ faults_in_rows functions names rows
 
   pub faults_in_all : List Declared → List (List ℕ) → Writtens → List Fault
   faults_in_all functions names no_written = []
   faults_in_all functions names (written first rest) = faults_in functions names first ++ faults_in_all functions names rest
+
+  pub faults_in_rows : List Declared → List (List ℕ) → WrittenRows → List Fault
+  faults_in_rows functions names no_row = []
+  faults_in_rows functions names (row pattern body rest) =
+      (pattern_faults [] pattern ++ faults_in functions (pattern_names pattern [] ++ names) body) ++ faults_in_rows functions names rest
 
 -- ---- the faults of declarations
 

@@ -10,7 +10,6 @@ use Rattle.kk_syntax.specs.declared.tree.Tree.{Tree}
 use Rattle.kk_syntax.specs.Checked.{PrintsTexts}
 use Rattle.kk_syntax.specs.Covered.{Each}
 use Rattle.kk_syntax.specs.GroundTyping.{HasTruths}
-use Rattle.kk_syntax.specs.PlainTyping.{IsPlainProgram}
 use Rattle.kk_syntax.specs.Programs.{ConstructorTree, FunctionTree, ProgramTree, program_tree}
 use Rattle.kk_syntax.specs.Shapes.{nodes_of}
 use Rattle.kk_syntax.specs.Surface.{Written, WrittenType, WrittenParameter, WrittenDeclaration, type_declaration, function_declaration, WrittenTree, written_tree}
@@ -151,10 +150,6 @@ pub record HasMain (program : ProgramTree) : Type 0 where
 
 abbrev pub ResolvedProgramsHaveMain : Type 0
 ResolvedProgramsHaveMain = (tree : WrittenTree) (program : ProgramTree) → ResolvesAs tree (Ok program) → HasMain program
-
--- a program of today's grammar has no type variables, no matches and no cells
-abbrev pub ResolvedProgramsArePlain : Type 0
-ResolvedProgramsArePlain = (tree : WrittenTree) (program : ProgramTree) → ResolvesAs tree (Ok program) → IsPlainProgram program
 
 -- `bool` is as it must be, and each string literal that a function prints is one of the program's
 pub record HasTruthsAndTexts (program : ProgramTree) : Type 0 where

@@ -5,6 +5,7 @@ mod builtin;
 mod expression;
 mod fault;
 mod function;
+mod pattern;
 mod program;
 mod resolver;
 mod scope;
@@ -12,6 +13,6 @@ mod signature;
 mod table;
 
 pub use program::{
-    each_tree_is_resolved, resolve, resolved_programs_are_plain, resolved_programs_have_main,
+    each_tree_is_resolved, resolve, resolved_programs_have_main,
     resolved_programs_have_truths_and_texts,
 };
