@@ -10,4 +10,5 @@ pub mod Rows
 pub mod Statements
 pub mod Tables
 pub mod Texts
+pub mod TypesMeant
 pub mod Written

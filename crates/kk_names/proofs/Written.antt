@@ -95,9 +95,16 @@ alone_made e form arguments is none = apply_is e form arguments [] is (sym none)
 
 -- ---- types
 
-pub named_written : (t : SurfaceType) (name : Identifier) (arguments : _) → t ≡ OfType.Named name arguments → written_type t ≡ written.named name (written.types_of (map written_type arguments.items))
-named_written t name arguments is =
-    ap written_type (is ∙ sym (OfType.rolls-Named name arguments)) ∙ fold-roll-SurfaceType WrittenType type_step _
+pub named_written : (t : SurfaceType) (name : Identifier) (arguments : _) (ts : List SurfaceType) → t ≡ OfType.Named name arguments → ts ≡ arguments.items
+    → written_type t ≡ written.named name (written.types_of (map written_type ts))
+named_written t name arguments ts is items =
+    ap written_type (is ∙ sym (OfType.rolls-Named name arguments))
+    ∙ (fold-roll-SurfaceType WrittenType type_step _ ∙ ap (λ all. written.named name (written.types_of (map written_type all))) (sym items))
+
+-- the first of the types that are left
+pub next_type : (ts : List SurfaceType) (i : ℕ) (t : SurfaceType) → t ≡ get_or ts i t → i < length ts
+    → written.types_of (map written_type (drop i ts)) ≡ written.type (written_type t) (written.types_of (map written_type (drop (i + 1) ts)))
+next_type ts i t is less = ap (λ all. written.types_of (map written_type all)) (left_is ts i t is less)
 
 pub next_parameter : (ps : List Parameter) (i : ℕ) (p : Parameter) → p ≡ get_or ps i p → i < length ps → map written_parameter (drop i ps) ≡ written_parameter p ∷ map written_parameter (drop (i + 1) ps)
 next_parameter ps i p is less = ap (map written_parameter) (left_is ps i p is less)

@@ -21,7 +21,7 @@ use Rattle.kk_names.specs.Expressions.{meant}
 use Rattle.kk_names.specs.Faults.{IsFirstFault, error_of, faults_of}
 use Rattle.kk_names.specs.Scopes.{with_parameters, Before, past}
 use Rattle.kk_names.specs.Tables.{functions_in}
-use Rattle.kk_names.specs.TypeNames.{type_meant, result_meant}
+use Rattle.kk_names.specs.TypeNames.{type_meant, result_meant, signature_variables}
 
 -- the type `bool`, with its constructors `False` and `True`
 abbrev pub bool_type : TypeDecl
@@ -39,9 +39,9 @@ abbrev pub function_of : List Declared → List (List ℕ) → Identifier → Li
 function_of functions texts name parameters result body = record {
   name = name.name;
   at = name.at;
-  variables = 0;
-  parameters = map (λ parameter. type_meant parameter.of_type) parameters;
-  result = result_meant result;
+  variables = length (signature_variables parameters result);
+  parameters = map (λ parameter. type_meant (signature_variables parameters result) parameter.of_type) parameters;
+  result = result_meant (signature_variables parameters result) result;
   body = meant functions (with_parameters 0 parameters []) (before_body texts parameters) body;
 }
 

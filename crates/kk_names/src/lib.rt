@@ -11,6 +11,7 @@ mod resolver;
 mod scope;
 mod signature;
 mod table;
+mod variables;
 
 pub use program::{
     each_tree_is_resolved, resolve, resolved_programs_have_main,
