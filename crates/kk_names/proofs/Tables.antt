@@ -1,10 +1,10 @@
 -- Tables of functions, and lists of names.
 use Rattle.std.proofs.Common.{◌≡◌, ℕ, ◌+◌, ◌<◌, List, [], ◌∷◌, ◌++◌, map, length, take, drop, get_or, suc, Bool, true, false, bytes_eq, Option, Some, refl, sym, ap, ◌∙◌, arith}
-use Rattle.std.specs.Prelude.{if◌then◌else◌, is_some, not, ◌==◌, ◌||◌}
+use Rattle.std.specs.Prelude.{if◌then◌else◌, is_some, ◌||◌}
 use Rattle.std.proofs.Math.Seq.{take-suc, drop-cons}
 use Rattle.kk_names.specs.declared.scope.Bound.{Bound}
 use Rattle.kk_names.specs.declared.table.Declared.{Declared}
-use Rattle.kk_names.specs.Methods.{newest_before, newest_first, faults_if}
+use Rattle.kk_names.specs.Methods.{newest_before, newest_first}
 use Rattle.kk_names.specs.Scopes.{Scope, number_in, names_in, is_among}
 use Rattle.kk_names.specs.Tables.{meaning_in}
 

@@ -10,7 +10,7 @@ use Rattle.kk_names.specs.declared.resolver.Resolver.{Resolver}
 use Rattle.kk_names.specs.declared.table.TypeMeaning.{TypeMeaning}
 use Rattle.kk_names.specs.Faults.{named_faults, type_faults, types_faults, types_count}
 use Rattle.kk_names.specs.Methods.{State, state_of, noting, Notes, MeansType, MeansTypes}
-use Rattle.kk_names.specs.TypeNames.{type_named, applied_type, type_meant, types_meant}
+use Rattle.kk_names.specs.TypeNames.{type_named, applied_type, types_meant}
 use Rattle.kk_names.proofs.Growing.{grown_twice}
 
 -- types, and those behind them

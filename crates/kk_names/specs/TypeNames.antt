@@ -1,5 +1,5 @@
 -- What a type means as it is written. `int32` and `bool` are the types that have names; neither has arguments.
-use Rattle.std.specs.Prelude.{ℕ, ◌+◌, List, [], ◌∷◌, ◌++◌, bytes_eq, codes, position, is_some, Option, Some, None, if◌then◌else◌}
+use Rattle.std.specs.Prelude.{ℕ, List, [], ◌∷◌, ◌++◌, bytes_eq, codes, position, is_some, Option, Some, None, if◌then◌else◌}
 use Rattle.kk_syntax.specs.Surface as written
 use Rattle.kk_syntax.specs.Surface.{WrittenType, WrittenTypes, type_variable, named, WrittenParameter}
 use Rattle.kk_syntax.specs.Types as program

@@ -1,4 +1,4 @@
-use Rattle.std.proofs.Common.{◌+◌, List, map, drop, sym, ap, ◌∙◌}
+use Rattle.std.proofs.Common.{◌+◌, map, drop, sym, ap, ◌∙◌}
 use Rattle.std.proofs.lemmas.List.{drop_all}
 use Rattle.kk_syntax.specs.Surface.{written_type, types_of}
 use Rattle.kk_names.specs.TypeNames.{with_all_variables}

@@ -1,4 +1,4 @@
-use Rattle.std.proofs.Common.{◌≡◌, [], ◌∷◌, ap, subst, ◌∙◌}
+use Rattle.std.proofs.Common.{[], ◌∷◌, ap, subst, ◌∙◌}
 use Rattle.std.specs.Prelude.{is_some, Bool}
 use Rattle.kk_syntax.proofs.PatternViews.{variable_tree}
 use Rattle.kk_names.specs.declared.fault.FaultKind.TheVariants.{Twice}
