@@ -13,24 +13,29 @@ use Rattle.kk_names.specs.declared.resolver.Resolver.{Resolver}
 use Rattle.kk_names.specs.declared.table.Callee.{Callee}
 use Rattle.kk_names.specs.Expressions.{constructed, pattern_meant, parts_meant}
 use Rattle.kk_names.specs.Faults.{use_faults, pattern_faults, parts_faults, parts_count}
-use Rattle.kk_names.specs.Methods.{State, before_of, state_of, grown, noting, first_with, newest_first, faults_if, Notes, ResolvesPattern, ResolvesPatterns}
-use Rattle.kk_names.specs.Scopes.{Scope, binding, names_in, number_in, with_variable, with_pattern, with_parts, pattern_names, parts_names, Before, past_pattern, past_parts}
+use Rattle.kk_names.specs.Methods.{State, before_of, state_of, grown, noting}
+use Rattle.kk_names.specs.Methods.{first_with, newest_first, faults_if, Notes, ResolvesPattern, ResolvesPatterns}
+use Rattle.kk_names.specs.Scopes.{Scope, binding, names_in, number_in, with_variable, with_pattern}
+use Rattle.kk_names.specs.Scopes.{with_parts, pattern_names, parts_names, Before, past_pattern, past_parts}
 use Rattle.kk_names.specs.Tables.{meaning_in, constructors}
 use Rattle.kk_names.proofs.Growing.{grown_twice, state_is}
 use Rattle.kk_names.proofs.Tables.{is_seen}
 
 -- the names of the variables of a pattern
 mutual
-  pub names_with_pattern : (p : WrittenPattern) (b : Before) (scope : Scope) → names_in (with_pattern p b scope) ≡ pattern_names p (names_in scope)
+  pub names_with_pattern : (p : WrittenPattern) (b : Before) (scope : Scope)
+      → names_in (with_pattern p b scope) ≡ pattern_names p (names_in scope)
   names_with_pattern written.anything b scope = refl
   names_with_pattern (written.pattern_variable name) b scope = refl
   names_with_pattern (written.exactly value) b scope = refl
   names_with_pattern (written.constructor name parts) b scope = names_with_parts parts b scope
 
-  names_with_parts : (ps : WrittenPatterns) (b : Before) (scope : Scope) → names_in (with_parts ps b scope) ≡ parts_names ps (names_in scope)
+  names_with_parts : (ps : WrittenPatterns) (b : Before) (scope : Scope)
+      → names_in (with_parts ps b scope) ≡ parts_names ps (names_in scope)
   names_with_parts written.no_part b scope = refl
   names_with_parts (written.part first rest) b scope =
-      names_with_parts rest (past_pattern first b) (with_pattern first b scope) ∙ ap (parts_names rest) (names_with_pattern first b scope)
+      names_with_parts rest (past_pattern first b) (with_pattern first b scope)
+          ∙ ap (parts_names rest) (names_with_pattern first b scope)
 
 -- ---- how far the loop over patterns has come
 
@@ -51,13 +56,15 @@ abbrev behind_parts : WrittenPatterns → List (List ℕ) → State → State
 behind_parts ps names state = grown state (past_parts ps state.before) (parts_faults names ps)
 
 -- of all patterns some are left
-pub record PatternsSoFar (old now : Resolver) (left all : WrittenPatterns) (fresh bound : Scope) (trees : List Pattern) : Type 0 where
+pub record PatternsSoFar (old now : Resolver) (left all : WrittenPatterns) (fresh bound : Scope)
+    (trees : List Pattern) : Type 0 where
   pub state : behind_parts left (names_in bound) (state_of now) ≡ behind_parts all (names_in fresh) (state_of old)
   pub scope : now.scope.items ≡ old.scope.items
   pub bound_is : with_parts left (before_of now) bound ≡ with_parts all (before_of old) fresh
   pub trees_are : before trees (parts_meant (before_of now) left) ≡ parts_meant (before_of old) all
 
-pub patterns_more : (old now new : Resolver) (p : WrittenPattern) (left all : WrittenPatterns) (fresh bound more : Scope) (trees : List Pattern) (t : Pattern)
+pub patterns_more : (old now new : Resolver) (p : WrittenPattern) (left all : WrittenPatterns) (fresh bound more : Scope)
+    (trees : List Pattern) (t : Pattern)
     → PatternsSoFar old now (written.part p left) all fresh bound trees → ResolvesPattern p now new bound more t
     → PatternsSoFar old new left all fresh more (trees ++ t ∷ [])
 patterns_more old now new p left all fresh bound more trees t so_far one =
@@ -67,7 +74,8 @@ patterns_more old now new p left all fresh bound more trees t so_far one =
       state =
           ap (λ ns. behind_parts left ns (state_of new)) (ap names_in one.bound_is ∙ names_with_pattern p (before_of now) bound)
           ∙ (ap (behind_parts left names) one.state
-          ∙ (grown_twice s (past_pattern p s.before) (past_parts left (past_pattern p s.before)) (pattern_faults (names_in bound) p) (parts_faults names left)
+          ∙ (grown_twice s (past_pattern p s.before) (past_parts left (past_pattern p s.before))
+              (pattern_faults (names_in bound) p) (parts_faults names left)
           ∙ so_far.state));
       scope = one.scope ∙ so_far.scope;
       bound_is =
@@ -76,7 +84,8 @@ patterns_more old now new p left all fresh bound more trees t so_far one =
       trees_are =
           before_one_more trees t (parts_meant (before_of new) left)
           ∙ (ap (λ x. before trees (part x (parts_meant (before_of new) left))) one.tree_is
-          ∙ (ap (λ state. before trees (part (pattern_meant s.before p) (parts_meant state.before left))) one.state ∙ so_far.trees_are));
+          ∙ (ap (λ state. before trees (part (pattern_meant s.before p) (parts_meant state.before left))) one.state
+              ∙ so_far.trees_are));
     }
 
 pub patterns_done : (old now : Resolver) (all : WrittenPatterns) (fresh bound : Scope) (trees : List Pattern)
@@ -101,9 +110,12 @@ count_is b (written.part p ps) (t ∷ ts) is =
     let same : length ts ≡ parts_count ps = count_is (past_pattern p b) ps ts rest in
     omega arith
 
-pub constructor_resolved : (name : Identifier) (ps : WrittenPatterns) (callee : Option Callee) (old between new : Resolver) (fresh bound : Scope) (parts : List Pat) (count : ℕ) (t : Pattern)
-    → ResolvesPatterns ps old between fresh bound (patterns_of (map pattern_tree parts)) → callee ≡ meaning_in constructors name.name
-    → Notes (use_faults callee name count) between new → count ≡ length parts → t ≡ constructed callee (patterns_of (map pattern_tree parts))
+pub constructor_resolved : (name : Identifier) (ps : WrittenPatterns) (callee : Option Callee) (old between new : Resolver)
+    (fresh bound : Scope) (parts : List Pat) (count : ℕ) (t : Pattern)
+    → ResolvesPatterns ps old between fresh bound (patterns_of (map pattern_tree parts))
+        → callee ≡ meaning_in constructors name.name
+    → Notes (use_faults callee name count) between new → count ≡ length parts
+        → t ≡ constructed callee (patterns_of (map pattern_tree parts))
     → ResolvesPattern (written.constructor name ps) old new fresh bound t
 constructor_resolved name ps callee old between new fresh bound parts count t all means notes counted made =
     let s : State = state_of old in
@@ -120,12 +132,14 @@ constructor_resolved name ps callee old between new fresh bound parts count t al
           ∙ ap (λ n. grown s b (faults ++ use_faults (meaning_in constructors name.name) name n)) counted_so)));
       scope = notes.scope ∙ all.scope;
       bound_is = all.bound_is;
-      tree_is = made ∙ (ap (λ c. constructed c (patterns_of (map pattern_tree parts))) means ∙ ap (constructed (meaning_in constructors name.name)) all.trees_are);
+      tree_is = made ∙ (ap (λ c. constructed c (patterns_of (map pattern_tree parts))) means
+          ∙ ap (constructed (meaning_in constructors name.name)) all.trees_are);
     }
 
 pub variable_resolved : (name : Identifier) (number : ℕ) (old noted new : Resolver) (fresh bound : Scope) (t : Pattern)
     → Notes (faults_if (is_some (number_in fresh name.name)) Twice name) old noted
-    → number ≡ noted.next → before_of new ≡ with_variable (before_of noted) → new.functions.items ≡ noted.functions.items → new.scope.items ≡ noted.scope.items → new.first ≡ noted.first
+    → number ≡ noted.next → before_of new ≡ with_variable (before_of noted) → new.functions.items ≡ noted.functions.items
+        → new.scope.items ≡ noted.scope.items → new.first ≡ noted.first
     → bound ≡ binding name number ∷ fresh → t ≡ program.variable number
     → ResolvesPattern (written.pattern_variable name) old new fresh bound t
 variable_resolved name number old noted new fresh bound t notes number_is next functions scope first bound_is made =
@@ -136,7 +150,8 @@ variable_resolved name number old noted new fresh bound t notes number_is next f
           (functions ∙ ap (λ state. state.functions) notes.state)
           (ap newest_first (scope ∙ notes.scope))
           (next ∙ ap (λ state. with_variable state.before) notes.state)
-          (first ∙ (ap (λ state. state.first) notes.state ∙ ap (λ b. first_with old.first (faults_if b Twice name)) (is_seen fresh name.name)));
+          (first ∙ (ap (λ state. state.first) notes.state ∙ ap (λ b. first_with old.first (faults_if b Twice name))
+              (is_seen fresh name.name)));
       scope = scope ∙ notes.scope;
       bound_is = bound_is ∙ ap (λ n. binding name n ∷ fresh) number_so;
       tree_is = made ∙ ap program.variable number_so;

@@ -11,7 +11,8 @@ use Rattle.kk_names.specs.declared.resolver.Resolver.{Resolver}
 use Rattle.kk_names.specs.declared.scope.Bound.{Bound}
 use Rattle.kk_names.specs.Expressions.{pattern_meant, meant, meant_rows}
 use Rattle.kk_names.specs.Faults.{pattern_faults, faults_in, faults_in_rows}
-use Rattle.kk_names.specs.Methods.{State, before_of, state_of, grown, first_with, newest_before, newest_first, behind, meant_at, Resolves, ResolvesPattern, ResolvesRow, ResolvesRows}
+use Rattle.kk_names.specs.Methods.{State, before_of, state_of, grown, first_with, newest_before}
+use Rattle.kk_names.specs.Methods.{newest_first, behind, meant_at, Resolves, ResolvesPattern, ResolvesRow, ResolvesRows}
 use Rattle.kk_names.specs.Scopes.{Scope, names_in, in_row, with_pattern, pattern_names, past_pattern, past, past_rows}
 use Rattle.kk_names.proofs.Growing.{first_more, grown_twice, state_is}
 use Rattle.kk_names.proofs.Patterns.{names_with_pattern}
@@ -23,7 +24,8 @@ abbrev before : List RowTree → Rows → Rows
 before [] rest = rest
 before (t ∷ ts) rest = program.row t.pattern t.body (before ts rest)
 
-before_one_more : (ts : List RowTree) (t : RowTree) (rest : Rows) → before (ts ++ t ∷ []) rest ≡ before ts (program.row t.pattern t.body rest)
+before_one_more : (ts : List RowTree) (t : RowTree) (rest : Rows)
+    → before (ts ++ t ∷ []) rest ≡ before ts (program.row t.pattern t.body rest)
 before_one_more [] t rest = refl
 before_one_more (first ∷ ts) t rest = ap (program.row first.pattern first.body) (before_one_more ts t rest)
 
@@ -44,7 +46,8 @@ pub record RowsSoFar (old now : Resolver) (left all : WrittenRows) (trees : List
   pub trees_are : before trees (meant_rows_at (state_of now) left) ≡ meant_rows_at (state_of old) all
 
 pub rows_more : (old now new : Resolver) (r : WrittenRow) (left all : WrittenRows) (trees : List RowTree) (t : RowTree)
-    → RowsSoFar old now (written.row r.pattern r.body left) all trees → ResolvesRow r now new t → RowsSoFar old new left all (trees ++ t ∷ [])
+    → RowsSoFar old now (written.row r.pattern r.body left) all trees → ResolvesRow r now new t
+        → RowsSoFar old new left all (trees ++ t ∷ [])
 rows_more old now new r left all trees t so_far one =
     let s : State = state_of now in
     let between = past_pattern r.pattern s.before in
@@ -62,7 +65,8 @@ rows_more old now new r left all trees t so_far one =
           before_one_more trees t rest
           ∙ (ap (λ p. before trees (program.row p t.body rest)) one.pattern_is
           ∙ (ap (λ e. before trees (program.row (pattern_meant s.before r.pattern) e rest)) one.body_is
-          ∙ (ap (λ state. before trees (program.row (pattern_meant s.before r.pattern) body (meant_rows_at state left))) one.state ∙ so_far.trees_are)));
+          ∙ (ap (λ state. before trees (program.row (pattern_meant s.before r.pattern) body
+              (meant_rows_at state left))) one.state ∙ so_far.trees_are)));
     }
 
 pub rows_done : (old now : Resolver) (all : WrittenRows) (trees : List RowTree)
@@ -82,16 +86,20 @@ newest_on older (first ∷ bound) =
     newest_on (first ∷ older) bound
     ∙ (sym (append_assoc (newest_first bound) (first ∷ []) older) ∙ ap (λ all. all ++ older) (sym (newest_on (first ∷ []) bound)))
 
-newest_both : (older : Scope) (first second : List Bound) → newest_before older (first ++ second) ≡ newest_before (newest_before older first) second
+newest_both : (older : Scope) (first second : List Bound) → newest_before older (first ++ second) ≡ newest_before
+    (newest_before older first) second
 newest_both older [] second = refl
 newest_both older (bound ∷ first) second = newest_both (bound ∷ older) first second
 
 -- a row: its pattern, its body where the variables of the pattern are seen, and then the variables that were seen before
-pub row_resolved : (pattern : WrittenPattern) (body : Written) (old matched seen valued new : Resolver) (bound : List Bound) (p : Pattern) (t : Tree)
+pub row_resolved : (pattern : WrittenPattern) (body : Written) (old matched seen valued new : Resolver) (bound : List Bound)
+    (p : Pattern) (t : Tree)
     → ResolvesPattern pattern old matched [] (newest_first bound) p
-    → seen.functions.items ≡ matched.functions.items → seen.scope.items ≡ matched.scope.items ++ bound → before_of seen ≡ before_of matched → seen.first ≡ matched.first
+    → seen.functions.items ≡ matched.functions.items → seen.scope.items ≡ matched.scope.items ++ bound
+        → before_of seen ≡ before_of matched → seen.first ≡ matched.first
     → Resolves body seen valued t
-    → new.functions.items ≡ valued.functions.items → new.scope.items ≡ take (length old.scope.items) valued.scope.items → before_of new ≡ before_of valued → new.first ≡ valued.first
+    → new.functions.items ≡ valued.functions.items → new.scope.items ≡ take (length old.scope.items) valued.scope.items
+        → before_of new ≡ before_of valued → new.first ≡ valued.first
     → ResolvesRow (record { pattern = pattern; body = body }) old new (record { pattern = p; body = t })
 row_resolved pattern body old matched seen valued new bound p t one functions scope next first value new_functions new_scope new_next new_first =
     let s : State = state_of old in
@@ -99,11 +107,14 @@ row_resolved pattern body old matched seen valued new bound p t one functions sc
     let names = pattern_names pattern [] ++ names_in s.scope in
     let items : seen.scope.items ≡ old.scope.items ++ bound = scope ∙ ap (λ all. all ++ bound) one.scope in
     let scope_so : newest_first seen.scope.items ≡ in_row pattern s.before s.scope =
-    ap newest_first items ∙ (newest_both [] old.scope.items bound ∙ (newest_on s.scope bound ∙ ap (λ fresh. fresh ++ s.scope) one.bound_is)) in
+    ap newest_first items ∙ (newest_both [] old.scope.items bound ∙ (newest_on s.scope bound
+        ∙ ap (λ fresh. fresh ++ s.scope) one.bound_is)) in
     let names_so : names_in (in_row pattern s.before s.scope) ≡ names =
-    map-append (λ b. b.name) (with_pattern pattern s.before []) s.scope ∙ ap (λ ns. ns ++ names_in s.scope) (names_with_pattern pattern s.before []) in
+    map-append (λ b. b.name) (with_pattern pattern s.before []) s.scope
+        ∙ ap (λ ns. ns ++ names_in s.scope) (names_with_pattern pattern s.before []) in
     let seen_so : state_of seen ≡ record { functions = s.functions; scope = in_row pattern s.before s.scope; before = between; first = matched.first } =
-    state_is _ _ _ _ _ _ _ _ (functions ∙ ap (λ state. state.functions) one.state) scope_so (next ∙ ap (λ state. state.before) one.state) first in
+    state_is _ _ _ _ _ _ _ _ (functions ∙ ap (λ state. state.functions) one.state) scope_so (next
+        ∙ ap (λ state. state.before) one.state) first in
     let valued_so = value.state ∙ ap (behind body) seen_so in
     let back : new.scope.items ≡ old.scope.items =
     new_scope ∙ (ap (take (length old.scope.items)) (value.scope ∙ items) ∙ take-append_seam old.scope.items bound) in
@@ -124,7 +135,8 @@ row_resolved pattern body old matched seen valued new bound p t one functions sc
 -- ---- a match
 
 pub match_resolved : (scrutinee : Written) (rows : WrittenRows) (old between new : Resolver) (t : Tree) (ts : Rows)
-    → Resolves scrutinee old between t → ResolvesRows rows between new ts → Resolves (written.match scrutinee rows) old new (program.match t ts)
+    → Resolves scrutinee old between t → ResolvesRows rows between new ts
+        → Resolves (written.match scrutinee rows) old new (program.match t ts)
 match_resolved scrutinee rows old between new t ts one others =
     let s : State = state_of old in
     let names = names_in s.scope in
@@ -132,7 +144,8 @@ match_resolved scrutinee rows old between new t ts one others =
       state =
           others.state
           ∙ (ap (behind_rows rows) one.state
-          ∙ grown_twice s (past scrutinee s.before) (past_rows rows (past scrutinee s.before)) (faults_in s.functions names scrutinee) (faults_in_rows s.functions names rows));
+          ∙ grown_twice s (past scrutinee s.before) (past_rows rows (past scrutinee s.before))
+              (faults_in s.functions names scrutinee) (faults_in_rows s.functions names rows));
       scope = others.scope ∙ one.scope;
       tree_is =
           ap (λ x. program.match x ts) one.tree_is

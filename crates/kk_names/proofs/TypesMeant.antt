@@ -27,13 +27,16 @@ before_none [] = refl
 before_none (t ∷ ts) = ap (type t) (before_none ts)
 
 -- of all types some are left
-pub record TypesSoFar (variables : List (List ℕ)) (old now : Resolver) (left all : WrittenTypes) (trees : List TypeTree) : Type 0 where
+pub record TypesSoFar (variables : List (List ℕ)) (old now : Resolver) (left all : WrittenTypes)
+    (trees : List TypeTree) : Type 0 where
   pub state : noting (types_faults variables left) (state_of now) ≡ noting (types_faults variables all) (state_of old)
   pub scope : now.scope.items ≡ old.scope.items
   pub trees_are : before trees (types_meant variables left) ≡ types_meant variables all
 
-pub types_more : (variables : List (List ℕ)) (old now new : Resolver) (w : WrittenType) (left all : WrittenTypes) (trees : List TypeTree) (t : TypeTree)
-    → TypesSoFar variables old now (written.type w left) all trees → MeansType variables w now new t → TypesSoFar variables old new left all (trees ++ t ∷ [])
+pub types_more : (variables : List (List ℕ)) (old now new : Resolver) (w : WrittenType) (left all : WrittenTypes)
+    (trees : List TypeTree) (t : TypeTree)
+    → TypesSoFar variables old now (written.type w left) all trees → MeansType variables w now new t
+        → TypesSoFar variables old new left all (trees ++ t ∷ [])
 types_more variables old now new w left all trees t so_far one =
     let s : State = state_of now in
     record {
@@ -55,7 +58,8 @@ types_done variables old now all trees so_far =
     }
 
 -- as many types as are written
-count_is : (variables : List (List ℕ)) (ws : WrittenTypes) (ts : List TypeTree) → types_of ts ≡ types_meant variables ws → length ts ≡ types_count ws
+count_is : (variables : List (List ℕ)) (ws : WrittenTypes) (ts : List TypeTree) → types_of ts ≡ types_meant variables ws
+    → length ts ≡ types_count ws
 count_is variables written.no_type [] is = refl
 count_is variables written.no_type (t ∷ ts) is = absurd (cc is)
 count_is variables (written.type w ws) [] is = absurd (cc is)
@@ -64,9 +68,11 @@ count_is variables (written.type w ws) (t ∷ ts) is =
     let same : length ts ≡ types_count ws = count_is variables ws ts rest in
     omega arith
 
-pub named_resolved : (variables : List (List ℕ)) (name : Identifier) (ws : WrittenTypes) (meaning : Option TypeMeaning) (old between new : Resolver) (arguments : List Ty) (count : ℕ) (t : TypeTree)
+pub named_resolved : (variables : List (List ℕ)) (name : Identifier) (ws : WrittenTypes) (meaning : Option TypeMeaning)
+    (old between new : Resolver) (arguments : List Ty) (count : ℕ) (t : TypeTree)
     → MeansTypes variables ws old between (types_of (map type_tree arguments)) → meaning ≡ type_named name.name
-    → Notes (named_faults meaning name count) between new → count ≡ length arguments → t ≡ applied_type meaning (types_of (map type_tree arguments))
+    → Notes (named_faults meaning name count) between new → count ≡ length arguments
+        → t ≡ applied_type meaning (types_of (map type_tree arguments))
     → MeansType variables (written.named name ws) old new t
 named_resolved variables name ws meaning old between new arguments count t all means notes counted made =
     let s : State = state_of old in
@@ -83,5 +89,6 @@ named_resolved variables name ws meaning old between new arguments count t all m
             ∙ ap (λ n. noting (faults ++ named_faults (type_named name.name) name n) s) counted_so)));
         scope = notes.scope ∙ all.notes.scope;
       };
-      tree_is = made ∙ (ap (λ m. applied_type m (types_of (map type_tree arguments))) means ∙ ap (applied_type (type_named name.name)) all.trees_are);
+      tree_is = made ∙ (ap (λ m. applied_type m (types_of (map type_tree arguments))) means
+          ∙ ap (applied_type (type_named name.name)) all.trees_are);
     }
