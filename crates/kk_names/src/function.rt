@@ -11,6 +11,7 @@ ghost use Rattle.kk_names.specs.Names.{functions_of, with_all_texts};
 use crate::fault::FaultKind;
 use crate::resolver::Resolver;
 use crate::table::{Callee, Declared, meaning_in};
+use crate::variables::signature_variables;
 use kk_base::NoMemory;
 use kk_syntax::{Declaration, Form, Fun, FunctionDeclaration};
 
@@ -79,14 +80,22 @@ impl Resolver {
     {
         self.scope.clear();
         self.next = 0;
-        let parameters = self.parameters(declared.parameters.as_slice())?;
-        let result = self.result(&declared.result)?;
+        let variables = signature_variables(
+            self.alloc,
+            declared.parameters.as_slice(),
+            &declared.result,
+        )?;
+        if variables.len() > u32::MAX as usize {
+            return Err(NoMemory);
+        }
+        let parameters = self.parameters(declared.parameters.as_slice(), variables.as_slice())?;
+        let result = self.result(&declared.result, variables.as_slice())?;
         let body = self.expression(&declared.body)?;
         let name = declared.name.name.copied(self.alloc)?;
         Ok(Fun {
             name,
             at: declared.name.at,
-            variables: 0,
+            variables: variables.len() as u32,
             parameters,
             result,
             body,
