@@ -7,11 +7,11 @@ use Rattle.kk_syntax.specs.Surface.{Written, WrittenType, WrittenParameter, Writ
 use Rattle.kk_syntax.specs.Trees.{Tree}
 use Rattle.kk_syntax.specs.Types.{TypeTree}
 use Rattle.kk_names.specs.declared.fault.Fault.{Fault}
-use Rattle.kk_names.specs.declared.fault.FaultKind.TheVariants.{Twice}
+use Rattle.kk_names.specs.declared.fault.FaultKind.TheVariants.{Twice, Unknown}
 use Rattle.kk_names.specs.declared.resolver.Resolver.{Resolver}
 use Rattle.kk_names.specs.declared.table.Declared.{Declared}
 use Rattle.kk_names.specs.Expressions.{meant}
-use Rattle.kk_names.specs.Faults.{twice_faults, type_faults, parameter_faults, result_faults, faults_in, second_functions, inside_faults, inside_all, faults_of}
+use Rattle.kk_names.specs.Faults.{fault_at, twice_faults, type_faults, parameter_faults, result_faults, faults_in, second_functions, inside_faults, inside_all, faults_of}
 use Rattle.kk_names.specs.Methods.{before_of, first_with, newest_first, faults_if, Notes, Binds, Declares, Resolves, ResolvesParameters, ResolvesFunction}
 use Rattle.kk_names.specs.Names.{before_body, with_texts, with_all_texts, functions_of}
 use Rattle.kk_names.specs.Scopes.{Scope, binding, with_variable, past, number_in, names_in, with_parameters, parameter_names}
@@ -122,10 +122,21 @@ one_more_resolved old now new declaration left all functions function so_far res
     ∙ (ap (λ ts. functions_of now.functions.items now.texts.items (declaration ∷ []) ++ functions_of now.functions.items ts left) resolves.texts
     ∙ sym (functions_split now.functions.items now.texts.items declaration left)))
 
--- a declared type is passed over
-pub type_passed : (old now : Resolver) (name : Identifier) (parameters : _) (cases : _) (left all : List WrittenDeclaration) (functions : List FunctionTree)
-    → ResolvedSoFar old now (type_declaration name parameters cases ∷ left) all functions → ResolvedSoFar old now left all functions
-type_passed old now name parameters cases left all functions so_far = record { table = so_far.table; texts = so_far.texts; first = so_far.first; functions_are = so_far.functions_are }
+-- the name of a declared type is unknown
+pub type_refused : (old now new : Resolver) (name : Identifier) (parameters : _) (cases : _) (left all : List WrittenDeclaration) (functions : List FunctionTree)
+    → ResolvedSoFar old now (type_declaration name parameters cases ∷ left) all functions → Notes (fault_at Unknown name ∷ []) now new
+    → ResolvedSoFar old new left all functions
+type_refused old now new name parameters cases left all functions so_far notes =
+    let table = old.functions.items in
+    let texts : new.texts.items ≡ now.texts.items = ap (λ state. state.before.texts) notes.state in
+    record {
+      table = ap (λ state. state.functions) notes.state ∙ so_far.table;
+      texts = ap (λ ts. with_all_texts ts left) texts ∙ so_far.texts;
+      first =
+          ap (λ f. first_with f (inside_all table left)) (ap (λ state. state.first) notes.state)
+          ∙ (sym (first_more now.first (fault_at Unknown name ∷ []) (inside_all table left)) ∙ so_far.first);
+      functions_are = ap (λ ts. functions ++ functions_of table ts left) texts ∙ so_far.functions_are;
+    }
 
 -- a function, from its parts
 pub function_resolved : (name : Identifier) (parameters : List WrittenParameter) (effects : _) (result : Option WrittenType) (body : Written) (old start first second new : Resolver) (types : List TypeTree) (t : Tree)

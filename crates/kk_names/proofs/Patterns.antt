@@ -35,7 +35,7 @@ mutual
   names_with_parts written.no_part b scope = refl
   names_with_parts (written.part first rest) b scope =
       names_with_parts rest (past_pattern first b) (with_pattern first b scope)
-          ∙ ap (parts_names rest) (names_with_pattern first b scope)
+      ∙ ap (parts_names rest) (names_with_pattern first b scope)
 
 -- ---- how far the loop over patterns has come
 
@@ -75,7 +75,7 @@ patterns_more old now new p left all fresh bound more trees t so_far one =
           ap (λ ns. behind_parts left ns (state_of new)) (ap names_in one.bound_is ∙ names_with_pattern p (before_of now) bound)
           ∙ (ap (behind_parts left names) one.state
           ∙ (grown_twice s (past_pattern p s.before) (past_parts left (past_pattern p s.before))
-              (pattern_faults (names_in bound) p) (parts_faults names left)
+          (pattern_faults (names_in bound) p) (parts_faults names left)
           ∙ so_far.state));
       scope = one.scope ∙ so_far.scope;
       bound_is =
@@ -85,7 +85,7 @@ patterns_more old now new p left all fresh bound more trees t so_far one =
           before_one_more trees t (parts_meant (before_of new) left)
           ∙ (ap (λ x. before trees (part x (parts_meant (before_of new) left))) one.tree_is
           ∙ (ap (λ state. before trees (part (pattern_meant s.before p) (parts_meant state.before left))) one.state
-              ∙ so_far.trees_are));
+          ∙ so_far.trees_are));
     }
 
 pub patterns_done : (old now : Resolver) (all : WrittenPatterns) (fresh bound : Scope) (trees : List Pattern)
@@ -113,9 +113,9 @@ count_is b (written.part p ps) (t ∷ ts) is =
 pub constructor_resolved : (name : Identifier) (ps : WrittenPatterns) (callee : Option Callee) (old between new : Resolver)
     (fresh bound : Scope) (parts : List Pat) (count : ℕ) (t : Pattern)
     → ResolvesPatterns ps old between fresh bound (patterns_of (map pattern_tree parts))
-        → callee ≡ meaning_in constructors name.name
+    → callee ≡ meaning_in constructors name.name
     → Notes (use_faults callee name count) between new → count ≡ length parts
-        → t ≡ constructed callee (patterns_of (map pattern_tree parts))
+    → t ≡ constructed callee (patterns_of (map pattern_tree parts))
     → ResolvesPattern (written.constructor name ps) old new fresh bound t
 constructor_resolved name ps callee old between new fresh bound parts count t all means notes counted made =
     let s : State = state_of old in
@@ -139,7 +139,7 @@ constructor_resolved name ps callee old between new fresh bound parts count t al
 pub variable_resolved : (name : Identifier) (number : ℕ) (old noted new : Resolver) (fresh bound : Scope) (t : Pattern)
     → Notes (faults_if (is_some (number_in fresh name.name)) Twice name) old noted
     → number ≡ noted.next → before_of new ≡ with_variable (before_of noted) → new.functions.items ≡ noted.functions.items
-        → new.scope.items ≡ noted.scope.items → new.first ≡ noted.first
+    → new.scope.items ≡ noted.scope.items → new.first ≡ noted.first
     → bound ≡ binding name number ∷ fresh → t ≡ program.variable number
     → ResolvesPattern (written.pattern_variable name) old new fresh bound t
 variable_resolved name number old noted new fresh bound t notes number_is next functions scope first bound_is made =
@@ -151,7 +151,7 @@ variable_resolved name number old noted new fresh bound t notes number_is next f
           (ap newest_first (scope ∙ notes.scope))
           (next ∙ ap (λ state. with_variable state.before) notes.state)
           (first ∙ (ap (λ state. state.first) notes.state ∙ ap (λ b. first_with old.first (faults_if b Twice name))
-              (is_seen fresh name.name)));
+          (is_seen fresh name.name)));
       scope = scope ∙ notes.scope;
       bound_is = bound_is ∙ ap (λ n. binding name n ∷ fresh) number_so;
       tree_is = made ∙ ap program.variable number_so;

@@ -47,7 +47,7 @@ pub record RowsSoFar (old now : Resolver) (left all : WrittenRows) (trees : List
 
 pub rows_more : (old now new : Resolver) (r : WrittenRow) (left all : WrittenRows) (trees : List RowTree) (t : RowTree)
     → RowsSoFar old now (written.row r.pattern r.body left) all trees → ResolvesRow r now new t
-        → RowsSoFar old new left all (trees ++ t ∷ [])
+    → RowsSoFar old new left all (trees ++ t ∷ [])
 rows_more old now new r left all trees t so_far one =
     let s : State = state_of now in
     let between = past_pattern r.pattern s.before in
@@ -66,7 +66,7 @@ rows_more old now new r left all trees t so_far one =
           ∙ (ap (λ p. before trees (program.row p t.body rest)) one.pattern_is
           ∙ (ap (λ e. before trees (program.row (pattern_meant s.before r.pattern) e rest)) one.body_is
           ∙ (ap (λ state. before trees (program.row (pattern_meant s.before r.pattern) body
-              (meant_rows_at state left))) one.state ∙ so_far.trees_are)));
+          (meant_rows_at state left))) one.state ∙ so_far.trees_are)));
     }
 
 pub rows_done : (old now : Resolver) (all : WrittenRows) (trees : List RowTree)
@@ -96,10 +96,10 @@ pub row_resolved : (pattern : WrittenPattern) (body : Written) (old matched seen
     (p : Pattern) (t : Tree)
     → ResolvesPattern pattern old matched [] (newest_first bound) p
     → seen.functions.items ≡ matched.functions.items → seen.scope.items ≡ matched.scope.items ++ bound
-        → before_of seen ≡ before_of matched → seen.first ≡ matched.first
+    → before_of seen ≡ before_of matched → seen.first ≡ matched.first
     → Resolves body seen valued t
     → new.functions.items ≡ valued.functions.items → new.scope.items ≡ take (length old.scope.items) valued.scope.items
-        → before_of new ≡ before_of valued → new.first ≡ valued.first
+    → before_of new ≡ before_of valued → new.first ≡ valued.first
     → ResolvesRow (record { pattern = pattern; body = body }) old new (record { pattern = p; body = t })
 row_resolved pattern body old matched seen valued new bound p t one functions scope next first value new_functions new_scope new_next new_first =
     let s : State = state_of old in
@@ -108,13 +108,13 @@ row_resolved pattern body old matched seen valued new bound p t one functions sc
     let items : seen.scope.items ≡ old.scope.items ++ bound = scope ∙ ap (λ all. all ++ bound) one.scope in
     let scope_so : newest_first seen.scope.items ≡ in_row pattern s.before s.scope =
     ap newest_first items ∙ (newest_both [] old.scope.items bound ∙ (newest_on s.scope bound
-        ∙ ap (λ fresh. fresh ++ s.scope) one.bound_is)) in
+    ∙ ap (λ fresh. fresh ++ s.scope) one.bound_is)) in
     let names_so : names_in (in_row pattern s.before s.scope) ≡ names =
     map-append (λ b. b.name) (with_pattern pattern s.before []) s.scope
-        ∙ ap (λ ns. ns ++ names_in s.scope) (names_with_pattern pattern s.before []) in
+    ∙ ap (λ ns. ns ++ names_in s.scope) (names_with_pattern pattern s.before []) in
     let seen_so : state_of seen ≡ record { functions = s.functions; scope = in_row pattern s.before s.scope; before = between; first = matched.first } =
     state_is _ _ _ _ _ _ _ _ (functions ∙ ap (λ state. state.functions) one.state) scope_so (next
-        ∙ ap (λ state. state.before) one.state) first in
+    ∙ ap (λ state. state.before) one.state) first in
     let valued_so = value.state ∙ ap (behind body) seen_so in
     let back : new.scope.items ≡ old.scope.items =
     new_scope ∙ (ap (take (length old.scope.items)) (value.scope ∙ items) ∙ take-append_seam old.scope.items bound) in
@@ -136,7 +136,7 @@ row_resolved pattern body old matched seen valued new bound p t one functions sc
 
 pub match_resolved : (scrutinee : Written) (rows : WrittenRows) (old between new : Resolver) (t : Tree) (ts : Rows)
     → Resolves scrutinee old between t → ResolvesRows rows between new ts
-        → Resolves (written.match scrutinee rows) old new (program.match t ts)
+    → Resolves (written.match scrutinee rows) old new (program.match t ts)
 match_resolved scrutinee rows old between new t ts one others =
     let s : State = state_of old in
     let names = names_in s.scope in
@@ -145,7 +145,7 @@ match_resolved scrutinee rows old between new t ts one others =
           others.state
           ∙ (ap (behind_rows rows) one.state
           ∙ grown_twice s (past scrutinee s.before) (past_rows rows (past scrutinee s.before))
-              (faults_in s.functions names scrutinee) (faults_in_rows s.functions names rows));
+          (faults_in s.functions names scrutinee) (faults_in_rows s.functions names rows));
       scope = others.scope ∙ one.scope;
       tree_is =
           ap (λ x. program.match x ts) one.tree_is

@@ -36,7 +36,7 @@ pub record TypesSoFar (variables : List (List ℕ)) (old now : Resolver) (left a
 pub types_more : (variables : List (List ℕ)) (old now new : Resolver) (w : WrittenType) (left all : WrittenTypes)
     (trees : List TypeTree) (t : TypeTree)
     → TypesSoFar variables old now (written.type w left) all trees → MeansType variables w now new t
-        → TypesSoFar variables old new left all (trees ++ t ∷ [])
+    → TypesSoFar variables old new left all (trees ++ t ∷ [])
 types_more variables old now new w left all trees t so_far one =
     let s : State = state_of now in
     record {
@@ -72,7 +72,7 @@ pub named_resolved : (variables : List (List ℕ)) (name : Identifier) (ws : Wri
     (old between new : Resolver) (arguments : List Ty) (count : ℕ) (t : TypeTree)
     → MeansTypes variables ws old between (types_of (map type_tree arguments)) → meaning ≡ type_named name.name
     → Notes (named_faults meaning name count) between new → count ≡ length arguments
-        → t ≡ applied_type meaning (types_of (map type_tree arguments))
+    → t ≡ applied_type meaning (types_of (map type_tree arguments))
     → MeansType variables (written.named name ws) old new t
 named_resolved variables name ws meaning old between new arguments count t all means notes counted made =
     let s : State = state_of old in

@@ -148,9 +148,9 @@ abbrev pub result_faults : List (List ℕ) → Option WrittenType → List Fault
 result_faults variables None = []
 result_faults variables (Some of_type) = type_faults variables of_type
 
--- the faults inside of a declaration; a declared type stands for nothing yet
+-- The faults inside of a declaration. A declared type has no meaning yet: its name is unknown.
 abbrev pub inside_faults : List Declared → WrittenDeclaration → List Fault
-inside_faults functions (type_declaration name parameters cases) = []
+inside_faults functions (type_declaration name parameters cases) = fault_at Unknown name ∷ []
 inside_faults functions (function_declaration name parameters effects result body) =
     parameter_faults (signature_variables parameters result) [] parameters
     ++ (result_faults (signature_variables parameters result) result ++ faults_in functions (parameter_names parameters []) body)

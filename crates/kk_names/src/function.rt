@@ -54,7 +54,7 @@ impl Resolver {
         Ok(())
     }
 
-    /// What the declared functions mean.
+    /// What the declared functions mean. A declared type has no meaning yet: its name is unknown.
     pub fn all_functions(&mut self, declarations: &[Declaration]) -> Result<Vec<Fun>, NoMemory>
         ensures functions { IfOk result (λ functions. map function_tree functions.items
             ≡ functions_of self.old.functions.items self.old.texts.items (map written_declaration declarations.now)) }
@@ -64,9 +64,12 @@ impl Resolver {
     {
         let mut functions = Vec::new(self.alloc);
         for declaration in declarations {
-            if let Declaration::Function(declared) = declaration {
-                let function = self.function(declared)?;
-                functions.push(function)?;
+            match declaration {
+                Declaration::Function(declared) => {
+                    let function = self.function(declared)?;
+                    functions.push(function)?;
+                }
+                Declaration::Type(declared) => self.note(FaultKind::Unknown, &declared.name)?,
             }
         }
         Ok(functions)

@@ -14,8 +14,7 @@ use std::alloc::Global;
 
 /// The program of a tree; or its first fault; or that it has no function `main`, or one with a parameter or a result.
 ///
-/// A tree may hold forms that no text of today's grammar spells: declared types. They have no meaning yet: a declared type is
-/// passed over.
+/// Declared types have no meaning yet: the name of one is told as unknown.
 pub fn resolve(alloc: Global, tree: Tree) -> Result<Program, NameError>
     ensures resolved { AnswersNames tree result }
     ensures keeps_nodes { IfOk result (λ program.
