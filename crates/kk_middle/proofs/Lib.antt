@@ -5,3 +5,5 @@ mod Consistent
 mod LentTails
 mod LentPrograms
 mod LentInstances
+mod Within
+mod Compiling

@@ -1,1 +1,2 @@
 pub mod LentNames
+pub mod Compiled

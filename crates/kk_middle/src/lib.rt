@@ -3,9 +3,11 @@
 
 mod law;
 mod positions;
+mod program;
 
 pub use law::{
     core_constructors_are_consistent, owned_positions_of_instances_are_closed,
     tail_calls_of_core_forms_lend_on,
 };
 pub use positions::positions_of_instances;
+pub use program::compile;
