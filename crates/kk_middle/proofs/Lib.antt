@@ -7,3 +7,7 @@ mod LentPrograms
 mod LentInstances
 mod Within
 mod Compiling
+mod Agreeing
+mod Marked
+mod Special
+mod Instances

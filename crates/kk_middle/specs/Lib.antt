@@ -1,2 +1,3 @@
 pub mod LentNames
 pub mod Compiled
+pub mod Meaning
