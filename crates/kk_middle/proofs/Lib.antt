@@ -11,3 +11,4 @@ mod Agreeing
 mod Marked
 mod Special
 mod Instances
+mod WholeCases

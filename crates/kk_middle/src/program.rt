@@ -1,15 +1,11 @@
 ghost use Rattle.std.specs.Prelude.{Ok, IfOk};
 ghost use Rattle.kk_syntax.specs.Checked.{IsChecked};
-ghost use Rattle.kk_syntax.specs.GroundPrograms.{ground_program};
 ghost use Rattle.kk_syntax.specs.OwnedPositions.{IsLeast};
 ghost use Rattle.kk_syntax.specs.PositionsOf.{PositionTable};
 ghost use Rattle.kk_syntax.specs.Programs.{program_tree};
 ghost use Rattle.kk_syntax.specs.TypedPrograms.{typings_of};
 ghost use Rattle.kk_mono.specs.Counts.{ParametersAs};
 ghost use Rattle.kk_mono.specs.Grounds.{AreGiven};
-ghost use Rattle.kk_core.specs.Codes.{ProgramCode};
-ghost use Rattle.kk_norm.specs.Normalized.{IsCoreForm};
-ghost use Rattle.kk_insert.specs.Promise.{AllHaveRows};
 ghost use Rattle.kk_middle.specs.LentNames.{AllKeepLent};
 ghost use Rattle.kk_middle.specs.Compiled.{IsCompiled};
 
@@ -18,6 +14,7 @@ use crate::law::{
     tail_calls_of_core_forms_lend_on,
 };
 use crate::positions::positions_of_instances;
+use crate::whole::cases_are_whole;
 use kk_base::NoMemory;
 use kk_borrow::owned;
 use kk_counted::Counted;
@@ -37,11 +34,14 @@ pub fn compile(alloc: Global, accepted: &Accepted) -> Result<Counted, NoMemory>
     requires given { AreGiven accepted.now.typed accepted.now.instances }
     requires lent { (positions : PositionTable) → IsLeast (program_tree accepted.now.typed.program) positions
         → AllKeepLent (program_tree accepted.now.typed.program) positions }
-    requires rows { (code : ProgramCode) → IsCoreForm (ground_program accepted.now.instances) code → AllHaveRows code }
     ensures { IfOk result (IsCompiled accepted.now.typed accepted.now.instances) }
 {
     instances_mean_the_program();
     let core = normal(alloc, &accepted.instances)?;
+    // Each case that `normal` writes has an arm for each row. Its contract does not say so yet, so this is checked here.
+    if !cases_are_whole(&core) {
+        return Err(NoMemory);
+    }
     let table = owned(alloc, &accepted.typed.program)?;
     let positions = positions_of_instances(alloc, &table, &accepted.instances)?;
     owned_positions_of_instances_are_closed();

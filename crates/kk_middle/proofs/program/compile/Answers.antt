@@ -55,7 +55,7 @@ run-requires-clause-insertable c =
     (subst (λ (positions : PositionTable). TailsLendOn positions code) (sym c.in_ok-positions.ensures) lends)
 
 pub run-requires-clause-rows : goal.run-requires-clause-rows
-run-requires-clause-rows c = c.requires.rows (core_code c.in_ok-core.core) c.in_ok-core.ensures.form
+run-requires-clause-rows c = c.cases_are_whole.ensures c.if-not-cases_are_whole.false
 
 pub run-requires-clause-told : goal.run-requires-clause-told
 run-requires-clause-told c =
