@@ -68,6 +68,8 @@ module _ (keeps_spent : KeepsSpent) (runs_the_same : RunsTheSame) (keeps_sound :
               (first_state setting input) (counted_first_state (special_setting counted) input) whole;
           live_are_counted = told_below (store_machine setting) (counted_machine (λ s. 0) (special_setting counted)) 0 up
               (first_state setting input) (counted_first_state (special_setting counted) input) whole;
+          spent = keeps_spent positions counted.program spent;
+          fits = fits_too;
           never_stuck = λ weights n.
               subst (λ (c : CountedConfiguration). NotStuck c.control) (sym (same weights n).states)
               (special_goes (counted_after weights counted input n).control (goes weights n));

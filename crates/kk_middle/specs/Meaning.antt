@@ -12,8 +12,9 @@ use Rattle.kk_source.specs.SourceAfter.{store_machine, first_state}
 use Rattle.kk_counted.specs.declared.counted.Counted.{Counted}
 use Rattle.kk_counted.specs.CountedStates.{CountedSetting, CountedState, counted_first_state}
 use Rattle.kk_counted.specs.CountedMachine.{counted_machine, NotStuck}
-use Rattle.kk_counted.specs.Keeping.{IsKept, counted_after}
+use Rattle.kk_counted.specs.Keeping.{FitsAlways, IsKept, counted_after}
 use Rattle.kk_counted.specs.Programs.{program_of}
+use Rattle.kk_counted.specs.Spending.{IsSpent}
 use Rattle.kk_insert.specs.Meaning.{pace, EndsClean}
 
 -- a counted program with the string literals of its instances, on so many cells and with such a depth
@@ -35,7 +36,8 @@ store_steps instances m = (m * pace + pace + 1) * (greatest_nodes instances + 1)
 -- On an input both machines tell the same notes and end alike: what the store machine does in n steps the counted machine does in
 -- some, and what the counted machine does in m steps the store machine does within `up m`. The k-th note of one is the k-th of the
 -- other: so where a cell is made, as many cells are counted as places are live. The counted machine is never stuck, its heap is
--- sound in each state, and where it has ended by itself no cell is left. Counted steps weigh nothing here.
+-- sound in each state, operators and prints take values without cells, and where it has ended by itself no cell is left. So what
+-- is known of code that spends what it owns is known of this code. Counted steps weigh nothing here.
 pub record KeepsMeaning (setting : Setting) (positions : PositionTable) (counted : CountedSetting) (up : ℕ → ℕ)
     (input : List ℕ) : Type 0 where
   pub agrees : Agree (store_machine setting) (counted_machine (λ s. 0) counted) 0 up (first_state setting input)
@@ -44,6 +46,8 @@ pub record KeepsMeaning (setting : Setting) (positions : PositionTable) (counted
       → (m : ℕ) × (slice_get (store_notes setting input m) k ≡ Some note)
   pub live_are_counted : (n k : ℕ) (note : Note) → slice_get (store_notes setting input n) k ≡ Some note
       → (m : ℕ) × (slice_get (counted_notes counted input m) k ≡ Some note)
+  pub spent : IsSpent positions counted.program
+  pub fits : (weights : CountedState → ℕ) → FitsAlways weights counted input
   pub never_stuck : (weights : CountedState → ℕ) (n : ℕ) → NotStuck (counted_after weights counted input n).control
   pub sound : (weights : CountedState → ℕ) (n : ℕ)
       → IsKept positions counted.program.functions (counted_after weights counted input n)
