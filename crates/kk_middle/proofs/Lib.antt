@@ -12,3 +12,5 @@ mod Marked
 mod Special
 mod Instances
 mod WholeCases
+mod SpecialMarks
+mod Programs

@@ -20,7 +20,7 @@ use Rattle.kk_core.specs.CoreMachine.{core_machine}
 use Rattle.kk_core.specs.CoreStates.{CoreSetting, core_first_state}
 use Rattle.kk_core.specs.CoreTyping.{IsCoreTyped}
 use Rattle.kk_norm.specs.Meaning as Norm
-use Rattle.kk_counted.specs.CountedCodes.{CountedFunction}
+use Rattle.kk_counted.specs.CountedCodes.{CountedProgram}
 use Rattle.kk_counted.specs.CountedMachine.{counted_machine}
 use Rattle.kk_counted.specs.CountedStates.{CountedSetting, CountedState, counted_first_state}
 use Rattle.kk_counted.specs.Keeping.{FitsAlways, counted_after}
@@ -37,6 +37,7 @@ use Rattle.kk_dropspec.specs.Specialised.{special_setting}
 use Rattle.kk_middle.specs.Compiled.{instance_positions}
 use Rattle.kk_middle.specs.Meaning.{counted_setting, store_steps, KeepsMeaning}
 use Rattle.kk_middle.proofs.Instances.{typed as ground_typed, same_trace, same_end}
+use Rattle.kk_middle.proofs.Programs.{compiled_program}
 use Rattle.kk_middle.proofs.Special.{special_keeps}
 use Rattle.kk_middle.proofs.Marked.{control_fits}
 use Rattle.kk_middle.proofs.Within.{instances_are_within}
@@ -94,21 +95,8 @@ returns c typed given made checked parameters are compiled keeps cells depth inp
     (λ s. 0) (λ s. omega arith))
     means.agrees in
     let same : counted_setting made given cells depth ≡ special_setting counted
-    = ap (λ (functions : List CountedFunction). record {
-      program = record { functions = functions; texts = given.texts.items; main = 0 };
-      cells = cells;
-      depth = depth;
-    }) compiled.functions
-    ∙ ap (λ (texts : List (List ℕ)). record {
-      program = record { functions = (special_setting counted).program.functions; texts = texts; main = 0 };
-      cells = cells;
-      depth = depth;
-    }) (sym compiled.form.texts)
-    ∙ ap (λ (main : ℕ). record {
-      program = record { functions = (special_setting counted).program.functions; texts = code.texts; main = main };
-      cells = cells;
-      depth = depth;
-    }) (sym compiled.form.main) in
+    = ap (λ (all : CountedProgram). record { program = all; cells = cells; depth = depth })
+    (compiled_program typed given made compiled) in
     subst (λ (setting : CountedSetting). KeepsMeaning (setting_of program table cells depth) own setting (store_steps ground) input)
     (sym same)
     (special_keeps c.specialised_code_is_spent.ensures c.specialised_code_runs_the_same.ensures
