@@ -58,6 +58,8 @@ no_weight : (how : Option End) → weight_unless how 0 ≤ 0
 no_weight None = omega arith
 no_weight (Some end) = omega arith
 
-pub counted_weightless : (setting : CountedSetting) (n : ℕ) (s : CountedState) → weight_of (counted_machine (λ s. 0) setting) n s ≤ 0
+pub counted_weightless : (setting : CountedSetting) (n : ℕ) (s : CountedState)
+    → weight_of (counted_machine (λ s. 0) setting) n s ≤ 0
 counted_weightless setting n s =
-    let most = weight_of-at_most (counted_machine (λ s. 0) setting) 0 (λ t. no_weight (counted_ending_of t)) n s in omega (arith, most)
+    let most = weight_of-at_most (counted_machine (λ s. 0) setting) 0 (λ t. no_weight (counted_ending_of t)) n s in
+    omega (arith, most)

@@ -17,7 +17,8 @@ module _ (typed : Typed) (given : Ground) (made : Counted) (compiled : IsCompile
   pub compiled_program : program_of made.functions.items given.texts.items
       ≡ special_program (inserted (instance_positions given compiled.table) (core_code compiled.core))
   compiled_program =
-      ap (λ (functions : List CountedFunction). record { functions = functions; texts = given.texts.items; main = 0 }) compiled.functions
+      ap (λ (functions : List CountedFunction). record { functions = functions; texts = given.texts.items; main = 0 })
+      compiled.functions
       ∙ ap (λ (texts : List (List ℕ)). record { functions = image.functions; texts = texts; main = 0 }) (sym compiled.form.texts)
       ∙ ap (λ (main : ℕ). record { functions = image.functions; texts = (core_code compiled.core).texts; main = main })
       (sym compiled.form.main)

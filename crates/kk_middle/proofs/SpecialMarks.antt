@@ -74,7 +74,8 @@ special_is_marked marks holds program marked =
 
 -- ---- the marks that a shape tells
 
-of_facts : {Y : Type 0} (f : ConstructorFacts → Y) (xs : List ConstructorShape) → map (λ c. f (facts_of c)) xs ≡ map f (map facts_of xs)
+of_facts : {Y : Type 0} (f : ConstructorFacts → Y) (xs : List ConstructorShape)
+    → map (λ c. f (facts_of c)) xs ≡ map f (map facts_of xs)
 of_facts f [] = refl
 of_facts f (x ∷ xs) = ap (λ ys. f (facts_of x) ∷ ys) (of_facts f xs)
 
@@ -84,12 +85,14 @@ same_facts f xs ys same = of_facts f xs ∙ ap (map f) same ∙ sym (of_facts f 
 
 pub shape_tells : (core : Core) (instances : List InstanceShape) (constructors : List ConstructorShape)
     → map cells_in instances ≡ map cells_told core.functions.items
-    → map (λ (i : InstanceShape). i.result_has_cells) instances ≡ map (λ (f : CoreFunction). f.result_has_cells) core.functions.items
+    → map (λ (i : InstanceShape). i.result_has_cells) instances
+    ≡ map (λ (f : CoreFunction). f.result_has_cells) core.functions.items
     → map facts_of constructors ≡ map facts_of core.constructors.items
     → marks_of instances constructors ≡ marks_of_core core
 shape_tells core instances constructors cells results facts =
     ap (λ (m : List (List Bool)). record (marks_of instances constructors) { parameters = m }) cells
-    ∙ ap (λ (m : List Bool). record (marks_of instances constructors) { parameters = (marks_of_core core).parameters; results = m }) results
+    ∙ ap (λ (m : List Bool). record (marks_of instances constructors) { parameters = (marks_of_core core).parameters; results = m })
+    results
     ∙ ap (λ (m : List Bool). record (marks_of_core core) { types = m; fields = (marks_of instances constructors).fields })
     (same_facts (λ c. c.has_cells) constructors core.constructors.items facts)
     ∙ ap (λ (m : List (List Bool)). record (marks_of_core core) { fields = m })

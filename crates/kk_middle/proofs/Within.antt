@@ -19,27 +19,32 @@ use Rattle.kk_norm.specs.Normal.{AreWithin, all_nodes, IsWithin}
 not_above : (n : ℕ) → nat_lt 8 n ≡ false → n ≤ 8
 not_above n h = grind (arith, nat_tests)
 
-few_parameters : (functions : List FunctionTree) → too_many_parameters functions ≡ None → (f : ℕ) (function : FunctionTree) → slice_get functions f ≡ Some function → length function.parameters ≤ 8
-few_parameters [] e f function at = absurd (cc)
-few_parameters (g ∷ gs) e f function at = by (nat_lt 8 (length g.parameters)) refl (few_parameters gs) e f at
-  where
-    by : (b : Bool) → nat_lt 8 (length g.parameters) ≡ b → (too_many_parameters gs ≡ None → (k : ℕ) (one : FunctionTree) → slice_get gs k ≡ Some one → length one.parameters ≤ 8)
-        → cond b (Some (length g.parameters)) (too_many_parameters gs) ≡ None → (k : ℕ) → slice_get (g ∷ gs) k ≡ Some function → length function.parameters ≤ 8
-    by true is rest none k there = absurd (cc)
-    by false is rest none zero there = let same : g ≡ function = cc in omega (arith, not_above (length g.parameters) is, ap (λ (x : FunctionTree). length x.parameters) same)
-    by false is rest none (suc k) there = rest none k function there
-
 -- each function has few parameters
 abbrev HaveFew : List FunctionTree → Type 0
 HaveFew functions = (f : ℕ) (function : FunctionTree) → slice_get functions f ≡ Some function → length function.parameters ≤ 8
 
+few_parameters : (functions : List FunctionTree) → too_many_parameters functions ≡ None → HaveFew functions
+few_parameters [] e f function at = absurd (cc)
+few_parameters (g ∷ gs) e f function at = by (nat_lt 8 (length g.parameters)) refl (few_parameters gs) e f at
+  where
+    by : (b : Bool) → nat_lt 8 (length g.parameters) ≡ b → (too_many_parameters gs ≡ None → HaveFew gs)
+        → cond b (Some (length g.parameters)) (too_many_parameters gs) ≡ None
+        → (k : ℕ) → slice_get (g ∷ gs) k ≡ Some function → length function.parameters ≤ 8
+    by true is rest none k there = absurd (cc)
+    by false is rest none zero there =
+        let same : g ≡ function = cc in
+        omega (arith, not_above (length g.parameters) is, ap (λ (x : FunctionTree). length x.parameters) same)
+    by false is rest none (suc k) there = rest none k function there
+
 -- an instance has as many parameters as its function
-instances_have_few : (program made : ProgramTree) (typings : List (List Choice)) (instances : List InstanceTree) → HaveFew program.functions → IsInstanceProgram program typings instances made → HaveFew made.functions
+instances_have_few : (program made : ProgramTree) (typings : List (List Choice)) (instances : List InstanceTree)
+    → HaveFew program.functions → IsInstanceProgram program typings instances made → HaveFew made.functions
 instances_have_few program made typings instances few is n found at =
     let instance = there_too made.functions instances n found is.as_many at in
     let each = is.each n instance.0 found instance.1 at in
     let counted = few instance.0.function each.0 each.1 in
-    let same : length found.parameters ≡ length each.0.parameters = ap length each.2.parameters ∙ length-map each.0.parameters (put (type_at instance.0.at)) in
+    let same : length found.parameters ≡ length each.0.parameters
+    = ap length each.2.parameters ∙ length-map each.0.parameters (put (type_at instance.0.at)) in
     omega (arith, counted, same)
 
 -- ---- all limits
@@ -58,11 +63,13 @@ all_summed (f ∷ fs) =
     let whole = sum_by-cons (λ (n : ℕ). n) (nodes_of f.body) (map (λ (g : FunctionTree). nodes_of g.body) fs) in
     omega (arith, rest, whole)
 
-pub instances_are_within : (program made : ProgramTree) (typings : List (List Choice)) (instances : List InstanceTree) → ParametersAs program (Ok tt) → IsInstanceProgram program typings instances made → IsSmall made → IsWithin made
+pub instances_are_within : (program made : ProgramTree) (typings : List (List Choice)) (instances : List InstanceTree)
+    → ParametersAs program (Ok tt) → IsInstanceProgram program typings instances made → IsSmall made → IsWithin made
 instances_are_within program made typings instances none is small =
     record {
       main = is.main;
-      functions = are_within made.functions (instances_have_few program made typings instances (few_parameters program.functions none) is) small.bodies;
+      functions = are_within made.functions
+          (instances_have_few program made typings instances (few_parameters program.functions none) is) small.bodies;
       few = small.few;
       all = omega (arith, small.nodes, all_summed made.functions);
     }

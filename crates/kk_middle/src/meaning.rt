@@ -33,8 +33,8 @@ pub fn compiled_programs_keep_meaning()
         → ParametersAs (program_tree typed.program) (Ok tt) → AreGiven typed given
         → (compiled : IsCompiled typed given made) → AllKeepLent (program_tree typed.program) compiled.table
         → (cells depth : ℕ) (input : List ℕ)
-        → KeepsMeaning (setting_of (program_tree typed.program) compiled.table cells depth) (instance_positions given compiled.table)
-        (counted_setting made given cells depth) (store_steps (ground_program given)) input }
+        → KeepsMeaning (setting_of (program_tree typed.program) compiled.table cells depth)
+        (instance_positions given compiled.table) (counted_setting made given cells depth) (store_steps (ground_program given)) input }
 {
     owned_positions_of_instances_are_closed();
     tail_calls_of_core_forms_lend_on();

@@ -89,7 +89,8 @@ returns c typed given made checked parameters are compiled keeps cells depth inp
     : Agree (Norm.weighed_store_machine weight store) (counted_machine (λ s. 0) counted) (0 + 0) (store_steps ground)
     (first_state store input) (counted_first_state counted input)
     = agree_through (Norm.weighed_store_machine weight store) (core_machine (λ s. 0) core) (counted_machine (λ s. 0) counted) 0 0
-    (λ m. m * (greatest_nodes ground + 1) + greatest_nodes ground + 1) (λ m. m * Insert.pace + Insert.pace + 1) (first_state store input) (core_first_state core input)
+    (λ m. m * (greatest_nodes ground + 1) + greatest_nodes ground + 1) (λ m. m * Insert.pace + Insert.pace + 1)
+    (first_state store input) (core_first_state core input)
     (counted_first_state counted input)
     ((c.core_forms_of_typed_programs_keep_meaning.ensures ground code is_typed compiled.form).agrees own cells depth input 0
     (λ s. 0) (λ s. omega arith))
