@@ -13,7 +13,8 @@ use rv_sim::Halt;
 const USAGE: &str =
     "usage: kokarv check FILE, build FILE -o OUT, run FILE, sim IMAGE, eval FILE, bench SEED SIZE\n";
 
-const NOT_BUILT: &str = "refused: this version builds no match and no constructor with fields\n";
+const NOT_BUILT: &str =
+    "refused: this version builds no match and no constructor but True and False\n";
 
 /// A part of a line.
 #[derive(Clone, Copy)]

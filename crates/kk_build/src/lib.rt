@@ -13,8 +13,8 @@ ghost use Rattle.kk_build.specs.Built.{IsBuilt, RefusesToBuild};
 ghost use Rattle.kk_build.specs.FileOf.{AnswersFile};
 
 pub use cell_runtime::Ending;
-pub use error::BuildError;
 use elf_image::write;
+pub use error::BuildError;
 use kk_back::image;
 use kk_base::{Bytes, NoMemory, Refusal};
 use kk_core::code_without_cells_has_plain_types;

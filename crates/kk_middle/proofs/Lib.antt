@@ -5,3 +5,12 @@ mod Consistent
 mod LentTails
 mod LentPrograms
 mod LentInstances
+mod Within
+mod Compiling
+mod Agreeing
+mod Marked
+mod Special
+mod Instances
+mod WholeCases
+mod SpecialMarks
+mod Programs

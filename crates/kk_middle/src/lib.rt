@@ -2,10 +2,15 @@
 #![tactic(auto)]
 
 mod law;
+mod meaning;
 mod positions;
+mod program;
+mod whole;
 
 pub use law::{
     core_constructors_are_consistent, owned_positions_of_instances_are_closed,
     tail_calls_of_core_forms_lend_on,
 };
+pub use meaning::{compiled_programs_are_marked, compiled_programs_keep_meaning};
 pub use positions::positions_of_instances;
+pub use program::compile;

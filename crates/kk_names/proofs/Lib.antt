@@ -4,9 +4,11 @@ pub mod Firsts
 pub mod Growing
 pub mod Mains
 pub mod Nodes
-pub mod Plain
+pub mod Patterns
 pub mod Resolving
+pub mod Rows
 pub mod Statements
 pub mod Tables
 pub mod Texts
+pub mod TypesMeant
 pub mod Written

@@ -3,15 +3,18 @@ use Rattle.std.proofs.Common.{ℕ, ◌+◌, ◌≤◌, List, [], ◌∷◌, Opti
 use Rattle.std.proofs.lemmas.List.Elements.{All-nil, All-cons, All-head, All-tail}
 use Rattle.kk_syntax.specs.declared.tree.SurfaceBinder.{SurfaceBinder}
 use Rattle.kk_syntax.specs.declared.tree.SurfaceBinder.TheVariants as OfSurface
-use Rattle.kk_syntax.specs.Shapes.{nodes_of, nodes_of_all, nodes_of_binder}
-use Rattle.kk_syntax.specs.Surface.{Written, variable, call, dot_call, construct, unary, binary, both, either, branch, branch_alone, sequence, Writtens, no_written, written, WrittenDeclaration, type_declaration, function_declaration}
+use Rattle.kk_syntax.specs.Shapes.{nodes_of, nodes_of_all, nodes_of_rows, nodes_of_binder, nodes_of_pattern, nodes_of_patterns}
+use Rattle.kk_syntax.specs.Surface.{WrittenPattern, anything, pattern_variable, exactly, constructor, WrittenPatterns, no_part, part, Written, number, unit, variable, call, dot_call, construct, unary, binary, both, either, print_text, branch, branch_alone, match, sequence, Writtens, no_written, written, WrittenRows, no_row, row, WrittenDeclaration, type_declaration, function_declaration}
+use Rattle.kk_syntax.specs.declared.program.Form.{Form}
+use Rattle.kk_syntax.specs.declared.program.Form.TheVariants as OfForm
+use Rattle.kk_syntax.specs.Patterns.{Patterns}
 use Rattle.kk_syntax.specs.Trees.{Trees}
-use Rattle.kk_syntax.specs.WrittenNodes.{written_nodes, writtens_nodes, binder_nodes, nodes_in}
+use Rattle.kk_syntax.specs.WrittenNodes.{written_nodes, writtens_nodes, rows_nodes, binder_nodes, pattern_nodes, patterns_nodes, nodes_in}
 use Rattle.kk_names.specs.declared.table.Callee.{Callee}
 use Rattle.kk_names.specs.declared.table.Declared.{Declared}
-use Rattle.kk_names.specs.Expressions.{applied, variable_or_unit, meant, meant_all}
+use Rattle.kk_names.specs.Expressions.{applied, variable_or_unit, pattern_of, constructed, pattern_meant, parts_meant, meant, meant_all, meant_rows}
 use Rattle.kk_names.specs.Names.{before_body, with_texts, function_of, functions_of, KeepsNodes}
-use Rattle.kk_names.specs.Scopes.{Scope, number_in, with_parameters, with_binder, binder_of, Before, past_binder, past}
+use Rattle.kk_names.specs.Scopes.{Scope, number_in, with_parameters, with_binder, binder_of, in_row, Before, past_binder, past_pattern, past}
 use Rattle.kk_names.specs.Tables.{constructors, meaning_in}
 
 applied_few : (callee : Option Callee) (arguments : Trees) → nodes_of (applied callee arguments) ≤ nodes_of_all arguments + 1
@@ -26,6 +29,26 @@ binder_few : (binder : SurfaceBinder) (next : ℕ) → nodes_of_binder (binder_o
 binder_few OfSurface.Nothing next = omega arith
 binder_few OfSurface.Wildcard next = omega arith
 binder_few (OfSurface.Variable name) next = omega arith
+
+form_few : (form : Form) (parts : Patterns) → nodes_of_pattern (pattern_of form parts) ≤ nodes_of_patterns parts + 1
+form_few (OfForm.Construct by) parts = omega arith
+form_few _ parts = omega arith
+
+constructed_few : (callee : Option Callee) (parts : Patterns) → nodes_of_pattern (constructed callee parts) ≤ nodes_of_patterns parts + 1
+constructed_few None parts = omega arith
+constructed_few (Some callee) parts = form_few callee.form parts
+
+mutual
+  pattern_few : (before : Before) (p : WrittenPattern) → nodes_of_pattern (pattern_meant before p) ≤ pattern_nodes p
+  pattern_few before anything = omega arith
+  pattern_few before (pattern_variable name) = omega arith
+  pattern_few before (exactly value) = omega arith
+  pattern_few before (constructor name parts) =
+      omega (arith, constructed_few (meaning_in constructors name.name) (parts_meant before parts), parts_few before parts)
+
+  parts_few : (before : Before) (ps : WrittenPatterns) → nodes_of_patterns (parts_meant before ps) ≤ patterns_nodes ps
+  parts_few before no_part = omega arith
+  parts_few before (part first rest) = omega (arith, pattern_few before first, parts_few (past_pattern first before) rest)
 
 mutual
   few : (functions : List Declared) (scope : Scope) (before : Before) (w : Written) → nodes_of (meant functions scope before w) ≤ written_nodes w
@@ -45,11 +68,24 @@ mutual
   few functions scope before (branch_alone condition positive) = omega (arith, few functions scope before condition, few functions scope (past condition before) positive)
   few functions scope before (sequence binder first rest) =
       omega (arith, few functions scope (past_binder binder before) first, few functions (with_binder binder before.variables scope) (past first (past_binder binder before)) rest, binder_few binder before.variables)
-  few functions scope before w = omega arith
+  few functions scope before (match scrutinee rows) = omega (arith, few functions scope before scrutinee, few_rows functions scope (past scrutinee before) rows)
+  few functions scope before (number value) = omega arith
+  few functions scope before unit = omega arith
+  few functions scope before (print_text form text) = omega arith
 
   few_all : (functions : List Declared) (scope : Scope) (before : Before) (ws : Writtens) → nodes_of_all (meant_all functions scope before ws) ≤ writtens_nodes ws
   few_all functions scope before no_written = omega arith
   few_all functions scope before (written first rest) = omega (arith, few functions scope before first, few_all functions scope (past first before) rest)
+
+  few_rows : (functions : List Declared) (scope : Scope) (before : Before) (rows : WrittenRows) → nodes_of_rows (meant_rows functions scope before rows) ≤ rows_nodes rows
+  few_rows functions scope before no_row = omega arith
+  few_rows functions scope before (row pattern body rest) =
+      omega (
+        arith,
+        pattern_few before pattern,
+        few functions (in_row pattern before scope) (past_pattern pattern before) body,
+        few_rows functions scope (past body (past_pattern pattern before)) rest,
+      )
 
 pub keeps_nodes : (functions : List Declared) (texts : List (List ℕ)) (ds : List WrittenDeclaration) → KeepsNodes ds (functions_of functions texts ds)
 keeps_nodes functions texts [] most h = All-nil (λ f. nodes_of f.body ≤ most)

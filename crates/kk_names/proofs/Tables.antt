@@ -1,16 +1,10 @@
 -- Tables of functions, and lists of names.
 use Rattle.std.proofs.Common.{◌≡◌, ℕ, ◌+◌, ◌<◌, List, [], ◌∷◌, ◌++◌, map, length, take, drop, get_or, suc, Bool, true, false, bytes_eq, Option, Some, refl, sym, ap, ◌∙◌, arith}
-use Rattle.std.specs.Prelude.{if◌then◌else◌, is_some, not, ◌==◌, ◌||◌}
-use Rattle.std.proofs.lemmas.Bool.{ne_eqb}
+use Rattle.std.specs.Prelude.{if◌then◌else◌, is_some, ◌||◌}
 use Rattle.std.proofs.Math.Seq.{take-suc, drop-cons}
-use Rattle.kk_syntax.specs.declared.tree.Identifier.{Identifier}
-use Rattle.kk_syntax.specs.Surface.{WrittenType, no_type, types_of}
-use Rattle.kk_syntax.specs.Types.{TypeTree}
-use Rattle.kk_names.specs.declared.fault.FaultKind.TheVariants.{Arity}
 use Rattle.kk_names.specs.declared.scope.Bound.{Bound}
 use Rattle.kk_names.specs.declared.table.Declared.{Declared}
-use Rattle.kk_names.specs.Faults.{named_faults}
-use Rattle.kk_names.specs.Methods.{newest_before, newest_first, faults_if}
+use Rattle.kk_names.specs.Methods.{newest_before, newest_first}
 use Rattle.kk_names.specs.Scopes.{Scope, number_in, names_in, is_among}
 use Rattle.kk_names.specs.Tables.{meaning_in}
 
@@ -46,10 +40,3 @@ is_meant (d ∷ more) name = either_way (bytes_eq d.name name) d.callee (meaning
 pub is_seen : (scope : Scope) (name : List ℕ) → is_some (number_in scope name) ≡ is_among (names_in scope) name
 is_seen [] name = refl
 is_seen (bound ∷ older) name = either_way (bytes_eq bound.name name) bound.number (number_in older name) (is_among (names_in older) name) (is_seen older name)
-
--- a type that has no arguments, with some
-pub named_noted : (option : Option TypeTree) (meaning : TypeTree) (name : Identifier) (ts : List WrittenType) (n : ℕ) → option ≡ Some meaning → n ≡ length ts → faults_if (not (n == 0)) Arity name ≡ named_faults option name (types_of ts)
-named_noted option meaning name [] n is none = ap (λ m. faults_if (not (m == 0)) Arity name) none ∙ sym (ap (λ o. named_faults o name no_type) is)
-named_noted option meaning name (t ∷ ts) n is some =
-    let never : n ≡ 0 → ⊥ = λ e. omega (arith, e, some) in
-    ap (λ b. faults_if (not b) Arity name) (ne_eqb n 0 never) ∙ sym (ap (λ o. named_faults o name (types_of (t ∷ ts))) is)

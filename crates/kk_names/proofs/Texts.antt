@@ -1,5 +1,5 @@
 -- Each string literal that a resolved program prints is one of its own; and its first type is `bool`, as it must be.
-use Rattle.std.proofs.Common.{◌≡◌, ◌≤◌, ◌<◌, ◌+◌, ℕ, zero, suc, List, [], ◌∷◌, ◌++◌, length, length-append, Bool, true, false, Option, Some, None, bytes_eq, codes, refl, sym, subst, arith}
+use Rattle.std.proofs.Common.{◌≡◌, ◌≤◌, ◌<◌, ◌+◌, ℕ, zero, suc, List, [], ◌∷◌, ◌++◌, length, length-append, Bool, true, false, Option, Some, None, bytes_eq, codes, refl, sym, subst, ◌∙◌, arith}
 use Rattle.std.specs.Prelude.{if◌then◌else◌}
 use Rattle.kk_syntax.specs.declared.tree.SurfaceBinder.{SurfaceBinder}
 use Rattle.kk_syntax.specs.declared.tree.SurfaceBinder.TheVariants as OfSurface
@@ -7,17 +7,17 @@ use Rattle.kk_syntax.specs.Checked.{printed_by, of_texts, printed}
 use Rattle.kk_syntax.specs.Covered.{Each}
 use Rattle.kk_syntax.specs.OfType.{field_types}
 use Rattle.kk_syntax.specs.Programs.{FunctionTree}
-use Rattle.kk_syntax.specs.Shapes.{gathered_all}
-use Rattle.kk_syntax.specs.Surface.{Written, number, unit, variable, call, dot_call, construct, unary, binary, both, either, print_text, branch, branch_alone, match, sequence, Writtens, no_written, written, WrittenDeclaration, type_declaration, function_declaration}
+use Rattle.kk_syntax.specs.Shapes.{gathered_all, gathered_rows}
+use Rattle.kk_syntax.specs.Surface.{WrittenPattern, anything, pattern_variable, exactly, constructor, WrittenPatterns, no_part, part, Written, number, unit, variable, call, dot_call, construct, unary, binary, both, either, print_text, branch, branch_alone, match, sequence, Writtens, no_written, written, WrittenRows, no_row, row, WrittenDeclaration, type_declaration, function_declaration}
 use Rattle.kk_syntax.specs.Trees.{Trees}
 use Rattle.kk_syntax.specs.Types.{TypeTree}
 use Rattle.kk_syntax.specs.Typing.{bool}
 use Rattle.kk_syntax.proofs.Elements.{each_both}
 use Rattle.kk_names.specs.declared.table.Callee.{Callee}
 use Rattle.kk_names.specs.declared.table.Declared.{Declared}
-use Rattle.kk_names.specs.Expressions.{applied, variable_or_unit, meant, meant_all}
+use Rattle.kk_names.specs.Expressions.{applied, variable_or_unit, meant, meant_all, meant_rows}
 use Rattle.kk_names.specs.Names.{bool_constructor, before_body, with_texts, with_all_texts, functions_of, texts_meant, HasTruthsAndTexts, ResolvedProgramsHaveTruthsAndTexts}
-use Rattle.kk_names.specs.Scopes.{Scope, number_in, with_parameters, with_binder, Before, past_binder, past, past_all}
+use Rattle.kk_names.specs.Scopes.{Scope, number_in, with_parameters, with_binder, in_row, Before, past_binder, past_pattern, past_parts, past, past_all, past_rows}
 use Rattle.kk_names.specs.Tables.{constructors, numbered, functions_in, meaning_in}
 
 -- ---- names
@@ -58,11 +58,25 @@ binder_texts OfSurface.Nothing before = refl
 binder_texts OfSurface.Wildcard before = refl
 binder_texts (OfSurface.Variable name) before = refl
 
+mutual
+  pattern_texts : (p : WrittenPattern) (before : Before) → (past_pattern p before).texts ≡ before.texts
+  pattern_texts anything before = refl
+  pattern_texts (pattern_variable name) before = refl
+  pattern_texts (exactly value) before = refl
+  pattern_texts (constructor name parts) before = parts_texts parts before
+
+  parts_texts : (ps : WrittenPatterns) (before : Before) → (past_parts ps before).texts ≡ before.texts
+  parts_texts no_part before = refl
+  parts_texts (part first rest) before = parts_texts rest (past_pattern first before) ∙ pattern_texts first before
+
 abbrev count : Before → ℕ
 count before = length before.texts
 
 binder_count : (binder : SurfaceBinder) (before : Before) → count (past_binder binder before) ≡ count before
 binder_count binder before = let same = binder_texts binder before in cc
+
+pattern_count : (p : WrittenPattern) (before : Before) → count (past_pattern p before) ≡ count before
+pattern_count p before = let same = pattern_texts p before in cc
 
 mutual
   longer : (w : Written) (before : Before) → count before ≤ count (past w before)
@@ -98,7 +112,10 @@ mutual
       let one = longer condition before in
       let two = longer positive (past condition before) in
       omega (arith, one, two)
-  longer (match scrutinee rows) before = omega arith
+  longer (match scrutinee rows) before =
+      let one = longer scrutinee before in
+      let more = rows_longer rows (past scrutinee before) in
+      omega (arith, one, more)
   longer (sequence binder first rest) before =
       let same = binder_count binder before in
       let one = longer first (past_binder binder before) in
@@ -111,6 +128,14 @@ mutual
       let one = longer first before in
       let more = all_longer rest (past first before) in
       omega (arith, one, more)
+
+  rows_longer : (rows : WrittenRows) (before : Before) → count before ≤ count (past_rows rows before)
+  rows_longer no_row before = omega arith
+  rows_longer (row pattern body rest) before =
+      let same = pattern_count pattern before in
+      let one = longer body (past_pattern pattern before) in
+      let more = rows_longer rest (past body (past_pattern pattern before)) in
+      omega (arith, same, one, more)
 
 -- ---- expressions
 
@@ -171,7 +196,9 @@ module _ (functions : List Declared) (names : ArePrintless functions) (n : ℕ) 
         let two = longer positive (past condition before) in
         in_turn n _ _ (tree_prints scope before condition (omega (arith, few, two)))
         (in_turn n _ [] (tree_prints scope (past condition before) positive few) tt)
-    tree_prints scope before (match scrutinee rows) few = tt
+    tree_prints scope before (match scrutinee rows) few =
+        in_turn n _ _ (tree_prints scope before scrutinee (let more = rows_longer rows (past scrutinee before) in omega (arith, few, more)))
+        (rows_print scope (past scrutinee before) rows few)
     tree_prints scope before (sequence binder first rest) few =
         let two = longer rest (past first (past_binder binder before)) in
         in_turn n _ _ (tree_prints scope (past_binder binder before) first (omega (arith, few, two)))
@@ -183,6 +210,15 @@ module _ (functions : List Declared) (names : ArePrintless functions) (n : ℕ) 
     trees_print scope before (written first rest) few =
         in_turn n _ _ (tree_prints scope before first (let more = all_longer rest (past first before) in omega (arith, few, more)))
         (trees_print scope (past first before) rest few)
+
+    rows_print : (scope : Scope) (before : Before) (rows : WrittenRows) → count (past_rows rows before) ≤ n
+        → AreBelow n (gathered_rows of_texts (meant_rows functions scope before rows))
+    rows_print scope before no_row few = tt
+    rows_print scope before (row pattern body rest) few =
+        let behind = past body (past_pattern pattern before) in
+        in_turn n _ _
+        (tree_prints (in_row pattern before scope) (past_pattern pattern before) body (let more = rows_longer rest behind in omega (arith, few, more)))
+        (rows_print scope behind rest few)
 
   -- ---- programs
 

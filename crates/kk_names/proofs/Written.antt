@@ -8,7 +8,11 @@ use Rattle.kk_syntax.specs.declared.tree.Identifier.{Identifier}
 use Rattle.kk_syntax.specs.declared.tree.SurfaceBinder.TheVariants as OfSurface
 use Rattle.kk_syntax.specs.declared.tree.SurfaceExpr.{SurfaceExpr, size-SurfaceExpr}
 use Rattle.kk_syntax.specs.declared.tree.SurfaceExpr.TheVariants as surface
-use Rattle.kk_syntax.specs.declared.tree.SurfaceExpr.TheFolds.{fold-roll-SurfaceExpr, fold_out-SurfaceStatement}
+use Rattle.kk_syntax.specs.declared.tree.SurfaceExpr.TheFolds.{fold-roll-SurfaceExpr, fold_out-SurfaceRow, fold_out-SurfaceStatement}
+use Rattle.kk_syntax.specs.declared.tree.SurfacePattern.{SurfacePattern}
+use Rattle.kk_syntax.specs.declared.tree.SurfacePattern.TheVariants as OfPattern
+use Rattle.kk_syntax.specs.declared.tree.SurfacePattern.TheFolds.{fold-roll-SurfacePattern}
+use Rattle.kk_syntax.specs.declared.tree.SurfaceRow.{SurfaceRow}
 use Rattle.kk_syntax.specs.declared.tree.SurfaceStatement.{SurfaceStatement}
 use Rattle.kk_syntax.specs.declared.tree.SurfaceType.{SurfaceType}
 use Rattle.kk_syntax.specs.declared.tree.SurfaceType.TheVariants as OfType
@@ -16,7 +20,7 @@ use Rattle.kk_syntax.specs.declared.tree.SurfaceType.TheFolds.{fold-roll-Surface
 use Rattle.kk_syntax.specs.declared.tree.Parameter.{Parameter}
 use Rattle.kk_syntax.specs.declared.tree.Declaration.{Declaration}
 use Rattle.kk_syntax.specs.Surface as written
-use Rattle.kk_syntax.specs.Surface.{Written, WrittenRow, WrittenStatement, written_expr, written_statement, writtens_of, WrittenType, type_step, written_type, written_parameter, written_declaration}
+use Rattle.kk_syntax.specs.Surface.{Written, WrittenRow, WrittenStatement, written_expr, written_row, rows_of, written_statement, writtens_of, WrittenPattern, patterns_of, written_pattern, WrittenType, type_step, written_type, written_parameter, written_declaration}
 use Rattle.kk_syntax.specs.Trees.{expr_tree}
 use Rattle.kk_syntax.proofs.Views.{apply_is}
 use Rattle.kk_names.specs.Expressions.{alone}
@@ -64,6 +68,25 @@ variable_written s name v is value =
     statement_written s
     ∙ (ap (λ b. let w : WrittenStatement = record { binder = b; value = written_expr s.value } in w) is ∙ ap (λ x. let w : WrittenStatement = record { binder = OfSurface.Variable name; value = written_expr x } in w) (sym value))
 
+pub pattern_written : (p : SurfacePattern) (name : Identifier) (parts : _) (ps : List SurfacePattern) → p ≡ OfPattern.Constructor name parts → ps ≡ parts.items
+    → written_pattern p ≡ written.constructor name (patterns_of (map written_pattern ps))
+pattern_written p name parts ps is items =
+    ap written_pattern (is ∙ sym (OfPattern.rolls-Constructor name parts))
+    ∙ (fold-roll-SurfacePattern WrittenPattern written.pattern_step _ ∙ ap (λ all. written.constructor name (patterns_of (map written_pattern all))) (sym items))
+
+-- the first of the patterns that are left
+pub next_pattern : (ps : List SurfacePattern) (i : ℕ) (p : SurfacePattern) → p ≡ get_or ps i p → i < length ps
+    → patterns_of (map written_pattern (drop i ps)) ≡ written.part (written_pattern p) (patterns_of (map written_pattern (drop (i + 1) ps)))
+next_pattern ps i p is less = ap (λ all. patterns_of (map written_pattern all)) (left_is ps i p is less)
+
+pub row_written : (r : SurfaceRow) → written_row r ≡ record { pattern = written_pattern r.pattern; body = written_expr r.body }
+row_written r = fold_out-SurfaceRow Written WrittenRow WrittenStatement written.expr_step written.row_step written.statement_step r
+
+-- the first of the rows that are left
+pub next_row : (rs : List SurfaceRow) (i : ℕ) (r : SurfaceRow) → r ≡ get_or rs i r → i < length rs
+    → rows_of (map written_row (drop i rs)) ≡ written.row (written_row r).pattern (written_row r).body (rows_of (map written_row (drop (i + 1) rs)))
+next_row rs i r is less = ap (λ all. rows_of (map written_row all)) (left_is rs i r is less)
+
 -- ---- what is made
 
 -- a form without arguments
@@ -72,9 +95,16 @@ alone_made e form arguments is none = apply_is e form arguments [] is (sym none)
 
 -- ---- types
 
-pub named_written : (t : SurfaceType) (name : Identifier) (arguments : _) → t ≡ OfType.Named name arguments → written_type t ≡ written.named name (written.types_of (map written_type arguments.items))
-named_written t name arguments is =
-    ap written_type (is ∙ sym (OfType.rolls-Named name arguments)) ∙ fold-roll-SurfaceType WrittenType type_step _
+pub named_written : (t : SurfaceType) (name : Identifier) (arguments : _) (ts : List SurfaceType) → t ≡ OfType.Named name arguments → ts ≡ arguments.items
+    → written_type t ≡ written.named name (written.types_of (map written_type ts))
+named_written t name arguments ts is items =
+    ap written_type (is ∙ sym (OfType.rolls-Named name arguments))
+    ∙ (fold-roll-SurfaceType WrittenType type_step _ ∙ ap (λ all. written.named name (written.types_of (map written_type all))) (sym items))
+
+-- the first of the types that are left
+pub next_type : (ts : List SurfaceType) (i : ℕ) (t : SurfaceType) → t ≡ get_or ts i t → i < length ts
+    → written.types_of (map written_type (drop i ts)) ≡ written.type (written_type t) (written.types_of (map written_type (drop (i + 1) ts)))
+next_type ts i t is less = ap (λ all. written.types_of (map written_type all)) (left_is ts i t is less)
 
 pub next_parameter : (ps : List Parameter) (i : ℕ) (p : Parameter) → p ≡ get_or ps i p → i < length ps → map written_parameter (drop i ps) ≡ written_parameter p ∷ map written_parameter (drop (i + 1) ps)
 next_parameter ps i p is less = ap (map written_parameter) (left_is ps i p is less)

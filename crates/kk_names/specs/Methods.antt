@@ -4,24 +4,24 @@ use Rattle.kk_base.specs.declared.error.NameError.{NameError}
 use Rattle.kk_base.specs.declared.error.NameError.TheVariants.{NoMain, MainShape, NoMemory}
 use Rattle.kk_syntax.specs.declared.program.Fun.{Fun}
 use Rattle.kk_syntax.specs.declared.program.Program.{Program}
-use Rattle.kk_syntax.specs.declared.program.Ty.{Ty}
 use Rattle.kk_syntax.specs.declared.tree.Identifier.{Identifier}
 use Rattle.kk_syntax.specs.Programs.{FunctionTree, program_tree}
-use Rattle.kk_syntax.specs.Surface.{Written, branch, branch_alone, Writtens, WrittenStatement, WrittenParameter, WrittenDeclaration, block_of}
+use Rattle.kk_syntax.specs.Surface.{WrittenPattern, WrittenPatterns, WrittenRow, WrittenRows, Written, branch, branch_alone, Writtens, WrittenStatement, WrittenType, WrittenTypes, WrittenParameter, WrittenDeclaration, block_of}
+use Rattle.kk_syntax.specs.Patterns.{Pattern, Patterns}
 use Rattle.kk_syntax.specs.Trees as program
-use Rattle.kk_syntax.specs.Trees.{StatementTree}
-use Rattle.kk_syntax.specs.Types.{TypeTree, type_tree}
+use Rattle.kk_syntax.specs.Trees.{RowTree, StatementTree}
+use Rattle.kk_syntax.specs.Types.{TypeTree, TypeTrees}
 use Rattle.kk_names.specs.declared.fault.Fault.{Fault}
 use Rattle.kk_names.specs.declared.fault.FaultKind.{FaultKind}
 use Rattle.kk_names.specs.declared.resolver.Resolver.{Resolver}
 use Rattle.kk_names.specs.declared.scope.Bound.{Bound}
 use Rattle.kk_names.specs.declared.table.Declared.{Declared}
-use Rattle.kk_names.specs.Expressions.{meant, meant_all}
-use Rattle.kk_names.specs.Faults.{fault_at, rank, faults_in, faults_in_all, parameter_faults, second_functions, inside_faults}
+use Rattle.kk_names.specs.Expressions.{pattern_meant, parts_meant, meant, meant_all, meant_rows}
+use Rattle.kk_names.specs.Faults.{fault_at, rank, pattern_faults, parts_faults, faults_in, faults_in_all, faults_in_rows, type_faults, types_faults, parameter_faults, second_functions, inside_faults}
 use Rattle.kk_names.specs.Names.{with_texts, MakesProgram, LacksMain, HasOtherMain}
-use Rattle.kk_names.specs.Scopes.{Scope, names_in, with_parameters, with_binder, binder_of, Before, past_binder, past, past_all}
+use Rattle.kk_names.specs.Scopes.{Scope, names_in, with_parameters, with_binder, binder_of, with_pattern, with_parts, in_row, pattern_names, Before, past_binder, past_pattern, past_parts, past, past_all, past_rows}
 use Rattle.kk_names.specs.Tables.{numbered}
-use Rattle.kk_names.specs.TypeNames.{type_meant}
+use Rattle.kk_names.specs.TypeNames.{type_meant, types_meant}
 
 -- whether a fault of that kind at that byte comes before another
 abbrev pub is_before : FaultKind → ℕ → Fault → Bool
@@ -113,6 +113,34 @@ pub record ResolvesAll (es : Writtens) (old new : Resolver) (trees : program.Tre
   pub scope : new.scope.items ≡ old.scope.items
   pub trees_are : trees ≡ meant_all_at (state_of old) es
 
+-- a pattern was resolved, and means this pattern; its variables are behind those of these
+pub record ResolvesPattern (p : WrittenPattern) (old new : Resolver) (fresh bound : Scope) (tree : Pattern) : Type 0 where
+  pub state : state_of new ≡ grown (state_of old) (past_pattern p (before_of old)) (pattern_faults (names_in fresh) p)
+  pub scope : new.scope.items ≡ old.scope.items
+  pub bound_is : bound ≡ with_pattern p (before_of old) fresh
+  pub tree_is : tree ≡ pattern_meant (before_of old) p
+
+-- the same of several patterns
+pub record ResolvesPatterns (ps : WrittenPatterns) (old new : Resolver) (fresh bound : Scope) (trees : Patterns) : Type 0 where
+  pub state : state_of new ≡ grown (state_of old) (past_parts ps (before_of old)) (parts_faults (names_in fresh) ps)
+  pub scope : new.scope.items ≡ old.scope.items
+  pub bound_is : bound ≡ with_parts ps (before_of old) fresh
+  pub trees_are : trees ≡ parts_meant (before_of old) ps
+
+-- rows were resolved, and mean these rows
+pub record ResolvesRows (rows : WrittenRows) (old new : Resolver) (trees : program.Rows) : Type 0 where
+  pub state : state_of new ≡ grown (state_of old) (past_rows rows (before_of old)) (faults_in_rows old.functions.items (names_in (newest_first old.scope.items)) rows)
+  pub scope : new.scope.items ≡ old.scope.items
+  pub trees_are : trees ≡ meant_rows old.functions.items (newest_first old.scope.items) (before_of old) rows
+
+-- a row was resolved, and means this row
+pub record ResolvesRow (row : WrittenRow) (old new : Resolver) (tree : RowTree) : Type 0 where
+  pub state : state_of new ≡ grown (state_of old) (past row.body (past_pattern row.pattern (before_of old)))
+      (pattern_faults [] row.pattern ++ faults_in old.functions.items (pattern_names row.pattern [] ++ names_in (newest_first old.scope.items)) row.body)
+  pub scope : new.scope.items ≡ old.scope.items
+  pub pattern_is : tree.pattern ≡ pattern_meant (before_of old) row.pattern
+  pub body_is : tree.body ≡ meant old.functions.items (in_row row.pattern (before_of old) (newest_first old.scope.items)) (past_pattern row.pattern (before_of old)) row.body
+
 -- the variables of a resolver are the first ones of another
 abbrev pub KeepsScope : Resolver → Resolver → Type 0
 KeepsScope old new = take (length old.scope.items) new.scope.items ≡ old.scope.items
@@ -148,18 +176,24 @@ pub record ResolvesStatements (statements : List WrittenStatement) (last : Writt
   pub first : (behind last (state_of new)).first ≡ (behind (block_of statements last) (state_of old)).first
   pub tree_is : program.block_of trees (meant_at (state_of new) last) ≡ meant_at (state_of old) (block_of statements last)
 
-abbrev pub option_type : Option Ty → Option TypeTree
-option_type None = None
-option_type (Some type) = Some (type_tree type)
+-- a type was resolved, where those type variables are seen, and means this type
+pub record MeansType (variables : List (List ℕ)) (t : WrittenType) (old new : Resolver) (tree : TypeTree) : Type 0 where
+  pub notes : Notes (type_faults variables t) old new
+  pub tree_is : tree ≡ type_meant variables t
+
+-- the same of several types
+pub record MeansTypes (variables : List (List ℕ)) (ts : WrittenTypes) (old new : Resolver) (trees : TypeTrees) : Type 0 where
+  pub notes : Notes (types_faults variables ts) old new
+  pub trees_are : trees ≡ types_meant variables ts
 
 -- parameters were resolved: they are seen, and mean these types
-pub record ResolvesParameters (parameters : List WrittenParameter) (old new : Resolver) (types : List TypeTree) : Type 0 where
+pub record ResolvesParameters (variables : List (List ℕ)) (parameters : List WrittenParameter) (old new : Resolver) (types : List TypeTree) : Type 0 where
   pub functions : new.functions.items ≡ old.functions.items
   pub scope : newest_first new.scope.items ≡ with_parameters old.next parameters (newest_first old.scope.items)
   pub next : new.next ≡ old.next + length parameters
   pub texts : new.texts.items ≡ old.texts.items
-  pub first : new.first ≡ first_with old.first (parameter_faults (names_in (newest_first old.scope.items)) parameters)
-  pub types_are : types ≡ map (λ parameter. type_meant parameter.of_type) parameters
+  pub first : new.first ≡ first_with old.first (parameter_faults variables (names_in (newest_first old.scope.items)) parameters)
+  pub types_are : types ≡ map (λ parameter. type_meant variables parameter.of_type) parameters
 
 -- functions are declared, and noted where an earlier one has their name
 pub record Declares (declarations : List WrittenDeclaration) (old new : Resolver) : Type 0 where

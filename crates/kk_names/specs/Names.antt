@@ -10,7 +10,6 @@ use Rattle.kk_syntax.specs.declared.tree.Tree.{Tree}
 use Rattle.kk_syntax.specs.Checked.{PrintsTexts}
 use Rattle.kk_syntax.specs.Covered.{Each}
 use Rattle.kk_syntax.specs.GroundTyping.{HasTruths}
-use Rattle.kk_syntax.specs.PlainTyping.{IsPlainProgram}
 use Rattle.kk_syntax.specs.Programs.{ConstructorTree, FunctionTree, ProgramTree, program_tree}
 use Rattle.kk_syntax.specs.Shapes.{nodes_of}
 use Rattle.kk_syntax.specs.Surface.{Written, WrittenType, WrittenParameter, WrittenDeclaration, type_declaration, function_declaration, WrittenTree, written_tree}
@@ -22,7 +21,7 @@ use Rattle.kk_names.specs.Expressions.{meant}
 use Rattle.kk_names.specs.Faults.{IsFirstFault, error_of, faults_of}
 use Rattle.kk_names.specs.Scopes.{with_parameters, Before, past}
 use Rattle.kk_names.specs.Tables.{functions_in}
-use Rattle.kk_names.specs.TypeNames.{type_meant, result_meant}
+use Rattle.kk_names.specs.TypeNames.{type_meant, result_meant, signature_variables}
 
 -- the type `bool`, with its constructors `False` and `True`
 abbrev pub bool_type : TypeDecl
@@ -40,9 +39,9 @@ abbrev pub function_of : List Declared → List (List ℕ) → Identifier → Li
 function_of functions texts name parameters result body = record {
   name = name.name;
   at = name.at;
-  variables = 0;
-  parameters = map (λ parameter. type_meant parameter.of_type) parameters;
-  result = result_meant result;
+  variables = length (signature_variables parameters result);
+  parameters = map (λ parameter. type_meant (signature_variables parameters result) parameter.of_type) parameters;
+  result = result_meant (signature_variables parameters result) result;
   body = meant functions (with_parameters 0 parameters []) (before_body texts parameters) body;
 }
 
@@ -151,10 +150,6 @@ pub record HasMain (program : ProgramTree) : Type 0 where
 
 abbrev pub ResolvedProgramsHaveMain : Type 0
 ResolvedProgramsHaveMain = (tree : WrittenTree) (program : ProgramTree) → ResolvesAs tree (Ok program) → HasMain program
-
--- a program of today's grammar has no type variables, no matches and no cells
-abbrev pub ResolvedProgramsArePlain : Type 0
-ResolvedProgramsArePlain = (tree : WrittenTree) (program : ProgramTree) → ResolvesAs tree (Ok program) → IsPlainProgram program
 
 -- `bool` is as it must be, and each string literal that a function prints is one of the program's
 pub record HasTruthsAndTexts (program : ProgramTree) : Type 0 where

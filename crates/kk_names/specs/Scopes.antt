@@ -6,7 +6,7 @@ use Rattle.kk_syntax.specs.declared.program.Binder.TheVariants as OfBinder
 use Rattle.kk_syntax.specs.declared.tree.Identifier.{Identifier}
 use Rattle.kk_syntax.specs.declared.tree.SurfaceBinder.{SurfaceBinder}
 use Rattle.kk_syntax.specs.declared.tree.SurfaceBinder.TheVariants as OfSurface
-use Rattle.kk_syntax.specs.Surface.{Written, call, dot_call, construct, unary, binary, both, either, print_text, branch, branch_alone, sequence, Writtens, no_written, written, WrittenParameter}
+use Rattle.kk_syntax.specs.Surface.{WrittenPattern, anything, pattern_variable, exactly, constructor, WrittenPatterns, no_part, part, Written, number, unit, variable, call, dot_call, construct, unary, binary, both, either, print_text, branch, branch_alone, match, sequence, Writtens, no_written, written, WrittenRows, no_row, row, WrittenParameter}
 use Rattle.kk_names.specs.declared.scope.Bound.{Bound}
 
 -- the variables that are seen, the newest one first
@@ -70,9 +70,52 @@ past_binder OfSurface.Nothing before = before
 past_binder OfSurface.Wildcard before = before
 past_binder (OfSurface.Variable name) before = with_variable before
 
--- what stands before what follows an expression; a match stands for nothing yet
+-- what stands before what follows a pattern
+abbrev mutual
+  pub past_pattern : WrittenPattern → Before → Before
+  past_pattern anything before = before
+  past_pattern (pattern_variable name) before = with_variable before
+  past_pattern (exactly value) before = before
+  past_pattern (constructor name parts) before = past_parts parts before
+
+  pub past_parts : WrittenPatterns → Before → Before
+  past_parts no_part before = before
+  past_parts (part first rest) before = past_parts rest (past_pattern first before)
+
+-- the variables of a pattern, the newest one first, and those before it
+abbrev mutual
+  pub with_pattern : WrittenPattern → Before → Scope → Scope
+  with_pattern anything before scope = scope
+  with_pattern (pattern_variable name) before scope = binding name before.variables ∷ scope
+  with_pattern (exactly value) before scope = scope
+  with_pattern (constructor name parts) before scope = with_parts parts before scope
+
+  pub with_parts : WrittenPatterns → Before → Scope → Scope
+  with_parts no_part before scope = scope
+  with_parts (part first rest) before scope = with_parts rest (past_pattern first before) (with_pattern first before scope)
+
+-- what is seen in a row of a match
+abbrev pub in_row : WrittenPattern → Before → Scope → Scope
+in_row pattern before scope = with_pattern pattern before [] ++ scope
+
+-- the names of the variables of a pattern, and those before it
+abbrev mutual
+  pub pattern_names : WrittenPattern → List (List ℕ) → List (List ℕ)
+  pattern_names anything names = names
+  pattern_names (pattern_variable name) names = name.name ∷ names
+  pattern_names (exactly value) names = names
+  pattern_names (constructor name parts) names = parts_names parts names
+
+  pub parts_names : WrittenPatterns → List (List ℕ) → List (List ℕ)
+  parts_names no_part names = names
+  parts_names (part first rest) names = parts_names rest (pattern_names first names)
+
+-- what stands before what follows an expression
 abbrev mutual
   pub past : Written → Before → Before
+  past (number value) before = before
+  past unit before = before
+  past (variable name) before = before
   past (call name arguments) before = past_all arguments before
   past (dot_call first name others) before = past_all others (past first before)
   past (construct name arguments) before = past_all arguments before
@@ -84,8 +127,12 @@ abbrev mutual
   past (branch condition positive negative) before = past negative (past positive (past condition before))
   past (branch_alone condition positive) before = past positive (past condition before)
   past (sequence binder first rest) before = past rest (past first (past_binder binder before))
-  past _ before = before
+  past (match scrutinee rows) before = past_rows rows (past scrutinee before)
 
   pub past_all : Writtens → Before → Before
   past_all no_written before = before
   past_all (written first rest) before = past_all rest (past first before)
+
+  pub past_rows : WrittenRows → Before → Before
+  past_rows no_row before = before
+  past_rows (row pattern body rest) before = past_rows rest (past body (past_pattern pattern before))

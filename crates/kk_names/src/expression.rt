@@ -1,14 +1,14 @@
 ghost use Rattle.std.specs.Prelude.{◌≡◌, map, option_map, IfOk};
-ghost use Rattle.kk_syntax.specs.Surface.{Written, dot_call, both, either, block_of, written_expr, written_statement, writtens_of};
-ghost use Rattle.kk_syntax.specs.Trees.{expr_tree, statement_tree, trees_of, branch};
-ghost use Rattle.kk_names.specs.Methods.{Resolves, ResolvesAll, choice_of, ResolvesStatement, ResolvesStatements, KeepsScope};
+ghost use Rattle.kk_syntax.specs.Surface.{Written, dot_call, both, either, match, rows_of as written_rows_of, block_of, written_expr, written_row, written_statement, writtens_of};
+ghost use Rattle.kk_syntax.specs.Trees.{expr_tree, row_tree, statement_tree, rows_of, trees_of, branch};
+ghost use Rattle.kk_names.specs.Methods.{Resolves, ResolvesAll, ResolvesRow, ResolvesRows, choice_of, ResolvesStatement, ResolvesStatements, KeepsScope};
 
 use crate::resolver::{Resolver, alone};
 use crate::table::{constructor, meaning_in};
 use kk_base::NoMemory;
 use kk_syntax::{
-    Binder, Expr, Form, Identifier, Program, Statement, SurfaceBinder, SurfaceExpr,
-    SurfaceStatement,
+    Binder, Expr, Form, Identifier, Program, Row, Statement, SurfaceBinder, SurfaceExpr,
+    SurfaceRow, SurfaceStatement,
 };
 use std::alloc::Global;
 
@@ -20,7 +20,7 @@ impl Resolver {
     {
         match expr {
             SurfaceExpr::Number(value) => Ok(alone(self.alloc, Form::Number(*value))),
-            SurfaceExpr::Unit | SurfaceExpr::Match(_, _) => Ok(alone(self.alloc, Form::Unit)),
+            SurfaceExpr::Unit => Ok(alone(self.alloc, Form::Unit)),
             SurfaceExpr::Variable(name) => self.variable(name),
             SurfaceExpr::Call(name, arguments) => {
                 let arguments = self.expressions(arguments)?;
@@ -49,6 +49,7 @@ impl Resolver {
             SurfaceExpr::If(condition, positive, negative) => {
                 self.choice(condition, positive, negative)
             }
+            SurfaceExpr::Match(scrutinee, rows) => self.matching(rows, scrutinee),
             SurfaceExpr::Block(statements, value) => self.block(statements, value),
         }
     }
@@ -109,6 +110,43 @@ impl Resolver {
             None => alone(self.alloc, Form::Unit),
         };
         conditional(self.alloc, condition, positive, negative)
+    }
+
+    /// A match.
+    #[cycle(expression)]
+    fn matching(&mut self, rows: &[SurfaceRow], scrutinee: &SurfaceExpr) -> Result<Expr, NoMemory>
+        ensures { IfOk result (λ e. Resolves (match (written_expr scrutinee.now) (written_rows_of (map written_row rows.now))) self.old self.new (expr_tree e)) }
+    {
+        let scrutinee = self.expression(scrutinee)?;
+        let rows = self.rows(rows)?;
+        Ok(Expr::Match(Box::new(self.alloc, scrutinee)?, rows))
+    }
+
+    /// What the rows of a match mean.
+    #[cycle(expression)]
+    fn rows(&mut self, rows: &[SurfaceRow]) -> Result<Vec<Row>, NoMemory>
+        ensures { IfOk result (λ rs. ResolvesRows (written_rows_of (map written_row rows.now)) self.old self.new (rows_of (map row_tree rs.items))) }
+    {
+        let mut resolved = Vec::new(self.alloc);
+        for row in rows {
+            let r = self.row(row)?;
+            resolved.push(r)?;
+        }
+        Ok(resolved)
+    }
+
+    /// What a row means. The variables of its pattern are seen in its body alone.
+    #[cycle(expression)]
+    fn row(&mut self, row: &SurfaceRow) -> Result<Row, NoMemory>
+        ensures { IfOk result (λ r. ResolvesRow (written_row row.now) self.old self.new (row_tree r)) }
+    {
+        let before = self.scope.len();
+        let mut bound = Vec::new(self.alloc);
+        let pattern = self.pattern(&row.pattern, &mut bound)?;
+        self.scope.append(&mut bound)?;
+        let body = self.expression(&row.body)?;
+        self.scope.truncate(before);
+        Ok(Row { pattern, body })
     }
 
     /// A block. Behind it its variables are seen no more.

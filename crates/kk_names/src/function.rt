@@ -11,6 +11,7 @@ ghost use Rattle.kk_names.specs.Names.{functions_of, with_all_texts};
 use crate::fault::FaultKind;
 use crate::resolver::Resolver;
 use crate::table::{Callee, Declared, meaning_in};
+use crate::variables::signature_variables;
 use kk_base::NoMemory;
 use kk_syntax::{Declaration, Form, Fun, FunctionDeclaration};
 
@@ -53,7 +54,7 @@ impl Resolver {
         Ok(())
     }
 
-    /// What the declared functions mean.
+    /// What the declared functions mean. A declared type has no meaning yet: its name is unknown.
     pub fn all_functions(&mut self, declarations: &[Declaration]) -> Result<Vec<Fun>, NoMemory>
         ensures functions { IfOk result (λ functions. map function_tree functions.items
             ≡ functions_of self.old.functions.items self.old.texts.items (map written_declaration declarations.now)) }
@@ -63,9 +64,12 @@ impl Resolver {
     {
         let mut functions = Vec::new(self.alloc);
         for declaration in declarations {
-            if let Declaration::Function(declared) = declaration {
-                let function = self.function(declared)?;
-                functions.push(function)?;
+            match declaration {
+                Declaration::Function(declared) => {
+                    let function = self.function(declared)?;
+                    functions.push(function)?;
+                }
+                Declaration::Type(declared) => self.note(FaultKind::Unknown, &declared.name)?,
             }
         }
         Ok(functions)
@@ -79,14 +83,22 @@ impl Resolver {
     {
         self.scope.clear();
         self.next = 0;
-        let parameters = self.parameters(declared.parameters.as_slice())?;
-        let result = self.result(&declared.result)?;
+        let variables = signature_variables(
+            self.alloc,
+            declared.parameters.as_slice(),
+            &declared.result,
+        )?;
+        if variables.len() > u32::MAX as usize {
+            return Err(NoMemory);
+        }
+        let parameters = self.parameters(declared.parameters.as_slice(), variables.as_slice())?;
+        let result = self.result(&declared.result, variables.as_slice())?;
         let body = self.expression(&declared.body)?;
         let name = declared.name.name.copied(self.alloc)?;
         Ok(Fun {
             name,
             at: declared.name.at,
-            variables: 0,
+            variables: variables.len() as u32,
             parameters,
             result,
             body,

@@ -5,13 +5,15 @@ mod builtin;
 mod expression;
 mod fault;
 mod function;
+mod pattern;
 mod program;
 mod resolver;
 mod scope;
 mod signature;
 mod table;
+mod variables;
 
 pub use program::{
-    each_tree_is_resolved, resolve, resolved_programs_are_plain, resolved_programs_have_main,
+    each_tree_is_resolved, resolve, resolved_programs_have_main,
     resolved_programs_have_truths_and_texts,
 };

@@ -3,7 +3,7 @@ ghost use Rattle.kk_syntax.specs.Programs.{function_tree, program_tree};
 ghost use Rattle.kk_syntax.specs.Surface.{written_declaration, written_tree};
 ghost use Rattle.kk_names.specs.Faults.{faults_of};
 ghost use Rattle.kk_names.specs.Methods.{main_among, first_with, AnswersMain, IsNoMain, IsOtherMain};
-ghost use Rattle.kk_names.specs.Names.{functions_meant, texts_meant, program_of, IsMainShaped, AnswersNames, KeepsNodes, EachTreeIsResolved, ResolvedProgramsHaveMain, ResolvedProgramsArePlain, ResolvedProgramsHaveTruthsAndTexts};
+ghost use Rattle.kk_names.specs.Names.{functions_meant, texts_meant, program_of, IsMainShaped, AnswersNames, KeepsNodes, EachTreeIsResolved, ResolvedProgramsHaveMain, ResolvedProgramsHaveTruthsAndTexts};
 
 use crate::builtin;
 use crate::fault::Fault;
@@ -14,8 +14,7 @@ use std::alloc::Global;
 
 /// The program of a tree; or its first fault; or that it has no function `main`, or one with a parameter or a result.
 ///
-/// A tree may hold forms that no text of today's grammar spells: declared types and matches. They have no meaning yet: a
-/// declared type is passed over, and a match is `()`.
+/// Declared types have no meaning yet: the name of one is told as unknown.
 pub fn resolve(alloc: Global, tree: Tree) -> Result<Program, NameError>
     ensures resolved { AnswersNames tree result }
     ensures keeps_nodes { IfOk result (λ program.
@@ -44,11 +43,6 @@ pub fn each_tree_is_resolved()
 /// nothing.
 pub fn resolved_programs_have_main()
     ensures { ResolvedProgramsHaveMain }
-{}
-
-/// A program that a tree means has no type variables, no matches and no cells. It is a law, and does nothing.
-pub fn resolved_programs_are_plain()
-    ensures { ResolvedProgramsArePlain }
 {}
 
 /// In a program that a tree means, `bool` has the constructors `False` and `True` alone, which have no fields, and each

@@ -1,5 +1,6 @@
 ghost use Rattle.std.specs.Prelude.{◌≡◌, IfOk};
 ghost use Rattle.kk_names.specs.Tables.{meaning_in, means, built_in_functions, constructors};
+ghost use Rattle.kk_names.specs.TypeNames.{type_named};
 
 use kk_base::{Name, NoMemory};
 use kk_syntax::{Form, PrintForm, Program};
@@ -10,6 +11,15 @@ use std::alloc::Global;
 pub struct Callee {
     pub form: Form,
     /// The number of arguments that the form has.
+    pub parameters: usize,
+}
+
+/// What a name of a type means.
+#[derive(Clone, Copy)]
+pub struct TypeMeaning {
+    /// The number of the type; `int32` has none.
+    pub number: Option<u32>,
+    /// The number of arguments that the type has.
     pub parameters: usize,
 }
 
@@ -71,4 +81,23 @@ fn built_in(alloc: Global, name: &str, form: Form, parameters: usize) -> Result<
     let name = Name::new(String::from_str(alloc, name)?);
     let callee = Callee { form, parameters };
     Ok(Declared { name, callee })
+}
+
+/// What a name of a type means: `int32` and `bool` are built in.
+pub fn type_named(name: &Name) -> Option<TypeMeaning>
+    ensures { result ≡ type_named name.now }
+{
+    if name.as_str() == "int32" {
+        return Some(TypeMeaning {
+            number: None,
+            parameters: 0,
+        });
+    }
+    if name.as_str() == "bool" {
+        return Some(TypeMeaning {
+            number: Some(Program::BOOL),
+            parameters: 0,
+        });
+    }
+    None
 }

@@ -4,21 +4,26 @@ use Rattle.std.proofs.lemmas.List.{map-append, drop_all}
 use Rattle.std.proofs.lemmas.Result.{IfOk-weaker}
 use Rattle.kk_syntax.specs.declared.program.Binder.TheVariants as OfBinder
 use Rattle.kk_syntax.specs.declared.program.Expr.{Expr}
-use Rattle.kk_syntax.specs.declared.program.Expr.TheVariants.{Block}
+use Rattle.kk_syntax.specs.declared.program.Expr.TheVariants.{Block, Match}
 use Rattle.kk_syntax.specs.declared.program.Form.TheVariants.{Unit as Nothing, Binary, Construct}
+use Rattle.kk_syntax.specs.declared.program.Row.{Row, roll-Row}
+use Rattle.kk_syntax.specs.Patterns.{pattern_tree}
 use Rattle.kk_syntax.specs.declared.tree.SurfaceExpr.{SurfaceExpr}
-use Rattle.kk_syntax.specs.Surface.{Written, Writtens, WrittenStatement, construct, both, either, branch, branch_alone, block_of, written, written_expr, written_statement, writtens_of}
-use Rattle.kk_syntax.proofs.Views.{apply_is, block_tree, statement_tree_is}
+use Rattle.kk_syntax.specs.declared.tree.SurfaceRow.{SurfaceRow}
+use Rattle.kk_syntax.specs.Surface.{Written, Writtens, WrittenStatement, construct, both, either, branch, branch_alone, match, block_of, written, written_expr, written_statement, writtens_of, WrittenRow, WrittenRows, written_pattern, written_row, rows_of}
+use Rattle.kk_syntax.proofs.Views.{apply_is, match_tree, block_tree, row_tree_is, statement_tree_is}
 use Rattle.kk_syntax.specs.Trees as OfTree
-use Rattle.kk_syntax.specs.Trees.{Tree, StatementTree, expr_tree, statement_tree, trees_of}
+use Rattle.kk_syntax.specs.Trees.{Tree, RowTree, StatementTree, expr_tree, row_tree, statement_tree, trees_of}
 use Rattle.kk_names.specs.Expressions.{alone}
 use Rattle.kk_names.specs.declared.resolver.Resolver.{Resolver}
-use Rattle.kk_names.specs.Methods.{choice_of, Resolves, ResolvesAll, ResolvesStatement}
+use Rattle.kk_names.specs.declared.scope.Bound.{Bound}
+use Rattle.kk_names.specs.Methods.{newest_first, choice_of, Resolves, ResolvesAll, ResolvesPattern, ResolvesRow, ResolvesStatement}
 use Rattle.kk_names.specs.Tables.{meaning_in}
 use Rattle.kk_names.proofs.Arguments.{AllSoFar, all_more, all_done, first_resolved, call_resolved, construct_resolved, dot_call_resolved}
 use Rattle.kk_names.proofs.Growing.{binary_resolved, both_resolved, either_resolved, alone_resolved, branch_resolved, as_written}
+use Rattle.kk_names.proofs.Rows.{RowsSoFar, rows_more, rows_done, row_resolved, match_resolved}
 use Rattle.kk_names.proofs.Statements.{block_resolved, StatementsSoFar, statements_more, variable_statement}
-use Rattle.kk_names.proofs.Written.{call_written, construct_written, binary_written, next_expr, next_statement, variable_written}
+use Rattle.kk_names.proofs.Written.{call_written, construct_written, binary_written, next_expr, next_statement, variable_written, row_written, next_row}
 use Rattle.kk_names.proofs.resolver.Resolver.+expression.Goals as goal
 use Rattle.kk_names.proofs.resolver.Resolver.+expression.Goals.{choice-in-Some+in_ok-negative-in-Some, choice-in-None}
 
@@ -185,3 +190,61 @@ statements-loop-statement-preserved t c =
     (statements_more c.args.self.now c.loop-statement.self c.statement.new.self s left all (map statement_tree made) (statement_tree c.in_ok-s.s)
     (subst (λ (ss : List WrittenStatement). StatementsSoFar c.args.self.now c.loop-statement.self ss all (map statement_tree made)) (next_statement c.args.statements.now c.loop-statement.statement-index c.statement-item.result c.statement-item.is c.loop-statement-test.true) c.loop-statement.invariant)
     c.in_ok-s.ensures)
+
+pub matching-returns : goal.matching-returns
+matching-returns t c =
+    let scrutinee = c.in_ok-scrutinee.scrutinee in
+    let rows = c.in_ok-rows.rows in
+    let e = written_expr c.args.scrutinee.now in
+    let rs = rows_of (map written_row c.args.rows.now) in
+    let made = OfTree.rows_of (map row_tree rows.items) in
+    as_written (match e rs) (match e rs) c.args.self.now c.rows.new.self (expr_tree (Match c.in_ok-new.field-0 rows)) (OfTree.match (expr_tree scrutinee) made) refl
+    (match_tree c.in_ok-new.field-0 rows ∙ ap (λ x. OfTree.match (expr_tree x) made) c.in_ok-new.ensures.ok)
+    (match_resolved e rs c.args.self.now c.expression.new.self c.rows.new.self (expr_tree scrutinee) made c.in_ok-scrutinee.ensures c.in_ok-rows.ensures)
+
+pub rows-loop-row-preserved : goal.rows-loop-row-preserved
+rows-loop-row-preserved t c =
+    let old = c.args.self.now in
+    let now = c.loop-row.self in
+    let left = rows_of (map written_row (drop (c.loop-row.row-index + 1) c.args.rows.now)) in
+    let all = rows_of (map written_row c.args.rows.now) in
+    let r = written_row c.row-item.result in
+    let made = c.loop-row.resolved.items in
+    let items : c.push.new.self.items ≡ made ++ c.in_ok-r.r ∷ [] = c.in_ok-push.ensures.items in
+    let trees = ap (map row_tree) items ∙ map-append row_tree made (c.in_ok-r.r ∷ []) in
+    let next = next_row c.args.rows.now c.loop-row.row-index c.row-item.result c.row-item.is c.loop-row-test.true in
+    subst (λ (ts : List RowTree). RowsSoFar old c.row.new.self left all ts) (sym trees)
+    (rows_more old now c.row.new.self r left all (map row_tree made) (row_tree c.in_ok-r.r)
+    (subst (λ (rs : WrittenRows). RowsSoFar old now rs all (map row_tree made)) next c.loop-row.invariant)
+    c.in_ok-r.ensures)
+
+pub rows-returns : goal.rows-returns
+rows-returns t c =
+    let old = c.args.self.now in
+    let now = c.loop-row.self in
+    let all = rows_of (map written_row c.args.rows.now) in
+    let made = map row_tree c.loop-row.resolved.items in
+    rows_done old now all made
+    (subst (λ (rs : List SurfaceRow). RowsSoFar old now (rows_of (map written_row rs)) all made)
+    (drop_all c.loop-row.row-index c.args.rows.now c.loop-row-test.false) c.loop-row.invariant)
+
+pub row-returns : goal.row-returns
+row-returns t c =
+    let old = c.args.self.now in
+    let r = c.args.row.now in
+    let matched = c.pattern.new.self in
+    let valued = c.expression.new.self in
+    let bound = c.pattern.new.bound.items in
+    let seen : Resolver = record { alloc = matched.alloc; functions = matched.functions; scope = c.append.new.self; next = matched.next; texts = matched.texts; first = matched.first } in
+    let new : Resolver = record { alloc = valued.alloc; functions = valued.functions; scope = c.truncate.new.self; next = valued.next; texts = valued.texts; first = valued.first } in
+    let made : Row = roll-Row (record { pattern = c.in_ok-pattern.pattern; body = c.in_ok-body.body }) in
+    let p = written_pattern r.pattern in
+    let body = written_expr r.body in
+    let t = pattern_tree c.in_ok-pattern.pattern in
+    let e = expr_tree c.in_ok-body.body in
+    let one = subst (λ (fresh : List Bound). ResolvesPattern p old matched (newest_first fresh) (newest_first bound) t) c.new-bound.ensures.items c.in_ok-pattern.ensures in
+    let before : c.len-before.result ≡ length old.scope.items = c.len-before.ensures ∙ old.scope.ok.0 in
+    let back = c.truncate.ensures.items ∙ ap (λ n. take n valued.scope.items) before in
+    subst (λ (w : WrittenRow). ResolvesRow w old new (row_tree made)) (sym (row_written r))
+    (subst (λ (x : RowTree). ResolvesRow (record { pattern = p; body = body }) old new x) (sym (row_tree_is made))
+    (row_resolved p body old matched seen valued new bound t e one refl c.in_ok-append.ensures.items refl refl c.in_ok-body.ensures refl back refl refl))

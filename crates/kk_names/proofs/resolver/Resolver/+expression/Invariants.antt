@@ -1,8 +1,9 @@
 use Rattle.std.proofs.Common.{◌+◌, ◌*◌, max, map, drop}
 use Rattle.kk_syntax.specs.declared.tree.SurfaceExpr.{size-SurfaceExpr}
-use Rattle.kk_syntax.specs.Surface.{written_expr, written_statement, writtens_of}
-use Rattle.kk_syntax.specs.Trees.{expr_tree, statement_tree}
+use Rattle.kk_syntax.specs.Surface.{written_expr, written_row, written_statement, rows_of, writtens_of}
+use Rattle.kk_syntax.specs.Trees.{expr_tree, row_tree, statement_tree}
 use Rattle.kk_names.proofs.Arguments.{AllSoFar}
+use Rattle.kk_names.proofs.Rows.{RowsSoFar}
 use Rattle.kk_names.proofs.Statements.{StatementsSoFar}
 use Rattle.kk_names.proofs.Written.{option_size}
 use Rattle.kk_names.proofs.resolver.Resolver.+expression.Given as goal
@@ -41,3 +42,16 @@ decreases-choice l = 4 * max (size-SurfaceExpr l.condition.now) (max (size-Surfa
 
 abbrev pub decreases-block : goal.decreases-block
 decreases-block l = 4 * max (goal.size-block l) (size-SurfaceExpr l.value.now) + 2
+
+abbrev pub decreases-matching : goal.decreases-matching
+decreases-matching l = 4 * max (goal.size-matching l) (size-SurfaceExpr l.scrutinee.now) + 2
+
+abbrev pub decreases-rows : goal.decreases-rows
+decreases-rows l = 4 * goal.size-rows l + 1
+
+abbrev pub decreases-row : goal.decreases-row
+decreases-row l = 4 * goal.size-row l
+
+abbrev pub invariant-rows-loop-row : goal.invariant-rows-loop-row
+invariant-rows-loop-row l =
+    RowsSoFar l.fn.self l.self (rows_of (map written_row (drop l.row-index l.rows))) (rows_of (map written_row l.rows)) (map row_tree l.resolved.items)

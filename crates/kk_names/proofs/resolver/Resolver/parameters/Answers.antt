@@ -23,10 +23,10 @@ loop-parameter-preserved c =
     let types = ap (map type_tree) items ∙ map-append type_tree made (c.in_ok-of_type.of_type ∷ []) in
     let is_second = c.is_some-is_second.ensures ∙ ap is_some (c.number_in.ensures ∙ ap (λ all. number_in (newest_first all) p.name.name) c.as_slice.ensures.value) in
     let twice = ap (λ b. faults_if b Twice p.name) is_second in
-    subst (λ (ts : List TypeTree). ParametersSoFar old c.bind.new.self left all ts) (sym types)
-    (parameters_more old now c.note_if.new.self c.of_type.new.self c.number.new.self c.bind.new.self p left all (map type_tree made) c.in_ok-number.number (type_tree c.in_ok-of_type.of_type)
-    (subst (λ (ps : List WrittenParameter). ParametersSoFar old now ps all (map type_tree made)) (next_parameter c.args.parameters.now c.loop-parameter.parameter-index c.parameter-item.result c.parameter-item.is c.loop-parameter-test.true) c.loop-parameter.invariant)
+    subst (λ (ts : List TypeTree). ParametersSoFar c.args.variables.now old c.bind.new.self left all ts) (sym types)
+    (parameters_more c.args.variables.now old now c.note_if.new.self c.of_type.new.self c.number.new.self c.bind.new.self p left all (map type_tree made) c.in_ok-number.number (type_tree c.in_ok-of_type.of_type)
+    (subst (λ (ps : List WrittenParameter). ParametersSoFar c.args.variables.now old now ps all (map type_tree made)) (next_parameter c.args.parameters.now c.loop-parameter.parameter-index c.parameter-item.result c.parameter-item.is c.loop-parameter-test.true) c.loop-parameter.invariant)
     (subst (λ (fs : List Fault). Notes fs now c.note_if.new.self) twice c.in_ok-note_if.ensures)
-    c.in_ok-of_type.ensures.notes c.in_ok-of_type.ensures.tree
+    c.in_ok-of_type.ensures.notes c.in_ok-of_type.ensures.tree_is
     c.in_ok-number.ensures.number c.in_ok-number.ensures.before c.in_ok-number.ensures.functions c.in_ok-number.ensures.scope c.in_ok-number.ensures.first
     c.in_ok-bind.ensures)

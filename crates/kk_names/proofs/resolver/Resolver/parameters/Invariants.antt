@@ -6,4 +6,4 @@ use Rattle.kk_names.proofs.resolver.Resolver.parameters.Given as goal
 
 abbrev pub invariant-loop-parameter : goal.invariant-loop-parameter
 invariant-loop-parameter l =
-    ParametersSoFar l.fn.self l.self (map written_parameter (drop l.parameter-index l.parameters)) (map written_parameter l.parameters) (map type_tree l.types.items)
+    ParametersSoFar l.variables l.fn.self l.self (map written_parameter (drop l.parameter-index l.parameters)) (map written_parameter l.parameters) (map type_tree l.types.items)

@@ -1,0 +1,83 @@
+-- Drop specialisation keeps what is kept by code that spends what it owns.
+use Rattle.std.proofs.Common.{◌≡◌, ℕ, List, sym, subst}
+use Rattle.kk_base.specs.Agreements.{Agree}
+use Rattle.kk_base.specs.Machines.{Machine, trace, ending_after}
+use Rattle.kk_syntax.specs.PositionsOf.{PositionTable}
+use Rattle.kk_source.specs.Notes.{Note}
+use Rattle.kk_source.specs.State.{Setting, End}
+use Rattle.kk_source.specs.SourceAfter.{store_machine, first_state}
+use Rattle.kk_counted.specs.CountedCodes.{CountedProgram}
+use Rattle.kk_counted.specs.CountedStates.{CountedSetting, CountedConfiguration, CountedState, counted_first_state}
+use Rattle.kk_counted.specs.CountedMachine.{counted_machine, NotStuck}
+use Rattle.kk_counted.specs.Keeping.{FitsAt, FitsAlways, IsKept, counted_after}
+use Rattle.kk_counted.specs.Spending.{IsSpent}
+use Rattle.kk_insert.specs.Meaning.{EndsClean}
+use Rattle.kk_dropspec.specs.SameRuns.{AreSameAfter}
+use Rattle.kk_dropspec.specs.Specialised.{special_program, special_setting}
+use Rattle.kk_middle.specs.Meaning.{KeepsMeaning}
+use Rattle.kk_middle.proofs.Agreeing.{agree_alike, told_above, told_below, counted_weightless}
+use Rattle.kk_middle.proofs.Marked.{special_fits, special_goes, special_clean}
+
+-- the laws on drop specialisation and on code that spends what it owns
+abbrev pub KeepsSpent : Type 0
+KeepsSpent = (positions : PositionTable) (program : CountedProgram) → IsSpent positions program
+    → IsSpent positions (special_program program)
+
+abbrev pub RunsTheSame : Type 0
+RunsTheSame = (positions : PositionTable) (setting : CountedSetting) (weight other : CountedState → ℕ) (input : List ℕ)
+    → IsSpent positions setting.program → FitsAlways weight setting input → (n : ℕ) → AreSameAfter n weight other setting input
+
+abbrev pub KeepsSound : Type 0
+KeepsSound = (positions : PositionTable) (setting : CountedSetting) (weight : CountedState → ℕ) (input : List ℕ)
+    → IsSpent positions setting.program → FitsAlways weight setting input
+    → (n : ℕ) → IsKept positions setting.program.functions (counted_after weight setting input n)
+
+module _ (keeps_spent : KeepsSpent) (runs_the_same : RunsTheSame) (keeps_sound : KeepsSound)
+    (positions : PositionTable) (counted : CountedSetting) (input : List ℕ) (spent : IsSpent positions counted.program)
+    (fits : (weights : CountedState → ℕ) → FitsAlways weights counted input) where
+  same : (weights : CountedState → ℕ) (n : ℕ) → AreSameAfter n weights weights counted input
+  same weights n = runs_the_same positions counted weights weights input spent (fits weights) n
+
+  fits_too : (weights : CountedState → ℕ) → FitsAlways weights (special_setting counted) input
+  fits_too weights n =
+      subst (λ (c : CountedConfiguration). FitsAt c.control) (sym (same weights n).states)
+      (special_fits (counted_after weights counted input n).control (fits weights n))
+
+  -- a machine whose trace and end are those of another, which agrees with the code that is specialised
+  module _ {S : Type 0} (upper : Machine S Note End) (s : S) (setting : Setting) (up : ℕ → ℕ)
+      (traces : (n : ℕ) → trace upper n s ≡ trace (store_machine setting) n (first_state setting input))
+      (endings : (n : ℕ) → ending_after upper n s ≡ ending_after (store_machine setting) n (first_state setting input))
+      (credit : ℕ) (agree : Agree upper (counted_machine (λ s. 0) counted) credit up s (counted_first_state counted input))
+      (goes : (weights : CountedState → ℕ) (n : ℕ) → NotStuck (counted_after weights counted input n).control)
+      (clean : (weights : CountedState → ℕ) (n : ℕ)
+      → EndsClean (counted_after weights counted input n).control (counted_after weights counted input n).heap) where
+    whole : Agree (store_machine setting) (counted_machine (λ s. 0) (special_setting counted)) 0 up (first_state setting input)
+        (counted_first_state (special_setting counted) input)
+    whole =
+        agree_alike upper (store_machine setting) (counted_machine (λ s. 0) counted)
+        (counted_machine (λ s. 0) (special_setting counted)) up s (first_state setting input) (counted_first_state counted input)
+        (counted_first_state (special_setting counted) input) traces endings
+        (λ n. sym (same (λ s. 0) n).notes) (λ n. sym (same (λ s. 0) n).ends)
+        (λ n. counted_weightless (special_setting counted) n (counted_first_state (special_setting counted) input)) credit agree
+
+    pub special_keeps : KeepsMeaning setting positions (special_setting counted) up input
+    special_keeps =
+        record {
+          agrees = whole;
+          counted_are_live = told_above (store_machine setting) (counted_machine (λ s. 0) (special_setting counted)) 0 up
+              (first_state setting input) (counted_first_state (special_setting counted) input) whole;
+          live_are_counted = told_below (store_machine setting) (counted_machine (λ s. 0) (special_setting counted)) 0 up
+              (first_state setting input) (counted_first_state (special_setting counted) input) whole;
+          spent = keeps_spent positions counted.program spent;
+          fits = fits_too;
+          never_stuck = λ weights n.
+              subst (λ (c : CountedConfiguration). NotStuck c.control) (sym (same weights n).states)
+              (special_goes (counted_after weights counted input n).control (goes weights n));
+          sound = λ weights.
+              keeps_sound positions (special_setting counted) weights input (keeps_spent positions counted.program spent)
+              (fits_too weights);
+          clean = λ weights n.
+              subst (λ (c : CountedConfiguration). EndsClean c.control c.heap) (sym (same weights n).states)
+              (special_clean (counted_after weights counted input n).control (counted_after weights counted input n).heap
+              (clean weights n));
+        }

@@ -1,0 +1,54 @@
+ghost use Rattle.std.specs.Prelude.{Ok, IfOk};
+ghost use Rattle.kk_syntax.specs.Checked.{IsChecked};
+ghost use Rattle.kk_syntax.specs.OwnedPositions.{IsLeast};
+ghost use Rattle.kk_syntax.specs.PositionsOf.{PositionTable};
+ghost use Rattle.kk_syntax.specs.Programs.{program_tree};
+ghost use Rattle.kk_syntax.specs.TypedPrograms.{typings_of};
+ghost use Rattle.kk_mono.specs.Counts.{ParametersAs};
+ghost use Rattle.kk_mono.specs.Grounds.{AreGiven};
+ghost use Rattle.kk_middle.specs.LentNames.{AllKeepLent};
+ghost use Rattle.kk_middle.specs.Compiled.{IsCompiled};
+
+use crate::law::{
+    core_constructors_are_consistent, owned_positions_of_instances_are_closed,
+    tail_calls_of_core_forms_lend_on,
+};
+use crate::positions::positions_of_instances;
+use crate::whole::cases_are_whole;
+use kk_base::NoMemory;
+use kk_borrow::owned;
+use kk_counted::Counted;
+use kk_insert::typed_code_is_insertable;
+use kk_instances::instances_mean_the_program;
+use kk_norm::normal;
+use kk_syntax::Accepted;
+use std::alloc::Global;
+
+/// The counted form of an accepted program: the core form of its instances, in which each variable that owns a reference is
+/// used up once on each path, and each opening of a cell goes by the cell's count.
+///
+/// The recursion is as deep as the deepest expression.
+pub fn compile(alloc: Global, accepted: &Accepted) -> Result<Counted, NoMemory>
+    requires checked { IsChecked (program_tree accepted.now.typed.program) (typings_of accepted.now.typed) }
+    requires parameters { ParametersAs (program_tree accepted.now.typed.program) (Ok tt) }
+    requires given { AreGiven accepted.now.typed accepted.now.instances }
+    requires lent { (positions : PositionTable) → IsLeast (program_tree accepted.now.typed.program) positions
+        → AllKeepLent (program_tree accepted.now.typed.program) positions }
+    ensures { IfOk result (IsCompiled accepted.now.typed accepted.now.instances) }
+{
+    instances_mean_the_program();
+    let core = normal(alloc, &accepted.instances)?;
+    // Each case that `normal` writes has an arm for each row. Its contract does not say so yet, so this is checked here.
+    if !cases_are_whole(&core) {
+        return Err(NoMemory);
+    }
+    let table = owned(alloc, &accepted.typed.program)?;
+    let positions = positions_of_instances(alloc, &table, &accepted.instances)?;
+    owned_positions_of_instances_are_closed();
+    tail_calls_of_core_forms_lend_on();
+    typed_code_is_insertable();
+    core_constructors_are_consistent();
+    let counted = kk_insert::run(alloc, &core, &positions)?;
+    let made = kk_dropspec::run(alloc, counted)?;
+    Ok(made)
+}

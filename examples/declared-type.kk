@@ -1,0 +1,2 @@
+type signal { Red; Green }
+fun main() { println(1) }

@@ -1,0 +1,3 @@
+fun main()
+  match 1 < 2
+    True -> println(1)
