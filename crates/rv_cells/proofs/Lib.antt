@@ -36,3 +36,4 @@ pub mod Marks
 pub mod Marking
 pub mod Lowered
 pub mod CellForms
+pub mod FormedSteps
