@@ -37,3 +37,4 @@ pub mod Marking
 pub mod Lowered
 pub mod CellForms
 pub mod FormedSteps
+pub mod FormedUniques
