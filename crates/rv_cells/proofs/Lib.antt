@@ -38,3 +38,4 @@ pub mod Lowered
 pub mod CellForms
 pub mod FormedSteps
 pub mod FormedUniques
+pub mod FormedTests
