@@ -13,6 +13,7 @@ use Rattle.rv_isa.specs.declared.asm.Condition.TheVariants.{Equal, NotEqual}
 use Rattle.rv_isa.specs.declared.asm.Operation.TheVariants as Op
 use Rattle.rv_isa.specs.declared.asm.ImmediateOperation.TheVariants.{Andi}
 use Rattle.rv_isa.specs.AsmCode.{Line}
+use Rattle.rv_isa.specs.AsmMachine.{is_label}
 use Rattle.rv_isa.specs.WellFormed.{is_alive, is_alive_at, is_alive_behind, most_values, AreDistinct, IsSpent}
 use Rattle.rv_lower.specs.Lines.{computes, sets, copies_to, acts}
 use Rattle.rv_lower.proofs.Formed.{Each, Readable, Good, HasRoom, weaker, all_each, alive_line, good_computes, readable_small, readable_more, to_temporary, none_some}
@@ -117,3 +118,154 @@ module _ (base : ℕ) (bound : List ℕ) (has : HasRoom base bound) where
         later : StandsAhead (With base) (nodes + edge.next) behind
         later = stands_past (With base) (nodes + edge.next) (number_tests number value nodes edges) rest
             (tests_none number value edges (nodes + edge.next)) ahead.0
+
+    -- ---- nodes
+
+    abbrev pub OtherAhead : Option ℕ → List Line → Type 0
+    OtherAhead None code = Unit {0}
+    OtherAhead (Some next) code = StandsAhead (With base) (nodes + next) code
+
+    other_past : (otherwise : Option ℕ) (lines more : List Line) → ((l : ℕ) → HasNo l lines) → OtherAhead otherwise more
+        → OtherAhead otherwise (lines ++ more)
+    other_past None lines more none ahead = tt
+    other_past (Some next) lines more none ahead = stands_past (With base) (nodes + next) lines more (none (nodes + next)) ahead
+
+    abbrev Tested : ℕ → Type 0
+    Tested = With (base + 1)
+
+    into_tested : (v : ℕ) → With base v → Tested v
+    into_tested = readable_more base base (base + 1) bound (omega arith)
+
+    here : Tested base
+    here = inr (omega arith, omega arith)
+
+    small : base < most_values
+    small = let room = has.room in omega (arith, room)
+
+    otherwise_none : (otherwise : Option ℕ) (l : ℕ) → HasNo l (otherwise_lines nodes otherwise)
+    otherwise_none None l = tt
+    otherwise_none (Some next) l = (refl, tt)
+
+    otherwise_good : (otherwise : Option ℕ) (rest : List Line) → OtherAhead otherwise rest → Good (With base) rest
+        → Good Tested (otherwise_lines nodes otherwise ++ rest)
+    otherwise_good None rest ahead good = weaker into_tested good
+    otherwise_good (Some next) rest ahead good =
+        good_alone Tested (Jump (nodes + next)) rest ahead.0 tt (λ v is. into_tested v (ahead.1 v is)) good.formed
+
+    load_none : (cell i into : ℕ) (line : Line) (l : ℕ) → Loads cell i into line → is_label l line.action ≡ false
+    load_none cell i into line l loads = subst (λ (line : Line). is_label l line.action ≡ false) (sym loads.2) refl
+
+    walks_none : (at : List ℕ) (lines : List Line) (l : ℕ) → Walks base at lines → HasNo l lines
+    walks_none [] lines l is = subst (HasNo l) (sym is) tt
+    walks_none (field ∷ way) lines l is =
+        subst (HasNo l) (sym is.4) (load_none base (2 + field) base is.0 l is.2, walks_none way is.1 l is.3)
+
+    walks_good : (at : List ℕ) (lines rest : List Line) → Walks base at lines → Good Tested rest → Good Tested (lines ++ rest)
+    walks_good [] lines rest is good = subst (λ (code : List Line). Good Tested (code ++ rest)) (sym is) good
+    walks_good (field ∷ way) lines rest is good =
+        subst (λ (code : List Line). Good Tested (code ++ rest)) (sym is.4)
+        (subst (λ (line : Line). Good Tested (line ∷ (is.1 ++ rest))) (sym is.2.2)
+        (good_computes Tested Tested (Op.Lw is.2.0) (base ∷ []) base (is.1 ++ rest) refl (omega arith) (here, tt)
+        (readable_small base (base + 1) bound has (omega arith)) small (λ v is _. is) (walks_good way is.1 rest is.3 good)))
+
+    odd_none : (otherwise : Option ℕ) (odd : List Line) (l : ℕ) → OddLines base nodes otherwise odd → HasNo l odd
+    odd_none None odd l is = subst (HasNo l) (sym is) tt
+    odd_none (Some next) odd l is = subst (HasNo l) (sym is.2) (refl, (refl, tt))
+
+    odd_good : (otherwise : Option ℕ) (odd rest : List Line) → OddLines base nodes otherwise odd → OtherAhead otherwise rest
+        → Good Tested rest → Good Tested (odd ++ rest)
+    odd_good None odd rest is ahead good = subst (λ (code : List Line). Good Tested (code ++ rest)) (sym is) good
+    odd_good (Some next) odd rest is ahead good =
+        subst (λ (code : List Line). Good Tested (code ++ rest)) (sym is.2)
+        (to_temporary base (base + 1) bound (Op.Immediate Andi is.0) (base ∷ [])
+        (acts (Branch NotEqual (nodes + next)) ((base + 1) ∷ []) ∷ rest) has (omega arith) refl (omega arith) (here, tt)
+        (good_branch (With (base + 1 + 1)) Tested NotEqual (nodes + next) ((base + 1) ∷ []) rest (omega arith) (refl, tt)
+        (inr (omega arith, omega arith), tt) (not_below (base + 1) (base + 1) (omega arith) (omega arith), tt)
+        (readable_more base (base + 1) (base + 1 + 1) bound (omega arith)) (readable_small base (base + 1 + 1) bound has (omega arith))
+        (ahead.0, λ v at. into_tested v (ahead.1 v at)) good))
+
+    module _ (layout : Layout) where
+      tags_none : (edges : List Edge) (otherwise : Option ℕ) (lines : List Line) (l : ℕ) → TagLines layout base nodes edges otherwise lines
+          → HasNo l lines
+      tags_none [] otherwise lines l is = subst (HasNo l) (sym is) tt
+      tags_none (edge ∷ edges) otherwise lines l is =
+          subst (HasNo l) (sym is.6) (has_no_append l is.0 _ (odd_none otherwise is.0 l is.3)
+          (load_none base 1 (base + 1) is.1 l is.4, (refl, tests_none (answer_tag layout) (base + 1) (edge ∷ edges) l)))
+
+      tags_good : (edges : List Edge) (otherwise : Option ℕ) (lines rest : List Line) → TagLines layout base nodes edges otherwise lines
+          → EdgesAhead edges rest → OtherAhead otherwise rest → Good Tested rest → Good Tested (lines ++ rest)
+      tags_good [] otherwise lines rest is ahead other good = subst (λ (code : List Line). Good Tested (code ++ rest)) (sym is) good
+      tags_good (edge ∷ edges) otherwise lines rest is ahead other good =
+          subst (λ (code : List Line). Good Tested (code ++ rest)) (sym is.6)
+          (subst (Good Tested) (sym (append_assoc is.0 tag rest))
+          (odd_good otherwise is.0 (tag ++ rest) is.3
+          (other_past otherwise tag rest (λ l. (load_none base 1 (base + 1) is.1 l is.4, (refl, tests_none (answer_tag layout) (base + 1) (edge ∷ edges) l))) other)
+          loaded))
+        where
+          masked : Line
+          masked = computes (Op.Immediate Andi is.2) ((base + 1) ∷ []) (base + 1)
+
+          tag : List Line
+          tag = is.1 ∷ masked ∷ number_tests (answer_tag layout) (base + 1) nodes (edge ∷ edges)
+
+          tested : Good (With (base + 1 + 1)) (number_tests (answer_tag layout) (base + 1) nodes (edge ∷ edges) ++ rest)
+          tested = tests_good (answer_tag layout) (base + 1) (edge ∷ edges) rest (omega arith) (omega arith) ahead
+              (weaker (readable_more base (base + 1) (base + 1 + 1) bound (omega arith)) good)
+
+          loaded : Good Tested (tag ++ rest)
+          loaded = subst
+              (λ (line : Line). Good Tested (line ∷ masked ∷ (number_tests (answer_tag layout) (base + 1) nodes (edge ∷ edges) ++ rest)))
+              (sym is.4.2)
+              (to_temporary base (base + 1) bound (Op.Lw is.4.0) (base ∷ []) _ has (omega arith) refl (omega arith) (here, tt)
+              (good_computes (With (base + 1 + 1)) (With (base + 1 + 1)) (Op.Immediate Andi is.2) ((base + 1) ∷ []) (base + 1) _ refl
+              (omega arith) (inr (omega arith, omega arith), tt) (readable_small base (base + 1 + 1) bound has (omega arith))
+              (let room = has.room in omega (arith, room)) (λ v is _. is) tested))
+
+      -- the labels that a node names stand ahead
+      abbrev pub NodeAhead : ℕ → NodeTree → List Line → Type 0
+      NodeAhead arms (chooses row) code = StandsAhead (With base) (arms + row) code
+      NodeAhead arms (tests at edges otherwise) code = EdgesAhead edges code × OtherAhead otherwise code
+
+      pub node_none : (arms x : ℕ) (node : NodeTree) (lines : List Line) (l : ℕ) → NodeLines layout base nodes arms x node lines
+          → HasNo l lines
+      node_none arms x (chooses row) lines l is = subst (HasNo l) (sym is) (refl, tt)
+      node_none arms x (tests at edges otherwise) lines l is =
+          subst (HasNo l) (sym is.4) (refl, has_no_append l is.0 _ (walks_none at is.0 l is.2)
+          (has_no_append l _ _ (tests_none (answer_word layout) base _ l)
+          (has_no_append l is.1 _ (tags_none _ otherwise is.1 l is.3) (otherwise_none otherwise l))))
+
+      pub node_good : (arms x : ℕ) (node : NodeTree) (lines rest : List Line) → is_bound bound x ≡ true
+          → NodeLines layout base nodes arms x node lines → NodeAhead arms node rest → Good (With base) rest
+          → Good (With base) (lines ++ rest)
+      node_good arms x (chooses row) lines rest bound_x is ahead good =
+          subst (λ (code : List Line). Good (With base) (code ++ rest)) (sym is)
+          (good_alone (With base) (Jump (arms + row)) rest ahead.0 tt ahead.1 good.formed)
+      node_good arms x (tests at edges otherwise) lines rest bound_x is ahead good =
+          subst (λ (code : List Line). Good (With base) (code ++ rest)) (sym is.4)
+          (to_temporary base base bound Op.Mv (x ∷ []) _ has (omega arith) refl (omega arith) (inl bound_x, tt)
+          (subst (Good Tested) (sym flat)
+          (walks_good at is.0 _ is.2 (tests_good (answer_word layout) base plain _ (omega arith) (omega arith) plain_ahead
+          (tags_good tagged otherwise is.1 _ is.3
+          (edges_past tagged other rest (otherwise_none otherwise) (edges_filter _ edges rest ahead.0))
+          (other_past otherwise other rest (otherwise_none otherwise) ahead.1) (otherwise_good otherwise rest ahead.1 good))))))
+        where
+          plain : List Edge
+          plain = filter (λ (edge : Edge). is_plain layout edge.found) edges
+
+          tagged : List Edge
+          tagged = filter (λ (edge : Edge). not (is_plain layout edge.found)) edges
+
+          other : List Line
+          other = otherwise_lines nodes otherwise
+
+          words : List Line
+          words = number_tests (answer_word layout) base nodes plain
+
+          plain_ahead : EdgesAhead plain (is.1 ++ (other ++ rest))
+          plain_ahead = edges_past plain is.1 (other ++ rest) (λ l. tags_none tagged otherwise is.1 l is.3)
+              (edges_past plain other rest (otherwise_none otherwise) (edges_filter _ edges rest ahead.0))
+
+          flat : (is.0 ++ (words ++ (is.1 ++ other))) ++ rest ≡ is.0 ++ (words ++ (is.1 ++ (other ++ rest)))
+          flat = append_assoc is.0 (words ++ (is.1 ++ other)) rest
+              ∙ ap (λ (t : List Line). is.0 ++ t) (append_assoc words (is.1 ++ other) rest
+              ∙ ap (λ (t : List Line). words ++ t) (append_assoc is.1 other rest))
