@@ -39,3 +39,4 @@ pub mod CellForms
 pub mod FormedSteps
 pub mod FormedUniques
 pub mod FormedTests
+pub mod FormedNodes
