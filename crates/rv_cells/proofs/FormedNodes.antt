@@ -1,5 +1,5 @@
 -- The lines of all nodes of orderly decisions, before the arms: they are well formed, and each label of a node stands in them.
-use Rattle.std.proofs.Common.{◌≡◌, ◌≢◌, ℕ, suc, ◌+◌, ◌<◌, ◌≤◌, ◌==◌, ◌⊎◌, inl, inr, true, List, [], ◌∷◌, ◌++◌, length, Option, None, Some, IsSome, refl, sym, ap, subst, ◌∙◌, arith, append_assoc}
+use Rattle.std.proofs.Common.{◌≡◌, ◌≢◌, ℕ, suc, ◌+◌, ◌<◌, ◌≤◌, ◌==◌, ◌⊎◌, inl, inr, true, List, [], ◌∷◌, ◌++◌, length, None, Some, IsSome, refl, sym, ap, subst, ◌∙◌, arith, append_assoc}
 use Rattle.std.specs.Prelude.{map, slice_get}
 use Rattle.std.proofs.lemmas.Bool.{or_left, or_right, eq-eqb, cases_eq}
 use Rattle.kk_syntax.specs.Shapes.{is_among as is_bound}
@@ -13,7 +13,7 @@ use Rattle.rv_lower.proofs.AbsentLabels.{HasNo, has_no_append, found_here, alive
 use Rattle.rv_lower.proofs.Codes.{good_label}
 use Rattle.rv_cells.specs.Layout.{Layout}
 use Rattle.rv_cells.specs.CountedLines.{NodeLines, NodesLines}
-use Rattle.rv_cells.proofs.FormedTests.{StandsAhead, stands_past, EdgesAhead, OtherAhead, NodeAhead, node_none, node_good}
+use Rattle.rv_cells.proofs.FormedTests.{StandsAhead, stands_past, EdgesAhead, NodeAhead, node_none, node_good}
 
 module _ (base : ℕ) (bound : List ℕ) (has : HasRoom base bound) (nodes : ℕ) (layout : Layout) (arms rows x : ℕ)
     (is_x : is_bound bound x ≡ true) (within : arms + rows ≤ nodes) where
@@ -44,9 +44,11 @@ module _ (base : ℕ) (bound : List ℕ) (has : HasRoom base bound) (nodes : ℕ
       → NodesLines layout base nodes arms x k each lines → (l : ℕ) → (l < nodes + k) ⊎ (nodes + last ≤ l) → HasNo l lines
   nodes_none k last [] lines size is l apart = subst (HasNo l) (sym is) tt
   nodes_none k last (node ∷ more) lines size is l apart =
-      subst (HasNo l) (sym is.4) (other_label l (nodes + k) (λ same. differs same apart),
-      has_no_append l is.0 is.1 (node_none base bound has nodes layout arms x node is.0 l is.2)
-      (nodes_none (suc k) last more is.1 (omega (arith, size)) is.3 l (later apart)))
+      subst (HasNo l) (sym is.4) (
+        other_label l (nodes + k) (λ same. differs same apart),
+        has_no_append l is.0 is.1 (node_none base bound has nodes layout arms x node is.0 l is.2)
+            (nodes_none (suc k) last more is.1 (omega (arith, size)) is.3 l (later apart)),
+      )
     where
       differs : nodes + k ≡ l → (l < nodes + k) ⊎ (nodes + last ≤ l) → ⊥
       differs same (inl under) = absurd (omega (arith, same, under))
@@ -97,14 +99,16 @@ module _ (base : ℕ) (bound : List ℕ) (has : HasRoom base bound) (nodes : ℕ
         stands_by : (j : ℕ) → k ≤ j → j < last → (k ≡ j) ⊎ (k ≡ j → ⊥)
             → StandsAhead Bound (nodes + j) (acts (Label (nodes + k)) [] ∷ (first ++ (others ++ tail)))
         stands_by j le under (inl same) =
-            subst (λ (j : ℕ). StandsAhead Bound (nodes + j) (acts (Label (nodes + k)) [] ∷ (first ++ (others ++ tail)))) same
-            (subst IsSome (sym (found_here (nodes + k) (first ++ (others ++ tail)))) refl,
-            λ v alive. own.alive v (sym (alive_at_here (nodes + k) v (first ++ (others ++ tail))) ∙ alive))
+            subst (λ (j : ℕ). StandsAhead Bound (nodes + j) (acts (Label (nodes + k)) [] ∷ (first ++ (others ++ tail)))) same (
+              subst IsSome (sym (found_here (nodes + k) (first ++ (others ++ tail)))) refl,
+              λ v alive. own.alive v (sym (alive_at_here (nodes + k) v (first ++ (others ++ tail))) ∙ alive),
+            )
         stands_by j le under (inr differs) =
             let ne : k ≢ j = differs in
-            stands_past Bound (nodes + j) (acts (Label (nodes + k)) [] ∷ first) (others ++ tail)
-            (other_label (nodes + j) (nodes + k) (λ same. absurd (omega (arith, same, ne))),
-            node_none base bound has nodes layout arms x node first (nodes + j) own_is)
+            stands_past Bound (nodes + j) (acts (Label (nodes + k)) [] ∷ first) (others ++ tail) (
+              other_label (nodes + j) (nodes + k) (λ same. absurd (omega (arith, same, ne))),
+              node_none base bound has nodes layout arms x node first (nodes + j) own_is,
+            )
             (rest.1 j (omega (arith, le, ne)) under)
 
         stands : (j : ℕ) → k ≤ j → j < last → StandsAhead Bound (nodes + j) ((acts (Label (nodes + k)) [] ∷ (first ++ others)) ++ tail)
@@ -117,8 +121,7 @@ module _ (base : ℕ) (bound : List ℕ) (has : HasRoom base bound) (nodes : ℕ
         subst (NodesGood k) (sym is) (good_tail, λ j le under. absurd (omega (arith, size, le, under)))
     nodes_good k (node ∷ more) lines size is names fresh =
         subst (NodesGood k) (sym is.4) (one_node k node more is.0 is.1 size is.2 is.3 names fresh
-        (nodes_good (suc k) more is.1 (omega (arith, size)) is.3
-        (
+        (nodes_good (suc k) more is.1 (omega (arith, size)) is.3 (
           λ i j node at among. let later = names.0 (suc i) j node at among in (omega (arith, later), later.1),
           λ i row node at among. names.1 (suc i) row node at among,
         )

@@ -1,11 +1,11 @@
 -- The lines of a step before those of the code that follows it: together they are well formed, and have only their own labels.
-use Rattle.std.proofs.Common.{◌≡◌, ℕ, suc, ◌+◌, ◌*◌, ◌<◌, ◌≤◌, ◌==◌, ◌⊎◌, inl, inr, Bool, true, List, [], ◌∷◌, ◌++◌, length, refl, sym, subst, arith, append_assoc}
+use Rattle.std.proofs.Common.{◌≡◌, ℕ, ◌+◌, ◌*◌, ◌<◌, Bool, true, List, [], ◌∷◌, ◌++◌, length, sym, subst, arith, append_assoc}
 use Rattle.kk_core.specs.Sizes.{AreBound}
 use Rattle.kk_syntax.specs.Shapes.{is_among as is_bound}
 use Rattle.rv_isa.specs.AsmCode.{Line}
 use Rattle.rv_lower.specs.Lowered.{Goal}
 use Rattle.rv_lower.proofs.Formed.{Readable, Good, HasRoom}
-use Rattle.rv_lower.proofs.AbsentLabels.{HasNo, has_no_append}
+use Rattle.rv_lower.proofs.AbsentLabels.{has_no_append}
 use Rattle.rv_lower.proofs.Operations.{Leads}
 use Rattle.rv_lower.proofs.Codes.{IsGoalAhead, Ahead, Fits, goal_more}
 use Rattle.rv_cells.specs.CellLines.{dup_lines, drop_lines, ConstructLines, ReadLines, OpenLines}

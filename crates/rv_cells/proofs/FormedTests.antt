@@ -1,13 +1,12 @@
 -- The lines of the nodes of decisions: before well-formed code in which the labels that they name stand, they are well formed.
-use Rattle.std.proofs.Common.{◌≡◌, ℕ, suc, ◌+◌, ◌<◌, ◌≤◌, ◌==◌, ◌||◌, ◌&&◌, ◌⊎◌, inl, inr, Bool, true, false, not, List, [], ◌∷◌, ◌++◌, length, Option, None, Some, IsSome, refl, sym, ap, subst, ◌∙◌, arith, append_assoc}
-use Rattle.std.specs.Prelude.{filter, All, if◌then◌else◌}
+use Rattle.std.proofs.Common.{◌≡◌, ℕ, ◌+◌, ◌<◌, ◌≤◌, ◌||◌, ◌⊎◌, inl, inr, Bool, true, false, not, List, [], ◌∷◌, ◌++◌, length, Option, None, Some, IsSome, refl, sym, ap, subst, ◌∙◌, arith, append_assoc}
+use Rattle.std.specs.Prelude.{filter, if◌then◌else◌}
 use Rattle.std.proofs.lemmas.Bool.{false≢true, or_cases, false_from_ne_true, ne_eqb}
-use Rattle.std.proofs.lemmas.List.Elements.{All-nil, All-cons}
 use Rattle.kk_syntax.specs.Shapes.{is_among as is_bound}
 use Rattle.kk_core.specs.Decisions.{NodeTree, chooses, tests}
 use Rattle.kk_core.specs.declared.decisions.Answer.{Answer}
 use Rattle.kk_core.specs.declared.decisions.Edge.{Edge}
-use Rattle.rv_isa.specs.declared.asm.Action.TheVariants.{Compute, Label, Jump, Branch}
+use Rattle.rv_isa.specs.declared.asm.Action.TheVariants.{Jump, Branch}
 use Rattle.rv_isa.specs.declared.asm.Condition.{Condition}
 use Rattle.rv_isa.specs.declared.asm.Condition.TheVariants.{Equal, NotEqual}
 use Rattle.rv_isa.specs.declared.asm.Operation.TheVariants as Op
@@ -15,13 +14,13 @@ use Rattle.rv_isa.specs.declared.asm.ImmediateOperation.TheVariants.{Andi}
 use Rattle.rv_isa.specs.AsmCode.{Line}
 use Rattle.rv_isa.specs.AsmMachine.{is_label}
 use Rattle.rv_isa.specs.WellFormed.{is_alive, is_alive_at, is_alive_behind, most_values, AreDistinct, IsSpent}
-use Rattle.rv_lower.specs.Lines.{computes, sets, copies_to, acts}
+use Rattle.rv_lower.specs.Lines.{computes, acts}
 use Rattle.rv_lower.proofs.Formed.{Each, Readable, Good, HasRoom, weaker, all_each, alive_line, good_computes, readable_small, readable_more, to_temporary, none_some}
 use Rattle.rv_lower.proofs.AbsentLabels.{HasNo, has_no_append, found_past, alive_at_past}
 use Rattle.rv_lower.proofs.Labels.{found_label}
 use Rattle.rv_lower.proofs.Codes.{good_alone}
 use Rattle.rv_cells.specs.Layout.{Layout}
-use Rattle.rv_cells.specs.CellLines.{Loads, Walks, equal_lines}
+use Rattle.rv_cells.specs.CellLines.{Loads, Walks}
 use Rattle.rv_cells.specs.CountedLines.{is_plain, answer_word, answer_tag, number_tests, otherwise_lines, OddLines, TagLines, NodeLines}
 
 -- a label stands in code, and only such values are alive there
@@ -230,9 +229,12 @@ module _ (base : ℕ) (bound : List ℕ) (has : HasRoom base bound) where
           → HasNo l lines
       node_none arms x (chooses row) lines l is = subst (HasNo l) (sym is) (refl, tt)
       node_none arms x (tests at edges otherwise) lines l is =
-          subst (HasNo l) (sym is.4) (refl, has_no_append l is.0 _ (walks_none at is.0 l is.2)
-          (has_no_append l _ _ (tests_none (answer_word layout) base _ l)
-          (has_no_append l is.1 _ (tags_none _ otherwise is.1 l is.3) (otherwise_none otherwise l))))
+          subst (HasNo l) (sym is.4) (
+            refl,
+            has_no_append l is.0 _ (walks_none at is.0 l is.2)
+                (has_no_append l _ _ (tests_none (answer_word layout) base _ l)
+                (has_no_append l is.1 _ (tags_none _ otherwise is.1 l is.3) (otherwise_none otherwise l))),
+          )
 
       pub node_good : (arms x : ℕ) (node : NodeTree) (lines rest : List Line) → is_bound bound x ≡ true
           → NodeLines layout base nodes arms x node lines → NodeAhead arms node rest → Good (With base) rest

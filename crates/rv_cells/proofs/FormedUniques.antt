@@ -1,8 +1,7 @@
 -- The lines of an opening by the count of a cell, before those of the code that follows it.
-use Rattle.std.proofs.Common.{◌≡◌, ℕ, suc, ◌+◌, ◌*◌, ◌<◌, ◌≤◌, ◌==◌, ◌⊎◌, inl, inr, Bool, true, false, not, List, [], ◌∷◌, ◌++◌, length, None, IsSome, refl, sym, ap, subst, ◌∙◌, arith, append_assoc}
+use Rattle.std.proofs.Common.{◌≡◌, ℕ, ◌+◌, ◌*◌, ◌<◌, ◌≤◌, ◌⊎◌, inl, inr, Bool, true, not, List, [], ◌∷◌, ◌++◌, length, None, IsSome, refl, sym, ap, subst, ◌∙◌, arith, append_assoc}
 use Rattle.std.specs.Prelude.{filter}
 use Rattle.std.proofs.lemmas.Bool.{false≢true, or_cases}
-use Rattle.kk_core.specs.Sizes.{AreBound}
 use Rattle.kk_syntax.specs.Shapes.{is_among as is_bound}
 use Rattle.rv_isa.specs.declared.asm.Action.TheVariants.{Compute, Label, Jump, Branch}
 use Rattle.rv_isa.specs.declared.asm.Condition.TheVariants.{NotEqual}
@@ -15,7 +14,6 @@ use Rattle.rv_lower.specs.Lines.{computes, sets, acts}
 use Rattle.rv_lower.specs.Lowered.{Goal}
 use Rattle.rv_lower.proofs.Formed.{Readable, Good, HasRoom, weaker, good_computes, good_hands, readable_small, readable_more, none_some}
 use Rattle.rv_lower.proofs.AbsentLabels.{HasNo, has_no_append, found_past, found_here, alive_at_past, alive_at_here, other_label}
-use Rattle.rv_lower.proofs.Labels.{found_label}
 use Rattle.rv_lower.proofs.Operations.{Leads, leads_then, leads_weaker, next_temporary, only_bound}
 use Rattle.rv_lower.proofs.Codes.{Ahead, Fits, good_alone, good_label, goal_up}
 use Rattle.rv_cells.specs.CellLines.{Loads, Stores, AllLoads, dups_lines, drops_lines, UniqueLines}
@@ -151,7 +149,7 @@ module _ (base : ℕ) (bound : List ℕ) (has : HasRoom base bound) (holds : ℕ
       finish_good : Good Taken (finish ++ (shared ++ rest))
       finish_good =
           let frees : Leads Taken Taken 1 (acts (Compute Op.Free) (x ∷ []) ∷ []) =
-              effect base taken base Op.Free (x ∷ []) room_taken (omega arith) (omega arith) (inl x_taken, tt) in
+          effect base taken base Op.Free (x ∷ []) room_taken (omega arith) (omega arith) (inl x_taken, tt) in
           frees.good (acts (Jump (low + 1)) [] ∷ (shared ++ rest)) jump_good
 
       alone_good : Good Before (alone ++ (shared ++ rest))
