@@ -1,5 +1,6 @@
 -- The lines of all nodes of orderly decisions, before the arms: they are well formed, and each label of a node stands in them.
-use Rattle.std.proofs.Common.{◌≡◌, ◌≢◌, ℕ, suc, ◌+◌, ◌<◌, ◌≤◌, ◌==◌, ◌⊎◌, inl, inr, true, List, [], ◌∷◌, ◌++◌, length, None, Some, IsSome, refl, sym, ap, subst, ◌∙◌, arith, append_assoc}
+use Rattle.std.proofs.Common.{◌≡◌, ◌≢◌, ℕ, suc, ◌+◌, ◌<◌, ◌≤◌, ◌==◌, ◌⊎◌, inl, inr, true, List, []}
+use Rattle.std.proofs.Common.{◌∷◌, ◌++◌, length, None, Some, IsSome, refl, sym, ap, subst, ◌∙◌, arith, append_assoc}
 use Rattle.std.specs.Prelude.{map, slice_get}
 use Rattle.std.proofs.lemmas.Bool.{or_left, or_right, eq-eqb, cases_eq}
 use Rattle.kk_syntax.specs.Shapes.{is_among as is_bound}
@@ -27,16 +28,19 @@ module _ (base : ℕ) (bound : List ℕ) (has : HasRoom base bound) (nodes : ℕ
   edges_ahead (edge ∷ edges) code stands = (
     stands edge.next (or_left (edge.next == edge.next) (is_bound (map (λ (edge : Edge). edge.next) edges) edge.next)
         (eq-eqb edge.next edge.next refl)),
-    edges_ahead edges code (λ j among. stands j (or_right (edge.next == j) (is_bound (map (λ (edge : Edge). edge.next) edges) j) among)),
+    edges_ahead edges code (λ j among. stands j (or_right (edge.next == j) (is_bound (map (λ
+        (edge : Edge). edge.next) edges) j) among)),
   )
 
-  node_ahead : (node : NodeTree) (code : List Line) → ((j : ℕ) → is_bound (targets node) j ≡ true → StandsAhead Bound (nodes + j) code)
+  node_ahead : (node : NodeTree) (code : List Line) → ((j : ℕ) → is_bound (targets node) j ≡ true
+      → StandsAhead Bound (nodes + j) code)
       → ((row : ℕ) → is_bound (row_chosen node) row ≡ true → StandsAhead Bound (arms + row) code)
       → NodeAhead base bound has nodes layout arms node code
   node_ahead (chooses row) code stands chosen = chosen row (or_left (row == row) (is_bound [] row) (eq-eqb row row refl))
   node_ahead (tests at edges None) code stands chosen = (edges_ahead edges code stands, tt)
   node_ahead (tests at edges (Some other)) code stands chosen = (
-    edges_ahead edges code (λ j among. stands j (or_right (other == j) (is_bound (map (λ (edge : Edge). edge.next) edges) j) among)),
+    edges_ahead edges code (λ j among. stands j (or_right (other == j) (is_bound (map (λ
+        (edge : Edge). edge.next) edges) j) among)),
     stands other (or_left (other == other) (is_bound (map (λ (edge : Edge). edge.next) edges) other) (eq-eqb other other refl)),
   )
 
@@ -86,12 +90,14 @@ module _ (base : ℕ) (bound : List ℕ) (has : HasRoom base bound) (nodes : ℕ
         own : Good Bound (first ++ (others ++ tail))
         own = node_good base bound has nodes layout arms x node first (others ++ tail) is_x own_is ahead rest.0
 
-        whole : (acts (Label (nodes + k)) [] ∷ ((first ++ others) ++ tail)) ≡ (acts (Label (nodes + k)) [] ∷ (first ++ (others ++ tail)))
+        whole : (acts (Label (nodes + k)) [] ∷ ((first ++ others) ++ tail)) ≡ (acts (Label (nodes + k)) [] ∷ (first ++
+            (others ++ tail)))
         whole = ap (λ (t : List Line). acts (Label (nodes + k)) [] ∷ t) (append_assoc first others tail)
 
         labelled : Good Bound ((acts (Label (nodes + k)) [] ∷ (first ++ others)) ++ tail)
         labelled = subst (Good Bound) (sym whole) (good_label Bound (nodes + k) (first ++ (others ++ tail))
-            (has_no_append (nodes + k) first (others ++ tail) (node_none base bound has nodes layout arms x node first (nodes + k) own_is)
+            (has_no_append (nodes + k) first (others ++ tail) (node_none base bound has nodes layout arms x node first
+            (nodes + k) own_is)
             (has_no_append (nodes + k) others tail
             (nodes_none (suc k) last more others (omega (arith, size)) rest_is (nodes + k) (inl (omega arith)))
             (fresh (nodes + k) (omega arith) (omega (arith, size))))) own)
@@ -111,7 +117,8 @@ module _ (base : ℕ) (bound : List ℕ) (has : HasRoom base bound) (nodes : ℕ
             )
             (rest.1 j (omega (arith, le, ne)) under)
 
-        stands : (j : ℕ) → k ≤ j → j < last → StandsAhead Bound (nodes + j) ((acts (Label (nodes + k)) [] ∷ (first ++ others)) ++ tail)
+        stands : (j : ℕ) → k ≤ j → j < last
+            → StandsAhead Bound (nodes + j) ((acts (Label (nodes + k)) [] ∷ (first ++ others)) ++ tail)
         stands j le under = subst (StandsAhead Bound (nodes + j)) (sym whole) (stands_by j le under (cases_eq k j))
 
     pub nodes_good : (k : ℕ) (each : List NodeTree) (lines : List Line) → k + length each ≡ last

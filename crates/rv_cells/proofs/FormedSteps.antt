@@ -19,7 +19,8 @@ goal_list base bound [] goal low tail ahead = ahead
 goal_list base bound (x ∷ xs) goal low tail ahead =
     goal_list base (x ∷ bound) xs goal low tail (goal_more base bound x goal low tail ahead)
 
-pub ahead_list : (base : ℕ) (bound xs : List ℕ) (goal : Goal) (low high : ℕ) (tail : List Line) → Ahead base bound goal low high tail
+pub ahead_list : (base : ℕ) (bound xs : List ℕ) (goal : Goal) (low high : ℕ) (tail : List Line)
+    → Ahead base bound goal low high tail
     → Ahead base (bound_list xs bound) goal low high tail
 ahead_list base bound xs goal low high tail ahead = record {
   formed = ahead.formed;
@@ -32,7 +33,8 @@ abbrev pub FitsWhole : ℕ → List ℕ → Goal → ℕ → ℕ → List Line �
 FitsWhole base bound goal low high lines = Fits base bound goal low high (length lines) lines
 
 -- however many lines were counted
-pub fits_whole : (base : ℕ) (bound : List ℕ) (goal : Goal) (low high n : ℕ) (lines : List Line) → Fits base bound goal low high n lines
+pub fits_whole : (base : ℕ) (bound : List ℕ) (goal : Goal) (low high n : ℕ) (lines : List Line)
+    → Fits base bound goal low high n lines
     → FitsWhole base bound goal low high lines
 fits_whole base bound goal low high n lines fits =
     record { up = fits.up; none = fits.none; few = omega arith; good = fits.good }
@@ -74,7 +76,8 @@ module _ (base : ℕ) (bound : List ℕ) (has : HasRoom base bound) (goal : Goal
       → ReadLines x fields own → Fits base (bound_list fields bound) goal low high n more
       → FitsWhole base bound goal low high (own ++ more)
   fits_read x fields own is below lines fits =
-      fits_step base bound fields goal low high n (length fields) own more (loads_lead base bound x 2 fields own has is below lines) fits
+      fits_step base bound fields goal low high n (length fields) own more
+      (loads_lead base bound x 2 fields own has is below lines) fits
 
   pub fits_open : (holds : ℕ → Bool) (x : ℕ) (fields used : List ℕ) (own : List Line) → is_bound bound x ≡ true
       → AreBelow base fields → OpenLines base holds x fields used own → Fits base (bound_list fields bound) goal low high n more

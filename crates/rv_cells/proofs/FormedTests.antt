@@ -1,5 +1,6 @@
 -- The lines of the nodes of decisions: before well-formed code in which the labels that they name stand, they are well formed.
-use Rattle.std.proofs.Common.{◌≡◌, ℕ, ◌+◌, ◌<◌, ◌≤◌, ◌||◌, ◌⊎◌, inl, inr, Bool, true, false, not, List, [], ◌∷◌, ◌++◌, length, Option, None, Some, IsSome, refl, sym, ap, subst, ◌∙◌, arith, append_assoc}
+use Rattle.std.proofs.Common.{◌≡◌, ℕ, ◌+◌, ◌<◌, ◌≤◌, ◌||◌, ◌⊎◌, inl, inr, Bool, true, false, not, List, []}
+use Rattle.std.proofs.Common.{◌∷◌, ◌++◌, length, Option, None, Some, IsSome, refl, sym, ap, subst, ◌∙◌, arith, append_assoc}
 use Rattle.std.specs.Prelude.{filter, if◌then◌else◌}
 use Rattle.std.proofs.lemmas.Bool.{false≢true, or_cases, false_from_ne_true, ne_eqb}
 use Rattle.kk_syntax.specs.Shapes.{is_among as is_bound}
@@ -15,13 +16,15 @@ use Rattle.rv_isa.specs.AsmCode.{Line}
 use Rattle.rv_isa.specs.AsmMachine.{is_label}
 use Rattle.rv_isa.specs.WellFormed.{is_alive, is_alive_at, is_alive_behind, most_values, AreDistinct, IsSpent}
 use Rattle.rv_lower.specs.Lines.{computes, acts}
-use Rattle.rv_lower.proofs.Formed.{Each, Readable, Good, HasRoom, weaker, all_each, alive_line, good_computes, readable_small, readable_more, to_temporary, none_some}
+use Rattle.rv_lower.proofs.Formed.{Each, Readable, Good, HasRoom, weaker, all_each}
+use Rattle.rv_lower.proofs.Formed.{alive_line, good_computes, readable_small, readable_more, to_temporary, none_some}
 use Rattle.rv_lower.proofs.AbsentLabels.{HasNo, has_no_append, found_past, alive_at_past}
 use Rattle.rv_lower.proofs.Labels.{found_label}
 use Rattle.rv_lower.proofs.Codes.{good_alone}
 use Rattle.rv_cells.specs.Layout.{Layout}
 use Rattle.rv_cells.specs.CellLines.{Loads, Walks}
-use Rattle.rv_cells.specs.CountedLines.{is_plain, answer_word, answer_tag, number_tests, otherwise_lines, OddLines, TagLines, NodeLines}
+use Rattle.rv_cells.specs.CountedLines.{is_plain, answer_word, answer_tag, number_tests}
+use Rattle.rv_cells.specs.CountedLines.{otherwise_lines, OddLines, TagLines, NodeLines}
 
 -- a label stands in code, and only such values are alive there
 abbrev pub StandsAhead : (ℕ → Type 0) → ℕ → List Line → Type 0
@@ -29,8 +32,11 @@ StandsAhead B label code = IsSome (found_label label code) × ((v : ℕ) → is_
 
 pub stands_past : (B : ℕ → Type 0) (label : ℕ) (lines more : List Line) → HasNo label lines → StandsAhead B label more
     → StandsAhead B label (lines ++ more)
-stands_past B label lines more none ahead =
-    (subst IsSome (sym (found_past label lines more none)) ahead.0, λ v is. ahead.1 v (sym (alive_at_past label v lines more none) ∙ is))
+stands_past B label lines more none ahead = (
+  subst IsSome (sym (found_past label lines more none)) ahead.0,
+  λ v is. ahead.1 v (sym
+      (alive_at_past label v lines more none) ∙ is),
+)
 
 -- a branch on values that nothing reads later
 good_branch : (B C : ℕ → Type 0) (condition : Condition) (label : ℕ) (args : List ℕ) (rest : List Line) → length args ≤ 2
@@ -87,8 +93,11 @@ module _ (base : ℕ) (bound : List ℕ) (has : HasRoom base bound) where
     edges_past : (edges : List Edge) (lines more : List Line) → ((l : ℕ) → HasNo l lines) → EdgesAhead edges more
         → EdgesAhead edges (lines ++ more)
     edges_past [] lines more none ahead = tt
-    edges_past (edge ∷ edges) lines more none ahead =
-        (stands_past (With base) (nodes + edge.next) lines more (none (nodes + edge.next)) ahead.0, edges_past edges lines more none ahead.1)
+    edges_past (edge ∷ edges) lines more none ahead = (
+      stands_past (With base) (nodes + edge.next) lines more (none
+          (nodes + edge.next)) ahead.0,
+      edges_past edges lines more none ahead.1,
+    )
 
     tests_none : (number : Answer → ℕ) (value : ℕ) (edges : List Edge) (l : ℕ) → HasNo l (number_tests number value nodes edges)
     tests_none number value [] l = tt
@@ -100,12 +109,23 @@ module _ (base : ℕ) (bound : List ℕ) (has : HasRoom base bound) where
         → Good (With (value + 1)) (number_tests number value nodes edges ++ rest)
     tests_good number value [] rest le room ahead good = good
     tests_good number value (edge ∷ edges) rest le room ahead good =
-        to_temporary base (value + 1) bound Op.Mv (value ∷ []) _ has (omega (arith, room)) refl (omega arith) (inr (le, omega arith), tt)
+        to_temporary base (value + 1) bound Op.Mv (value ∷ []) _ has (omega (arith, room)) refl (omega arith) (
+          inr
+              (le, omega arith),
+          tt,
+        )
         (to_temporary base (value + 1 + 1) bound (Op.Li (number edge.found)) [] _ has (omega (arith, room)) refl (omega arith) tt
-        (good_branch (With (value + 1 + 1 + 1)) (With (value + 1)) Equal (nodes + edge.next) ((value + 1) ∷ (value + 1 + 1) ∷ []) behind
+        (good_branch (With (value + 1 + 1 + 1)) (With (value + 1)) Equal (nodes + edge.next) ((value + 1) ∷
+        (value + 1 + 1) ∷ []) behind
         (omega arith) (ap (λ b. b || false) (ne_eqb (value + 1 + 1) (value + 1) (λ same. absurd (omega (arith, same)))), (refl, tt))
-        (inr (omega (arith, le), omega arith), (inr (omega (arith, le), omega arith), tt))
-        (not_below (value + 1) (value + 1) (omega (arith, le)) (omega arith), (not_below (value + 1) (value + 1 + 1) (omega (arith, le)) (omega arith), tt))
+        (inr (omega (arith, le), omega arith), (inr (omega (arith, le), omega arith), tt)) (
+          not_below (value + 1) (value + 1) (omega (arith, le)) (omega arith),
+          (
+            not_below (value + 1) (value + 1 + 1) (omega
+                (arith, le)) (omega arith),
+            tt,
+          ),
+        )
         (λ v is. readable_more base (value + 1) (value + 1 + 1 + 1) bound (omega arith) v is)
         (readable_small base (value + 1 + 1 + 1) bound has (omega (arith, room)))
         (later.0, λ v is. readable_more base base (value + 1) bound (omega (arith, le)) v (later.1 v is))
@@ -180,25 +200,35 @@ module _ (base : ℕ) (bound : List ℕ) (has : HasRoom base bound) where
         (acts (Branch NotEqual (nodes + next)) ((base + 1) ∷ []) ∷ rest) has (omega arith) refl (omega arith) (here, tt)
         (good_branch (With (base + 1 + 1)) Tested NotEqual (nodes + next) ((base + 1) ∷ []) rest (omega arith) (refl, tt)
         (inr (omega arith, omega arith), tt) (not_below (base + 1) (base + 1) (omega arith) (omega arith), tt)
-        (readable_more base (base + 1) (base + 1 + 1) bound (omega arith)) (readable_small base (base + 1 + 1) bound has (omega arith))
+        (readable_more base (base + 1) (base + 1 + 1) bound (omega arith)) (readable_small base (base + 1 + 1) bound has
+        (omega arith))
         (ahead.0, λ v at. into_tested v (ahead.1 v at)) good))
 
     module _ (layout : Layout) where
-      tags_none : (edges : List Edge) (otherwise : Option ℕ) (lines : List Line) (l : ℕ) → TagLines layout base nodes edges otherwise lines
+      tags_none : (edges : List Edge) (otherwise : Option ℕ) (lines : List Line) (l : ℕ)
+          → TagLines layout base nodes edges otherwise lines
           → HasNo l lines
       tags_none [] otherwise lines l is = subst (HasNo l) (sym is) tt
       tags_none (edge ∷ edges) otherwise lines l is =
           subst (HasNo l) (sym is.6) (has_no_append l is.0 _ (odd_none otherwise is.0 l is.3)
           (load_none base 1 (base + 1) is.1 l is.4, (refl, tests_none (answer_tag layout) (base + 1) (edge ∷ edges) l)))
 
-      tags_good : (edges : List Edge) (otherwise : Option ℕ) (lines rest : List Line) → TagLines layout base nodes edges otherwise lines
+      tags_good : (edges : List Edge) (otherwise : Option ℕ) (lines rest : List Line)
+          → TagLines layout base nodes edges otherwise lines
           → EdgesAhead edges rest → OtherAhead otherwise rest → Good Tested rest → Good Tested (lines ++ rest)
       tags_good [] otherwise lines rest is ahead other good = subst (λ (code : List Line). Good Tested (code ++ rest)) (sym is) good
       tags_good (edge ∷ edges) otherwise lines rest is ahead other good =
           subst (λ (code : List Line). Good Tested (code ++ rest)) (sym is.6)
           (subst (Good Tested) (sym (append_assoc is.0 tag rest))
           (odd_good otherwise is.0 (tag ++ rest) is.3
-          (other_past otherwise tag rest (λ l. (load_none base 1 (base + 1) is.1 l is.4, (refl, tests_none (answer_tag layout) (base + 1) (edge ∷ edges) l))) other)
+          (other_past otherwise tag rest (λ l. (
+            load_none base 1 (base + 1) is.1 l is.4,
+            (
+              refl,
+              tests_none (answer_tag layout)
+                  (base + 1) (edge ∷ edges) l,
+            ),
+          )) other)
           loaded))
         where
           masked : Line
@@ -213,10 +243,12 @@ module _ (base : ℕ) (bound : List ℕ) (has : HasRoom base bound) where
 
           loaded : Good Tested (tag ++ rest)
           loaded = subst
-              (λ (line : Line). Good Tested (line ∷ masked ∷ (number_tests (answer_tag layout) (base + 1) nodes (edge ∷ edges) ++ rest)))
+              (λ (line : Line). Good Tested (line ∷ masked ∷ (number_tests (answer_tag layout) (base + 1) nodes
+              (edge ∷ edges) ++ rest)))
               (sym is.4.2)
               (to_temporary base (base + 1) bound (Op.Lw is.4.0) (base ∷ []) _ has (omega arith) refl (omega arith) (here, tt)
-              (good_computes (With (base + 1 + 1)) (With (base + 1 + 1)) (Op.Immediate Andi is.2) ((base + 1) ∷ []) (base + 1) _ refl
+              (good_computes (With (base + 1 + 1)) (With (base + 1 + 1)) (Op.Immediate Andi is.2) ((base + 1) ∷ [])
+              (base + 1) _ refl
               (omega arith) (inr (omega arith, omega arith), tt) (readable_small base (base + 1 + 1) bound has (omega arith))
               (let room = has.room in omega (arith, room)) (λ v is _. is) tested))
 

@@ -1,5 +1,6 @@
 -- The lines of an opening by the count of a cell, before those of the code that follows it.
-use Rattle.std.proofs.Common.{◌≡◌, ℕ, ◌+◌, ◌*◌, ◌<◌, ◌≤◌, ◌⊎◌, inl, inr, Bool, true, not, List, [], ◌∷◌, ◌++◌, length, None, IsSome, refl, sym, ap, subst, ◌∙◌, arith, append_assoc}
+use Rattle.std.proofs.Common.{◌≡◌, ℕ, ◌+◌, ◌*◌, ◌<◌, ◌≤◌, ◌⊎◌, inl, inr, Bool, true, not, List}
+use Rattle.std.proofs.Common.{[], ◌∷◌, ◌++◌, length, None, IsSome, refl, sym, ap, subst, ◌∙◌, arith, append_assoc}
 use Rattle.std.specs.Prelude.{filter}
 use Rattle.std.proofs.lemmas.Bool.{false≢true, or_cases}
 use Rattle.kk_syntax.specs.Shapes.{is_among as is_bound}
@@ -12,13 +13,15 @@ use Rattle.rv_isa.specs.AsmCode.{Line}
 use Rattle.rv_isa.specs.WellFormed.{is_alive, is_alive_at}
 use Rattle.rv_lower.specs.Lines.{computes, sets, acts}
 use Rattle.rv_lower.specs.Lowered.{Goal}
-use Rattle.rv_lower.proofs.Formed.{Readable, Good, HasRoom, weaker, good_computes, good_hands, readable_small, readable_more, none_some}
+use Rattle.rv_lower.proofs.Formed.{Readable, Good, HasRoom, weaker, good_computes}
+use Rattle.rv_lower.proofs.Formed.{good_hands, readable_small, readable_more, none_some}
 use Rattle.rv_lower.proofs.AbsentLabels.{HasNo, has_no_append, found_past, found_here, alive_at_past, alive_at_here, other_label}
 use Rattle.rv_lower.proofs.Operations.{Leads, leads_then, leads_weaker, next_temporary, only_bound}
 use Rattle.rv_lower.proofs.Codes.{Ahead, Fits, good_alone, good_label, goal_up}
 use Rattle.rv_cells.specs.CellLines.{Loads, Stores, AllLoads, dups_lines, drops_lines, UniqueLines}
 use Rattle.rv_cells.specs.Marked.{AreBelow, bound_list}
-use Rattle.rv_cells.proofs.CellForms.{effect, one_store, loads_lead, dups_lead, drops_lead, room_list, kept_list, bound_fields, bound_filter}
+use Rattle.rv_cells.proofs.CellForms.{effect, one_store, loads_lead, dups_lead, drops_lead}
+use Rattle.rv_cells.proofs.CellForms.{room_list, kept_list, bound_fields, bound_filter}
 use Rattle.rv_cells.proofs.FormedSteps.{ahead_list, FitsWhole}
 
 assoc_inner : (a b c z : List Line) → (a ++ (b ++ c)) ++ z ≡ a ++ (b ++ (c ++ z))
@@ -64,7 +67,8 @@ module _ (base : ℕ) (bound : List ℕ) (has : HasRoom base bound) (holds : ℕ
       (leads_then Counted Taken Taken 1 (length kept) (store ∷ []) (dups_lines holds kept)
       (leads_weaker Counted Counted Counted Taken 1 1 (store ∷ []) (λ v is. is)
       (λ v is. readable_more base base (base + 1) taken (omega arith) v is) (omega arith)
-      (one_store base taken (base + 1) x 0 base store room_taken (omega arith) (inl x_taken) (inr (omega arith, omega arith)) stores))
+      (one_store base taken (base + 1) x 0 base store room_taken (omega arith) (inl x_taken) (inr
+      (omega arith, omega arith)) stores))
       (dups_lead base taken holds kept room_taken (bound_filter taken (is_bound used) fields (bound_fields bound fields)).0)))
     where
       again : Leads Counted Counted 1 (computes (Op.Immediate Addi less) (base ∷ []) base ∷ [])
@@ -133,8 +137,11 @@ module _ (base : ℕ) (bound : List ℕ) (has : HasRoom base bound) (holds : ℕ
 
       shared_good : Good Before (shared ++ rest)
       shared_good = good_label Before low (lowered ++ rest)
-          (has_no_append low lowered rest (lowered_fit.no_label low)
-          (other_label low (low + 1) (λ same. absurd (omega (arith, same))), more_none low (omega arith) (omega arith))) lowered_good
+          (has_no_append low lowered rest (lowered_fit.no_label low) (
+            other_label low (low + 1) (λ same. absurd (omega (arith, same))),
+            more_none low (omega arith)
+                (omega arith),
+          )) lowered_good
 
       shared_none : HasNo (low + 1) shared
       shared_none = (other_label (low + 1) low (λ same. absurd (omega (arith, same))), lowered_fit.no_label (low + 1))
@@ -156,14 +163,16 @@ module _ (base : ℕ) (bound : List ℕ) (has : HasRoom base bound) (holds : ℕ
       alone_good = subst (Good Before) (sym (assoc_inner loads (drops_lines base holds dropped) finish (shared ++ rest)))
           (loads_fit.good _ (drops_fit.good _ finish_good))
 
-      alive_either : (v : ℕ) → (is_alive v (alone ++ (shared ++ rest)) ≡ true) ⊎ (is_alive_at low v (alone ++ (shared ++ rest)) ≡ true)
+      alive_either : (v : ℕ)
+          → (is_alive v (alone ++ (shared ++ rest)) ≡ true) ⊎ (is_alive_at low v (alone ++ (shared ++ rest)) ≡ true)
           → Before v
       alive_either v (inl alive) = alone_good.alive v alive
       alive_either v (inr alive) = lowered_good.alive v
           (sym (alive_at_past low v alone (shared ++ rest) (alone_none low) ∙ alive_at_here low v (lowered ++ rest)) ∙ alive)
 
       test_good : (test : Line) → Loads x 0 base test
-          → Good Before (test ∷ sets 1 (base + 1) ∷ acts (Branch NotEqual low) (base ∷ (base + 1) ∷ []) ∷ (alone ++ (shared ++ rest)))
+          → Good Before (test ∷ sets 1 (base + 1) ∷ acts (Branch NotEqual low) (base ∷ (base + 1) ∷ []) ∷ (alone ++
+          (shared ++ rest)))
       test_good test loads_test = tested.good _ (one_set.good _
           (weaker (readable_more base (base + 2) (base + 1 + 1) bound (omega arith))
           (good_hands base bound (x ∷ x ∷ []) (Branch NotEqual low) None (alone ++ (shared ++ rest)) has
