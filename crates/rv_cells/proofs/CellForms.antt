@@ -290,7 +290,7 @@ module _ (base : ℕ) where
   room_list bound [] has below = has
   room_list bound (x ∷ xs) has below = room_list (x ∷ bound) xs (room_more base bound x has below.0) below.1
 
-kept_list : (bound xs : List ℕ) (y : ℕ) → is_bound bound y ≡ true → is_bound (bound_list xs bound) y ≡ true
+pub kept_list : (bound xs : List ℕ) (y : ℕ) → is_bound bound y ≡ true → is_bound (bound_list xs bound) y ≡ true
 kept_list bound [] y is = is
 kept_list bound (x ∷ xs) y is = kept_list (x ∷ bound) xs y (or_right (x == y) (is_bound bound y) is)
 

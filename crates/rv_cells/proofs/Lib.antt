@@ -36,3 +36,7 @@ pub mod Marks
 pub mod Marking
 pub mod Lowered
 pub mod CellForms
+pub mod FormedSteps
+pub mod FormedUniques
+pub mod FormedTests
+pub mod FormedNodes
