@@ -6,6 +6,7 @@ pub mod CoreMachine
 pub mod CoreStates
 pub mod CoreTyping
 pub mod Decisions
+pub mod Kinds
 pub mod Needed
 pub mod NeverStuck
 pub mod Plain

@@ -10,7 +10,10 @@ pub mod Drafts
 pub mod Emissions
 pub mod Emitting
 pub mod Heaps
+pub mod Int32
 pub mod Keeping
+pub mod Kinds
+pub mod Lowerable
 pub mod MarkKeeping
 pub mod Marks
 pub mod NumberedPool

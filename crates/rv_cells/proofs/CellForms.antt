@@ -27,6 +27,7 @@ use Rattle.std.proofs.Common.{
   ◌∙◌,
   arith,
 }
+use Rattle.kk_counted.specs.Lowerable.{AreBelow, bound_list}
 use Rattle.std.specs.Prelude.{filter, if◌then◌else◌}
 use Rattle.std.proofs.lemmas.Bool.{eq-eqb, false≢true, or_cases, or_left, or_right}
 use Rattle.std.proofs.lemmas.List.Elements.{All-nil}
@@ -58,7 +59,6 @@ use Rattle.rv_lower.proofs.Formed.{
 use Rattle.rv_lower.proofs.Operations.{Leads, leads_then, leads_weaker, next_temporary, only_bound}
 use Rattle.rv_cells.specs.CellLines.{Loads, Stores, AllLoads, AllStores, dup_lines, drop_lines, dups_lines, drops_lines}
 use Rattle.rv_cells.specs.CellLines.{ConstructLines, OpenLines}
-use Rattle.rv_cells.specs.Marked.{AreBelow, bound_list}
 
 -- an operation that gives no value
 good_effect : (B : ℕ → Type 0) (operation : Operation) (args : List ℕ) (rest : List Line) → length args ≤ 2 → Each B args

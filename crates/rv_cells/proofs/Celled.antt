@@ -19,6 +19,7 @@ use Rattle.kk_counted.specs.Heaps.{Heap, count_at, fields_held}
 use Rattle.kk_counted.specs.Keeping.{values_of}
 use Rattle.kk_counted.specs.Spending.{AllAmong}
 use Rattle.kk_counted.specs.Marks.{field_marks, HaveMarks, HasMark}
+use Rattle.kk_counted.specs.Lowerable.{AreBelow, bound_list, AreNumbered}
 use Rattle.rv_isa.specs.declared.asm.Action.TheVariants.{Label}
 use Rattle.rv_isa.specs.AsmCode.{Line}
 use Rattle.rv_isa.specs.Frames.{Frame, top, top_in}
@@ -26,7 +27,6 @@ use Rattle.rv_isa.specs.WellFormed.{AreLinesFormed}
 use Rattle.rv_lower.specs.Lines.{acts}
 use Rattle.rv_lower.proofs.Orders.{split_at}
 use Rattle.rv_cells.specs.Layout.{FitsField, FitFields}
-use Rattle.rv_cells.specs.Marked.{AreBelow, bound_list, AreNumbered}
 use Rattle.rv_cells.specs.Costs.{row_cost, forms, code_cost}
 use Rattle.rv_cells.proofs.Values.{among_by}
 use Rattle.rv_cells.proofs.Runs.{turn_of, Runs}

@@ -11,6 +11,7 @@ use Rattle.kk_counted.specs.CountedStates.{CountedJoin, CountedFrame, CountedCon
 use Rattle.kk_counted.specs.CountedMachine.{arm_at, case_step, NotStuck}
 use Rattle.kk_counted.specs.Heaps.{cell_at}
 use Rattle.kk_counted.specs.Marks.{HasMark, HaveMark}
+use Rattle.kk_counted.specs.Lowerable.{AreNumbered, AreArmsNumbered}
 use Rattle.rv_isa.specs.declared.asm.Action.TheVariants.{Label, Jump}
 use Rattle.rv_isa.specs.AsmCode.{Line}
 use Rattle.rv_isa.specs.Frames.{Frame}
@@ -19,7 +20,6 @@ use Rattle.rv_lower.specs.Lowered.{Goal}
 use Rattle.rv_lower.proofs.Labels.{found_label}
 use Rattle.rv_cells.specs.Layout.{Layout, word_in}
 use Rattle.rv_cells.specs.CountedLines.{Setting, CodeLines, ArmsLines, NodeLines, NodesLines}
-use Rattle.rv_cells.specs.Marked.{AreNumbered, AreArmsNumbered}
 use Rattle.rv_cells.specs.Costs.{row_cost, forms, arms_forms, edges_cost, node_cost, nodes_cost, decisions_cost}
 use Rattle.rv_cells.specs.Fitting.{FitsNode, FitsFrom}
 use Rattle.rv_cells.proofs.Held.{some-is}

@@ -1,5 +1,6 @@
 -- The lines of a step before those of the code that follows it: together they are well formed, and have only their own labels.
 use Rattle.std.proofs.Common.{◌≡◌, ℕ, ◌+◌, ◌*◌, ◌<◌, Bool, true, List, [], ◌∷◌, ◌++◌, length, sym, subst, arith, append_assoc}
+use Rattle.kk_counted.specs.Lowerable.{AreBelow, bound_list}
 use Rattle.kk_core.specs.Sizes.{AreBound}
 use Rattle.kk_syntax.specs.Shapes.{is_among as is_bound}
 use Rattle.rv_isa.specs.AsmCode.{Line}
@@ -9,7 +10,6 @@ use Rattle.rv_lower.proofs.AbsentLabels.{has_no_append}
 use Rattle.rv_lower.proofs.Operations.{Leads}
 use Rattle.rv_lower.proofs.Codes.{IsGoalAhead, Ahead, Fits, goal_more}
 use Rattle.rv_cells.specs.CellLines.{dup_lines, drop_lines, ConstructLines, ReadLines, OpenLines}
-use Rattle.rv_cells.specs.Marked.{AreBelow, bound_list}
 use Rattle.rv_cells.proofs.CellForms.{loads_lead, dup_leads, drop_leads, construct_leads, open_leads}
 
 -- the goal is as well ahead where a list of variables more is bound

@@ -1,5 +1,6 @@
 -- The lines of an opening by the count of a cell, before those of the code that follows it.
 use Rattle.std.proofs.Common.{◌≡◌, ℕ, ◌+◌, ◌*◌, ◌<◌, ◌≤◌, ◌⊎◌, inl, inr, Bool, true, not, List}
+use Rattle.kk_counted.specs.Lowerable.{AreBelow, bound_list}
 use Rattle.std.proofs.Common.{[], ◌∷◌, ◌++◌, length, None, IsSome, refl, sym, ap, subst, ◌∙◌, arith, append_assoc}
 use Rattle.std.specs.Prelude.{filter}
 use Rattle.std.proofs.lemmas.Bool.{false≢true, or_cases}
@@ -19,7 +20,6 @@ use Rattle.rv_lower.proofs.AbsentLabels.{HasNo, has_no_append, found_past, found
 use Rattle.rv_lower.proofs.Operations.{Leads, leads_then, leads_weaker, next_temporary, only_bound}
 use Rattle.rv_lower.proofs.Codes.{Ahead, Fits, good_alone, good_label, goal_up}
 use Rattle.rv_cells.specs.CellLines.{Loads, Stores, AllLoads, dups_lines, drops_lines, UniqueLines}
-use Rattle.rv_cells.specs.Marked.{AreBelow, bound_list}
 use Rattle.rv_cells.proofs.CellForms.{effect, one_store, loads_lead, dups_lead, drops_lead}
 use Rattle.rv_cells.proofs.CellForms.{room_list, kept_list, bound_fields, bound_filter}
 use Rattle.rv_cells.proofs.FormedSteps.{ahead_list, FitsWhole}

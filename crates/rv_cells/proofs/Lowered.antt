@@ -37,6 +37,7 @@ use Rattle.kk_counted.specs.CountedCodes.{Counted, CountedFunction}
 use Rattle.kk_counted.specs.declared.counted.CountedFun.{CountedFun}
 use Rattle.kk_counted.specs.declared.shape.Shape.{Shape}
 use Rattle.kk_counted.specs.Programs.{function_of}
+use Rattle.kk_counted.specs.Lowerable.{AreLowerable}
 use Rattle.rv_isa.specs.AsmCode.{Line, Lines}
 use Rattle.rv_lower.specs.declared.lowering.Lowering.{Lowering}
 use Rattle.rv_lower.specs.Lowered.{returns, from_to}
@@ -46,7 +47,7 @@ use Rattle.rv_world.specs.Operations.{all_bytes}
 use Rattle.rv_cells.specs.Layout.{layout_of}
 use Rattle.rv_cells.specs.CountedLines.{CodeLines}
 use Rattle.rv_cells.specs.Lowered.{facts_for, IsWritten, LoweredFunction, LoweredFunctions, IsLoweredForm}
-use Rattle.rv_cells.specs.Marking.{function_marks, AreLowerable}
+use Rattle.rv_cells.specs.Marking.{function_marks}
 use Rattle.rv_cells.specs.Sizes.{forms, all_forms}
 use Rattle.rv_cells.specs.Tables.{table_of, layout_in}
 use Rattle.rv_cells.specs.Written.{holds_in, setting_in, WroteCode}

@@ -78,22 +78,8 @@ use Rattle.kk_counted.specs.Marks.{
   IsMarked,
 }
 use Rattle.kk_counted.specs.Spending.{numbers_from}
-use Rattle.rv_cells.specs.Marked.{AreBelow, AreNumbered, AreArmsNumbered}
-use Rattle.rv_cells.specs.Marking.{
-  marked,
-  all_marked,
-  first_of,
-  given_by,
-  given_by_arms,
-  mark_given,
-  mark_of_form,
-  marks_behind,
-  marks_behind_arms,
-  BlocksGive,
-  BlocksOfArmsGive,
-  IsLowerable,
-  function_marks,
-}
+use Rattle.kk_counted.specs.Lowerable.{AreBelow, AreNumbered, AreArmsNumbered, first_of, given_by, given_by_arms, BlocksGive, BlocksOfArmsGive, IsLowerable}
+use Rattle.rv_cells.specs.Marking.{marked, all_marked, mark_given, mark_of_form, marks_behind, marks_behind_arms, function_marks}
 use Rattle.rv_cells.specs.Written.{holds_in}
 
 -- ---- one mark

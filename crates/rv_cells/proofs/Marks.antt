@@ -3,7 +3,8 @@ use Rattle.std.proofs.Common.{◌≡◌, ℕ, zero, suc, ◌<◌, ◌≤◌, Boo
 use Rattle.kk_counted.specs.CountedCodes.{Counted}
 use Rattle.kk_counted.specs.CountedForms.{Move, computes, runs, reads, opens, opens_unique, dups, drops, plug}
 use Rattle.kk_counted.specs.Marks.{CellMarks}
-use Rattle.rv_cells.specs.Marking.{marked, given_by, marks_behind, marks_after, marks_after_all}
+use Rattle.kk_counted.specs.Lowerable.{given_by}
+use Rattle.rv_cells.specs.Marking.{marked, marks_behind, marks_after, marks_after_all}
 
 pub marked_longer : (x : ℕ) (mark : Bool) (marks : List Bool) → length marks ≤ x
     → marked x mark (marks ++ false ∷ []) ≡ marked x mark marks

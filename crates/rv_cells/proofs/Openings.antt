@@ -10,12 +10,12 @@ use Rattle.kk_counted.specs.CountedMachine.{Named, values_where, used_values, op
 use Rattle.kk_counted.specs.Keeping.{values_of}
 use Rattle.kk_counted.specs.Spending.{AllAmong, AreApart}
 use Rattle.kk_counted.proofs.Variables.{field_past}
+use Rattle.kk_counted.specs.Lowerable.{bound_list}
 use Rattle.rv_isa.specs.AsmCode.{Line}
 use Rattle.rv_isa.specs.Frames.{Frame}
 use Rattle.cell_heap.specs.Blocks.{Cells}
 use Rattle.rv_cells.specs.Follows.{Owner}
 use Rattle.rv_cells.specs.CellLines.{OpenLines, drop_lines, dups_lines}
-use Rattle.rv_cells.specs.Marked.{bound_list}
 use Rattle.rv_cells.proofs.Values.{value_same, named_made}
 use Rattle.rv_cells.proofs.Spots.{AreSmall, Spot, Known, Here, Did, did_then, with_heap, drop_did}
 use Rattle.rv_cells.specs.Costs.{row_cost}

@@ -14,6 +14,7 @@ use Rattle.kk_counted.specs.CountedMachine.{Named, cell_named}
 use Rattle.kk_counted.specs.Keeping.{values_of}
 use Rattle.kk_counted.specs.Spending.{AllAmong}
 use Rattle.kk_counted.proofs.Counting.{count_set}
+use Rattle.kk_counted.specs.Lowerable.{bound_list, AreBelow}
 use Rattle.rv_isa.specs.AsmCode.{Line}
 use Rattle.rv_isa.specs.Frames.{Frame}
 use Rattle.cell_heap.specs.Blocks.{Cells, own}
@@ -24,7 +25,6 @@ use Rattle.rv_cells.specs.CellLines.{AllLoads, ReadLines, dup_lines, drop_lines,
 use Rattle.rv_cells.proofs.Held.{some-is, held_within, held_other, held_count, held_fields}
 use Rattle.rv_cells.proofs.Words.{all_within_more, load_own, cell_named as cell_of_name}
 use Rattle.rv_lower.proofs.Performing.{put_other}
-use Rattle.rv_cells.specs.Marked.{bound_list, AreBelow}
 use Rattle.rv_cells.proofs.Values.{put_list, among_none, has_list, named_made}
 use Rattle.rv_cells.proofs.Drops.{fits_length}
 use Rattle.rv_cells.proofs.Runs.{Target, turn_of, Runs, runs_none, runs_then}

@@ -13,6 +13,7 @@ use Rattle.kk_counted.specs.CountedStates.{CountedSetting, CountedJoin, CountedF
 use Rattle.kk_counted.specs.CountedMachine.{counted_machine}
 use Rattle.kk_counted.specs.Heaps.{Heap}
 use Rattle.kk_counted.specs.Marks.{CellMarks, field_marks, HasMark}
+use Rattle.kk_counted.specs.Lowerable.{AreNumbered}
 use Rattle.rv_isa.specs.declared.asm.Action.TheVariants.{Label}
 use Rattle.rv_isa.specs.Processor.{Ending, exited}
 use Rattle.rv_isa.specs.AsmCode.{Line, Lines}
@@ -28,7 +29,7 @@ use Rattle.rv_lower.proofs.Labels.{found_label, label_found}
 use Rattle.rv_cells.specs.Layout.{Layout, IsNarrow}
 use Rattle.rv_cells.specs.Follows.{Owner, Follows, NoneInHand}
 use Rattle.rv_cells.specs.CountedLines.{Setting, CodeLines}
-use Rattle.rv_cells.specs.Marked.{AreNumbered, AreFunctionsOf}
+use Rattle.rv_cells.specs.Marked.{AreFunctionsOf}
 use Rattle.rv_cells.specs.Costs.{forms, counted_cost}
 use Rattle.rv_cells.specs.Fitting.{IsFit}
 use Rattle.rv_cells.proofs.Values.{HasValues, Carries}

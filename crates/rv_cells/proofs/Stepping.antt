@@ -5,7 +5,6 @@ use Rattle.std.proofs.lemmas.Bool.Decides.{nat_tests}
 use Rattle.kk_syntax.specs.declared.program.Form.TheVariants.{Construct}
 use Rattle.kk_source.specs.State.{Value, place, heap_full}
 use Rattle.kk_counted.proofs.Counting.{set_length}
-use Rattle.rv_cells.specs.Marked.{bound_list}
 use Rattle.rv_cells.proofs.Held.{some-is}
 use Rattle.rv_cells.proofs.Values.{Carries, carries_same, has_cell}
 use Rattle.kk_counted.specs.Keeping.{values_of}
@@ -19,6 +18,7 @@ use Rattle.kk_counted.specs.CountedStates.{CountedSetting, CountedJoin, CountedC
 use Rattle.kk_counted.specs.CountedMachine.{at_counted, at_end, with_heap, Named, used_values, other_values, opened_heap, unique_heap, open_step, counted_code_step, NotStuck}
 use Rattle.kk_counted.specs.Heaps.{Heap, busy, count_at, set_count, dup_value, dup_all, drop_value, drop_all}
 use Rattle.kk_counted.specs.Spending.{AreApart}
+use Rattle.kk_counted.specs.Lowerable.{bound_list}
 use Rattle.rv_isa.specs.AsmCode.{Line}
 use Rattle.rv_isa.specs.declared.asm.Action.TheVariants.{Label}
 use Rattle.rv_isa.specs.AsmMachine.{is_label}

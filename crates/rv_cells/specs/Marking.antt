@@ -1,6 +1,6 @@
 -- The marks of a function's variables, as its binders are met: a list by the variable's number. Behind the last a variable has
 -- none.
-use Rattle.std.specs.Prelude.{◌≡◌, ℕ, zero, suc, Bool, false, List, [], ◌∷◌, Option, Some, None, slice_get}
+use Rattle.std.specs.Prelude.{ℕ, zero, suc, Bool, false, List, [], ◌∷◌, Option, Some, None}
 use Rattle.kk_syntax.specs.declared.program.Form.{Form}
 use Rattle.kk_syntax.specs.declared.program.Form.TheVariants.{Construct, Call}
 use Rattle.kk_counted.specs.CountedCodes.{
@@ -22,9 +22,8 @@ use Rattle.kk_counted.specs.CountedCodes.{
   CountedFunction,
 }
 use Rattle.kk_counted.specs.CountedForms.{Move, computes, runs, reads, opens, opens_unique, dups, drops}
-use Rattle.kk_counted.specs.Marks.{CellMarks, parameter_marks, result_mark, field_marks, made_mark, IsMarked}
-use Rattle.kk_counted.specs.Spending.{numbers_from}
-use Rattle.rv_cells.specs.Marked.{AreNumbered}
+use Rattle.kk_counted.specs.Lowerable.{given_by}
+use Rattle.kk_counted.specs.Marks.{CellMarks, parameter_marks, result_mark, field_marks, made_mark}
 use Rattle.rv_cells.specs.Written.{holds_in}
 
 -- one variable gets a mark
@@ -39,29 +38,6 @@ abbrev pub all_marked : List ℕ → List Bool → List Bool → List Bool
 all_marked [] each marks = marks
 all_marked (x ∷ xs) [] marks = marks
 all_marked (x ∷ xs) (mark ∷ each) marks = all_marked xs each (marked x mark marks)
-
--- the variable whose value a code gives first, on its first way that ends so
-abbrev pub first_of : Option ℕ → Option ℕ → Option ℕ
-first_of (Some x) other = Some x
-first_of None other = other
-
-abbrev mutual
-  pub given_by : Counted → Option ℕ
-  given_by (give x) = Some x
-  given_by (tail_call f arguments) = None
-  given_by (branch x positive negative) = first_of (given_by positive) (given_by negative)
-  given_by (case x decisions arms) = given_by_arms arms
-  given_by (compute x form arguments rest) = given_by rest
-  given_by (inside x block rest) = given_by rest
-  given_by (read x c fields rest) = given_by rest
-  given_by (open_cell x c fields used rest) = given_by rest
-  given_by (if_unique x c fields used rest) = given_by rest
-  given_by (dup x rest) = given_by rest
-  given_by (drop x rest) = given_by rest
-
-  pub given_by_arms : CountedArms → Option ℕ
-  given_by_arms no_arm = None
-  given_by_arms (arm body rest) = first_of (given_by body) (given_by_arms rest)
 
 abbrev pub mark_given : Option ℕ → List Bool → Bool
 mark_given None marks = false
@@ -111,36 +87,3 @@ module _ (table : CellMarks) where
   -- the marks of all variables of a function by its number
   abbrev pub function_marks : ℕ → CountedFunction → List Bool
   function_marks f function = marks_behind function.body (parameter_marks table f)
-
--- each block inside of a code gives a value
-abbrev mutual
-  pub BlocksGive : Counted → Type 0
-  BlocksGive (give x) = Unit {0}
-  BlocksGive (tail_call f arguments) = Unit {0}
-  BlocksGive (branch x positive negative) = BlocksGive positive × BlocksGive negative
-  BlocksGive (case x decisions arms) = BlocksOfArmsGive arms
-  BlocksGive (compute x form arguments rest) = BlocksGive rest
-  BlocksGive (inside x block rest) = (given : ℕ) × ((given_by block ≡ Some given) × (BlocksGive block × BlocksGive rest))
-  BlocksGive (read x c fields rest) = BlocksGive rest
-  BlocksGive (open_cell x c fields used rest) = BlocksGive rest
-  BlocksGive (if_unique x c fields used rest) = BlocksGive rest
-  BlocksGive (dup x rest) = BlocksGive rest
-  BlocksGive (drop x rest) = BlocksGive rest
-
-  pub BlocksOfArmsGive : CountedArms → Type 0
-  BlocksOfArmsGive no_arm = Unit {0}
-  BlocksOfArmsGive (arm body rest) = BlocksGive body × BlocksOfArmsGive rest
-
--- A function by its number can be lowered: some variables of it are marked as types tell, they are numbered in order, and each
--- block
--- inside gives a value.
-pub record IsLowerable (table : CellMarks) (f : ℕ) (function : CountedFunction) : Type 0 where
-  pub holds : ℕ → Bool
-  pub base : ℕ
-  pub marked : IsMarked table holds f function
-  pub numbered : AreNumbered base (numbers_from 0 function.parameters) function.body
-  pub gives : BlocksGive function.body
-
-abbrev pub AreLowerable : CellMarks → List CountedFunction → Type 0
-AreLowerable table functions = (f : ℕ) (function : CountedFunction) → slice_get functions f ≡ Some function
-    → IsLowerable table f function

@@ -4,7 +4,8 @@ ghost use Rattle.std.specs.Prelude.{◌≡◌, [], ◌∷◌, map, OnOk, IfOk};
 ghost use Rattle.kk_counted.specs.CountedForms.{block_code, last_code, step_move, arms_of};
 ghost use Rattle.kk_counted.specs.Marks.{parameter_marks, result_mark, field_marks, made_mark};
 ghost use Rattle.kk_counted.specs.Programs.{function_of};
-ghost use Rattle.rv_cells.specs.Marking.{marked, all_marked, given_by, given_by_arms, mark_given};
+ghost use Rattle.kk_counted.specs.Lowerable.{given_by, given_by_arms};
+ghost use Rattle.rv_cells.specs.Marking.{marked, all_marked, mark_given};
 ghost use Rattle.rv_cells.specs.Marking.{mark_of_form, marks_behind, marks_behind_arms, marks_after, marks_after_all, function_marks};
 ghost use Rattle.rv_cells.specs.Tables.{table_of};
 

@@ -2,8 +2,8 @@
 
 ghost use Rattle.std.specs.Prelude.{◌≡◌, length, map, IfOk};
 ghost use Rattle.kk_counted.specs.Programs.{function_of};
+ghost use Rattle.kk_counted.specs.Lowerable.{AreLowerable};
 ghost use Rattle.rv_isa.specs.AsmCode.{lines_of, asm_functions, asm_constants};
-ghost use Rattle.rv_cells.specs.Marking.{AreLowerable};
 ghost use Rattle.rv_cells.specs.Lowered.{LoweredFunction, IsLoweredForm};
 ghost use Rattle.rv_cells.specs.Tables.{table_of};
 

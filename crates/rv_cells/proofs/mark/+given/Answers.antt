@@ -1,7 +1,7 @@
 use Rattle.std.proofs.Common.{map, sym, ap, ◌∙◌}
 use Rattle.kk_counted.proofs.FormViews.{block_is}
 use Rattle.kk_counted.specs.CountedForms.{last_code, step_move}
-use Rattle.rv_cells.specs.Marking.{given_by}
+use Rattle.kk_counted.specs.Lowerable.{given_by}
 use Rattle.rv_cells.proofs.Marks.{plug_given}
 use Rattle.rv_cells.proofs.mark.+given.Goals as goal
 

@@ -1,6 +1,6 @@
 use Rattle.std.proofs.Common.{◌≡◌, map, drop}
 use Rattle.kk_counted.specs.CountedForms.{block_code, arms_of}
-use Rattle.rv_cells.specs.Marking.{given_by_arms}
+use Rattle.kk_counted.specs.Lowerable.{given_by_arms}
 use Rattle.rv_cells.proofs.mark.+given.Given as goal
 
 abbrev pub invariant-given_in-loop-arm : goal.invariant-given_in-loop-arm
