@@ -6,6 +6,7 @@ pub mod Blocks
 pub mod Branches
 pub mod Complete
 pub mod Declarations
+pub mod Depths
 pub mod EachList
 pub mod FewNodes
 pub mod Functional

@@ -1,6 +1,6 @@
 -- The grammar in the form in which it is read with one token of lookahead. It spells what the grammar of programs
--- spells, with the same levels and the same meaning; four productions have other right sides, in which what two
--- alternatives begin with stands before the choice.
+-- spells, with the same levels and the same meaning. Programs, declarations, types, result types, blocks, matches and
+-- atoms have other right sides here: what two alternatives begin with, also a semicolon, stands before the choice.
 use Rattle.std.specs.Prelude.{List, [], ◌∷◌, ◌++◌, Option, Some, None, ◌⊎◌}
 use Rattle.std.proofs.Common.{inl, inr}
 use Rattle.kk_syntax.specs.Surface.{Written, number as number_written, unit, construct, writtens_of, print_text, block_of, match, rows_of, WrittenPattern, anything, pattern_variable, exactly, constructor as constructor_pattern, patterns_of, WrittenStatement, WrittenType, unit_type, type_variable, named, types_of, WrittenParameter, WrittenDeclaration, type_declaration}

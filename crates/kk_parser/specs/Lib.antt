@@ -1,4 +1,5 @@
 pub mod Classes
+pub mod Depths
 pub mod Forms
 pub mod Grammar
 pub mod Kinds

@@ -1,6 +1,6 @@
 -- What a list of tokens comes to: the tree that it spells, or the first token with which no program goes on, or the
 -- token that opens a level of nesting too many.
-use Rattle.std.specs.Prelude.{◌≡◌, ℕ, ◌-◌, ◌^◌, ◌≤◌, min, List, [], ◌∷◌, ◌++◌, length, Result, Ok, Err}
+use Rattle.std.specs.Prelude.{◌≡◌, ℕ, ◌-◌, ◌^◌, ◌≤◌, min, All, List, [], ◌∷◌, ◌++◌, length, Result, Ok, Err}
 use Rattle.kk_base.specs.Exactly.{IsOnly, ExactlyOne}
 use Rattle.kk_base.specs.declared.span.Span.{Span}
 use Rattle.kk_base.specs.declared.error.ParseError.{ParseError}
@@ -9,6 +9,7 @@ use Rattle.kk_syntax.specs.declared.token.LocatedToken.{LocatedToken}
 use Rattle.kk_syntax.specs.declared.tree.Tree.{Tree}
 use Rattle.kk_syntax.specs.Surface.{WrittenDeclaration, WrittenTree, written_tree}
 use Rattle.kk_syntax.specs.TokenList.{TokenList}
+use Rattle.kk_parser.specs.Depths.{IsShallow}
 use Rattle.kk_parser.specs.Grammar.{program_grammar}
 use Rattle.kk_parser.specs.Phrases.{program, rule}
 use Rattle.kk_parser.specs.Spells.{Marked, tokens_of, Spells}
@@ -98,3 +99,7 @@ EachListIsParsed = (tokens : TokenList) → ExactlyOne (ParsesAs tokens)
 -- tokens spell one program, however deep it is nested
 abbrev pub OneProgram : Type 0
 OneProgram = (declarations others : List WrittenDeclaration) (ts us : List Marked) → SpellsProgram declarations ts → SpellsProgram others us → tokens_of ts ≡ tokens_of us → declarations ≡ others
+
+-- the trees of a program are as shallow as the levels make them that are open at its tokens
+abbrev pub LevelsBoundDepth : Type 0
+LevelsBoundDepth = (levels : ℕ) (declarations : List WrittenDeclaration) (ts : List Marked) → SpellsProgram declarations ts → AtMost levels ts → All (λ d. IsShallow levels d) declarations

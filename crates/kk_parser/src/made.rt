@@ -1,6 +1,6 @@
 //! Expressions made of their parts. They stand in boxes: so a method that gives one up frees it by one call.
 
-ghost use Rattle.std.specs.Prelude.{◌≡◌, ◌++◌, ◌∷◌, [], map, OnOk};
+ghost use Rattle.std.specs.Prelude.{◌≡◌, ◌<◌, ◌++◌, ◌∷◌, [], length, map, OnOk};
 ghost use Rattle.kk_syntax.specs.Surface.{number, unit, variable, call, construct, print_text, unary as OfUnary, binary as OfBinary, both, either, branch, branch_alone, dot_call, writtens_of, block_of, match, rows_of, written_expr, written_row, written_statement, anything, pattern_variable, exactly, constructor as OfConstructor, patterns_of, written_pattern};
 ghost use Rattle.kk_parser.specs.Methods.{Makes};
 ghost use Rattle.kk_parser.specs.Views.{boxed_expr, boxed_pattern};
@@ -218,5 +218,17 @@ pub fn block_of(
     if statements.is_empty() {
         return Ok(value);
     }
+    block(alloc, statements, value)
+}
+
+// A block of at least one statement. No other function makes one.
+fn block(
+    alloc: Global,
+    statements: Vec<SurfaceStatement>,
+    value: Box<SurfaceExpr>,
+) -> Result<Box<SurfaceExpr>, Fault>
+    requires { 0 < length statements.items }
+    ensures { Makes boxed_expr (block_of (map written_statement statements.items) (boxed_expr value)) result }
+{
     boxed(alloc, SurfaceExpr::Block(statements, value))
 }

@@ -1,10 +1,11 @@
 ghost use Rattle.std.specs.Prelude.{◌≡◌, ◌-◌, ◌*◌, ◌≤◌, [], length, map, All, IfOk, OnOk};
 ghost use Rattle.kk_syntax.specs.Surface.{written_declaration, written_expr, written_parameter};
 ghost use Rattle.kk_syntax.specs.WrittenNodes.{nodes_in};
+ghost use Rattle.kk_parser.specs.Depths.{IsShallow};
 ghost use Rattle.kk_parser.specs.Forms.{head as OfHead, head_of};
 ghost use Rattle.kk_parser.specs.Grammar.{parameters as OfParameters, declared_function, function_of as OfFunction, listed, listed_of, some_listed, some_listed_of};
 ghost use Rattle.kk_parser.specs.Methods.{ReadsPhrase, ReadsFor, ReadsAs, error_for};
-ghost use Rattle.kk_parser.specs.Parses.{AnswersParse, EachListIsParsed, OneProgram, in_u32, next_place};
+ghost use Rattle.kk_parser.specs.Parses.{AnswersParse, EachListIsParsed, LevelsBoundDepth, OneProgram, in_u32, next_place};
 ghost use Rattle.kk_parser.specs.Phrases.{rule, program as OfProgram, decl as OfDecl, param as OfParam};
 ghost use Rattle.kk_parser.specs.Classes.{is_at};
 ghost use Rattle.kk_parser.specs.Reading.{first};
@@ -31,6 +32,10 @@ pub fn parse(alloc: Global, tokens: &Tokens) -> Result<Tree, ParseError>
     // A declaration has at most twice as many nodes as there are tokens.
     ensures few_nodes { IfOk result (λ tree.
         All (λ declaration. nodes_in declaration ≤ 2 * length tokens.now.items) (map written_declaration tree.declarations.items)) }
+
+    // Its trees are as shallow as 200 levels make them: its types at most 200 deep, its body at most 19,901.
+    ensures shallow { IfOk result (λ tree.
+        All (λ declaration. IsShallow 200 declaration) (map written_declaration tree.declarations.items)) }
 {
     let mut parser = Parser {
         alloc,
@@ -53,10 +58,12 @@ pub fn parse(alloc: Global, tokens: &Tokens) -> Result<Tree, ParseError>
 }
 
 /// Each list of tokens comes to exactly one thing: a tree, or a first token that is unexpected or opens a level too many;
-/// and at any depth it spells one program at most. It is a law, and does nothing.
+/// and at any depth it spells one program at most, whose trees are as shallow as its levels make them. It is a law, and
+/// does nothing.
 pub fn each_list_is_parsed()
     ensures exactly_one { EachListIsParsed }
     ensures at_any_depth { OneProgram }
+    ensures by_levels { LevelsBoundDepth }
 {}
 
 // The error for a fault at the first of the tokens that are left, or at the end.

@@ -5,6 +5,7 @@ use Rattle.kk_syntax.specs.Surface.{written_declaration}
 use Rattle.kk_parser.specs.declared.parser.Parser.{Parser}
 use Rattle.kk_parser.specs.Phrases.{program, rule}
 use Rattle.kk_parser.specs.Reading.{Finds}
+use Rattle.kk_parser.proofs.Depths.{shallow}
 use Rattle.kk_parser.proofs.FewNodes.{few_nodes}
 use Rattle.kk_parser.proofs.Whole.{has_tree}
 use Rattle.kk_parser.proofs.Told.{found_all, left_answered, fault_answered}
@@ -29,6 +30,11 @@ returns-then-is_empty-clause-parsed c =
 pub returns-then-is_empty-clause-few_nodes : goal.returns-then-is_empty-clause-few_nodes
 returns-then-is_empty-clause-few_nodes c =
     few_nodes (has_tree (subst (λ us. Finds 200 (rule program) 0 c.args.tokens.now.items (map written_declaration c.in-Ok.declarations.items) c.program.new.self.depth us) (none_left c.program.new.self.rest.now c.is_empty.result c.is_empty.ensures c.if-is_empty.true) (read (goal.at.returns-then-is_empty-clause-few_nodes c).In-Ok)))
+
+pub returns-then-is_empty-clause-shallow : goal.returns-then-is_empty-clause-shallow
+returns-then-is_empty-clause-shallow c =
+    let tree = has_tree (subst (λ us. Finds 200 (rule program) 0 c.args.tokens.now.items (map written_declaration c.in-Ok.declarations.items) c.program.new.self.depth us) (none_left c.program.new.self.rest.now c.is_empty.result c.is_empty.ensures c.if-is_empty.true) (read (goal.at.returns-then-is_empty-clause-shallow c).In-Ok)) in
+    shallow 200 tree.program tree.shallow
 
 pub returns-else-is_empty-clause-parsed : goal.returns-else-is_empty-clause-parsed
 returns-else-is_empty-clause-parsed c =

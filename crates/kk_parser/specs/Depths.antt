@@ -1,0 +1,58 @@
+-- How deep the trees of a program are, and how deep they may be within some levels of nesting.
+use Rattle.std.specs.Prelude.{ℕ, ◌+◌, ◌*◌, ◌-◌, ◌≤◌, max, All, IfSome}
+use Rattle.kk_syntax.specs.Surface.{WrittenType, unit_type, type_variable, named, WrittenTypes, no_type, type, WrittenPattern, anything, pattern_variable, exactly, constructor, WrittenPatterns, no_part, part, Written, number, unit, variable, call, dot_call, construct, unary, binary, both, either, print_text, branch, branch_alone, match, sequence, Writtens, no_written, written, WrittenRows, no_row, row, WrittenDeclaration, type_declaration, function_declaration}
+
+abbrev mutual
+  pub type_depth : WrittenType → ℕ
+  type_depth unit_type = 1
+  type_depth (type_variable name) = 1
+  type_depth (named name arguments) = types_depth arguments + 1
+
+  pub types_depth : WrittenTypes → ℕ
+  types_depth no_type = 0
+  types_depth (type first rest) = max (type_depth first) (types_depth rest)
+
+abbrev mutual
+  pub pattern_depth : WrittenPattern → ℕ
+  pattern_depth anything = 1
+  pattern_depth (pattern_variable name) = 1
+  pattern_depth (exactly value) = 1
+  pattern_depth (constructor name parts) = patterns_depth parts + 1
+
+  pub patterns_depth : WrittenPatterns → ℕ
+  patterns_depth no_part = 0
+  patterns_depth (part first rest) = max (pattern_depth first) (patterns_depth rest)
+
+-- the statements of a block, and the expression behind them, stand side by side
+abbrev mutual
+  pub written_depth : Written → ℕ
+  written_depth (number value) = 1
+  written_depth unit = 1
+  written_depth (variable name) = 1
+  written_depth (call name arguments) = writtens_depth arguments + 1
+  written_depth (dot_call first name others) = max (written_depth first) (writtens_depth others) + 1
+  written_depth (construct name arguments) = writtens_depth arguments + 1
+  written_depth (unary operator operand) = written_depth operand + 1
+  written_depth (binary operator left right) = max (written_depth left) (written_depth right) + 1
+  written_depth (both left right) = max (written_depth left) (written_depth right) + 1
+  written_depth (either left right) = max (written_depth left) (written_depth right) + 1
+  written_depth (print_text form text) = 1
+  written_depth (branch condition positive negative) = max (written_depth condition) (max (written_depth positive) (written_depth negative)) + 1
+  written_depth (branch_alone condition positive) = max (written_depth condition) (written_depth positive) + 1
+  written_depth (match scrutinee rows) = max (written_depth scrutinee) (rows_depth rows) + 1
+  written_depth (sequence binder first rest) = max (written_depth first + 1) (written_depth rest)
+
+  pub writtens_depth : Writtens → ℕ
+  writtens_depth no_written = 0
+  writtens_depth (written first rest) = max (written_depth first) (writtens_depth rest)
+
+  pub rows_depth : WrittenRows → ℕ
+  rows_depth no_row = 0
+  rows_depth (row pattern body rest) = max (pattern_depth pattern) (max (written_depth body) (rows_depth rest))
+
+-- The trees of a declaration are as shallow as text with so many open levels makes them. Each argument list of a type
+-- opens a level. So does each operator and each call of an expression; but the levels of an argument end with it, and its
+-- call may be the first operand of a chain of operators, which open levels anew.
+abbrev pub IsShallow : ℕ → WrittenDeclaration → Type 0
+IsShallow levels (type_declaration name parameters constructors) = All (λ c. All (λ field. type_depth field.of_type ≤ levels) c.fields) constructors
+IsShallow levels (function_declaration name parameters effects result body) = All (λ p. type_depth p.of_type ≤ levels) parameters × IfSome result (λ t. type_depth t ≤ levels) × (2 * written_depth body ≤ levels * (levels - 1) + 2)
