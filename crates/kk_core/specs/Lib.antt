@@ -1,3 +1,4 @@
+pub mod Asking
 pub mod CellTypes
 pub mod Choosing
 pub mod Codes

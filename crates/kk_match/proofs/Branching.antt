@@ -15,7 +15,7 @@ use Rattle.kk_core.specs.Decisions.{tests, targets, is_answer, next_by}
 use Rattle.kk_match.specs.Parts.{Part, both_same, is_kind, IsKind}
 use Rattle.kk_match.specs.Graphs.{StateTree, after, test_of}
 use Rattle.kk_match.specs.Outcomes.{is_listed, with_asked, with_parts, with_lines, unlisted_from, unlisted, IsOutcome}
-use Rattle.kk_match.specs.Built.{Names, Branches}
+use Rattle.kk_match.specs.Built.{Names, AreOfKind, Branches}
 use Rattle.kk_match.specs.Growing.{EdgesLead, OtherLeads}
 use Rattle.kk_match.proofs.After.{LacksIn, Lacks, after_same}
 use Rattle.kk_match.proofs.Keyed.{answer_decides, neither}
@@ -247,18 +247,26 @@ next_else (edge ∷ edges) otherwise found none =
     let both = neither (is_answer found edge.found) (is_listed (map (λ (e : Edge). e.found) edges) found) none in
     ap (λ b. if b then Some edge.next else next_by edges otherwise found) (unlike edge.found found both.0) ∙ next_else edges otherwise found both.1
 
-edge_leads : (types : List ℕ) (asked : Answer) (states : List StateTree) (at : List ℕ) (state : StateTree) (edges : List Edge) → EdgesLead states at state edges
-    → AreKind types asked (map (λ (e : Edge). e.found) edges) → (j : ℕ) → is_among (map (λ (e : Edge). e.next) edges) j ≡ true
-    → (outcome : Option Answer) × IsOutcome types asked outcome × Names states j (after at outcome state)
-edge_leads types asked states at state [] lead kind j among = absurd (both_ways false refl among)
-edge_leads types asked states at state (edge ∷ edges) lead kind j among = elim (either (edge.next == j) (is_among (map (λ (e : Edge). e.next) edges) j) among) [
-  | inl here ↦ (Some edge.found, kind edge.found (ap (λ b. b || is_listed (map (λ (e : Edge). e.found) edges) edge.found) (own edge.found)), subst (λ n. Names states n (after at (Some edge.found) state)) (eqb-true edge.next j here) lead.0)
-  | inr behind ↦ edge_leads types asked states at state edges lead.1 (λ found listed. kind found (later (is_answer found edge.found) (is_listed (map (λ (e : Edge). e.found) edges) found) listed)) j behind
-]
+-- edges have answers of the kind where each that is listed is of it
+edges_kind : (types : List ℕ) (asked : Answer) (edges : List Edge) → AreKind types asked (map (λ (e : Edge). e.found) edges) → AreOfKind types asked edges
+edges_kind types asked [] kind = tt
+edges_kind types asked (edge ∷ edges) kind = (
+  kind edge.found (ap (λ b. b || is_listed (map (λ (e : Edge). e.found) edges) edge.found) (own edge.found)),
+  edges_kind types asked edges (λ found listed. kind found (later (is_answer found edge.found) (is_listed (map (λ (e : Edge). e.found) edges) found) listed)),
+)
   where
     later : (a b : Bool) → b ≡ true → (a || b) ≡ true
     later true b is = refl
     later false b is = is
+
+edge_leads : (types : List ℕ) (asked : Answer) (states : List StateTree) (at : List ℕ) (state : StateTree) (edges : List Edge) → EdgesLead states at state edges
+    → AreOfKind types asked edges → (j : ℕ) → is_among (map (λ (e : Edge). e.next) edges) j ≡ true
+    → (outcome : Option Answer) × IsOutcome types asked outcome × Names states j (after at outcome state)
+edge_leads types asked states at state [] lead kind j among = absurd (both_ways false refl among)
+edge_leads types asked states at state (edge ∷ edges) lead kind j among = elim (either (edge.next == j) (is_among (map (λ (e : Edge). e.next) edges) j) among) [
+  | inl here ↦ (Some edge.found, kind.0, subst (λ n. Names states n (after at (Some edge.found) state)) (eqb-true edge.next j here) lead.0)
+  | inr behind ↦ edge_leads types asked states at state edges lead.1 kind.1 j behind
+]
 
 pub branches : (types : List ℕ) (states : List StateTree) (state : StateTree) (test : Part) (answers : List Answer) (edges : List Edge) (otherwise : Option ℕ)
     → test_of state ≡ Some test → answers ≡ with_lines types test [] state → map (λ (e : Edge). e.found) edges ≡ answers → EdgesLead states test.at state edges
@@ -266,6 +274,7 @@ pub branches : (types : List ℕ) (states : List StateTree) (state : StateTree) 
 branches types states state test answers edges otherwise is_test answers_are found lead other = record {
   asked = test.asked;
   is_test = is_test;
+  of_kind = kinds;
   leads = λ j among. leads_by (unlisted types test.asked answers) otherwise (rest_right types test.asked answers) other j among;
   whole = λ answer kind. elim (cases_Bool (is_listed answers answer)) [
     | inl listed ↦ next_there states test.at state edges otherwise answer lead (ap (λ fs. is_listed fs answer) found ∙ listed)
@@ -280,8 +289,10 @@ branches types states state test answers edges otherwise is_test answers_are fou
     another_by (Number n) (Some j) other is = (j, other)
     another_by (Constructor c) otherwise other is = absurd is
 
-    kinds : AreKind types test.asked (map (λ (e : Edge). e.found) edges)
-    kinds = subst (AreKind types test.asked) (sym (found ∙ answers_are)) (kind_lines types test [] state (λ a listed. absurd (both_ways false refl listed)))
+    kinds : AreOfKind types test.asked edges
+    kinds =
+        edges_kind types test.asked edges
+        (subst (AreKind types test.asked) (sym (found ∙ answers_are)) (kind_lines types test [] state (λ a listed. absurd (both_ways false refl listed))))
 
     leads_by : (rest : Option (Option Answer)) (otherwise : Option ℕ) → Rest types test.asked answers rest → OtherLeads states test.at state rest otherwise
         → (j : ℕ) → is_among (targets (tests test.at edges otherwise)) j ≡ true → (outcome : Option Answer) × IsOutcome types test.asked outcome × Names states j (after test.at outcome state)

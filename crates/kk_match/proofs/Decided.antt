@@ -50,6 +50,15 @@ sound_decides constructors types ps states nodes last same sound count stands = 
     let turns = length_turned last nodes in
     first_chosen types states nodes last store v sound count (length (turned last nodes)) 0 (lines_from types 0 ps) row stands (omega (arith, turns)) ready.0 (ready.1 ∙ matches)
 
+-- the rows' state is the first of a turned graph
+pub graph_stands : (types : List ℕ) (most : ℕ) (ps : List Pattern) (nodes : List NodeTree) (graph : IsGraphOf types most (lines_from types 0 ps) nodes)
+    → Stands graph.states 0 (lines_from types 0 ps)
+graph_stands types most ps nodes graph = record {
+  place = graph.number;
+  sum = (let is = starts_last types most (lines_from types 0 ps) nodes graph in omega (arith, is));
+  named = graph.starts;
+}
+
 module _ (types : List ℕ) (most : ℕ) (ps : List Pattern) (nodes : List NodeTree) (last : ℕ) (graph : IsGraphOf types most (lines_from types 0 ps) nodes) (count : suc last ≡ length nodes) where
   pub graph_orderly : 0 < length ps → AreOrderly (turned last nodes) (length ps)
   graph_orderly some =
@@ -59,7 +68,7 @@ module _ (types : List ℕ) (most : ℕ) (ps : List Pattern) (nodes : List NodeT
   pub graph_decides : (constructors : List ConstructorTree) → AreTypeNumbers constructors types → Decides constructors ps (turned last nodes)
   graph_decides constructors same =
       sound_decides constructors types ps graph.states nodes last same (are_sound types graph.states nodes graph.right) count
-      (record { place = graph.number; sum = (let is = starts_last types most (lines_from types 0 ps) nodes graph in omega (arith, is)); named = graph.starts })
+      (graph_stands types most ps nodes graph)
 
   tests_are : count_by is_test (turned last nodes) ≡ testing graph.states
   tests_are = tests_turned last nodes ∙ tests_right types graph.states nodes graph.right
@@ -79,8 +88,14 @@ graph_some types most start nodes graph =
     omega (arith, is, long)
 
 module _ (types : List ℕ) (p : Pattern) (ps : List Pattern) where
-  in_turn : RowsDone types (lines_from types 0 (p ∷ ps)) (states_of_rows (lines_from types 0 (p ∷ ps))) (with_rows (lines_from types 0 (p ∷ ps)) [])
+  pub in_turn : RowsDone types (lines_from types 0 (p ∷ ps)) (states_of_rows (lines_from types 0 (p ∷ ps))) (with_rows (lines_from types 0 (p ∷ ps)) [])
   in_turn = rows_done types (record { row = 0; left = parts_of types [] p }) (lines_from types 1 ps)
+
+  pub in_turn_stands : Stands (states_of_rows (lines_from types 0 (p ∷ ps))) 0 (lines_from types 0 (p ∷ ps))
+  in_turn_stands =
+      let long = as_long (IsSound types) (states_of_rows (lines_from types 0 (p ∷ ps))) (with_rows (lines_from types 0 (p ∷ ps)) []) in_turn.sound in
+      let some = in_turn.some in
+      record { place = length (with_rows (lines_from types 0 (p ∷ ps)) []) - 1; sum = omega (arith, long, some); named = in_turn.ends }
 
   pub in_turn_some : 0 < length (with_rows (lines_from types 0 (p ∷ ps)) [])
   in_turn_some = in_turn.some
@@ -93,10 +108,8 @@ module _ (types : List ℕ) (p : Pattern) (ps : List Pattern) where
 
     pub in_turn_decides : (constructors : List ConstructorTree) → AreTypeNumbers constructors types → Decides constructors (p ∷ ps) (turned last (with_rows (lines_from types 0 (p ∷ ps)) []))
     in_turn_decides constructors same =
-        let long = as_long (IsSound types) (states_of_rows (lines_from types 0 (p ∷ ps))) (with_rows (lines_from types 0 (p ∷ ps)) []) in_turn.sound in
-        let some = in_turn.some in
         sound_decides constructors types (p ∷ ps) (states_of_rows (lines_from types 0 (p ∷ ps))) (with_rows (lines_from types 0 (p ∷ ps)) []) last same in_turn.sound count
-        (record { place = length (with_rows (lines_from types 0 (p ∷ ps)) []) - 1; sum = omega (arith, long, some); named = in_turn.ends })
+        in_turn_stands
 
 -- the same of any rows, if there are some
 module _ (types : List ℕ) (nodes : List NodeTree) where

@@ -14,7 +14,7 @@ use Rattle.kk_match.proofs.After.{AreBelow}
 use Rattle.kk_match.proofs.Branching.{either, swapped, unlike}
 use Rattle.kk_match.proofs.Fitting.{fits, first_fit, AreReady}
 use Rattle.kk_match.proofs.Places.{get_left, get_last, get_push}
-use Rattle.kk_match.proofs.Running.{Moves, Turns, IsSound, as_long}
+use Rattle.kk_match.proofs.Running.{Moves, Turns, IsSound, kind_between, kind_itself, as_long}
 
 -- ---- behind the last one
 
@@ -59,6 +59,7 @@ part_sound : (types : List ℕ) (row : ℕ) (lines : StateTree) (other : ℕ) (b
 part_sound types row lines other behind q qs states nodes falls done = record {
   asked = q.asked;
   is_test = refl;
+  of_kind = λ found kind. (kind_between types q.asked found q.asked kind (kind_itself types q.asked found kind), tt);
   within = λ j among. elim (either (other == j) ((length nodes - 1) == j || false) among) [
     | inl here ↦ subst (λ n. n < length states) (eqb-true other j here) (slice_get_within states other behind done.falls)
     | inr last ↦ subst (λ n. n < length states) (eqb-true (length nodes - 1) j (only ((length nodes - 1) == j) last)) (slice_get_within states (length nodes - 1) (row_with row qs lines) done.ends)

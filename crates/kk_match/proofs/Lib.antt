@@ -1,4 +1,5 @@
 pub mod After
+pub mod Asking
 pub mod Branching
 pub mod Counted
 pub mod Decided
@@ -12,4 +13,5 @@ pub mod Made
 pub mod Matching
 pub mod Places
 pub mod Running
+pub mod Shown
 pub mod Ways

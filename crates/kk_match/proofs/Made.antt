@@ -25,7 +25,7 @@ pub record WasMade (constructors : List ConstructorTree) (store : Store) (t : Ty
   pub of_type : field_types constructors t by ≡ Some types
   pub are : AreOf constructors store types values
 
-are_of : (constructors : List ConstructorTree) (store : Store) (ts : List TypeTree) (vs : List Value) (cs : Contents) → HaveContents store vs cs → AreContentsOf constructors ts cs
+pub are_of : (constructors : List ConstructorTree) (store : Store) (ts : List TypeTree) (vs : List Value) (cs : Contents) → HaveContents store vs cs → AreContentsOf constructors ts cs
     → AreOf constructors store ts vs
 are_of constructors store [] [] no_content have typed = tt
 are_of constructors store [] [] (content c cs) have typed = absurd have

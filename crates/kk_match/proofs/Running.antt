@@ -7,11 +7,12 @@ use Rattle.kk_syntax.specs.Shapes.{is_among}
 use Rattle.kk_source.specs.Matching.{and_then}
 use Rattle.kk_source.specs.State.{Value, Store}
 use Rattle.kk_core.specs.declared.decisions.Answer.{Answer}
+use Rattle.kk_core.specs.declared.decisions.Answer.TheVariants.{Number, Constructor}
 use Rattle.kk_core.specs.declared.decisions.Edge.{Edge}
 use Rattle.kk_core.specs.Decisions.{NodeTree, chooses, tests, targets, row_chosen, found_at, is_answer, next_by, row_at, chosen_from, AreOrderly}
-use Rattle.kk_match.specs.Parts.{Part, IsKind}
+use Rattle.kk_match.specs.Parts.{Part, both_same, is_kind, IsKind}
 use Rattle.kk_match.specs.Graphs.{StateTree, after, first_of, test_of, row_of}
-use Rattle.kk_match.specs.Built.{Names, IsRight, InRow, no_state, one_more, AreRight}
+use Rattle.kk_match.specs.Built.{Names, AreOfKind, IsRight, InRow, no_state, one_more, AreRight}
 use Rattle.kk_match.specs.Turned.{turn_edge, turn_node, turned}
 use Rattle.kk_match.proofs.After.{AreBelow}
 use Rattle.kk_match.proofs.Branching.{either}
@@ -77,6 +78,7 @@ Moves types at found state later =
 pub record Turns (types : List ℕ) (states : List StateTree) (state : StateTree) (at : List ℕ) (edges : List Edge) (otherwise : Option ℕ) : Type 0 where
   pub asked : Answer
   pub is_test : test_of state ≡ Some (record { at = at; asked = asked })
+  pub of_kind : (found : Answer) → IsKind types asked found → AreOfKind types found edges
   pub within : (j : ℕ) → is_among (targets (tests at edges otherwise)) j ≡ true → j < length states
   pub moves : (found : Answer) → IsKind types asked found
       → (j : ℕ) × (next_by edges otherwise found ≡ Some j) × (later : StateTree) × Names states j later × Moves types at found state later
@@ -89,11 +91,41 @@ IsSound types states state (tests at edges otherwise) = Turns types states state
 pub after_moves : (types : List ℕ) (at : List ℕ) (found : Answer) (state : StateTree) → Moves types at found state (after at (Some found) state)
 after_moves types at found state = λ store v is ready. (after_ready types store v at found state is ready, λ row fit. after_fits store v at found state is ∙ fit)
 
+-- answers of one kind may stand where each of them does
+same_both : (a b c : Option ℕ) → both_same a b ≡ true → both_same a c ≡ true → both_same b c ≡ true
+same_both None b c one other = absurd (both_ways false refl one)
+same_both (Some x) None c one other = absurd (both_ways false refl one)
+same_both (Some x) (Some y) None one other = absurd (both_ways false refl other)
+same_both (Some x) (Some y) (Some z) one other = eq-eqb y z (sym (eqb-true x y one) ∙ eqb-true x z other)
+
+pub kind_between : (types : List ℕ) (asked one other : Answer) → IsKind types asked one → IsKind types asked other → IsKind types one other
+kind_between types (Number n) (Number m) (Number l) first second = refl
+kind_between types (Number n) (Number m) (Constructor d) first second = absurd (both_ways false refl second)
+kind_between types (Number n) (Constructor c) other first second = absurd (both_ways false refl first)
+kind_between types (Constructor b) (Number n) other first second = absurd (both_ways false refl first)
+kind_between types (Constructor b) (Constructor c) (Number n) first second = absurd (both_ways false refl second)
+kind_between types (Constructor b) (Constructor c) (Constructor d) first second = same_both (slice_get types b) (slice_get types c) (slice_get types d) first second
+
+-- what an answer may stand for may stand for itself
+pub kind_itself : (types : List ℕ) (asked found : Answer) → IsKind types asked found → IsKind types asked asked
+kind_itself types (Number n) found kind = refl
+kind_itself types (Constructor c) (Number n) kind = absurd (both_ways false refl kind)
+kind_itself types (Constructor c) (Constructor d) kind = same_itself (slice_get types c) (slice_get types d) kind
+  where
+    same_itself : (a b : Option ℕ) → both_same a b ≡ true → both_same a a ≡ true
+    same_itself None b same = same
+    same_itself (Some x) b same = eq-eqb x x refl
+
+kind_of_edges : (types : List ℕ) (asked found : Answer) (edges : List Edge) → IsKind types asked found → AreOfKind types asked edges → AreOfKind types found edges
+kind_of_edges types asked found [] kind are = tt
+kind_of_edges types asked found (edge ∷ edges) kind are = (kind_between types asked found edge.found kind are.0, kind_of_edges types asked found edges kind are.1)
+
 right_sound : (types : List ℕ) (states : List StateTree) (state : StateTree) (node : NodeTree) → IsRight types states state node → IsSound types states state node
 right_sound types states state (chooses row) right = right
 right_sound types states state (tests at edges otherwise) right = record {
   asked = right.asked;
   is_test = right.is_test;
+  of_kind = λ found kind. kind_of_edges types right.asked found edges kind right.of_kind;
   within = λ j among. let leads = right.leads j among in slice_get_within states j (after at leads.0 state) leads.2;
   moves = λ found kind. let whole = right.whole found kind in (whole.0, whole.1, after at (Some found) state, whole.2, after_moves types at found state);
 }
@@ -116,7 +148,7 @@ get_turned last (first ∷ nodes) zero k node sum is =
 get_turned last (first ∷ nodes) (suc i) k node sum is =
     get_left (turned last nodes) (turn_node last first ∷ []) k (turn_node last node) (get_turned last nodes i k node (omega (arith, sum)) is)
 
-next_turned : (last : ℕ) (edges : List Edge) (otherwise : Option ℕ) (found : Answer)
+pub next_turned : (last : ℕ) (edges : List Edge) (otherwise : Option ℕ) (found : Answer)
     → next_by (map (turn_edge last) edges) (option_map (λ j. last - j) otherwise) found ≡ option_map (λ j. last - j) (next_by edges otherwise found)
 next_turned last [] otherwise found = refl
 next_turned last (edge ∷ edges) otherwise found = by (is_answer edge.found found) (next_turned last edges otherwise found)

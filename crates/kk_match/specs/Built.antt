@@ -12,11 +12,17 @@ use Rattle.kk_match.specs.Outcomes.{IsOutcome}
 abbrev pub Names : List StateTree → ℕ → StateTree → Type 0
 Names states j state = slice_get states j ≡ Some state
 
+-- the answers of edges may stand where one does
+abbrev pub AreOfKind : List ℕ → Answer → List Edge → Type 0
+AreOfKind types asked [] = Unit {0}
+AreOfKind types asked (edge ∷ edges) = IsKind types asked edge.found × AreOfKind types asked edges
+
 -- A test leads from a state to those that are left: by each edge to one that an outcome leaves, and by each outcome to the one
--- that this outcome leaves.
+-- that this outcome leaves. Its edges have answers of its kind alone.
 pub record Branches (types : List ℕ) (states : List StateTree) (state : StateTree) (at : List ℕ) (edges : List Edge) (otherwise : Option ℕ) : Type 0 where
   pub asked : Answer
   pub is_test : test_of state ≡ Some (record { at = at; asked = asked })
+  pub of_kind : AreOfKind types asked edges
   pub leads : (j : ℕ) → is_among (targets (tests at edges otherwise)) j ≡ true
       → (outcome : Option Answer) × IsOutcome types asked outcome × Names states j (after at outcome state)
   pub whole : (found : Answer) → IsKind types asked found

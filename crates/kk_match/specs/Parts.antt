@@ -7,6 +7,7 @@ use Rattle.kk_syntax.specs.Types.{TypeTree}
 use Rattle.kk_syntax.specs.Patterns.{Pattern, anything, variable, exactly, constructor, Patterns, no_part, part}
 use Rattle.kk_core.specs.declared.decisions.Answer.{Answer}
 use Rattle.kk_core.specs.declared.decisions.Answer.TheVariants.{Number, Constructor}
+use Rattle.kk_core.specs.Kinds.{MakeOneType}
 
 -- What a pattern asks at a position: to be a number, or to be made by a constructor. The position is a way through fields:
 -- the number of a field, from 0, then that of a field of its cell, and so on.
@@ -68,3 +69,7 @@ abbrev pub AreTypeNumbers : List ConstructorTree → List ℕ → Type 0
 AreTypeNumbers constructors types =
     (t : TypeTree) (c d : ℕ) (us vs : List TypeTree) → field_types constructors t c ≡ Some us → field_types constructors t d ≡ Some vs
     → AreOfOne types c d
+
+-- Such numbers tell types: constructors of one number make values of one type.
+abbrev pub TellTypes : List ConstructorTree → List ℕ → Type 0
+TellTypes constructors types = (c d : ℕ) → AreOfOne types c d → MakeOneType constructors c d

@@ -1,10 +1,11 @@
 ghost use Rattle.std.specs.Prelude.{◌≡◌, ◌<◌, ◌-◌, List, [], length, map, option_map, count_by, IfOk};
 ghost use Rattle.kk_core.specs.Choosing.{Decides};
 ghost use Rattle.kk_core.specs.Decisions.{node_tree, AreOrderly};
+ghost use Rattle.kk_core.specs.Kinds.{AsksTyped};
 ghost use Rattle.kk_match.specs.Decided.{IsFormed, is_test};
 ghost use Rattle.kk_match.specs.Graphs.{lines_of};
 ghost use Rattle.kk_match.specs.Growing.{IsGraph};
-ghost use Rattle.kk_match.specs.Parts.{types_of, parts_of, AreTypeNumbers};
+ghost use Rattle.kk_match.specs.Parts.{types_of, parts_of, AreTypeNumbers, TellTypes};
 ghost use Rattle.kk_match.specs.Turned.{turned};
 ghost use Rattle.kk_match.specs.Views.{part_of, line_tree, state_tree, types_in, patterns_in, nodes_in};
 ghost use Rattle.kk_syntax.specs.Patterns.{pattern_tree};
@@ -32,11 +33,14 @@ pub struct Rows<'a> {
 
 /// Which tests decide a match: the graph of its states, or, where more states test than eight for each node of the patterns,
 /// the tests of one row after the other. Of each value of a type of the patterns the first row that matches is chosen, if
-/// there is one.
+/// there is one, and each test finds an answer of the type of its edges.
 pub fn decide(alloc: Global, rows: &Rows<'_>) -> Result<Decisions, NoMemory>
     requires { 0 < length rows.now.patterns.items }
     ensures decides { (constructors : List ConstructorTree) → AreTypeNumbers constructors (types_in rows.now)
         → IfOk result (λ found. Decides constructors (patterns_in rows.now) (nodes_in found)) }
+    ensures asks { (constructors : List ConstructorTree) → AreTypeNumbers constructors (types_in rows.now)
+        → TellTypes constructors (types_in rows.now)
+        → IfOk result (λ found. AsksTyped constructors (patterns_in rows.now) (nodes_in found)) }
     ensures formed { IfOk result (λ found.
         IsFormed (types_in rows.now) (patterns_in rows.now) (nodes_in found) found.tests found.by_rows) }
     ensures tests { IfOk result (λ found. found.tests ≡ count_by is_test (nodes_in found)) }

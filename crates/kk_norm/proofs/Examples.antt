@@ -42,7 +42,7 @@ pub is_its_code : (constructors : List ConstructorTree)
 is_its_code constructors = (
   chooses 0 ∷ [],
   arms,
-  decides constructors,
+  (decides constructors, λ t store v typed of. tt),
   (
     subtraction,
     no_arm,

@@ -2,8 +2,8 @@
 -- one.
 use Rattle.std.proofs.Common.{◌≡◌, ℕ, ◌<◌, Bool, true, false, Option, None, Some, option_map, List, length, map, AllPairs, refl, sym, ap, ◌∙◌, subst, inl, inr, arith}
 use Rattle.std.specs.Prelude.{slice_get, if◌then◌else◌, ◌==◌}
-use Rattle.std.proofs.lemmas.Bool.{eqb-true, cases_lt}
-use Rattle.std.proofs.lemmas.Option.{none-some, slice_get-map, slice_get_within, get_or_from_slice_get}
+use Rattle.std.proofs.lemmas.Bool.{eqb-true, eq-eqb, cases_lt}
+use Rattle.std.proofs.lemmas.Option.{none-some, same_Some, slice_get-map, slice_get_within, get_or_from_slice_get}
 use Rattle.kk_syntax.specs.declared.ground.Ground.{Ground}
 use Rattle.kk_syntax.specs.declared.ground.GroundConstructor.{GroundConstructor}
 use Rattle.kk_syntax.specs.GroundPrograms.{ground_types, ground_constructor_tree, ground_program, number_of_type, arguments_of_type}
@@ -11,8 +11,9 @@ use Rattle.kk_syntax.specs.GroundTypes.{is_declared}
 use Rattle.kk_syntax.specs.OfType.{same_type, same_types, field_types, fields_of, fields_with}
 use Rattle.kk_syntax.specs.Programs.{ConstructorTree}
 use Rattle.kk_syntax.specs.Types.{TypeTree, TypeTrees, int32, unit_type, type_variable, named, type_at}
-use Rattle.kk_syntax.proofs.SameTypes.{all_same_only, same_itself}
-use Rattle.kk_match.specs.Parts.{types_of, AreOfOne, AreTypeNumbers}
+use Rattle.kk_syntax.proofs.SameTypes.{all_same_only, same_itself, all_same_itself}
+use Rattle.kk_core.specs.Kinds.{MakeOneType}
+use Rattle.kk_match.specs.Parts.{types_of, AreOfOne, AreTypeNumbers, TellTypes}
 
 -- a type has one number in a table in which none stands twice
 module _ (ts : List TypeTree) (once : AllPairs (λ one other. same_type one other ≡ false) ts) where
@@ -117,3 +118,53 @@ are_type_numbers given = λ t. at t
           second = slice_get-map (λ (k : GroundConstructor). k.of_type) given.constructors.items d
               ∙ (ap (option_map (λ (k : GroundConstructor). k.of_type)) second.there ∙ ap (λ n. Some n) (sym same));
         }
+
+-- a constructor with a number of a type stands in the list, and makes values of the type of that number
+record Numbered (given : Ground) (c of : ℕ) : Type 0 where
+  pub fields : List TypeTree
+  pub makes : field_types (ground_program given).constructors (type_at (ground_types given.types.items) of) c ≡ Some fields
+
+numbered : (given : Ground) (c of : ℕ) → slice_get (types_of given.constructors.items) c ≡ Some of → Numbered given c of
+numbered given c of is =
+    at (slice_get given.constructors.items c) refl (sym (slice_get-map (λ (k : GroundConstructor). k.of_type) given.constructors.items c) ∙ is)
+  where
+    ts : List TypeTree
+    ts = ground_types given.types.items
+
+    cs : List ConstructorTree
+    cs = (ground_program given).constructors
+
+    -- the fields at a constructor's own type
+    own_fields : (made : GroundConstructor) (t : TypeTree) → type_at ts made.of_type ≡ t → is_declared t ≡ true
+        → slice_get cs c ≡ Some (ground_constructor_tree ts made) → field_types cs t c ≡ Some (map (type_at ts) made.fields.items)
+    own_fields made int32 same is there = absurd (cc)
+    own_fields made unit_type same is there = absurd (cc)
+    own_fields made (type_variable of) same is there = absurd (cc)
+    own_fields made (named by arguments) same is there =
+        ap (λ (found : Option ConstructorTree). fields_of found by arguments) there
+        ∙ (ap (λ (b : Bool). if b then fields_with (Some (arguments_of_type (type_at ts made.of_type))) (map (type_at ts) made.fields.items) arguments else None)
+        (eq-eqb (number_of_type (type_at ts made.of_type)) by (ap number_of_type same))
+        ∙ ap (λ (b : Bool). if b then Some (map (type_at ts) made.fields.items) else None)
+        (ap (λ (us : TypeTrees). same_types us arguments) (ap arguments_of_type same) ∙ all_same_itself arguments))
+
+    at : (found : Option GroundConstructor) → slice_get given.constructors.items c ≡ found
+        → option_map (λ (k : GroundConstructor). k.of_type) found ≡ Some of → Numbered given c of
+    at None there some = absurd (none-some of some)
+    at (Some made) there some =
+        let less : c < length given.constructors.items = slice_get_within given.constructors.items c made there in
+        let here = get_or_from_slice_get given.constructors.items c made made there in
+        let declared : is_declared (type_at ts made.of_type) ≡ true =
+        subst (λ (k : GroundConstructor). is_declared (type_at ts k.of_type) ≡ true) here (given.numbered.declared c made less) in
+        let tree : slice_get cs c ≡ Some (ground_constructor_tree ts made) =
+        slice_get-map (ground_constructor_tree ts) given.constructors.items c ∙ ap (option_map (ground_constructor_tree ts)) there in
+        record {
+          fields = map (type_at ts) made.fields.items;
+          makes = subst (λ (n : ℕ). field_types cs (type_at ts n) c ≡ Some (map (type_at ts) made.fields.items))
+              (same_Some made.of_type of some) (own_fields made (type_at ts made.of_type) refl declared tree);
+        }
+
+pub numbers_tell : (given : Ground) → TellTypes (ground_program given).constructors (types_of given.constructors.items)
+numbers_tell given = λ c d one.
+    let first = numbered given c one.of one.first in
+    let second = numbered given d one.of one.second in
+    (type_at (ground_types given.types.items) one.of, first.fields, second.fields, first.makes, second.makes)

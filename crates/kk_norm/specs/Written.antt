@@ -6,6 +6,7 @@ use Rattle.kk_syntax.specs.Trees.{Tree, Trees, Rows, StatementTree, block_of}
 use Rattle.kk_core.specs.Choosing.{Decides}
 use Rattle.kk_core.specs.Codes.{Code, branch, case, Arms, Piece, put, plug, step_piece}
 use Rattle.kk_core.specs.Decisions.{NodeTree}
+use Rattle.kk_core.specs.Kinds.{AsksTyped}
 use Rattle.kk_norm.specs.declared.naming.Named.{Named}
 use Rattle.kk_norm.specs.declared.writer.Writer.{Writer}
 use Rattle.kk_norm.specs.Names.{Names}
@@ -138,7 +139,8 @@ pub record WritesArms (constructors : List ConstructorTree) (tail : Bool) (rows 
 -- a code goes on by variable a as the arms of rows whose numbers begin at n
 abbrev pub IsCase : List ConstructorTree → Bool → Names → ℕ → ℕ → Rows → Code → Type 0
 IsCase constructors tail names n a rows code =
-    (decisions : List NodeTree) × (arms : Arms) × Decides constructors (patterns_in rows) decisions
+    (decisions : List NodeTree) × (arms : Arms)
+    × (Decides constructors (patterns_in rows) decisions × AsksTyped constructors (patterns_in rows) decisions)
     × AreArms constructors (final tail) names a n rows arms × (code ≡ case a decisions arms)
 
 -- a scrutinee is written, and `last` goes on by it; the rows take the numbers behind its own

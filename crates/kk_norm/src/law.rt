@@ -1,6 +1,7 @@
 ghost use Rattle.std.specs.Prelude.{◌≡◌, true};
 ghost use Rattle.kk_syntax.specs.GroundTyping.{table_of, IsGroundTyped};
 ghost use Rattle.kk_syntax.specs.Programs.{ProgramTree};
+ghost use Rattle.kk_core.specs.Asking.{AllAskTyped};
 ghost use Rattle.kk_core.specs.Codes.{ProgramCode};
 ghost use Rattle.kk_core.specs.CoreTyping.{IsCoreTyped, IsSmall};
 ghost use Rattle.kk_core.specs.Plain.{are_plain_codes};
@@ -26,9 +27,15 @@ pub fn plain_core_forms_keep_meaning()
 /// A core form of a program that is typed, and whose matches are covered, keeps its meaning: its machine tells the same events,
 /// the same numbers of live places and of call frames, and ends alike, on every input, for all lent positions, cells and
 /// depth; with at most two steps for a step of the source, and one more for each cell that a row of a match opens. Its
-/// decisions may be any that choose the first row that matches. It is a law, and does nothing.
+/// decisions may be any that choose the first row that matches and ask what types tell. It is a law, and does nothing.
 pub fn core_forms_of_typed_programs_keep_meaning()
     ensures { (program : ProgramTree) (code : ProgramCode) → IsGroundTyped program → IsCoreForm program code → KeepsMeaningByCells program code }
+{}
+
+/// A core form asks what types tell: for each value of a type that all the patterns of a match are of, each test of its decisions
+/// finds an answer of the type of its edges. It is a law, and does nothing.
+pub fn core_forms_ask_what_types_tell()
+    ensures { (program : ProgramTree) (code : ProgramCode) → IsCoreForm program code → AllAskTyped program.constructors code }
 {}
 
 /// A core form of a program that is within the limits is small: a node of a body binds at most one variable, and makes at most

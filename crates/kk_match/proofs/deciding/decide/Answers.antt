@@ -10,6 +10,7 @@ use Rattle.kk_match.specs.InTurn.{with_rows}
 use Rattle.kk_match.specs.Parts.{types_of}
 use Rattle.kk_match.specs.Turned.{turned}
 use Rattle.kk_match.specs.Views.{part_of, state_tree}
+use Rattle.kk_match.proofs.Asking.{formed_asks}
 use Rattle.kk_match.proofs.Decided.{also, also_all, lines_same, graph_some, graph_orderly, graph_decides, graph_formed, turn_some, turn_orderly, turn_decides, turn_formed, formed_as}
 use Rattle.kk_match.proofs.deciding.decide.Goals as goal
 
@@ -124,3 +125,15 @@ returns-clause-formed c =
     let is : nodes ≡ with_rows (lines_from types 0 ps) [] = c.in_ok-nodes-in-None.ensures ∙ ap (λ s. with_rows s []) again in
     also_all c.finished-in-None.result c.finished-in-None.ensures.nodes c.finished-in-None.ensures.tests c.finished-in-None.ensures.by_rows
     (λ found same tests by. formed_as types ps (turned last nodes) (map node_tree found.nodes.items) found.tests found.by_rows true (turn_formed types ps nodes last (ap (λ n. n - 1) (sym (length-map c.in_ok-nodes-in-None.nodes.items node_tree))) is more) same tests by)
+
+pub returns-in-Some-clause-asks : goal.returns-in-Some-clause-asks
+returns-in-Some-clause-asks c = λ constructors numbers tell.
+    also c.finished.result (returns-in-Some-clause-formed c)
+    (λ found formed. formed_asks constructors (types_of c.args.rows.now.constructors.now) (map (λ p. pattern_tree p.now) c.args.rows.now.patterns.items)
+    (map node_tree found.nodes.items) found.tests found.by_rows numbers tell formed)
+
+pub returns-clause-asks : goal.returns-clause-asks
+returns-clause-asks c = λ constructors numbers tell.
+    also c.finished-in-None.result (returns-clause-formed c)
+    (λ found formed. formed_asks constructors (types_of c.args.rows.now.constructors.now) (map (λ p. pattern_tree p.now) c.args.rows.now.patterns.items)
+    (map node_tree found.nodes.items) found.tests found.by_rows numbers tell formed)
