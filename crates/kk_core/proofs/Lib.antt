@@ -1,3 +1,4 @@
+mod Asking
 mod ChosenArms
 mod Examples
 mod PlainCodes
@@ -6,5 +7,6 @@ mod Safe
 mod SafeRuns
 mod SafeSteps
 mod Stands
+pub mod TakenKinds
 mod TypedExamples
 mod TypedStates

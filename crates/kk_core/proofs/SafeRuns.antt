@@ -25,7 +25,7 @@ module _ (table : Table) (setting : CoreSetting) (typed : IsCoreTyped table sett
       (sym (get_or_from_slice_get setting.code.functions setting.code.main there.0 no_code there.1))
       (entered table there.0 (record { parameters = []; result = unit_type }) [] (core_start setting) there.2 tt refl)
 
-  run_typed : (weight : CoreState → ℕ) (input : List ℕ) (n : ℕ)
+  pub run_typed : (weight : CoreState → ℕ) (input : List ℕ) (n : ℕ)
       → IsStateTyped table (state (core_machine weight setting) n (core_first_state setting input)).machine
   run_typed weight input n =
       run_keeps (IsStateTyped table) weight core_ending_of (core_step_of setting) (step_safe table setting typed) n

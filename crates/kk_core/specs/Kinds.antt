@@ -1,6 +1,7 @@
 -- Of which kind values are where code runs as its types tell: operators and prints take numbers, `!` and branches take truths,
 -- and a test finds an answer of the type of its edges.
 use Rattle.std.specs.Prelude.{◌≡◌, ℕ, zero, suc, ℤ, Bool, true, false, List, [], ◌∷◌, map, length, Option, Some, None, nat_eq, slice_get, slice_index_or}
+use Rattle.kk_base.specs.Machines.{state}
 use Rattle.kk_syntax.specs.declared.program.Form.{Form}
 use Rattle.kk_syntax.specs.declared.program.Form.TheVariants.{Unary, Binary, Print}
 use Rattle.kk_syntax.specs.declared.operator.UnaryOperator.TheVariants.{Negate, Not}
@@ -14,8 +15,9 @@ use Rattle.kk_source.specs.FormEffects.{truth}
 use Rattle.kk_source.specs.Live.{value_of}
 use Rattle.kk_source.specs.State.{Value, integer, place, Cell, Store}
 use Rattle.kk_source.specs.ValueTypes.{IsOf}
-use Rattle.kk_core.specs.Codes.{branch, case, compute}
-use Rattle.kk_core.specs.CoreStates.{CoreControl, running, CoreConfiguration}
+use Rattle.kk_core.specs.Codes.{Code, give, tail_call, branch, case, compute, use_of, unpack, inside, Arms, no_arm, arm, patterns_of, FunctionCode, ProgramCode}
+use Rattle.kk_core.specs.CoreMachine.{core_machine}
+use Rattle.kk_core.specs.CoreStates.{CoreSetting, CoreControl, running, CoreConfiguration, CoreState, core_first_state}
 use Rattle.kk_core.specs.Decisions.{NodeTree, chooses, tests, value_at, answer_of, next_by}
 use Rattle.kk_core.specs.declared.decisions.Answer.{Answer}
 use Rattle.kk_core.specs.declared.decisions.Answer.TheVariants.{Number, Constructor}
@@ -99,6 +101,28 @@ AsksTyped constructors patterns decisions =
     → IsOf constructors store t v
     → TestsAlike (MakeOneType constructors) (field_count constructors) (slice_get store) v decisions
 
+-- each case of a code asks what types tell
+abbrev mutual
+  pub AskTyped : List ConstructorTree → Code → Type 0
+  AskTyped constructors (give x) = Unit {0}
+  AskTyped constructors (tail_call f arguments) = Unit {0}
+  AskTyped constructors (branch x positive negative) = AskTyped constructors positive × AskTyped constructors negative
+  AskTyped constructors (case x decisions arms) =
+      AsksTyped constructors (patterns_of arms) decisions × ArmsAskTyped constructors arms
+  AskTyped constructors (compute x form arguments rest) = AskTyped constructors rest
+  AskTyped constructors (use_of x rest) = AskTyped constructors rest
+  AskTyped constructors (unpack x by fields rest) = AskTyped constructors rest
+  AskTyped constructors (inside x block rest) = AskTyped constructors block × AskTyped constructors rest
+
+  pub ArmsAskTyped : List ConstructorTree → Arms → Type 0
+  ArmsAskTyped constructors no_arm = Unit {0}
+  ArmsAskTyped constructors (arm pattern body rest) = AskTyped constructors body × ArmsAskTyped constructors rest
+
+-- in each function of a program
+abbrev pub AllAskTyped : List ConstructorTree → ProgramCode → Type 0
+AllAskTyped constructors code =
+    (f : ℕ) (function : FunctionCode) → slice_get code.functions f ≡ Some function → AskTyped constructors function.body
+
 -- ---- states
 
 -- what the code of a state takes is of the kinds that it asks for
@@ -109,3 +133,9 @@ HasKinds alike fields (running (case x decisions arms) environment joins) c =
 HasKinds alike fields (running (compute x form arguments rest) environment joins) c =
     TakesKinds form (map (value_of environment) arguments)
 HasKinds alike fields _ c = Unit {0}
+
+-- so in each state of a run
+abbrev pub HasKindsAlways : (ℕ → ℕ → Type 0) → (ℕ → ℕ) → (CoreState → ℕ) → CoreSetting → List ℕ → Type 0
+HasKindsAlways alike fields weight setting input =
+    (n : ℕ) → HasKinds alike fields (state (core_machine weight setting) n (core_first_state setting input)).machine.control
+    (state (core_machine weight setting) n (core_first_state setting input)).machine

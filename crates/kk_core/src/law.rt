@@ -3,6 +3,7 @@ ghost use Rattle.kk_syntax.specs.GroundTyping.{Table};
 ghost use Rattle.kk_core.specs.Codes.{ProgramCode};
 ghost use Rattle.kk_core.specs.CoreStates.{CoreSetting, CoreState};
 ghost use Rattle.kk_core.specs.CoreTyping.{IsCoreTyped};
+ghost use Rattle.kk_core.specs.Kinds.{MakeOneType, field_count, AllAskTyped, HasKindsAlways};
 ghost use Rattle.kk_core.specs.NeverStuck.{NeverStuck};
 ghost use Rattle.kk_core.specs.Plain.{are_plain_codes};
 ghost use Rattle.kk_core.specs.PlainCoreTyping.{IsPlainCoreTyped};
@@ -13,6 +14,15 @@ ghost use Rattle.kk_core.specs.PlainCoreTyping.{IsPlainCoreTyped};
 pub fn typed_code_is_never_stuck()
     ensures { (table : Table) (setting : CoreSetting) (weight : CoreState → ℕ) (input : List ℕ)
         → IsCoreTyped table setting.code → NeverStuck table.constructors weight setting input }
+{}
+
+/// In each state of a run of a typed program, whose cases ask what types tell, values are of the kinds that the code takes: a branch
+/// finds a truth, operators and prints find numbers and truths, and each test of a case finds an answer of the type of its edges. It
+/// is a law, and does nothing.
+pub fn typed_code_has_its_kinds()
+    ensures { (table : Table) (setting : CoreSetting) (weight : CoreState → ℕ) (input : List ℕ)
+        → IsCoreTyped table setting.code → AllAskTyped table.constructors setting.code
+        → HasKindsAlways (MakeOneType table.constructors) (field_count table.constructors) weight setting input }
 {}
 
 /// A typed program without cases and openings, which constructs `False` and `True` alone, has the types of programs without

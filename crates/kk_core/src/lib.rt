@@ -9,5 +9,7 @@ mod shape;
 
 pub use decisions::{Answer, Decisions, Edge, Node};
 pub use form::{Arm, Block, Core, CoreFunction, Last, Step};
-pub use law::{code_without_cells_has_plain_types, typed_code_is_never_stuck};
+pub use law::{
+    code_without_cells_has_plain_types, typed_code_has_its_kinds, typed_code_is_never_stuck,
+};
 pub use shape::ConstructorShape;

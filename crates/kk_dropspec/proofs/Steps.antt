@@ -44,7 +44,7 @@ tail_same : (found : Option CountedFunction) (values : List Value) (from : Count
 tail_same None values from = refl
 tail_same (Some function) values from = refl
 
-arm_same : (arms : CountedArms) (row : ℕ) → arm_at (special_arms arms) row ≡ option_map special (arm_at arms row)
+pub arm_same : (arms : CountedArms) (row : ℕ) → arm_at (special_arms arms) row ≡ option_map special (arm_at arms row)
 arm_same no_arm row = refl
 arm_same (arm body rest) zero = refl
 arm_same (arm body rest) (suc row) = arm_same rest row

@@ -1,13 +1,16 @@
 ghost use Rattle.std.specs.Prelude.{◌≡◌, ℕ, List};
 ghost use Rattle.kk_syntax.specs.PositionsOf.{PositionTable};
+ghost use Rattle.kk_syntax.specs.Programs.{ConstructorTree};
+ghost use Rattle.kk_core.specs.Kinds.{MakeOneType, field_count};
 ghost use Rattle.kk_counted.specs.CountedCodes.{CountedProgram};
 ghost use Rattle.kk_counted.specs.CountedStates.{CountedSetting, CountedState};
-ghost use Rattle.kk_counted.specs.Keeping.{FitsAlways};
+ghost use Rattle.kk_counted.specs.Keeping.{FitsAlways, HasShapeAlways};
+ghost use Rattle.kk_counted.specs.Kinds.{HasKindsAlways};
 ghost use Rattle.kk_counted.specs.Spending.{IsSpent};
 ghost use Rattle.kk_counted.specs.TokenedCodes.{Tokened};
 ghost use Rattle.kk_counted.specs.BareForms.{bare};
 ghost use Rattle.kk_counted.specs.TokenSpending.{SpendsTokens};
-ghost use Rattle.kk_dropspec.specs.Specialised.{special, special_program};
+ghost use Rattle.kk_dropspec.specs.Specialised.{special, special_program, special_setting};
 ghost use Rattle.kk_dropspec.specs.SpecialTokens.{special_tokened};
 ghost use Rattle.kk_dropspec.specs.SameRuns.{AreSameAfter};
 
@@ -25,6 +28,21 @@ pub fn specialised_code_runs_the_same()
         → IsSpent positions setting.program
         → FitsAlways weight setting input
         → (n : ℕ) → AreSameAfter n weight other setting input }
+{}
+
+/// In each state of its run specialised code has the shape of a typed program, and takes values of the kinds that it asks for, where
+/// the code does that it is made of. It is a law, and does nothing.
+pub fn specialised_code_has_its_kinds()
+    ensures shape { (positions : PositionTable) (setting : CountedSetting) (weight other : CountedState → ℕ) (input : List ℕ)
+        → IsSpent positions setting.program
+        → FitsAlways weight setting input
+        → HasShapeAlways weight setting input → HasShapeAlways other (special_setting setting) input }
+    ensures kinds { (constructors : List ConstructorTree) (positions : PositionTable) (setting : CountedSetting)
+        (weight other : CountedState → ℕ) (input : List ℕ)
+        → IsSpent positions setting.program
+        → FitsAlways weight setting input
+        → HasKindsAlways (MakeOneType constructors) (field_count constructors) weight setting input
+        → HasKindsAlways (MakeOneType constructors) (field_count constructors) other (special_setting setting) input }
 {}
 
 /// Specialised code with tokens has the specialised code as its bare form, and spends each token that the code spends that it

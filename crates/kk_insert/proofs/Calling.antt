@@ -20,7 +20,7 @@ use Rattle.kk_counted.specs.CountedStates.{CountedFrame, CountedConfiguration}
 use Rattle.kk_counted.specs.CountedMachine.{tail_step as counted_tail_step, call_step as counted_call_step, in_code as counted_in_code, at_end as counted_at_end}
 use Rattle.kk_counted.specs.References.{refs_of, refs, IsSound}
 use Rattle.kk_counted.specs.Spending.{at_positions, left_by, is_owned}
-use Rattle.kk_counted.specs.Keeping.{values_of, AreReached}
+use Rattle.kk_counted.specs.Keeping.{values_of, AreReached, IsThere}
 use Rattle.kk_counted.proofs.Counting.{refs_append}
 use Rattle.kk_counted.proofs.Variables.{refs_of_both, among_values, among_others, values_at}
 use Rattle.kk_counted.proofs.Reaching.{same_store, reached_widen}
@@ -109,7 +109,10 @@ module _ (setting : CoreSetting) (promise : IsInsertable setting.positions setti
       (counted_tail_step o (map (value_of environment) arguments)
       (conf (Counted.tail_call f arguments) environment [] frames after)) input)
       (inserted_there setting.positions setting.code.functions f function there))
-      (tt, (tt, tt))
+      (tt, (tt, (tt, (
+        (inserted_function setting.positions f function, inserted_there setting.positions setting.code.functions f function there),
+        tt,
+      ))))
       (enters setting from lent below frames after (store ∙ same_store heap after (sym cells)) waits input f function
       (map (value_of environment) arguments) (promise.each f function there) many
       (λ at among.
@@ -218,6 +221,10 @@ module _ (setting : CoreSetting) (promise : IsInsertable setting.positions setti
         (with_input before_call input)) (sym there)
         (by_test (nat_le setting.depth (suc (length from.frames))) refl)
       where
+        is_there : IsThere (inserted_functions setting.positions 0 setting.code.functions) f
+        is_there =
+            (inserted_function setting.positions f function, inserted_there setting.positions setting.code.functions f function there)
+
         step_is : (t : Bool) → nat_le setting.depth (suc (length from.frames)) ≡ t
             → performed (counted_call_step (inserted_setting setting)
             (slice_get (inserted_functions setting.positions 0 setting.code.functions) f) values image before_call) input
@@ -250,7 +257,7 @@ module _ (setting : CoreSetting) (promise : IsInsertable setting.positions setti
             path_step (inserted_setting setting) 0 (called (suc (length from.frames)) ∷ []) []
             (Stands setting.positions setting.code.functions (record { machine = at_end stack_full from; input = input }))
             (with_input before_call input) (with_input (counted_at_end stack_full before_call) input) (step_is true is)
-            (tt, (tt, tt))
+            (tt, (tt, (tt, (is_there, tt))))
             (path_here (inserted_setting setting)
             (Stands setting.positions setting.code.functions (record { machine = at_end stack_full from; input = input }))
             (with_input (counted_at_end stack_full before_call) input) (refl, (refl, tt)))
@@ -260,7 +267,7 @@ module _ (setting : CoreSetting) (promise : IsInsertable setting.positions setti
             (record { machine = in_code function values (record from { frames = waiting ∷ from.frames }); input = input }))
             (with_input before_call input)
             (with_input (counted_in_code (inserted_function setting.positions f function) values
-            (record before_call { frames = image ∷ frames })) input) (step_is false is) (tt, (tt, tt))
+            (record before_call { frames = image ∷ frames })) input) (step_is false is) (tt, (tt, (tt, (is_there, tt))))
             (enters setting (record from { frames = waiting ∷ from.frames }) lent (values_of environment held ++ below)
             (image ∷ frames) heap store waits_longer input f function values (promise.each f function there) many lents
             (moved (values_of environment (used setting.positions (Call f) arguments ++ held) ++ below)

@@ -18,21 +18,23 @@ use Rattle.kk_core.specs.Codes.{Code, compute}
 use Rattle.kk_core.specs.CoreStates.{CoreSetting, Join, CallFrame, CoreConfiguration}
 use Rattle.kk_core.specs.CoreMachine.{bound_then, at_end, held_for, held_by_frames, form_step}
 use Rattle.kk_source.specs.NeverStuck.{ArgumentsFit}
+use Rattle.kk_core.specs.Kinds.{TakesKinds}
 use Rattle.kk_core.specs.NeverStuck.{CallFits}
+use Rattle.kk_core.proofs.TakenKinds.{takes_kinds}
 use Rattle.kk_counted.specs.CountedCodes as Counted
 use Rattle.kk_counted.specs.Heaps.{Heap, count_at, forwards, busy}
 use Rattle.kk_counted.specs.CountedStates.{CountedFrame, CountedConfiguration}
 use Rattle.kk_counted.specs.CountedMachine.{at_end as counted_at_end, counted_code_step}
 use Rattle.kk_counted.specs.References.{refs_of, refs, counted_fields, IsSound}
 use Rattle.kk_counted.specs.Spending.{left_by}
-use Rattle.kk_counted.specs.Keeping.{values_of, HasNoCell, HaveNoCells, TakesNoCells, AreReached}
+use Rattle.kk_counted.specs.Keeping.{values_of, HasNoCell, HaveNoCells, TakesNoCells, AreReached, CallsOne}
 use Rattle.kk_counted.proofs.Counting.{refs_append, counted_within}
 use Rattle.kk_counted.proofs.Heaps.{positive}
 use Rattle.kk_counted.proofs.Variables.{refs_of_both}
 use Rattle.kk_counted.proofs.Reaching.{all_within, forwards_length, same_store, reached_longer, built as counts_built, built_older}
 use Rattle.kk_counted.proofs.SoundSteps.{no_refs, unary_free, number_free, byte_free}
 use Rattle.kk_insert.specs.Meaning.{inserted_setting}
-use Rattle.kk_insert.specs.Insertion.{used, lends, owns, own, back, insert}
+use Rattle.kk_insert.specs.Insertion.{used, lends, owns, own, back, insert, inserted_functions}
 use Rattle.kk_insert.specs.Promise.{IsInsertable}
 use Rattle.kk_insert.proofs.Sets.{false_if, no_both}
 use Rattle.kk_insert.proofs.Owned.{lends_part}
@@ -61,6 +63,19 @@ takes_none setting constructors (Binary operator) vs fits = subst HaveNoCells (s
 takes_none setting constructors (Print form) vs fits = subst HaveNoCells (sym fits.1) (tt, tt)
 takes_none setting constructors (Construct c) vs fits = tt
 takes_none setting constructors (Call f) vs fits = tt
+
+-- what a form takes is of the kinds that it asks for
+abbrev Fits : CoreSetting → Form → List Value → Type 0
+Fits setting form vs =
+    TakesNoCells form vs × (CallsOne (inserted_functions setting.positions 0 setting.code.functions) form × TakesKinds form vs)
+
+form_fits : (setting : CoreSetting) (constructors : List ConstructorTree) (form : Form) (vs : List Value)
+    → ArgumentsFit constructors setting.code.texts (CallFits constructors setting.code) form vs
+    → CallsOne (inserted_functions setting.positions 0 setting.code.functions) form → Fits setting form vs
+form_fits setting constructors form vs fits calls = (
+  takes_none setting constructors form vs fits,
+  (calls, takes_kinds constructors setting.code.texts (CallFits constructors setting.code) form vs fits),
+)
 
 -- functions that wait, where a cell is made
 frames_longer : (setting : CoreSetting) (store : Store) (cell : Cell) (frames : List CallFrame) (cs : List CountedFrame)
@@ -152,7 +167,7 @@ module _ (setting : CoreSetting) (constructors : List ConstructorTree) (promise 
         → performed (counted_code_step (inserted_setting setting) (Counted.compute x form arguments (behind form)) environment
         (image_joins setting.positions setting.code.functions lent joins) (before_form form)) input ≡
         ([], with_input (with_value v) input)
-        → TakesNoCells form (values_of environment arguments)
+        → Fits setting form (values_of environment arguments)
         → ((q : ℕ) → refs_of v q ≡ 0) → HaveNoCells (values_of environment arguments)
         → IsSound (values_of environment (arguments ++ without (x ∷ []) now) ++ below) heap
         → Path (inserted_setting setting) 1 []
@@ -163,13 +178,13 @@ module _ (setting : CoreSetting) (constructors : List ConstructorTree) (promise 
         (Stands setting.positions setting.code.functions
         (record { machine = bound_then x v rest environment joins from; input = input })) (with_input (before_form form) input)
         (with_input (with_value v) input) is
-        (tt, (fits, tt)) (value_lands v input free none sound)
+        (tt, (fits.0, (tt, fits.1))) (value_lands v input free none sound)
 
     print_comes : (form : Form) (piece : List ℕ)
         → performed (counted_code_step (inserted_setting setting) (Counted.compute x form arguments (behind form)) environment
         (image_joins setting.positions setting.code.functions lent joins) (before_form form)) input ≡ performed
         (print_step piece (with_value unit)) input
-        → TakesNoCells form (values_of environment arguments)
+        → Fits setting form (values_of environment arguments)
         → HaveNoCells (values_of environment arguments)
         → IsSound (values_of environment (arguments ++ without (x ∷ []) now) ++ below) heap
         → Follows setting.positions setting.code.functions (inserted_setting setting) 1
@@ -179,13 +194,13 @@ module _ (setting : CoreSetting) (constructors : List ConstructorTree) (promise 
         (Stands setting.positions setting.code.functions
         (record { machine = bound_then x unit rest environment joins from; input = input }))
         (with_input (before_form form) input) (with_input (with_value unit) input) is
-        (tt, (fits, tt)) (value_lands unit input (λ q. refl) none sound)
+        (tt, (fits.0, (tt, fits.1))) (value_lands unit input (λ q. refl) none sound)
     print_comes form (byte ∷ bytes) is fits none sound =
         path_step (inserted_setting setting) 0 (seen (output (byte ∷ bytes)) ∷ []) []
         (Stands setting.positions setting.code.functions
         (record { machine = bound_then x unit rest environment joins from; input = input }))
         (with_input (before_form form) input) (with_input (with_value unit) input) is
-        (tt, (fits, tt)) (value_lands unit input (λ q. refl) none sound)
+        (tt, (fits.0, (tt, fits.1))) (value_lands unit input (λ q. refl) none sound)
 
     -- ---- constructions
 
@@ -311,7 +326,7 @@ module _ (setting : CoreSetting) (constructors : List ConstructorTree) (promise 
               path_step (inserted_setting setting) 0 (built found ∷ []) []
               (Stands setting.positions setting.code.functions (record { machine = at_end heap_full from; input = input }))
               (with_input (before_form (Construct c)) input)
-              (with_input (counted_at_end heap_full (before_form (Construct c))) input) (step_is true is) (tt, (tt, tt))
+              (with_input (counted_at_end heap_full (before_form (Construct c))) input) (step_is true is) (tt, (tt, (tt, (tt, tt))))
               (path_here (inserted_setting setting)
               (Stands setting.positions setting.code.functions (record { machine = at_end heap_full from; input = input }))
               (with_input (counted_at_end heap_full (before_form (Construct c))) input) (refl, (refl, tt)))
@@ -324,7 +339,7 @@ module _ (setting : CoreSetting) (constructors : List ConstructorTree) (promise 
                 input = input;
               }))
               (with_input (before_form (Construct c)) input) (with_input (with_cell (length from.store)) input) (step_is false is)
-              (tt, (tt, tt)) cell_lands
+              (tt, (tt, (tt, (tt, tt)))) cell_lands
 
 module _ (setting : CoreSetting) (constructors : List ConstructorTree) (promise : IsInsertable setting.positions setting.code)
     (from : CoreConfiguration) (lent : List ℕ) (below : List Value) (frames : List CountedFrame) (heap : Heap)
@@ -347,7 +362,7 @@ module _ (setting : CoreSetting) (constructors : List ConstructorTree) (promise 
       (with_input (before_form setting constructors promise from lent below frames heap store waits x arguments rest environment
       joins rest_ok joins_ok reached ReadByte) [])
       (with_input (with_value setting constructors promise from lent below frames heap store waits x arguments rest environment
-      joins rest_ok joins_ok reached (byte_value None)) []) refl (tt, (none, tt))
+      joins rest_ok joins_ok reached (byte_value None)) []) refl (tt, (none, (tt, (tt, tt))))
       (value_lands setting constructors promise from lent below frames heap store waits x arguments rest environment joins rest_ok
       joins_ok reached (byte_value None) [] (byte_free None) none sound)
   reads (byte ∷ bytes) arguments none sound =
@@ -357,7 +372,7 @@ module _ (setting : CoreSetting) (constructors : List ConstructorTree) (promise 
       (with_input (before_form setting constructors promise from lent below frames heap store waits x arguments rest environment
       joins rest_ok joins_ok reached ReadByte) (byte ∷ bytes))
       (with_input (with_value setting constructors promise from lent below frames heap store waits x arguments rest environment
-      joins rest_ok joins_ok reached (byte_value (Some byte))) bytes) refl (tt, (none, tt))
+      joins rest_ok joins_ok reached (byte_value (Some byte))) bytes) refl (tt, (none, (tt, (tt, tt))))
       (value_lands setting constructors promise from lent below frames heap store waits x arguments rest environment joins rest_ok
       joins_ok reached (byte_value (Some byte)) bytes (byte_free (Some byte)) none sound)
 
@@ -369,7 +384,7 @@ module _ (setting : CoreSetting) (constructors : List ConstructorTree) (promise 
         rest_ok joins_ok reached input (Construct c)
     constructs c [] sound =
         value_comes setting constructors promise from lent below frames heap store waits x
-        [] rest environment joins rest_ok joins_ok reached input (Construct c) (constant c) refl tt (λ q. refl) tt sound
+        [] rest environment joins rest_ok joins_ok reached input (Construct c) (constant c) refl (tt, (tt, tt)) (λ q. refl) tt sound
     constructs c (y ∷ ys) sound =
         made setting constructors promise from lent below frames heap store waits x
         (y ∷ ys) rest environment joins rest_ok joins_ok reached input c sound refl
@@ -385,24 +400,24 @@ module _ (setting : CoreSetting) (constructors : List ConstructorTree) (promise 
     form_at (Number n) arguments fits new sound =
         value_comes setting constructors promise from lent below frames heap store waits x arguments rest environment joins rest_ok
         joins_ok reached input (Number n) (integer n) refl
-        (takes_none setting constructors (Number n) (map (value_of environment) arguments) fits) (λ q. refl)
+        (form_fits setting constructors (Number n) (map (value_of environment) arguments) fits tt) (λ q. refl)
         (takes_none setting constructors (Number n) (map (value_of environment) arguments) fits) sound
     form_at Nothing arguments fits new sound =
         value_comes setting constructors promise from lent below frames heap store waits x arguments rest environment joins rest_ok
         joins_ok reached input Nothing unit refl
-        (takes_none setting constructors Nothing (map (value_of environment) arguments) fits) (λ q. refl)
+        (form_fits setting constructors Nothing (map (value_of environment) arguments) fits tt) (λ q. refl)
         (takes_none setting constructors Nothing (map (value_of environment) arguments) fits) sound
     form_at ReadByte arguments fits new sound = reads input arguments
         (takes_none setting constructors ReadByte (map (value_of environment) arguments) fits) sound
     form_at (PrintText form text) arguments fits new sound =
         print_comes setting constructors promise from lent below frames heap store waits x arguments rest environment joins rest_ok
         joins_ok reached input (PrintText form text) (piece_of form (text_at setting.code.texts text)) refl
-        (takes_none setting constructors (PrintText form text) (map (value_of environment) arguments) fits)
+        (form_fits setting constructors (PrintText form text) (map (value_of environment) arguments) fits tt)
         (takes_none setting constructors (PrintText form text) (map (value_of environment) arguments) fits) sound
     form_at (Unary operator) arguments fits new sound =
         value_comes setting constructors promise from lent below frames heap store waits x arguments rest environment joins rest_ok
         joins_ok reached input (Unary operator) (unary_result operator (argument 0 (map (value_of environment) arguments))) refl
-        (takes_none setting constructors (Unary operator) (map (value_of environment) arguments) fits)
+        (form_fits setting constructors (Unary operator) (map (value_of environment) arguments) fits tt)
         (unary_free operator (argument 0 (map (value_of environment) arguments)))
         (takes_none setting constructors (Unary operator) (map (value_of environment) arguments) fits) sound
     form_at (Binary operator) arguments fits new sound =
@@ -410,7 +425,7 @@ module _ (setting : CoreSetting) (constructors : List ConstructorTree) (promise 
         joins_ok reached input (Binary operator)
         (binary_result operator (argument 0 (map (value_of environment) arguments))
         (argument 1 (map (value_of environment) arguments))) refl
-        (takes_none setting constructors (Binary operator) (map (value_of environment) arguments) fits)
+        (form_fits setting constructors (Binary operator) (map (value_of environment) arguments) fits tt)
         (number_free operator (integer_of (argument 0 (map (value_of environment) arguments)))
         (integer_of (argument 1 (map (value_of environment) arguments))))
         (takes_none setting constructors (Binary operator) (map (value_of environment) arguments) fits) sound
@@ -418,7 +433,7 @@ module _ (setting : CoreSetting) (constructors : List ConstructorTree) (promise 
         print_comes setting constructors promise from lent below frames heap store waits x arguments rest environment joins rest_ok
         joins_ok reached input (Print form)
         (piece_of form (signed_decimal (integer_of (argument 0 (map (value_of environment) arguments))))) refl
-        (takes_none setting constructors (Print form) (map (value_of environment) arguments) fits)
+        (form_fits setting constructors (Print form) (map (value_of environment) arguments) fits tt)
         (takes_none setting constructors (Print form) (map (value_of environment) arguments) fits) sound
     form_at (Construct c) arguments fits new sound = constructs c arguments sound
     form_at (Call f) arguments fits new sound =

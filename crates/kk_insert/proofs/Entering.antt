@@ -191,7 +191,7 @@ module _ (setting : CoreSetting) (constructors : List ConstructorTree) (from : C
       (insert setting.positions lent (left_by (left_of setting.positions setting.code.functions lent joins)) join.rest))
       (record { variable = join.variable; value = value_of environment x } ∷ environment)
       (image_joins setting.positions setting.code.functions lent joins) frames after) input)
-      refl (tt, (tt, tt))
+      refl (tt, (tt, (tt, (tt, tt))))
       (landing_path (inserted_setting setting)
       (Stands setting.positions setting.code.functions
       (record { machine = bound_then join.variable (value_of environment x) join.rest environment joins from; input = input }))
@@ -233,7 +233,7 @@ module _ (setting : CoreSetting) (constructors : List ConstructorTree) (from : C
       (Stands setting.positions setting.code.functions (record { machine = at_end ended from; input = input }))
       (with_input (conf (Counted.give x) environment [] [] after) input)
       (with_input (record { control = Final.stopped ended; frames = []; heap = after }) input)
-      refl (tt, (tt, tt))
+      refl (tt, (tt, (tt, (tt, tt))))
       (path_here (inserted_setting setting)
       (Stands setting.positions setting.code.functions (record { machine = at_end ended from; input = input }))
       (with_input (record { control = Final.stopped ended; frames = []; heap = after }) input) (refl, (refl, none)))
@@ -267,7 +267,7 @@ module _ (setting : CoreSetting) (constructors : List ConstructorTree) (from : C
       (with_input (conf (image_frame setting.positions setting.code.functions stand.1.0.lent stand.1.0.given frame).rest
       (record { variable = frame.variable; value = value_of environment x } ∷ frame.environment)
       (image_joins setting.positions setting.code.functions stand.1.0.lent frame.joins) cs after) input)
-      refl (tt, (tt, tt))
+      refl (tt, (tt, (tt, (tt, tt))))
       (lands setting (record from { frames = older }) stand.1.0.lent stand.0 cs after
       (store ∙ same_store heap after (sym cells)) stand.1.1 input
       frame.variable (value_of environment x) frame.rest frame.environment frame.joins stand.1.0.given

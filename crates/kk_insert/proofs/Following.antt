@@ -12,6 +12,7 @@ use Rattle.kk_core.specs.Codes.{Code, branch, case, use_of, unpack, inside, Arms
 use Rattle.kk_core.specs.CoreStates.{CoreSetting, Join, CoreConfiguration, CoreState}
 use Rattle.kk_core.specs.CoreMachine.{at_code, bind_fields, fields_opened, unpack_step, arm_at, case_step}
 use Rattle.kk_core.specs.Decisions.{NodeTree, chosen}
+use Rattle.kk_core.specs.Kinds.{IsTruth}
 use Rattle.kk_core.specs.Sizes.{forms, forms_of_arms, most_forms}
 use Rattle.kk_counted.specs.CountedCodes as Counted
 use Rattle.kk_counted.specs.Heaps.{Heap, forwards, count_at, cell_at, fields_held}
@@ -19,7 +20,7 @@ use Rattle.kk_counted.specs.CountedStates.{CountedFrame, CountedState}
 use Rattle.kk_counted.specs.CountedMachine.{with_heap, arm_at as counted_arm_at, case_step as counted_case_step, if_made_by, Named, cell_named, used_values, other_values, opened_heap, open_step}
 use Rattle.kk_counted.specs.References.{refs_of, refs, IsSound, IsCounted, cells_of}
 use Rattle.kk_counted.specs.Spending.{total, AreApart, AreFresh, left_by}
-use Rattle.kk_counted.specs.Keeping.{values_of, AreReached}
+use Rattle.kk_counted.specs.Keeping.{values_of, AreReached, IsCell}
 use Rattle.kk_counted.proofs.Counting.{itself, refs_append}
 use Rattle.kk_counted.proofs.Heaps.{Became, ref_here, positive, value_counted, fields_counted, with_fields, opened}
 use Rattle.kk_counted.proofs.Variables.{refs_of_both, fields_fresh, field_past, field_or_old, field_is_one, used_refs, fields_part as refs_part}
@@ -33,9 +34,9 @@ use Rattle.kk_insert.proofs.Sets.{no_both, false_if, Part, among_next, one_only,
 use Rattle.kk_insert.proofs.Fine.{FineFields, IsFine, AreFine}
 use Rattle.kk_insert.proofs.Owned.{own_part, own_apart, owns_after, rest_part}
 use Rattle.kk_insert.proofs.Spent.{looked_at, at_tail, fields_even, owns_kept, owns_new}
-use Rattle.kk_insert.proofs.Paths.{conf, with_input, Path, path_here, path_step}
+use Rattle.kk_insert.proofs.Paths.{PassingBy, Passing, passing_by, conf, with_input, Path, path_by, path_here, path_next, path_step}
 use Rattle.kk_insert.proofs.Settling.{sound_even, either_counted, dups_path, dropping_path}
-use Rattle.kk_insert.proofs.Standing.{left_of, image_joins, CodeOk, JoinsOk, FramesStand, Stands, Follows}
+use Rattle.kk_insert.proofs.Standing.{left_of, image_joins, CodeOk, JoinsOk, FramesStand, Stands, FollowsBy, Follows}
 
 module _ (setting : CoreSetting) (from : CoreConfiguration) (lent : List ℕ) (below : List Value) (frames : List CountedFrame)
     (heap : Heap)
@@ -89,6 +90,10 @@ module _ (setting : CoreSetting) (from : CoreConfiguration) (lent : List ℕ) (b
     Does least action code = Follows setting.positions setting.code.functions (inserted_setting setting) least action input
         (with_input (conf code environment (image_joins setting.positions setting.code.functions lent joins) frames heap) input)
 
+    abbrev DoesBy : (CountedState → Type 0) → ℕ → Action CoreConfiguration → Counted.Counted → Type 0
+    DoesBy Q least action code = FollowsBy setting.positions setting.code.functions Q (inserted_setting setting) least action input
+        (with_input (conf code environment (image_joins setting.positions setting.code.functions lent joins) frames heap) input)
+
     abbrev StandsAs : List Note × CoreState → CountedState → Type 0
     StandsAs done u = Stands setting.positions setting.code.functions done.1 u
 
@@ -126,10 +131,10 @@ module _ (setting : CoreSetting) (from : CoreConfiguration) (lent : List ℕ) (b
         (owns_after setting.positions lent (x ∷ []) (owning rest)) sound
 
     pub follows_branch : (x : ℕ) (positive negative : Code) → Ok (branch x positive negative)
-        → SoundNow (branch x positive negative)
+        → SoundNow (branch x positive negative) → IsTruth (value_of environment x)
         → Does 1 (goes (at_code (if is_true (value_of environment x) then positive else negative) environment joins from))
         (inserted_code (branch x positive negative))
-    follows_branch x positive negative ok sound = by_test (is_true (value_of environment x)) refl
+    follows_branch x positive negative ok sound tested = by_test (is_true (value_of environment x)) refl
       where
         by_test : (t : Bool) → is_true (value_of environment x) ≡ t
             → Does 1 (goes (at_code (if t then positive else negative) environment joins from))
@@ -145,7 +150,7 @@ module _ (setting : CoreSetting) (from : CoreConfiguration) (lent : List ℕ) (b
             (if t then dropping (owning (branch x positive negative)) (owning positive) (inserted_code positive) else dropping
             (owning (branch x positive negative)) (owning negative) (inserted_code negative)) environment
             (image_joins setting.positions setting.code.functions lent joins) frames heap)) input) is)
-            (tt, (tt, tt))
+            (tt, (tt, (tt, (tt, tested))))
             (dropped_first (owning (branch x positive negative)) positive
             (record {
               bound = ok.bound;
@@ -170,7 +175,7 @@ module _ (setting : CoreSetting) (from : CoreConfiguration) (lent : List ℕ) (b
             (if t then dropping (owning (branch x positive negative)) (owning positive) (inserted_code positive) else dropping
             (owning (branch x positive negative)) (owning negative) (inserted_code negative)) environment
             (image_joins setting.positions setting.code.functions lent joins) frames heap)) input) is)
-            (tt, (tt, tt))
+            (tt, (tt, (tt, (tt, tested))))
             (dropped_first (owning (branch x positive negative)) negative
             (record {
               bound = ok.bound;
@@ -196,7 +201,7 @@ module _ (setting : CoreSetting) (from : CoreConfiguration) (lent : List ℕ) (b
         (with_input (conf (insert setting.positions lent (without (x ∷ []) (owning rest)) block) environment
         (image_joins setting.positions setting.code.functions lent (record { variable = x; rest = rest } ∷ joins)) frames heap)
         input)
-        refl (tt, (tt, tt))
+        refl (tt, (tt, (tt, (tt, tt))))
         (path_here (inserted_setting setting)
         (StandsAs (performed (goes (at_code block environment (record { variable = x; rest = rest } ∷ joins) from)) input))
         (with_input (conf (insert setting.positions lent (without (x ∷ []) (owning rest)) block) environment
@@ -269,15 +274,20 @@ module _ (setting : CoreSetting) (from : CoreConfiguration) (lent : List ℕ) (b
         good_arm rest bound all row fine.1 on.1 (omega (arith, small))
         (λ y is. part y (before_back (owning body) (own_arms setting.positions lent (left_by left) rest) y is))
 
-    pub follows_case : (x : ℕ) (decisions : List NodeTree) (arms : Arms) (row : ℕ) (body : Code) → Ok (case x decisions arms)
-        → SoundNow (case x decisions arms)
+    -- the first state is at the case, and none behind it is
+    pub follows_case : (Test : Store → Value → List NodeTree → Type 0) (x : ℕ) (decisions : List NodeTree) (arms : Arms) (row : ℕ)
+        (body : Code) → Ok (case x decisions arms) → SoundNow (case x decisions arms)
         → chosen (slice_get from.store) (value_of environment x) decisions ≡ Some row → arm_at arms row ≡ Some body
-        → Does 1 (case_step (and_then (chosen (slice_get from.store) (value_of environment x) decisions) (arm_at arms)) environment
+        → Test from.store (value_of environment x) decisions
+        → DoesBy (PassingBy Test (inserted_setting setting)) 1
+        (case_step (and_then (chosen (slice_get from.store) (value_of environment x) decisions) (arm_at arms)) environment
         joins from) (inserted_code (case x decisions arms))
-    follows_case x decisions arms row body ok sound row_is body_is =
-        subst (λ (o : Option Code). Does 1 (case_step o environment joins from) (inserted_code (case x decisions arms)))
+    follows_case Test x decisions arms row body ok sound row_is body_is tested =
+        subst (λ (o : Option Code). DoesBy (PassingBy Test (inserted_setting setting)) 1 (case_step o environment joins from)
+        (inserted_code (case x decisions arms)))
         (sym (ap (λ (o : Option ℕ). and_then o (arm_at arms)) row_is ∙ body_is))
-        (path_step (inserted_setting setting) 0 [] [] (StandsAs (performed (goes (at_code body environment joins from)) input))
+        (path_next (PassingBy Test (inserted_setting setting)) (inserted_setting setting) 0 [] []
+        (StandsAs (performed (goes (at_code body environment joins from)) input))
         (with_input (conf (inserted_code (case x decisions arms)) environment
         (image_joins setting.positions setting.code.functions lent joins) frames heap) input)
         (with_input (conf (dropping (owning (case x decisions arms)) (owning body) (inserted_code body)) environment
@@ -286,16 +296,31 @@ module _ (setting : CoreSetting) (from : CoreConfiguration) (lent : List ℕ) (b
         (counted_case_step o environment (image_joins setting.positions setting.code.functions lent joins)
         (conf (inserted_code (case x decisions arms)) environment
         (image_joins setting.positions setting.code.functions lent joins) frames heap)) input) found)
-        (tt, (tt, tt))
+        (tt, (tt, (tt, (
+          (row, (dropping (owning (case x decisions arms)) (owning body) (inserted_code body), (row_there, arm_there))),
+          subst (λ (s : Store). Test s (value_of environment x) decisions) store tested,
+        ))))
+        (path_by (Passing (inserted_setting setting)) (PassingBy Test (inserted_setting setting)) (inserted_setting setting) 0 []
+        (StandsAs (performed (goes (at_code body environment joins from)) input))
+        (with_input (conf (dropping (owning (case x decisions arms)) (owning body) (inserted_code body)) environment
+        (image_joins setting.positions setting.code.functions lent joins) frames heap) input)
+        (passing_by Test (inserted_setting setting))
         (dropped_first (owning (case x decisions arms)) body
         (record { bound = ok.bound; fine = good.0; lends_on = good.1.0; part = ok.part; apart = ok.apart; small = good.1.1.0 })
-        (own_apart setting.positions lent (left_by left) (case x decisions arms) ok.apart) good.1.1.1 sound))
+        (own_apart setting.positions lent (left_by left) (case x decisions arms) ok.apart) good.1.1.1 sound)))
       where
         good : GoodArm ok.bound (owning (case x decisions arms)) body
         good =
             subst (OnFound (GoodArm ok.bound (owning (case x decisions arms)))) body_is
             (good_arm arms ok.bound (owning (case x decisions arms)) row ok.fine.1 ok.lends_on (omega (arith, ok.small))
             (owns_after setting.positions lent (x ∷ []) (own_arms setting.positions lent (left_by left) arms)))
+
+        row_there : chosen (slice_get (forwards heap)) (value_of environment x) decisions ≡ Some row
+        row_there = ap (λ (s : Store). chosen (slice_get s) (value_of environment x) decisions) (sym store) ∙ row_is
+
+        arm_there : counted_arm_at (insert_arms setting.positions lent (left_by left) (owning (case x decisions arms)) arms) row
+            ≡ Some (dropping (owning (case x decisions arms)) (owning body) (inserted_code body))
+        arm_there = arm_is arms (owning (case x decisions arms)) row ∙ ap (inserted_if (owning (case x decisions arms))) body_is
 
         found : and_then (chosen (cell_at heap) (value_of environment x) decisions)
             (counted_arm_at (insert_arms setting.positions lent (left_by left) (owning (case x decisions arms)) arms)) ≡ Some
@@ -307,8 +332,8 @@ module _ (setting : CoreSetting) (from : CoreConfiguration) (lent : List ℕ) (b
             (value_of environment x)
             (either_counted environment (owning (case x decisions arms)) lent below heap x sound reached_now
             (looked_at setting.positions lent x (own_arms setting.positions lent (left_by left) arms))) decisions
-            ∙ (ap (λ (s : Store). chosen (slice_get s) (value_of environment x) decisions) (sym store) ∙ row_is))
-            ∙ (arm_is arms (owning (case x decisions arms)) row ∙ ap (inserted_if (owning (case x decisions arms))) body_is)
+            ∙ row_there)
+            ∙ arm_there
 
     -- ---- openings
 
@@ -348,6 +373,9 @@ module _ (setting : CoreSetting) (from : CoreConfiguration) (lent : List ℕ) (b
 
       in_store : slice_get (forwards heap) at ≡ Some (record { made_by = c; fields = vs })
       in_store = ap (λ (s : Store). slice_get s at) (sym store) ∙ cell_is
+
+      is_cell : IsCell (forwards heap) c (length fields) (value_of environment x)
+      is_cell = (at, (record { made_by = c; fields = vs }, (named, (in_store, (refl, many)))))
 
       held_fields : fields_held heap at ≡ vs
       held_fields = sym (store_fields heap at) ∙ ap fields_in in_store
@@ -412,7 +440,7 @@ module _ (setting : CoreSetting) (from : CoreConfiguration) (lent : List ℕ) (b
           (image_joins setting.positions setting.code.functions lent joins)
           (conf (Counted.read x c fields (dups (common (owning rest) fields) (inserted_code rest))) environment
           (image_joins setting.positions setting.code.functions lent joins) frames heap)) input) opens)
-          (tt, (tt, tt))
+          (tt, (tt, (tt, (is_cell, tt))))
           (dups_path (inserted_setting setting) (StandsAs step_done) (bind_fields fields vs environment)
           (image_joins setting.positions setting.code.functions lent joins) frames below input 0 []
           (common (owning rest) fields) (without fields (owning rest)) (inserted_code rest) heap
@@ -447,7 +475,7 @@ module _ (setting : CoreSetting) (from : CoreConfiguration) (lent : List ℕ) (b
           (image_joins setting.positions setting.code.functions lent joins) frames heap)
           (conf (inserted_code rest) (bind_fields fields vs environment)
           (image_joins setting.positions setting.code.functions lent joins) frames heap))) input) became.is)
-          (tt, (tt, tt))
+          (tt, (tt, (tt, (is_cell, tt))))
           (arrives_rest became.heap became.cells
           (sound_even (bind_fields fields vs environment)
           (filter (is_among (common (owning rest) fields)) fields ++ without fields (owning rest))

@@ -1,24 +1,70 @@
 -- Steps of the counted machine, one after the other, to a state of some kind.
-use Rattle.std.proofs.Common.{◌≡◌, ℕ, zero, suc, ◌*◌, ◌≤◌, ◌<◌, List, [], ◌++◌, Option, Some, None, arith, refl, sym, ap, ◌∙◌, subst}
+use Rattle.std.proofs.Common.{◌≡◌, ℕ, zero, suc, ◌*◌, ◌≤◌, ◌<◌, List, [], ◌++◌, map, Option, Some, None, arith, refl, sym, ap, ◌∙◌, subst}
 use Rattle.kk_base.specs.Machines.{Machine, weight_unless, trace, state, weight_of}
 use Rattle.kk_base.proofs.Machines.{weight_of-at_most}
-use Rattle.kk_source.specs.State.{Environment, End}
+use Rattle.kk_source.specs.State.{Value, Store, Environment, End}
 use Rattle.kk_source.specs.Live.{value_of}
 use Rattle.kk_source.specs.Actions.{Action, goes, performed}
 use Rattle.kk_source.specs.Notes.{Note}
-use Rattle.kk_counted.specs.CountedCodes.{Counted, dup, drop}
-use Rattle.kk_counted.specs.Heaps.{Heap, dup_value, drop_value}
-use Rattle.kk_counted.specs.CountedStates.{CountedSetting, CountedJoin, CountedFrame, running, CountedConfiguration, CountedState}
+use Rattle.kk_core.specs.Decisions.{NodeTree}
+use Rattle.kk_core.specs.Kinds.{IsTruth, TakesKinds}
+use Rattle.kk_counted.specs.CountedCodes.{Counted, give, tail_call, branch, case, compute, inside, read, open_cell, if_unique, dup, drop}
+use Rattle.kk_counted.specs.Heaps.{Heap, forwards, dup_value, drop_value}
+use Rattle.kk_counted.specs.CountedStates.{CountedSetting, CountedJoin, CountedFrame, CountedControl, running, stopped, stuck, CountedConfiguration, CountedState}
 use Rattle.kk_counted.specs.CountedMachine.{with_heap, counted_code_step, counted_ending_of, counted_machine, NotStuck}
-use Rattle.kk_counted.specs.Keeping.{FitsAt}
+use Rattle.kk_counted.specs.Keeping.{FitsAt, HasShape}
 use Rattle.kk_insert.specs.Meaning.{EndsClean}
 
 -- steps weigh nothing here
 abbrev pub lower : CountedSetting → Machine CountedState Note End
 lower setting = counted_machine (λ s. 0) setting
 
-abbrev pub Passing : CountedState → Type 0
-Passing t = NotStuck t.machine.control × (FitsAt t.machine.control × EndsClean t.machine.control t.machine.heap)
+-- what may be known of a case: of its value in a store, and of its decisions
+abbrev pub no_test : Store → Value → List NodeTree → Type 0
+no_test store v decisions = ⊥
+
+-- what a code takes is of the kinds that it asks for, where that is known of cases
+abbrev pub IsFed : (Store → Value → List NodeTree → Type 0) → Heap → CountedControl → Type 0
+IsFed Test heap (running (branch x positive negative) environment joins) = IsTruth (value_of environment x)
+IsFed Test heap (running (case x decisions arms) environment joins) = Test (forwards heap) (value_of environment x) decisions
+IsFed Test heap (running (compute x form arguments rest) environment joins) =
+    TakesKinds form (map (value_of environment) arguments)
+IsFed Test heap _ = Unit {0}
+
+-- a state that is not stuck, and finds what it asks for
+abbrev pub PassingBy : (Store → Value → List NodeTree → Type 0) → CountedSetting → CountedState → Type 0
+PassingBy Test setting t =
+    NotStuck t.machine.control × (FitsAt t.machine.control × (EndsClean t.machine.control t.machine.heap
+    × (HasShape setting.program.functions (forwards t.machine.heap) t.machine.control × IsFed Test t.machine.heap t.machine.control)))
+
+-- one that is not at a case
+abbrev pub Passing : CountedSetting → CountedState → Type 0
+Passing = PassingBy no_test
+
+-- not at a case, it is known whatever is known of cases
+pub passing_by : (Test : Store → Value → List NodeTree → Type 0) (setting : CountedSetting) (t : CountedState)
+    → Passing setting t → PassingBy Test setting t
+passing_by Test setting t passing =
+    (passing.0, (passing.1.0, (passing.1.1.0, (passing.1.1.1.0, by_control t.machine.heap t.machine.control passing.1.1.1.1))))
+  where
+    by_code : (heap : Heap) (environment : Environment) (joins : List CountedJoin) (code : Counted)
+        → IsFed no_test heap (running code environment joins) → IsFed Test heap (running code environment joins)
+    by_code heap environment joins (give x) fed = tt
+    by_code heap environment joins (tail_call f arguments) fed = tt
+    by_code heap environment joins (branch x positive negative) fed = fed
+    by_code heap environment joins (case x decisions arms) fed = absurd fed
+    by_code heap environment joins (compute x form arguments rest) fed = fed
+    by_code heap environment joins (inside x block rest) fed = tt
+    by_code heap environment joins (read x c fields rest) fed = tt
+    by_code heap environment joins (open_cell x c fields used rest) fed = tt
+    by_code heap environment joins (if_unique x c fields used rest) fed = tt
+    by_code heap environment joins (dup x rest) fed = tt
+    by_code heap environment joins (drop x rest) fed = tt
+
+    by_control : (heap : Heap) (control : CountedControl) → IsFed no_test heap control → IsFed Test heap control
+    by_control heap (running code environment joins) fed = by_code heap environment joins code fed
+    by_control heap (stopped by) fed = tt
+    by_control heap stuck fed = tt
 
 -- the machine at a code
 abbrev pub conf : Counted → Environment → List CountedJoin → List CountedFrame → Heap → CountedConfiguration
@@ -38,23 +84,40 @@ no_weight setting n t =
     (λ s. weighs_nothing (counted_ending_of s)) n t in
     omega (arith, w)
 
--- from a state some steps with these notes, at least so many, lead to a state of a kind, through states that are not stuck
-pub record Path (setting : CountedSetting) (least : ℕ) (events : List Note) (P : CountedState → Type 0)
-    (t : CountedState) : Type 0 where
+-- from a state some steps with these notes, at least so many, lead to a state of a kind, through states of another kind
+pub record PathBy (Q : CountedState → Type 0) (setting : CountedSetting) (least : ℕ) (events : List Note)
+    (P : CountedState → Type 0) (t : CountedState) : Type 0 where
   pub steps : ℕ
   pub enough : least ≤ steps
   pub tells : trace (lower setting) steps t ≡ events
-  pub passes : (k : ℕ) → k < steps → Passing (state (lower setting) k t)
+  pub passes : (k : ℕ) → k < steps → Q (state (lower setting) k t)
   pub ends : P (state (lower setting) steps t)
+
+-- through states that are not at a case
+abbrev pub Path : CountedSetting → ℕ → List Note → (CountedState → Type 0) → CountedState → Type 0
+Path setting = PathBy (Passing setting) setting
+
+-- a path through states of one kind is one through states of another
+pub path_by : (Q R : CountedState → Type 0) (setting : CountedSetting) (least : ℕ) (events : List Note) (P : CountedState → Type 0)
+    (t : CountedState) → ((u : CountedState) → Q u → R u) → PathBy Q setting least events P t → PathBy R setting least events P t
+path_by Q R setting least events P t other path =
+    record {
+      steps = path.steps;
+      enough = path.enough;
+      tells = path.tells;
+      passes = λ k less. other (state (lower setting) k t) (path.passes k less);
+      ends = path.ends;
+    }
 
 pub path_here : (setting : CountedSetting) (P : CountedState → Type 0) (t : CountedState) → P t → Path setting 0 [] P t
 path_here setting P t holds =
     record { steps = 0; enough = omega arith; tells = refl; passes = λ k less. absurd (omega (arith, less)); ends = holds }
 
 -- a step, and then others
-pub path_step : (setting : CountedSetting) (least : ℕ) (now events : List Note) (P : CountedState → Type 0) (t u : CountedState)
-    → (lower setting).step t ≡ (now, u) → Passing t → Path setting least events P u → Path setting (suc least) (now ++ events) P t
-path_step setting least now events P t u is passing rest =
+pub path_next : (Q : CountedState → Type 0) (setting : CountedSetting) (least : ℕ) (now events : List Note)
+    (P : CountedState → Type 0) (t u : CountedState) → (lower setting).step t ≡ (now, u) → Q t → PathBy Q setting least events P u
+    → PathBy Q setting (suc least) (now ++ events) P t
+path_next Q setting least now events P t u is passing rest =
     record {
       steps = suc rest.steps;
       enough = omega (arith, rest.enough);
@@ -64,10 +127,15 @@ path_step setting least now events P t u is passing rest =
       ends = subst (λ (next : List Note × CountedState). P (state (lower setting) rest.steps next.1)) (sym is) rest.ends;
     }
   where
-    passes : (k : ℕ) → k < suc rest.steps → Passing (state (lower setting) k t)
+    passes : (k : ℕ) → k < suc rest.steps → Q (state (lower setting) k t)
     passes zero less = passing
-    passes (suc k) less = subst (λ (next : List Note × CountedState). Passing (state (lower setting) k next.1)) (sym is)
+    passes (suc k) less = subst (λ (next : List Note × CountedState). Q (state (lower setting) k next.1)) (sym is)
         (rest.passes k (omega (arith, less)))
+
+pub path_step : (setting : CountedSetting) (least : ℕ) (now events : List Note) (P : CountedState → Type 0) (t u : CountedState)
+    → (lower setting).step t ≡ (now, u) → Passing setting t → Path setting least events P u
+    → Path setting (suc least) (now ++ events) P t
+path_step setting = path_next (Passing setting) setting
 
 pub path_less : (setting : CountedSetting) (least fewer : ℕ) (events : List Note) (P : CountedState → Type 0) (t : CountedState)
     → fewer ≤ least → Path setting least events P t → Path setting fewer events P t

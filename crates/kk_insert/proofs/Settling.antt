@@ -89,7 +89,7 @@ module _ (setting : CountedSetting) (P : CountedState → Type 0) (environment :
       (omega arith)
       (path_step setting least [] events P (with_input (conf (dups (x ∷ xs) code) environment joins frames heap) input)
       (with_input (conf (dups xs code) environment joins frames d.0.heap) input)
-      (dup_step setting x (dups xs code) environment joins frames heap d.0.heap input d.0.is) (tt, (tt, tt))
+      (dup_step setting x (dups xs code) environment joins frames heap d.0.heap input d.0.is) (tt, (tt, (tt, (tt, tt))))
       (dups_path xs (x ∷ now) code d.0.heap
       (became_sound (values_of environment now ++ below) (values_of environment (x ∷ now) ++ below) heap
       (dup_value (value_of environment x) heap)
@@ -109,7 +109,7 @@ module _ (setting : CountedSetting) (P : CountedState → Type 0) (environment :
       (omega arith)
       (path_step setting least [] events P (with_input (conf (drops (x ∷ xs) code) environment joins frames heap) input)
       (with_input (conf (drops xs code) environment joins frames d.heap) input)
-      (drop_step setting x (drops xs code) environment joins frames heap d.heap input d.is) (tt, (tt, tt))
+      (drop_step setting x (drops xs code) environment joins frames heap d.heap input d.is) (tt, (tt, (tt, (tt, tt))))
       (drops_path xs now code d.heap
       (became_sound (values_of environment (x ∷ (xs ++ now)) ++ below) (values_of environment (xs ++ now) ++ below) heap
       (drop_value (value_of environment x) heap) (refs (values_of environment (xs ++ now) ++ below)) d (λ q. refl) sound)

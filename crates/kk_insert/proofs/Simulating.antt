@@ -2,34 +2,42 @@
 use Rattle.std.proofs.Common.{Some, ◌∙◌, ◌≡◌, ℕ, zero, suc, ◌+◌, ◌*◌, ◌≤◌, true, List, [], ◌∷◌, ◌++◌, arith, refl, sym, ap, subst, mul-le-mul_right}
 use Rattle.std.proofs.lemmas.Option.{get_or_from_slice_get}
 use Rattle.std.specs.Prelude.{slice_get, slice_index_or}
+use Rattle.kk_base.specs.Agreements.{Agree}
 use Rattle.kk_base.specs.Machines.{Machine, step_unless, state}
 use Rattle.kk_base.specs.Simulations.{Reaches, Simulates}
 use Rattle.kk_base.proofs.Simulations.{ended_reaches, simulates_agree, simulates_passing}
 use Rattle.kk_syntax.specs.Programs.{ConstructorTree}
 use Rattle.kk_syntax.specs.Shapes.{is_among}
-use Rattle.kk_source.specs.State.{unit, place, Environment, End}
+use Rattle.kk_source.specs.State.{Value, unit, place, Store, Environment, End}
 use Rattle.kk_source.specs.Live as Places
+use Rattle.kk_source.specs.Live.{value_of}
 use Rattle.kk_source.specs.Actions.{performed}
 use Rattle.kk_source.specs.Notes.{Note}
 use Rattle.kk_core.specs.Codes.{Code, give, tail_call, branch, case, compute, use_of, unpack, inside, FunctionCode}
 use Rattle.kk_core.specs.CoreStates.{CoreSetting, Join, CoreControl, running, stopped, CoreConfiguration, CoreState, no_code, core_start, core_first_state, core_end_at}
 use Rattle.kk_core.specs.CoreMachine.{code_step, core_step_at, core_machine}
+use Rattle.kk_core.specs.Decisions.{NodeTree}
+use Rattle.kk_core.specs.Kinds as Core
+use Rattle.kk_core.specs.Kinds.{TestsAlike}
 use Rattle.kk_core.specs.NeverStuck.{CodeFits, ControlFits, StateFits, NeverStuck}
 use Rattle.kk_core.specs.Sizes.{forms, most_forms, below as numbers_below}
+use Rattle.kk_counted.specs.CountedCodes as Codes
 use Rattle.kk_counted.specs.CountedCodes.{CountedFunction}
+use Rattle.kk_counted.specs.Heaps.{Heap, forwards}
 use Rattle.kk_counted.specs.CountedStates as Counted
-use Rattle.kk_counted.specs.CountedStates.{CountedConfiguration, CountedState, no_function, counted_start, counted_first_state}
+use Rattle.kk_counted.specs.CountedStates.{CountedFrame, CountedConfiguration, CountedState, no_function, counted_start, counted_first_state}
 use Rattle.kk_counted.specs.CountedMachine.{NotStuck}
 use Rattle.kk_counted.specs.References.{refs, IsSound}
 use Rattle.kk_counted.specs.Spending.{at_positions, numbers_from, left_by, is_owned}
-use Rattle.kk_counted.specs.Keeping.{values_of, FitsAt}
+use Rattle.kk_counted.specs.Keeping.{values_of, FitsAt, FitsAlways, HasShape, HasShapeAlways}
+use Rattle.kk_counted.specs.Kinds.{HasKinds, HasKindsAlways}
 use Rattle.kk_counted.proofs.SoundRuns.{keeps_sound}
 use Rattle.kk_insert.specs.Insertion.{dropping, lent_of, own, insert, inserted_function, inserted_functions}
 use Rattle.kk_insert.specs.Meaning.{inserted_setting, pace, LeavesNone, EndsClean, counted_notes, KeepsMeaning, FindsAsMany}
 use Rattle.kk_insert.specs.Promise.{IsInsertable}
 use Rattle.kk_insert.proofs.Programs.{is_fine, inserted_there, inserted_is_spent}
-use Rattle.kk_insert.proofs.Paths.{lower, Passing, conf, with_input, no_weight, Path}
-use Rattle.kk_insert.proofs.Standing.{left_of, image_joins, CodeOk, Active, StandsAt, Stands, Follows}
+use Rattle.kk_insert.proofs.Paths.{lower, IsFed, PassingBy, Passing, passing_by, conf, with_input, no_weight, PathBy, path_by}
+use Rattle.kk_insert.proofs.Standing.{left_of, image_joins, CodeOk, Active, StandsAt, Stands, FollowsBy, Follows}
 use Rattle.kk_insert.proofs.Following.{follows_use, follows_branch, follows_case, follows_inside, follows_unpack}
 use Rattle.kk_insert.proofs.Entering.{follows_give}
 use Rattle.kk_insert.proofs.Calling.{follows_tail}
@@ -68,69 +76,103 @@ module _ (setting : CoreSetting) (constructors : List ConstructorTree) (promise 
   waits_few (running code environment joins) s c active = omega (arith, uses_few code, active.code_ok.small)
   waits_few (stopped by) s c stands = omega arith
 
+  -- what is known of cases is known of the code
+  abbrev IsTested : (Store → Value → List NodeTree → Type 0) → CoreControl → CoreConfiguration → Type 0
+  IsTested Test (running (case x decisions arms) environment joins) c = Test c.store (value_of environment x) decisions
+  IsTested Test _ c = Unit {0}
+
+  -- the state that stands for the machine at a code
+  abbrev image : List ℕ → Code → Environment → List Join → List CountedFrame → Heap → List ℕ → CountedState
+  image lent code environment joins frames heap input =
+      with_input (conf (insert setting.positions lent (left_by (left_of setting.positions setting.code.functions lent joins)) code)
+      environment (image_joins setting.positions setting.code.functions lent joins) frames heap) input
+
   -- the step of each code
-  code_follows : (code : Code) (environment : Environment) (joins : List Join) (from : CoreConfiguration) (c : CountedConfiguration)
-      (input : List ℕ)
+  code_follows : (Test : Store → Value → List NodeTree → Type 0) (code : Code) (environment : Environment) (joins : List Join)
+      (from : CoreConfiguration) (c : CountedConfiguration) (input : List ℕ)
       → Active setting.positions setting.code.functions code environment joins from c
-      → CodeFits constructors setting.code code environment joins from
-      → Follows setting.positions setting.code.functions (inserted_setting setting) (least code)
-      (code_step setting code environment joins from) input (with_input c input)
-  code_follows code environment joins from c input active fits =
-      subst (λ (other : CountedConfiguration). Follows setting.positions setting.code.functions (inserted_setting setting)
+      → CodeFits constructors setting.code code environment joins from → IsTested Test (running code environment joins) from
+      → FollowsBy setting.positions setting.code.functions (PassingBy Test (inserted_setting setting)) (inserted_setting setting)
+      (least code) (code_step setting code environment joins from) input (with_input c input)
+  code_follows Test code environment joins from c input active fits tested =
+      subst (λ (other : CountedConfiguration). FollowsBy setting.positions setting.code.functions
+      (PassingBy Test (inserted_setting setting)) (inserted_setting setting)
       (least code) (code_step setting code environment joins from) input (with_input other input)) (sym active.is)
-      (by_code code active.code_ok active.sound fits)
+      (by_code code active.code_ok active.sound fits tested)
     where
+      widened : (code : Code)
+          → Follows setting.positions setting.code.functions (inserted_setting setting) (least code)
+          (code_step setting code environment joins from) input (image active.lent code environment joins active.frames active.heap input)
+          → FollowsBy setting.positions setting.code.functions (PassingBy Test (inserted_setting setting)) (inserted_setting setting)
+          (least code) (code_step setting code environment joins from) input (image active.lent code environment joins active.frames active.heap input)
+      widened code path =
+          path_by (Passing (inserted_setting setting)) (PassingBy Test (inserted_setting setting)) (inserted_setting setting)
+          (least code) (performed (code_step setting code environment joins from) input).0
+          (Stands setting.positions setting.code.functions (performed (code_step setting code environment joins from) input).1)
+          (image active.lent code environment joins active.frames active.heap input) (passing_by Test (inserted_setting setting)) path
+
       by_code : (code : Code)
           → CodeOk setting.positions setting.code.functions active.lent
           (left_of setting.positions setting.code.functions active.lent joins) code
           → IsSound (values_of environment
           (own setting.positions active.lent (left_by (left_of setting.positions setting.code.functions active.lent joins))
           code) ++ active.below) active.heap
-          → CodeFits constructors setting.code code environment joins from
-          → Follows setting.positions setting.code.functions (inserted_setting setting) (least code)
-          (code_step setting code environment joins from) input
-          (with_input (conf (insert setting.positions active.lent
-          (left_by (left_of setting.positions setting.code.functions active.lent joins)) code) environment
-          (image_joins setting.positions setting.code.functions active.lent joins) active.frames active.heap) input)
-      by_code (give x) ok sound fits =
-          follows_give setting constructors from active.lent active.below active.heap active.store input x environment joins
-          active.frames active.waits active.joins_ok active.reached sound fits
-      by_code (tail_call f arguments) ok sound fits =
-          follows_tail setting promise from active.lent active.below active.frames active.heap active.store active.waits input f
-          arguments environment joins fits.0 ok active.reached sound fits.1 fits.2
-      by_code (branch x positive negative) ok sound fits =
-          follows_branch setting from active.lent active.below active.frames active.heap active.store active.waits input environment
-          joins active.joins_ok active.reached x positive negative ok sound
-      by_code (case x decisions arms) ok sound fits =
+          → CodeFits constructors setting.code code environment joins from → IsTested Test (running code environment joins) from
+          → FollowsBy setting.positions setting.code.functions (PassingBy Test (inserted_setting setting)) (inserted_setting setting)
+          (least code) (code_step setting code environment joins from) input (image active.lent code environment joins active.frames active.heap input)
+      by_code (give x) ok sound fits tested =
+          widened (give x)
+          (follows_give setting constructors from active.lent active.below active.heap active.store input x environment joins
+          active.frames active.waits active.joins_ok active.reached sound fits)
+      by_code (tail_call f arguments) ok sound fits tested =
+          widened (tail_call f arguments)
+          (follows_tail setting promise from active.lent active.below active.frames active.heap active.store active.waits input f
+          arguments environment joins fits.0 ok active.reached sound fits.1 fits.2)
+      by_code (branch x positive negative) ok sound fits tested =
+          widened (branch x positive negative)
+          (follows_branch setting from active.lent active.below active.frames active.heap active.store active.waits input environment
+          joins active.joins_ok active.reached x positive negative ok sound fits)
+      by_code (case x decisions arms) ok sound fits tested =
           follows_case setting from active.lent active.below active.frames active.heap active.store active.waits input environment
-          joins active.joins_ok active.reached x decisions arms fits.0 fits.1 ok sound fits.2 fits.3
-      by_code (compute x form arguments rest) ok sound fits =
-          follows_compute setting constructors promise from active.lent active.below active.frames active.heap active.store
-          active.waits input environment joins active.joins_ok active.reached x form arguments rest ok sound fits
-      by_code (use_of x rest) ok sound fits =
-          follows_use setting from active.lent active.below active.frames active.heap active.store active.waits input environment
-          joins active.joins_ok active.reached x rest ok sound
-      by_code (unpack x c fields rest) ok sound fits =
-          follows_unpack setting from active.lent active.below active.frames active.heap active.store active.waits input environment
-          joins active.joins_ok active.reached x c fields rest ok sound fits.0 fits.1 fits.2 fits.3 fits.4
-      by_code (inside x block rest) ok sound fits =
-          follows_inside setting from active.lent active.below active.frames active.heap active.store active.waits input environment
-          joins active.joins_ok active.reached x block rest ok sound
+          joins active.joins_ok active.reached Test x decisions arms fits.0 fits.1 ok sound fits.2 fits.3 tested
+      by_code (compute x form arguments rest) ok sound fits tested =
+          widened (compute x form arguments rest)
+          (follows_compute setting constructors promise from active.lent active.below active.frames active.heap active.store
+          active.waits input environment joins active.joins_ok active.reached x form arguments rest ok sound fits)
+      by_code (use_of x rest) ok sound fits tested =
+          widened (use_of x rest)
+          (follows_use setting from active.lent active.below active.frames active.heap active.store active.waits input environment
+          joins active.joins_ok active.reached x rest ok sound)
+      by_code (unpack x c fields rest) ok sound fits tested =
+          widened (unpack x c fields rest)
+          (follows_unpack setting from active.lent active.below active.frames active.heap active.store active.waits input environment
+          joins active.joins_ok active.reached x c fields rest ok sound fits.0 fits.1 fits.2 fits.3 fits.4)
+      by_code (inside x block rest) ok sound fits tested =
+          widened (inside x block rest)
+          (follows_inside setting from active.lent active.below active.frames active.heap active.store active.waits input environment
+          joins active.joins_ok active.reached x block rest ok sound)
 
-  module _ (weight : CoreState → ℕ) where
+  module _ (Test : Store → Value → List NodeTree → Type 0) (weight : CoreState → ℕ) where
     abbrev upper : Machine CoreState Note End
     upper = core_machine weight setting
 
-    -- from a state on the core machine finds what it asks for
+    -- a state finds what it asks for, and it is known of its case
+    abbrev IsSane : CoreConfiguration → Type 0
+    IsSane c = StateFits constructors setting.code c × IsTested Test c.control c
+
+    -- so do those from a state on
     abbrev Sane : CoreState → Type 0
-    Sane s = (n : ℕ) → StateFits constructors setting.code (state (core_machine weight setting) n s).machine
+    Sane s = (n : ℕ) → IsSane (state (core_machine weight setting) n s).machine
+
+    abbrev Passed : CountedState → Type 0
+    Passed = PassingBy Test (inserted_setting setting)
 
     abbrev Related : ℕ → ℕ → CoreState → CountedState → Type 0
     Related credit idle s t = (waiting s.machine.control ≤ idle) × (StandsFor s t × Sane s)
 
     abbrev Reached : ℕ → ℕ → CoreState → List Note × CoreState → CountedState → Type 0
     Reached credit idle s next t =
-        Reaches (lower (inserted_setting setting)) Related Passing pace (upper.weight s + credit) 1 idle next.0 next.1 t
+        Reaches (lower (inserted_setting setting)) Related Passed pace (upper.weight s + credit) 1 idle next.0 next.1 t
 
     -- steps enough for a step of the core machine
     enough_moves : (steps at_least idle before after : ℕ) → at_least ≤ steps → (at_least ≡ 0 → suc after ≤ before) → before ≤ idle
@@ -140,7 +182,7 @@ module _ (setting : CoreSetting) (constructors : List ConstructorTree) (promise 
         omega (arith, mul-le-mul_right pace (let one : 1 ≤ steps = omega (arith, enough) in one), few)
 
     by_path : (credit idle before at_least : ℕ) (s : CoreState) (next : List Note × CoreState) (t : CountedState)
-        → Path (inserted_setting setting) at_least next.0 (StandsFor next.1) t → Sane next.1
+        → PathBy Passed (inserted_setting setting) at_least next.0 (StandsFor next.1) t → Sane next.1
         → (at_least ≡ 0 → suc (waiting next.1.machine.control) ≤ before) → before ≤ idle → Reached credit idle s next t
     by_path credit idle before at_least s next t path sane more waits =
         record {
@@ -183,29 +225,31 @@ module _ (setting : CoreSetting) (constructors : List ConstructorTree) (promise 
         subst (λ (next : List Note × CoreState). Reached credit idle s next t) (sym step_is)
         (by_path credit idle (uses_first code) (least code) s
         (performed (code_step setting code environment joins s.machine) s.input) t
-        (subst (λ (i : List ℕ). Path (inserted_setting setting) (least code)
+        (subst (λ (i : List ℕ). PathBy Passed (inserted_setting setting) (least code)
         (performed (code_step setting code environment joins s.machine) s.input).0
         (StandsFor (performed (code_step setting code environment joins s.machine) s.input).1) (with_input t.machine i))
         (sym inputs)
-        (code_follows code environment joins s.machine t.machine s.input active
-        (subst (λ (control : CoreControl). ControlFits constructors setting.code control s.machine) at (sane 0)).1))
-        (λ n. subst (λ (next : List Note × CoreState). StateFits constructors setting.code (state upper n next.1).machine) step_is
-        (sane (suc n)))
+        (code_follows Test code environment joins s.machine t.machine s.input active
+        (subst (λ (control : CoreControl). ControlFits constructors setting.code control s.machine) at (sane 0).0).1
+        (subst (λ (control : CoreControl). IsTested Test control s.machine) at (sane 0).1)))
+        (λ n. subst (λ (next : List Note × CoreState). IsSane (state upper n next.1).machine) step_is (sane (suc n)))
         (uses_less code environment joins s.machine s.input) waits)
       where
         step_is : upper.step s ≡ performed (code_step setting code environment joins s.machine) s.input
         step_is = ap (λ (control : CoreControl). step_unless (core_end_at control) s
             (performed (core_step_at setting control s.machine) s.input)) at
     reaches_at (stopped by) credit idle s t at waits inputs ends stands sane =
-        ended_reaches upper (lower (inserted_setting setting)) Related Passing pace credit idle s t by (omega arith)
+        ended_reaches upper (lower (inserted_setting setting)) Related Passed pace credit idle s t by (omega arith)
         (subst (λ (control : CoreControl). waiting control ≤ idle) (sym at) waits, (stands, sane))
         (ap core_end_at at) (ap Counted.counted_end_at ends.0) (passing ends)
       where
-        passing : (t.machine.control ≡ Counted.stopped by) × LeavesNone by t.machine.heap → Passing t
+        passing : (t.machine.control ≡ Counted.stopped by) × LeavesNone by t.machine.heap → Passed t
         passing both = subst (λ (control : Counted.CountedControl). NotStuck control
-            × (FitsAt control × EndsClean control t.machine.heap)) (sym both.0) (tt, (tt, both.1))
+            × (FitsAt control × (EndsClean control t.machine.heap
+            × (HasShape (inserted_setting setting).program.functions (forwards t.machine.heap) control
+            × IsFed Test t.machine.heap control)))) (sym both.0) (tt, (tt, (both.1, (tt, tt))))
 
-    simulates : Simulates upper (lower (inserted_setting setting)) Related Passing pace
+    simulates : Simulates upper (lower (inserted_setting setting)) Related Passed pace
     simulates =
         record {
           by = λ credit idle s t related. reaches_at s.machine.control credit idle s t refl related.0 related.1.0.0 related.1.0.1
@@ -293,41 +337,162 @@ module _ (setting : CoreSetting) (constructors : List ConstructorTree) (promise 
             (record { control = running promise.main.0.body [] []; frames = []; store = [] }) (conf main.body [] [] [] []))
             (sym fetched_too) active_main)
 
+-- each state that is passed, where in each core state it is known of cases
+module _ (setting : CoreSetting) (constructors : List ConstructorTree) (weight : CoreState → ℕ) (input : List ℕ)
+    (promise : IsInsertable setting.positions setting.code) (never : NeverStuck constructors weight setting input)
+    (Test : Store → Value → List NodeTree → Type 0)
+    (tested : (n : ℕ) → IsTested setting constructors promise Test
+    (state (core_machine weight setting) n (core_first_state setting input)).machine.control
+    (state (core_machine weight setting) n (core_first_state setting input)).machine) where
+  abbrev first_core : CoreState
+  first_core = core_first_state setting input
+
+  abbrev first_counted : CountedState
+  first_counted = counted_first_state (inserted_setting setting) input
+
+  related : Related setting constructors promise Test weight 0 pace first_core first_counted
+  related = (
+    omega (
+      arith,
+      waits_few setting constructors promise first_core.machine.control first_core.machine first_counted.machine
+          (start_stands setting constructors promise Test weight input).1,
+    ),
+    (start_stands setting constructors promise Test weight input, λ n. (never n, tested n)),
+  )
+
+  agrees : Agree (core_machine weight setting) (lower (inserted_setting setting)) 0 (λ m. m * pace + pace + 1) first_core
+      first_counted
+  agrees =
+      simulates_agree (core_machine weight setting) (lower (inserted_setting setting))
+      (Related setting constructors promise Test weight) (PassingBy Test (inserted_setting setting)) pace
+      (simulates setting constructors promise Test weight) 0 pace first_core first_counted related
+
+  pub all_passed : (n : ℕ) → PassingBy Test (inserted_setting setting) (state (lower (inserted_setting setting)) n first_counted)
+  all_passed n =
+      simulates_passing (core_machine weight setting) (lower (inserted_setting setting))
+      (Related setting constructors promise Test weight) (PassingBy Test (inserted_setting setting)) pace
+      (simulates setting constructors promise Test weight) 0 pace first_core first_counted related n
+
+-- ---- where nothing is known of cases
+
+abbrev any_test : Store → Value → List NodeTree → Type 0
+any_test store v decisions = Unit {0}
+
+any_tested : (setting : CoreSetting) (constructors : List ConstructorTree)
+    (promise : IsInsertable setting.positions setting.code) (control : CoreControl) (c : CoreConfiguration)
+    → IsTested setting constructors promise any_test control c
+any_tested setting constructors promise (stopped by) c = tt
+any_tested setting constructors promise (running code environment joins) c = by_code code
+  where
+    by_code : (code : Code) → IsTested setting constructors promise any_test (running code environment joins) c
+    by_code (give x) = tt
+    by_code (tail_call f arguments) = tt
+    by_code (branch x positive negative) = tt
+    by_code (case x decisions arms) = tt
+    by_code (compute x form arguments rest) = tt
+    by_code (use_of x rest) = tt
+    by_code (unpack x by fields rest) = tt
+    by_code (inside x block rest) = tt
+
+module _ (setting : CoreSetting) (constructors : List ConstructorTree) (weight : CoreState → ℕ) (input : List ℕ)
+    (promise : IsInsertable setting.positions setting.code) (never : NeverStuck constructors weight setting input) where
+  tested_at : (n : ℕ) → IsTested setting constructors promise any_test
+      (state (core_machine weight setting) n (core_first_state setting input)).machine.control
+      (state (core_machine weight setting) n (core_first_state setting input)).machine
+  tested_at n =
+      any_tested setting constructors promise
+      (state (core_machine weight setting) n (core_first_state setting input)).machine.control
+      (state (core_machine weight setting) n (core_first_state setting input)).machine
+
+  any_passed : (n : ℕ) → PassingBy any_test (inserted_setting setting)
+      (state (lower (inserted_setting setting)) n (counted_first_state (inserted_setting setting) input))
+  any_passed = all_passed setting constructors weight input promise never any_test tested_at
+
 -- An inserted program keeps the meaning of a program that is never stuck.
 pub keeps_meaning : (setting : CoreSetting) (constructors : List ConstructorTree) (weight : CoreState → ℕ) (input : List ℕ)
     → IsInsertable setting.positions setting.code → NeverStuck constructors weight setting input → KeepsMeaning weight setting input
-keeps_meaning setting constructors weight input promise sane =
+keeps_meaning setting constructors weight input promise never =
     record {
-      agrees = simulates_agree (core_machine weight setting) (lower (inserted_setting setting))
-          (Related setting constructors promise weight) Passing pace (simulates setting constructors promise weight) 0 pace
-          (core_first_state setting input) (counted_first_state (inserted_setting setting) input) related;
+      agrees = agrees setting constructors weight input promise never any_test
+          (tested_at setting constructors weight input promise never);
       never_stuck = λ weights n. (passing n).0;
       sound = λ weights n. keeps_sound setting.positions (inserted_setting setting) (λ s. 0) input
           (inserted_is_spent setting.positions setting.code promise) (λ k. (passing k).1.0) n;
-      clean = λ weights n. (passing n).1.1;
+      clean = λ weights n. (passing n).1.1.0;
     }
   where
-    stands : Stands setting.positions setting.code.functions (core_first_state setting input)
-        (counted_first_state (inserted_setting setting) input)
-    stands = start_stands setting constructors promise weight input
+    passing : (n : ℕ) → PassingBy any_test (inserted_setting setting)
+        (state (lower (inserted_setting setting)) n (counted_first_state (inserted_setting setting) input))
+    passing = any_passed setting constructors weight input promise never
 
-    related : Related setting constructors promise weight 0 pace (core_first_state setting input)
-        (counted_first_state (inserted_setting setting) input)
-    related = (
-      omega (
-        arith,
-        waits_few setting constructors promise (core_first_state setting input).machine.control
-            (core_first_state setting input).machine (counted_first_state (inserted_setting setting) input).machine
-            (start_stands setting constructors promise weight input).1,
-      ),
-      (start_stands setting constructors promise weight input, sane),
-    )
+-- Its code has the shape that a typed program has.
+pub has_shape : (setting : CoreSetting) (constructors : List ConstructorTree) (weight : CoreState → ℕ) (weights : CountedState → ℕ)
+    (input : List ℕ) → IsInsertable setting.positions setting.code → NeverStuck constructors weight setting input
+    → HasShapeAlways weights (inserted_setting setting) input
+has_shape setting constructors weight weights input promise never n =
+    (any_passed setting constructors weight input promise never n).1.1.1.0
 
-    passing : (n : ℕ) → Passing (state (lower (inserted_setting setting)) n (counted_first_state (inserted_setting setting) input))
-    passing n =
-        simulates_passing (core_machine weight setting) (lower (inserted_setting setting))
-        (Related setting constructors promise weight) Passing pace (simulates setting constructors promise weight) 0 pace
-        (core_first_state setting input) (counted_first_state (inserted_setting setting) input) related n
+-- Its operators and prints take values without cells.
+pub always_fits : (setting : CoreSetting) (constructors : List ConstructorTree) (weight : CoreState → ℕ) (weights : CountedState → ℕ)
+    (input : List ℕ) → IsInsertable setting.positions setting.code → NeverStuck constructors weight setting input
+    → FitsAlways weights (inserted_setting setting) input
+always_fits setting constructors weight weights input promise never n =
+    (any_passed setting constructors weight input promise never n).1.0
+
+-- ---- where values are of the kinds that core code takes
+
+module _ (alike : ℕ → ℕ → Type 0) (fields : ℕ → ℕ) where
+  abbrev alike_test : Store → Value → List NodeTree → Type 0
+  alike_test store v decisions = TestsAlike alike fields (slice_get store) v decisions
+
+  module _ (setting : CoreSetting) (constructors : List ConstructorTree) (promise : IsInsertable setting.positions setting.code) where
+    core_tested : (control : CoreControl) (c : CoreConfiguration) → Core.HasKinds alike fields control c
+        → IsTested setting constructors promise alike_test control c
+    core_tested (stopped by) c kinds = tt
+    core_tested (running code environment joins) c kinds = by_code code kinds
+      where
+        by_code : (code : Code) → Core.HasKinds alike fields (running code environment joins) c
+            → IsTested setting constructors promise alike_test (running code environment joins) c
+        by_code (give x) kinds = tt
+        by_code (tail_call f arguments) kinds = tt
+        by_code (branch x positive negative) kinds = tt
+        by_code (case x decisions arms) kinds = kinds
+        by_code (compute x form arguments rest) kinds = tt
+        by_code (use_of x rest) kinds = tt
+        by_code (unpack x by fields rest) kinds = tt
+        by_code (inside x block rest) kinds = tt
+
+  fed_kinds : (heap : Heap) (control : Counted.CountedControl) → IsFed alike_test heap control
+      → HasKinds alike fields heap control
+  fed_kinds heap (Counted.stopped by) fed = tt
+  fed_kinds heap Counted.stuck fed = tt
+  fed_kinds heap (Counted.running code environment joins) fed = by_code code fed
+    where
+      by_code : (code : Codes.Counted) → IsFed alike_test heap (Counted.running code environment joins)
+          → HasKinds alike fields heap (Counted.running code environment joins)
+      by_code (Codes.give x) fed = tt
+      by_code (Codes.tail_call f arguments) fed = tt
+      by_code (Codes.branch x positive negative) fed = fed
+      by_code (Codes.case x decisions arms) fed = fed
+      by_code (Codes.compute x form arguments rest) fed = fed
+      by_code (Codes.inside x block rest) fed = tt
+      by_code (Codes.read x c fields rest) fed = tt
+      by_code (Codes.open_cell x c fields used rest) fed = tt
+      by_code (Codes.if_unique x c fields used rest) fed = tt
+      by_code (Codes.dup x rest) fed = tt
+      by_code (Codes.drop x rest) fed = tt
+
+  pub keeps_kinds : (setting : CoreSetting) (constructors : List ConstructorTree) (weight : CoreState → ℕ)
+      (weights : CountedState → ℕ) (input : List ℕ) → IsInsertable setting.positions setting.code
+      → NeverStuck constructors weight setting input → Core.HasKindsAlways alike fields weight setting input
+      → HasKindsAlways alike fields weights (inserted_setting setting) input
+  keeps_kinds setting constructors weight weights input promise never kinds n =
+      fed_kinds (state (lower (inserted_setting setting)) n (counted_first_state (inserted_setting setting) input)).machine.heap
+      (state (lower (inserted_setting setting)) n (counted_first_state (inserted_setting setting) input)).machine.control
+      (all_passed setting constructors weight input promise never alike_test
+      (λ k. core_tested setting constructors promise
+      (state (core_machine weight setting) k (core_first_state setting input)).machine.control
+      (state (core_machine weight setting) k (core_first_state setting input)).machine (kinds k)) n).1.1.1.1
 
 front_get : (xs ys : List Note) (k : ℕ) (note : Note) → slice_get xs k ≡ Some note → slice_get (xs ++ ys) k ≡ Some note
 front_get [] ys k note is = absurd (cc)

@@ -19,7 +19,7 @@ use Rattle.kk_insert.specs.Promise.{LendsOn}
 use Rattle.kk_insert.proofs.Sets.{Part, among_next}
 use Rattle.kk_insert.proofs.Fine.{IsFine}
 use Rattle.kk_insert.proofs.Spent.{at_tail}
-use Rattle.kk_insert.proofs.Paths.{conf, Path}
+use Rattle.kk_insert.proofs.Paths.{Passing, conf, PathBy}
 
 module _ (positions : PositionTable) (source : List FunctionCode) where
   -- ---- by the lent variables of a function
@@ -132,7 +132,11 @@ module _ (positions : PositionTable) (source : List FunctionCode) where
   abbrev pub Stands : CoreState → CountedState → Type 0
   Stands s t = (t.input ≡ s.input) × StandsAt s.machine.control s.machine t.machine
 
-  -- the counted machine does what an action of the core machine does
+  -- the counted machine does what an action of the core machine does, through states of a kind
+  abbrev pub FollowsBy : (CountedState → Type 0) → CountedSetting → ℕ → Action CoreConfiguration → List ℕ → CountedState → Type 0
+  FollowsBy Q setting least action input t =
+      PathBy Q setting least (performed action input).0 (Stands (performed action input).1) t
+
+  -- through states that are not at a case
   abbrev pub Follows : CountedSetting → ℕ → Action CoreConfiguration → List ℕ → CountedState → Type 0
-  Follows setting least action input t =
-      Path setting least (performed action input).0 (Stands (performed action input).1) t
+  Follows setting = FollowsBy (Passing setting) setting

@@ -9,12 +9,17 @@ ghost use Rattle.kk_core.specs.declared.form.Core.{Core};
 ghost use Rattle.kk_core.specs.Codes.{ProgramCode};
 ghost use Rattle.kk_core.specs.CoreStates.{CoreSetting, CoreState};
 ghost use Rattle.kk_core.specs.CoreTyping.{IsCoreTyped, IsSmall};
+ghost use Rattle.kk_core.specs.Kinds as Core;
+ghost use Rattle.kk_core.specs.Kinds.{MakeOneType, field_count};
 ghost use Rattle.kk_core.specs.NeverStuck.{NeverStuck};
+ghost use Rattle.kk_counted.specs.CountedStates.{CountedState};
+ghost use Rattle.kk_counted.specs.Keeping.{FitsAlways, HasShapeAlways};
+ghost use Rattle.kk_counted.specs.Kinds.{HasKindsAlways};
 ghost use Rattle.kk_counted.specs.Marks.{AreMarked};
 ghost use Rattle.kk_counted.specs.Spending.{IsSpent};
 ghost use Rattle.kk_insert.specs.Insertion.{inserted};
 ghost use Rattle.kk_insert.specs.MarkTables.{marks_of_types, marks_of_core, AreGround};
-ghost use Rattle.kk_insert.specs.Meaning.{KeepsMeaning, FindsAsMany};
+ghost use Rattle.kk_insert.specs.Meaning.{inserted_setting, KeepsMeaning, FindsAsMany};
 ghost use Rattle.kk_insert.specs.Promise.{IsInsertable, TailsLendOn};
 
 /// A typed program within the limits, whose tail calls lend on only what is lent, may be inserted. It is a law, and does nothing.
@@ -38,6 +43,26 @@ pub fn inserted_code_keeps_meaning()
         → IsInsertable setting.positions setting.code
         → NeverStuck constructors weight setting input
         → KeepsMeaning weight setting input }
+{}
+
+/// The code of an inserted program has the shape of a typed program in each state, its operators and prints take values without cells,
+/// and it takes values of the kinds that it asks for where core code does: a branch finds a truth, operators and prints find numbers and
+/// truths, and each test of a case finds an answer of the type of its edges. The core program must never be stuck. It is a law, and does
+/// nothing.
+pub fn inserted_code_has_its_kinds()
+    ensures shape { (setting : CoreSetting) (constructors : List ConstructorTree) (weight : CoreState → ℕ) (weights : CountedState → ℕ)
+        (input : List ℕ) → IsInsertable setting.positions setting.code
+        → NeverStuck constructors weight setting input
+        → HasShapeAlways weights (inserted_setting setting) input }
+    ensures fits { (setting : CoreSetting) (constructors : List ConstructorTree) (weight : CoreState → ℕ) (weights : CountedState → ℕ)
+        (input : List ℕ) → IsInsertable setting.positions setting.code
+        → NeverStuck constructors weight setting input
+        → FitsAlways weights (inserted_setting setting) input }
+    ensures kinds { (setting : CoreSetting) (constructors : List ConstructorTree) (weight : CoreState → ℕ) (weights : CountedState → ℕ)
+        (input : List ℕ) → IsInsertable setting.positions setting.code
+        → NeverStuck constructors weight setting input
+        → Core.HasKindsAlways (MakeOneType constructors) (field_count constructors) weight setting input
+        → HasKindsAlways (MakeOneType constructors) (field_count constructors) weights (inserted_setting setting) input }
 {}
 
 /// The k-th note of either machine is the k-th of the other: so at each construction the cells that are counted are as many as the
