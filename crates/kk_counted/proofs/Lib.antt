@@ -23,7 +23,10 @@ pub mod SoundSteps
 pub mod SoundRuns
 pub mod SoundUses
 pub mod Cost
+mod EdgeNumbers
+mod Recounting
 pub mod Marking
+pub mod Numbers
 pub mod OwnedBounds
 pub mod CountSteps
 pub mod NarrowCounts

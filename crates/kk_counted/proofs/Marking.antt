@@ -7,6 +7,7 @@ use Rattle.kk_base.specs.Machines.{step_unless, state}
 use Rattle.kk_core.specs.CoreMachine.{bind_fields}
 use Rattle.kk_core.specs.Sizes.{AreBound}
 use Rattle.kk_counted.proofs.Counting.{same, itself}
+use Rattle.kk_counted.proofs.Recounting.{OnHeap, dup_keeps, drop_keeps, opened_keeps, unique_keeps}
 use Rattle.kk_counted.proofs.Variables.{among_cases}
 use Rattle.kk_counted.proofs.SoundRuns.{performed_kept}
 use Rattle.kk_counted.proofs.SoundSteps.{LeadsTo, OnNamed}
@@ -14,7 +15,7 @@ use Rattle.kk_counted.specs.CountedCodes.{Counted, give, tail_call, branch, case
 use Rattle.kk_counted.specs.CountedMachine.{at_counted, bound_then, at_end, at_stuck, with_heap, arm_at, case_step, give_step, in_code, tail_step, if_made_by, Named, cell_named, used_values, other_values, opened_heap, unique_heap, open_step, call_step, form_step, counted_code_step, counted_step_at, counted_step_of, counted_step, counted_ending_of, counted_machine}
 use Rattle.kk_counted.specs.CountedStates.{CountedSetting, CountedJoin, CountedFrame, CountedControl, running, stopped, stuck, CountedConfiguration, CountedState, no_function, counted_start, counted_first_state}
 use Rattle.kk_counted.specs.Emitting.{AreIn}
-use Rattle.kk_counted.specs.Heaps.{Held, Heap, held_at, count_at, if_counted, set_count, busy, more, dup_value, dup_all, fields_held, weight, give_up, drop_value, drop_all}
+use Rattle.kk_counted.specs.Heaps.{Held, Heap, held_at, count_at, if_counted, set_count, busy, dup_value, drop_value}
 use Rattle.kk_counted.specs.Keeping.{counted_after}
 use Rattle.kk_counted.specs.MarkKeeping.{FitsMark, FitMarks, CellsFit, variables_of, EnvironmentFits, JoinsFit, RunFits, FramesFit, ControlFits, StateFits, numbers_given, numbers_called, numbers_at, numbers_after, numbers_from_state, numbers_in}
 use Rattle.kk_counted.specs.Marks.{CellMarks, parameter_marks, result_mark, field_marks, made_mark, HaveMarks, IsFormMarked, Opens, HasMark, HaveMark, IsMarked, AreMarked}
@@ -36,15 +37,6 @@ use Rattle.kk_syntax.specs.declared.program.Form.TheVariants.{Number, Unit as No
 
 -- ---- heaps
 
-abbrev pub OnHeap : (Heap → Type 0) → Option Heap → Type 0
-OnHeap P None = Unit {0}
-OnHeap P (Some heap) = P heap
-
-then_on : (P : Heap → Type 0) (first : Option Heap) (next : Heap → Option Heap) → OnHeap P first
-    → ((heap : Heap) → P heap → OnHeap P (next heap)) → OnHeap P (and_then first next)
-then_on P None next on each = tt
-then_on P (Some heap) next on each = each heap on
-
 module _ (marks : CellMarks) where
   pub set_fits : (at count : ℕ) (heap : Heap) → CellsFit marks heap → CellsFit marks (set_count at count heap)
   set_fits at count [] fit = tt
@@ -54,66 +46,6 @@ module _ (marks : CellMarks) where
           → CellsFit marks (if t then record held { count = count } ∷ heap else held ∷ set_count at count heap)
       by_test true later = fit
       by_test false later = (fit.0, later)
-
-  more_fits : (at count : ℕ) (heap : Heap) → CellsFit marks heap → OnHeap (CellsFit marks) (more at count heap)
-  more_fits at zero heap fit = tt
-  more_fits at (suc count) heap fit = set_fits at (suc (suc count)) heap fit
-
-  pub dup_fits : (v : Value) (heap : Heap) → CellsFit marks heap → OnHeap (CellsFit marks) (dup_value v heap)
-  dup_fits (integer n) heap fit = fit
-  dup_fits unit heap fit = fit
-  dup_fits (constant c) heap fit = fit
-  dup_fits (place at) heap fit = more_fits at (count_at heap at) heap fit
-
-  dups_fit : (vs : List Value) (heap : Heap) → CellsFit marks heap → OnHeap (CellsFit marks) (dup_all vs heap)
-  dups_fit [] heap fit = fit
-  dups_fit (v ∷ vs) heap fit = then_on (CellsFit marks) (dup_value v heap) (dup_all vs) (dup_fits v heap fit) (dups_fit vs)
-
-  by_count : (turns at count : ℕ) (vs : List Value) (heap : Heap)
-      → OnHeap (CellsFit marks) (give_up turns (fields_held heap at ++ vs) (set_count at 0 heap))
-      → ((others : ℕ) → OnHeap (CellsFit marks) (give_up turns vs (set_count at (suc others) heap)))
-      → OnHeap (CellsFit marks) (elim count [
-        | zero ↦ None
-        | suc count ↦ elim count [
-          | zero ↦ give_up turns (fields_held heap at ++ vs) (set_count at 0 heap)
-          | suc others ↦ give_up turns vs (set_count at (suc others) heap)
-        ]
-      ])
-  by_count turns at zero vs heap last lower = tt
-  by_count turns at (suc zero) vs heap last lower = last
-  by_count turns at (suc (suc others)) vs heap last lower = lower others
-
-  given_up_fits : (turns : ℕ) (vs : List Value) (heap : Heap) → CellsFit marks heap → OnHeap (CellsFit marks)
-      (give_up turns vs heap)
-  given_up_fits zero [] heap fit = fit
-  given_up_fits (suc turns) [] heap fit = fit
-  given_up_fits zero (v ∷ vs) heap fit = tt
-  given_up_fits (suc turns) (integer n ∷ vs) heap fit = given_up_fits turns vs heap fit
-  given_up_fits (suc turns) (unit ∷ vs) heap fit = given_up_fits turns vs heap fit
-  given_up_fits (suc turns) (constant c ∷ vs) heap fit = given_up_fits turns vs heap fit
-  given_up_fits (suc turns) (place at ∷ vs) heap fit =
-      by_count turns at (count_at heap at) vs heap
-      (given_up_fits turns (fields_held heap at ++ vs) (set_count at 0 heap) (set_fits at 0 heap fit))
-      (λ others. given_up_fits turns vs (set_count at (suc others) heap) (set_fits at (suc others) heap fit))
-
-  pub drop_fits : (v : Value) (heap : Heap) → CellsFit marks heap → OnHeap (CellsFit marks) (drop_value v heap)
-  drop_fits v heap fit = given_up_fits (suc (weight heap)) (v ∷ []) heap fit
-
-  drops_fit : (vs : List Value) (heap : Heap) → CellsFit marks heap → OnHeap (CellsFit marks) (drop_all vs heap)
-  drops_fit [] heap fit = fit
-  drops_fit (v ∷ vs) heap fit = then_on (CellsFit marks) (drop_value v heap) (drop_all vs) (drop_fits v heap fit) (drops_fit vs)
-
-  pub opened_fits : (at : ℕ) (used : List Value) (heap : Heap) → CellsFit marks heap → OnHeap (CellsFit marks)
-      (opened_heap at used heap)
-  opened_fits at used heap fit = then_on (CellsFit marks) (dup_all used heap) (drop_value (place at)) (dups_fit used heap fit)
-      (drop_fits (place at))
-
-  pub unique_fits : (count at : ℕ) (used others : List Value) (heap : Heap) → CellsFit marks heap
-      → OnHeap (CellsFit marks) (unique_heap count at used others heap)
-  unique_fits zero at used others heap fit = tt
-  unique_fits (suc zero) at used others heap fit = drops_fit others (set_count at 0 heap) (set_fits at 0 heap fit)
-  unique_fits (suc (suc count)) at used others heap fit = dups_fit used (set_count at (suc count) heap)
-      (set_fits at (suc count) heap fit)
 
   -- ---- the cell that a value names
 
@@ -619,26 +551,26 @@ module _ (marks : CellMarks) (holds : ℕ → ℕ → Bool) (setting : CountedSe
       opening_fits f numbers from environment joins cells frames r.values_fit c x fields r.bound r.given rest
       (λ named. opened_heap named.at (used_values used fields named.fields) from.heap) _
       (named_fits marks c (length fields) from.heap (value_of environment x) cells)
-      (λ named. opened_fits marks named.at (used_values used fields named.fields) from.heap cells) r.code_marked.0 r.code_marked.1
+      (λ named. opened_keeps (CellsFit marks) (set_fits marks) named.at (used_values used fields named.fields) from.heap cells) r.code_marked.0 r.code_marked.1
       r.bound_in r.joins_fit
   code_fits f numbers from environment joins (if_unique x c fields used rest) cells r frames =
       opening_fits f numbers from environment joins cells frames r.values_fit c x fields r.bound r.given rest
       (λ named. unique_heap (count_at from.heap named.at) named.at (used_values used fields named.fields)
       (other_values used fields named.fields) from.heap) _
       (named_fits marks c (length fields) from.heap (value_of environment x) cells)
-      (λ named. unique_fits marks (count_at from.heap named.at) named.at (used_values used fields named.fields)
+      (λ named. unique_keeps (CellsFit marks) (set_fits marks) (count_at from.heap named.at) named.at (used_values used fields named.fields)
       (other_values used fields named.fields) from.heap cells)
       r.code_marked.0 r.code_marked.1 r.bound_in r.joins_fit
   code_fits f numbers from environment joins (dup x rest) cells r frames =
       with_heap_fits f numbers from environment joins cells frames r.values_fit (dup_value (value_of environment x) from.heap)
       (at_counted rest environment joins from)
-      (dup_fits marks (value_of environment x) from.heap cells)
+      (dup_keeps (CellsFit marks) (set_fits marks) (value_of environment x) from.heap cells)
       (follows f numbers from environment joins cells frames r.values_fit rest r.bound r.given joins r.code_marked.1 r.bound_in
       r.joins_fit)
   code_fits f numbers from environment joins (drop x rest) cells r frames =
       with_heap_fits f numbers from environment joins cells frames r.values_fit (drop_value (value_of environment x) from.heap)
       (at_counted rest environment joins from)
-      (drop_fits marks (value_of environment x) from.heap cells)
+      (drop_keeps (CellsFit marks) (set_fits marks) (value_of environment x) from.heap cells)
       (follows f numbers from environment joins cells frames r.values_fit rest r.bound r.given joins r.code_marked.1 r.bound_in
       r.joins_fit)
 

@@ -9,7 +9,7 @@ use Rattle.kk_core.specs.declared.decisions.Answer.{Answer}
 use Rattle.kk_core.specs.declared.decisions.Answer.TheVariants.{Number as OfNumber}
 use Rattle.kk_core.specs.declared.decisions.Edge.{Edge}
 use Rattle.kk_counted.specs.CountedCodes.{Counted, give, tail_call, branch, case, compute, inside, read, open_cell, if_unique, dup, drop, CountedArms, no_arm, arm, CountedFunction}
-use Rattle.kk_counted.specs.CountedStates.{CountedFrame, CountedControl, running, CountedConfiguration}
+use Rattle.kk_counted.specs.CountedStates.{CountedJoin, CountedFrame, CountedControl, running, CountedConfiguration}
 use Rattle.kk_counted.specs.Heaps.{Heap}
 
 -- ---- values
@@ -37,10 +37,13 @@ abbrev pub AreEdgesInt32 : List Edge → Type 0
 AreEdgesInt32 [] = Unit {0}
 AreEdgesInt32 (edge ∷ edges) = IsAnswerInt32 edge.found × AreEdgesInt32 edges
 
+abbrev pub IsNodeInt32 : NodeTree → Type 0
+IsNodeInt32 (chooses row) = Unit {0}
+IsNodeInt32 (tests at edges otherwise) = AreEdgesInt32 edges
+
 abbrev pub AreNodesInt32 : List NodeTree → Type 0
 AreNodesInt32 [] = Unit {0}
-AreNodesInt32 (chooses row ∷ nodes) = AreNodesInt32 nodes
-AreNodesInt32 (tests at edges otherwise ∷ nodes) = AreEdgesInt32 edges × AreNodesInt32 nodes
+AreNodesInt32 (node ∷ nodes) = IsNodeInt32 node × AreNodesInt32 nodes
 
 abbrev mutual
   pub HasInt32 : Counted → Type 0
@@ -75,12 +78,22 @@ abbrev pub IsHeapInt32 : Heap → Type 0
 IsHeapInt32 [] = Unit {0}
 IsHeapInt32 (held ∷ heap) = AreInt32 held.cell.fields × IsHeapInt32 heap
 
+abbrev pub AreJoinsInt32 : List CountedJoin → Type 0
+AreJoinsInt32 [] = Unit {0}
+AreJoinsInt32 (join ∷ joins) = HasInt32 join.rest × AreJoinsInt32 joins
+
+-- a function that runs or waits: the numbers of its code, of its variables, and of the blocks that it is in
+pub record IsRunInt32 (code : Counted) (environment : Environment) (joins : List CountedJoin) : Type 0 where
+  pub ahead : HasInt32 code
+  pub bound : AreBindingsInt32 environment
+  pub behind : AreJoinsInt32 joins
+
 abbrev pub AreFramesInt32 : List CountedFrame → Type 0
 AreFramesInt32 [] = Unit {0}
-AreFramesInt32 (frame ∷ older) = AreBindingsInt32 frame.environment × AreFramesInt32 older
+AreFramesInt32 (frame ∷ older) = IsRunInt32 frame.rest frame.environment frame.joins × AreFramesInt32 older
 
 abbrev pub IsControlInt32 : CountedControl → Type 0
-IsControlInt32 (running code environment joins) = AreBindingsInt32 environment
+IsControlInt32 (running code environment joins) = IsRunInt32 code environment joins
 IsControlInt32 _ = Unit {0}
 
 -- the numbers of a state: those of the function that runs, of those that wait, and of cells

@@ -1,4 +1,4 @@
-ghost use Rattle.std.specs.Prelude.{◌≡◌, ◌↔◌, ◌+◌, ◌*◌, ◌^◌, ◌≤◌, ◌<◌, ℕ, suc, Bool, true, false, List, [], ◌∷◌, map, length, Some, slice_get};
+ghost use Rattle.std.specs.Prelude.{◌≡◌, ◌↔◌, ◌+◌, ◌*◌, ◌^◌, ◌≤◌, ◌<◌, ℕ, suc, Bool, true, false, List, [], ◌∷◌, map, length, All, Some, slice_get};
 ghost use Rattle.kk_syntax.specs.Shapes.{is_among};
 ghost use Rattle.kk_syntax.specs.PositionsOf.{PositionTable};
 ghost use Rattle.kk_source.specs.State.{Value, place, Cell, Environment};
@@ -9,6 +9,7 @@ ghost use Rattle.kk_counted.specs.CountedCodes.{Counted, CountedArms, CountedFun
 ghost use Rattle.kk_counted.specs.CountedMachine.{opened_heap, unique_heap, counted_code_step, counted_step, NotStuck};
 ghost use Rattle.kk_counted.specs.CountedStates.{CountedSetting, CountedJoin, CountedState, running, counted_start};
 ghost use Rattle.kk_counted.specs.Heaps.{Heap, forwards, count_at, cell_at, fields_held, busy, weight, dup_value, drop_value};
+ghost use Rattle.kk_counted.specs.Int32.{AllHaveInt32, IsStateInt32};
 ghost use Rattle.kk_counted.specs.Keeping.{HasNoCell, uses, IsKept, counted_after, FitsAlways, HasShapeAlways};
 ghost use Rattle.kk_counted.specs.References.{refs, IsSound, IsCounted, cells_of, AreOlder, counted};
 ghost use Rattle.kk_counted.specs.Spending.{AreEven, SpendsParameters, IsSpent};
@@ -234,4 +235,13 @@ pub fn judged_code_keeps_counts_narrow()
     ensures spends { (positions : PositionTable) (functions : List CountedFunction) (f : ℕ) (function : CountedFunction)
         → SpendsParameters positions functions f function → EachHasAnArm function.body
         → SpendsAtMost function.body (function.parameters + gains function.body) }
+{}
+
+/// Where the numbers of a program's code are numbers of 32 bits, and its input is of bytes, the numbers of each state of its run
+/// are such numbers: those of variables, of cells, and of the code that is still to run. It is a law, and does nothing.
+pub fn numbers_stay_in_32_bits()
+    ensures { (weight : CountedState → ℕ) (setting : CountedSetting) (input : List ℕ)
+        → All (λ byte. byte < 256) input
+        → AllHaveInt32 setting.program.functions
+        → (n : ℕ) → IsStateInt32 (counted_after weight setting input n) }
 {}
