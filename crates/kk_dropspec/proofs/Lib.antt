@@ -3,3 +3,4 @@ pub mod Steps
 pub mod Runs
 pub mod Tokens
 pub mod Forms
+pub mod Lowered
