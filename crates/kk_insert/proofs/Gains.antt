@@ -1,5 +1,5 @@
 -- How much inserted code gains at most: so how many references it spends on a path.
-use Rattle.std.proofs.Common.{◌≡◌, ℕ, suc, ◌+◌, ◌*◌, ◌≤◌, ◌||◌, Bool, true, false, not, List, [], ◌∷◌, ◌++◌, length, Option, Some, None, arith, refl, sym, ap, ◌∙◌, subst}
+use Rattle.std.proofs.Common.{◌≡◌, ℕ, suc, ◌+◌, ◌*◌, ◌≤◌, ◌||◌, Bool, true, false, not, List, [], ◌∷◌, length, Some, arith, refl, ap, ◌∙◌}
 use Rattle.std.specs.Prelude.{filter, slice_get, if◌then◌else◌}
 use Rattle.std.proofs.lemmas.List.{length-append}
 use Rattle.kk_syntax.specs.Shapes.{is_among, without}
@@ -10,7 +10,7 @@ use Rattle.kk_syntax.specs.Types.{TypeTree}
 use Rattle.kk_syntax.specs.declared.program.Form.{Form}
 use Rattle.kk_syntax.specs.declared.program.Form.TheVariants.{Number, Unit as Nothing, ReadByte, PrintText, Unary, Binary, Print, Construct, Call}
 use Rattle.kk_core.specs.Codes.{Code, give, tail_call, branch, case, compute, use_of, unpack, inside, Arms, no_arm, arm, FunctionCode}
-use Rattle.kk_core.specs.CoreTyping.{Facts, HaveTypes, HasCodeType, AreArmsTyped}
+use Rattle.kk_core.specs.CoreTyping.{Facts, HasCodeType, AreArmsTyped}
 use Rattle.kk_core.specs.Sizes.{forms, forms_of_arms}
 use Rattle.kk_counted.specs.CountedCodes as Counted
 use Rattle.kk_counted.specs.CountBounds.{gains, gains_in}
@@ -67,8 +67,8 @@ used_few positions (Construct c) arguments = omega arith
 -- ---- dups and drops
 
 dups_gain : (xs : List ℕ) (code : Counted.Counted) → gains (dups xs code) ≡ length xs + gains code
-dups_gain [] code = refl
-dups_gain (x ∷ xs) code = ap suc (dups_gain xs code)
+dups_gain [] code = omega arith
+dups_gain (x ∷ xs) code = let rest = dups_gain xs code in omega (arith, rest)
 
 drops_gain : (xs : List ℕ) (code : Counted.Counted) → gains (drops xs code) ≡ gains code
 drops_gain [] code = refl

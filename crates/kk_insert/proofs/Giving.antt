@@ -1,5 +1,5 @@
 -- Each block inside of inserted code gives a value, each case has an arm, and each form as many arguments as it takes.
-use Rattle.std.proofs.Common.{◌≡◌, ℕ, ◌<◌, ◌≤◌, ◌||◌, Bool, true, false, List, [], ◌∷◌, map, length, Option, Some, None, arith, refl, sym, ◌∙◌, ap}
+use Rattle.std.proofs.Common.{◌≡◌, ℕ, ◌<◌, ◌||◌, Bool, true, false, List, [], ◌∷◌, map, length, Option, Some, None, arith, refl, sym, ◌∙◌, ap}
 use Rattle.kk_syntax.specs.Shapes.{is_among, without}
 use Rattle.kk_syntax.specs.Covered.{IsCovered}
 use Rattle.kk_syntax.specs.GroundTyping.{Table, IsFormTyped}
@@ -16,7 +16,7 @@ use Rattle.kk_counted.specs.CountedCodes as Counted
 use Rattle.kk_counted.specs.CountBounds.{HasAnArm, EachHasAnArm, AllHaveAnArm}
 use Rattle.kk_counted.specs.Lowerable.{first_of, given_by, given_by_arms, BlocksGive, BlocksOfArmsGive, HasArity, HasArities, HaveArities}
 use Rattle.kk_counted.specs.Spending.{at_positions, numbers_from, is_owned}
-use Rattle.kk_insert.specs.Insertion.{dups, dropping, common, used, lends, owns, wants, back, opening, lent_of, own, insert, insert_arms, inserted_function}
+use Rattle.kk_insert.specs.Insertion.{dropping, common, used, lends, owns, wants, back, opening, lent_of, own, insert, insert_arms, inserted_function}
 use Rattle.kk_insert.proofs.Gains.{HasFew}
 use Rattle.kk_insert.proofs.Typed.{same_length}
 use Rattle.kk_insert.proofs.Through.{through_dups, through_dropping, through_back}
@@ -35,6 +35,11 @@ Gives g code = given_by code ≡ Some g
 given_first : (one two : Option ℕ) (g : ℕ) → one ≡ Some g → first_of one two ≡ Some g
 given_first None two g is = absurd (cc)
 given_first (Some x) two g is = is
+
+opening_gives : (stays : Bool) (x c : ℕ) (fields in_use : List ℕ) (code : Counted.Counted) (g : ℕ) → Gives g code
+    → Gives g (opening stays x c fields in_use code)
+opening_gives true x c fields in_use code g is = through_dups (Gives g) (λ y code is. is) (λ y code is. is) in_use code is
+opening_gives false x c fields in_use code g is = is
 
 module _ (positions : PositionTable) (lent : List ℕ) (table : Table) where
   mutual
@@ -87,11 +92,6 @@ module _ (positions : PositionTable) (lent : List ℕ) (table : Table) where
           given_first (given_by (dropping all (own positions lent left body) (insert positions lent left body)))
               (given_by_arms (insert_arms positions lent left all rest)) first.0 one,
         )
-
-    opening_gives : (stays : Bool) (x c : ℕ) (fields in_use : List ℕ) (code : Counted.Counted) (g : ℕ) → Gives g code
-        → Gives g (opening stays x c fields in_use code)
-    opening_gives true x c fields in_use code g is = through_dups (Gives g) (λ y code is. is) (λ y code is. is) in_use code is
-    opening_gives false x c fields in_use code g is = is
 
   -- ---- blocks inside, arms and arguments
 

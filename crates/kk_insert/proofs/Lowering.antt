@@ -1,16 +1,16 @@
 -- Inserted code of a typed program within the limits can be lowered, and spends little on each path.
-use Rattle.std.proofs.Common.{◌≡◌, ℕ, zero, suc, ◌+◌, ◌*◌, ◌≤◌, Bool, true, false, List, [], ◌∷◌, map, length, Option, Some, None, arith, refl, sym, ap, ◌∙◌, subst}
+use Rattle.std.proofs.Common.{◌≡◌, ℕ, zero, suc, ◌+◌, ◌≤◌, Bool, true, false, List, [], ◌∷◌, map, length, Option, Some, None, arith, refl, sym, ap, ◌∙◌, subst}
 use Rattle.std.specs.Prelude.{slice_get, if◌then◌else◌, ◌==◌}
 use Rattle.std.proofs.lemmas.List.{length-map}
-use Rattle.kk_syntax.specs.GroundTyping.{Signature, Table}
+use Rattle.kk_syntax.specs.GroundTyping.{Table}
 use Rattle.kk_syntax.specs.OfType.{field_types, fields_of, fields_with, same_types, with_arguments}
 use Rattle.kk_syntax.specs.PositionsOf.{PositionTable}
 use Rattle.kk_syntax.specs.Programs.{ConstructorTree}
 use Rattle.kk_syntax.specs.Types.{TypeTree, TypeTrees, int32, unit_type, type_variable, named}
 use Rattle.kk_core.specs.Codes.{FunctionCode, ProgramCode}
-use Rattle.kk_core.specs.CoreTyping.{IsCodeTyped, AreCodesTyped, IsCoreTyped, IsFunctionSmall, AreSmall, IsSmall, typing_parameters}
-use Rattle.kk_core.specs.Sizes.{forms, most_variables, most_parameters}
-use Rattle.kk_counted.specs.CountBounds.{SpendsAtMost, EachHasAnArm, gains, AllSpendAtMost}
+use Rattle.kk_core.specs.CoreTyping.{IsCoreTyped, IsFunctionSmall, AreSmall, IsSmall, typing_parameters}
+use Rattle.kk_core.specs.Sizes.{most_variables}
+use Rattle.kk_counted.specs.CountBounds.{SpendsAtMost, gains, AllSpendAtMost}
 use Rattle.kk_counted.specs.CountedCodes.{CountedFunction}
 use Rattle.kk_counted.specs.Lowerable.{IsLowerable, AreLowerable}
 use Rattle.kk_counted.specs.Marks.{CellMarks, IsMarked, AreMarked}
@@ -37,7 +37,7 @@ few_with None fields us arguments few is = by (some is)
     some same = cc
 
     by : map (with_arguments arguments) fields ≡ us → length us ≤ 8
-    by same = let long = ap length (sym same) ∙ length-map (with_arguments arguments) fields in omega (arith, long, few)
+    by same = let long = ap length (sym same) ∙ length-map fields (with_arguments arguments) in omega (arith, long, few)
 few_with (Some own) fields us arguments few is = by (same_types own arguments) is
   where
     by : (b : Bool) → (if b then Some fields else None) ≡ Some us → length us ≤ 8

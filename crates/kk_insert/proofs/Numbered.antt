@@ -1,5 +1,5 @@
 -- The variables of inserted code are numbered in order, as those of the core form are.
-use Rattle.std.proofs.Common.{◌≡◌, ℕ, zero, suc, ◌+◌, ◌≤◌, ◌<◌, ◌||◌, ◌==◌, ◌⊎◌, inl, inr, Bool, true, false, List, [], ◌∷◌, ◌++◌, length, arith, refl, sym, ap}
+use Rattle.std.proofs.Common.{◌≡◌, ℕ, zero, suc, ◌+◌, ◌≤◌, ◌<◌, ◌||◌, ◌==◌, inl, inr, Bool, true, false, List, [], ◌∷◌, ◌++◌, arith}
 use Rattle.kk_syntax.specs.Shapes.{is_among, without}
 use Rattle.kk_syntax.specs.declared.program.Form.TheVariants.{Call}
 use Rattle.kk_syntax.specs.PositionsOf.{PositionTable}
@@ -8,7 +8,7 @@ use Rattle.kk_core.specs.Sizes.{Rise, Ordered, OrderedArms, below, IsOrdered}
 use Rattle.kk_counted.specs.CountedCodes as Counted
 use Rattle.kk_counted.specs.Lowerable.{AreBelow, AreFieldsNumbered, AreNumbered, AreArmsNumbered}
 use Rattle.kk_counted.specs.Spending.{at_positions, numbers_from, is_owned}
-use Rattle.kk_insert.specs.Insertion.{dups, dropping, common, used, lends, owns, wants, back, opening, lent_of, own, insert, insert_arms, inserted_function}
+use Rattle.kk_insert.specs.Insertion.{common, used, lends, owns, wants, back, opening, lent_of, own, insert, insert_arms, inserted_function}
 use Rattle.kk_insert.proofs.Fine.{rise_high, rise_in, rise_apart, ordered_high, arms_high}
 use Rattle.kk_insert.proofs.Sets.{false_if, or_cases}
 use Rattle.kk_insert.proofs.Through.{through_dups, through_dropping, through_back}
@@ -23,7 +23,7 @@ below_more low later (x ∷ xs) le all = (omega (arith, le, all.0), below_more l
 among_below : (low : ℕ) (xs : List ℕ) (y : ℕ) → AreBelow low xs → is_among xs y ≡ true → y < low
 among_below low [] y all is = absurd (cc)
 among_below low (x ∷ xs) y all is =
-    elim or_cases (x == y) (is_among xs y) is as (λ _. y < low)
+    elim (or_cases (x == y) (is_among xs y) is)
     [ inl here ↦ omega (arith, all.0, same x y here) | inr there ↦ among_below low xs y all.1 there ]
 
 below_append : (low : ℕ) (xs ys : List ℕ) → AreBelow low xs → AreBelow low ys → AreBelow low (xs ++ ys)
@@ -154,4 +154,5 @@ function_numbered positions f base function ordered le =
     (at_positions (is_owned positions [] f) 0 names)
     (own positions lent [] function.body) (insert positions lent [] function.body)
     (numbered positions lent base [] (below function.parameters) names function.parameters function.body function.variables ordered le
-    (downwards_below function.parameters) (numbers_below 0 function.parameters))
+    (downwards_below function.parameters)
+    (below_more (0 + function.parameters) function.parameters names (omega arith) (numbers_below 0 function.parameters)))
