@@ -4,3 +4,4 @@ pub mod Runs
 pub mod Tokens
 pub mod Forms
 pub mod SpecialKinds
+pub mod Lowered

@@ -1,16 +1,19 @@
-ghost use Rattle.std.specs.Prelude.{◌≡◌, ℕ, List};
+ghost use Rattle.std.specs.Prelude.{◌≡◌, ℕ, Bool, List, map};
 ghost use Rattle.kk_syntax.specs.PositionsOf.{PositionTable};
 ghost use Rattle.kk_syntax.specs.Programs.{ConstructorTree};
 ghost use Rattle.kk_core.specs.Kinds.{MakeOneType, field_count};
-ghost use Rattle.kk_counted.specs.CountedCodes.{CountedProgram};
+ghost use Rattle.kk_counted.specs.CountedCodes.{CountedProgram, CountedFunction};
+ghost use Rattle.kk_counted.specs.CountBounds.{AllSpendAtMost};
 ghost use Rattle.kk_counted.specs.CountedStates.{CountedSetting, CountedState};
 ghost use Rattle.kk_counted.specs.Keeping.{FitsAlways, HasShapeAlways};
 ghost use Rattle.kk_counted.specs.Kinds.{HasKindsAlways};
+ghost use Rattle.kk_counted.specs.Lowerable.{AreLowerable};
+ghost use Rattle.kk_counted.specs.Marks.{CellMarks, IsMarked};
 ghost use Rattle.kk_counted.specs.Spending.{IsSpent};
 ghost use Rattle.kk_counted.specs.TokenedCodes.{Tokened};
 ghost use Rattle.kk_counted.specs.BareForms.{bare};
 ghost use Rattle.kk_counted.specs.TokenSpending.{SpendsTokens};
-ghost use Rattle.kk_dropspec.specs.Specialised.{special, special_program, special_setting};
+ghost use Rattle.kk_dropspec.specs.Specialised.{special, special_program, special_setting, special_function};
 ghost use Rattle.kk_dropspec.specs.SpecialTokens.{special_tokened};
 ghost use Rattle.kk_dropspec.specs.SameRuns.{AreSameAfter};
 
@@ -51,4 +54,14 @@ pub fn specialised_code_spends_its_tokens()
     ensures form { (code : Tokened) → bare (special_tokened code) ≡ special (bare code) }
     ensures spends { (code : Tokened) (left unspent held : List ℕ) → SpendsTokens left unspent held code
         → SpendsTokens left unspent held (special_tokened code) }
+{}
+
+/// Specialised code is marked as the code is that it is made of, can be lowered where that can, and spends as few references. It is
+/// a law, and does nothing.
+pub fn specialised_code_can_be_lowered()
+    ensures marked { (marks : CellMarks) (holds : ℕ → Bool) (f : ℕ) (function : CountedFunction) → IsMarked marks holds f function
+        → IsMarked marks holds f (special_function function) }
+    ensures lowerable { (table : CellMarks) (functions : List CountedFunction) → AreLowerable table functions
+        → AreLowerable table (map special_function functions) }
+    ensures little { (program : CountedProgram) (n : ℕ) → AllSpendAtMost program n → AllSpendAtMost (special_program program) n }
 {}

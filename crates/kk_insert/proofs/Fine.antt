@@ -48,7 +48,7 @@ rise_high low [] high rise = rise
 rise_high low (x ∷ xs) high rise = omega (arith, rise.0, rise_high (x + 1) xs high rise.1)
 
 -- the variables that rise from a number on are at least that, and below the other
-rise_in : (low : ℕ) (xs : List ℕ) (high y : ℕ) → Rise low xs high → is_among xs y ≡ true → (low ≤ y) × (y < high)
+pub rise_in : (low : ℕ) (xs : List ℕ) (high y : ℕ) → Rise low xs high → is_among xs y ≡ true → (low ≤ y) × (y < high)
 rise_in low [] high y rise is = absurd (cc)
 rise_in low (x ∷ xs) high y rise is = either (or_cases (x == y) (is_among xs y) is) (rise_in (x + 1) xs high y rise.1)
   where
@@ -56,7 +56,7 @@ rise_in low (x ∷ xs) high y rise is = either (or_cases (x == y) (is_among xs y
     either (inl here) later = (omega (arith, rise.0, same x y here), omega (arith, same x y here, rise_high (x + 1) xs high rise.1))
     either (inr there) later = (omega (arith, rise.0, (later there).0), (later there).1)
 
-rise_apart : (low : ℕ) (xs : List ℕ) (high : ℕ) → Rise low xs high → AreApart xs
+pub rise_apart : (low : ℕ) (xs : List ℕ) (high : ℕ) → Rise low xs high → AreApart xs
 rise_apart low [] high rise = tt
 rise_apart low (x ∷ xs) high rise = (
   false_if (is_among xs x) (λ is. absurd (omega (arith, (rise_in (x + 1) xs high x rise.1 is).0))),

@@ -24,3 +24,8 @@ pub mod Marked
 pub mod TypeMarks
 pub mod TypedMarks
 pub mod MarkedPrograms
+pub mod Through
+pub mod Numbered
+pub mod Giving
+pub mod Gains
+pub mod Lowering

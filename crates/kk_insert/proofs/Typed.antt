@@ -13,7 +13,7 @@ use Rattle.kk_core.specs.Sizes.{forms, most_forms}
 use Rattle.kk_insert.specs.Insertion.{lent_of}
 use Rattle.kk_insert.specs.Promise.{TakesAsMany, FormTakes, LendsOn, AllLendOn, LendsTails, AllLendTails, TailsLendOn, IsInsertable}
 
-same_length : (facts : Facts) (xs : List ℕ) (ts : List TypeTree) → HaveTypes facts xs ts → length ts ≡ length xs
+pub same_length : (facts : Facts) (xs : List ℕ) (ts : List TypeTree) → HaveTypes facts xs ts → length ts ≡ length xs
 same_length facts [] [] have = refl
 same_length facts [] (t ∷ ts) have = absurd have
 same_length facts (x ∷ xs) [] have = absurd have

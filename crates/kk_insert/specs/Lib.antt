@@ -5,3 +5,4 @@ pub mod Promise
 pub mod Steps
 pub mod Parts
 pub mod Shapes
+pub mod Limits

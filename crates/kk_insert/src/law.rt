@@ -15,12 +15,15 @@ ghost use Rattle.kk_core.specs.NeverStuck.{NeverStuck};
 ghost use Rattle.kk_counted.specs.CountedStates.{CountedState};
 ghost use Rattle.kk_counted.specs.Keeping.{FitsAlways, HasShapeAlways};
 ghost use Rattle.kk_counted.specs.Kinds.{HasKindsAlways};
+ghost use Rattle.kk_counted.specs.CountBounds.{AllSpendAtMost};
+ghost use Rattle.kk_counted.specs.Lowerable.{AreLowerable};
 ghost use Rattle.kk_counted.specs.Marks.{AreMarked};
 ghost use Rattle.kk_counted.specs.Spending.{IsSpent};
 ghost use Rattle.kk_insert.specs.Insertion.{inserted};
+ghost use Rattle.kk_insert.specs.Limits.{HaveFewFields, most_spent};
 ghost use Rattle.kk_insert.specs.MarkTables.{marks_of_types, marks_of_core, AreGround};
 ghost use Rattle.kk_insert.specs.Meaning.{inserted_setting, KeepsMeaning, FindsAsMany};
-ghost use Rattle.kk_insert.specs.Promise.{IsInsertable, TailsLendOn};
+ghost use Rattle.kk_insert.specs.Promise.{IsInsertable, TailsLendOn, AllHaveRows};
 
 /// A typed program within the limits, whose tail calls lend on only what is lent, may be inserted. It is a law, and does nothing.
 pub fn typed_code_is_insertable()
@@ -84,4 +87,16 @@ pub fn typed_code_is_marked()
     ensures tables { (program : ProgramTree) (core : Core) → TellsCells program core
         → marks_of_core core ≡ marks_of_types (table_of program) }
     ensures ground { (given : Ground) → AreGround (ground_program given).constructors }
+{}
+
+/// The insertion of a typed program within the limits can be lowered: its variables are few and numbered in order, each case has an
+/// arm for each row, each block inside gives a value, and each form has as many arguments as it takes. And each function spends few
+/// references on a path. It is a law, and does nothing.
+pub fn inserted_code_can_be_lowered()
+    ensures lowerable { (positions : PositionTable) (table : Table) (code : ProgramCode) → IsCoreTyped table code → IsSmall code
+        → AllHaveRows code → AreGround table.constructors → HaveFewFields table.constructors
+        → AreLowerable (marks_of_types table) (inserted positions code).functions }
+    ensures little { (positions : PositionTable) (table : Table) (code : ProgramCode) → IsCoreTyped table code → IsSmall code
+        → HaveFewFields table.constructors → IsSpent positions (inserted positions code)
+        → AllSpendAtMost (inserted positions code) most_spent }
 {}

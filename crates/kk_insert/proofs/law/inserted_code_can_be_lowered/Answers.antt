@@ -1,0 +1,5 @@
+use Rattle.kk_insert.proofs.Lowering.{typed_can_be_lowered, spends_little}
+use Rattle.kk_insert.proofs.law.inserted_code_can_be_lowered.Goals as goal
+
+pub returns : goal.returns
+returns c = record { lowerable = typed_can_be_lowered; little = spends_little }

@@ -1,0 +1,18 @@
+-- How much inserted code takes at most, where the constructors of its program have few fields.
+use Rattle.std.specs.Prelude.{◌≡◌, ◌≤◌, ◌+◌, ◌*◌, ℕ, List, length, Some, slice_get}
+use Rattle.kk_base.specs.declared.limit.LimitKind.TheVariants.{Fields}
+use Rattle.kk_base.specs.Limits.{greatest_of}
+use Rattle.kk_syntax.specs.Programs.{ConstructorTree}
+use Rattle.kk_core.specs.Sizes.{most_forms, most_parameters}
+
+-- the fields of a constructor, which fit into a cell
+abbrev pub most_fields : ℕ
+most_fields = greatest_of Fields
+
+abbrev pub HaveFewFields : List ConstructorTree → Type 0
+HaveFewFields constructors =
+    (c : ℕ) (one : ConstructorTree) → slice_get constructors c ≡ Some one → length one.fields ≤ most_fields
+
+-- the references that a function spends at most on a path: a form takes at most eight, each with a dup, and its value
+abbrev pub most_spent : ℕ
+most_spent = 25 * most_forms + most_parameters
