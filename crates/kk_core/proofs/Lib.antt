@@ -1,5 +1,6 @@
 mod ChosenArms
 mod Examples
+pub mod FewParts
 mod PlainCodes
 mod PlainTypes
 mod Safe

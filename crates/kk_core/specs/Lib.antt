@@ -1,3 +1,4 @@
+pub mod Cases
 pub mod CellTypes
 pub mod Choosing
 pub mod Codes
@@ -5,7 +6,9 @@ pub mod ConstructorShapes
 pub mod CoreMachine
 pub mod CoreStates
 pub mod CoreTyping
+pub mod Costs
 pub mod Decisions
+pub mod Edges
 pub mod Needed
 pub mod NeverStuck
 pub mod Plain

@@ -2,6 +2,7 @@ pub mod After
 pub mod Branching
 pub mod Counted
 pub mod Decided
+pub mod Edges
 pub mod Exact
 mod Examples
 pub mod Fitting

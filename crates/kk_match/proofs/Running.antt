@@ -10,10 +10,10 @@ use Rattle.kk_core.specs.declared.decisions.Answer.{Answer}
 use Rattle.kk_core.specs.declared.decisions.Edge.{Edge}
 use Rattle.kk_core.specs.Decisions.{NodeTree, chooses, tests, targets, row_chosen, found_at, is_answer, next_by, row_at, chosen_from, AreOrderly}
 use Rattle.kk_match.specs.Parts.{Part, IsKind}
-use Rattle.kk_match.specs.Graphs.{StateTree, after, first_of, test_of, row_of}
+use Rattle.kk_match.specs.Graphs.{StateTree, after, first_of, test_of, row_of, weight}
 use Rattle.kk_match.specs.Built.{Names, IsRight, InRow, no_state, one_more, AreRight}
 use Rattle.kk_match.specs.Turned.{turn_edge, turn_node, turned}
-use Rattle.kk_match.proofs.After.{AreBelow}
+use Rattle.kk_match.proofs.After.{AreBelow, lighter_by}
 use Rattle.kk_match.proofs.Branching.{either}
 use Rattle.kk_match.proofs.Fitting.{fits, first_fit, IsFound, AreReady, test_ready, after_fits, after_ready}
 use Rattle.kk_match.proofs.Places.{get_left, get_last, get_push, get_there, get_same}
@@ -77,7 +77,9 @@ Moves types at found state later =
 pub record Turns (types : List ℕ) (states : List StateTree) (state : StateTree) (at : List ℕ) (edges : List Edge) (otherwise : Option ℕ) : Type 0 where
   pub asked : Answer
   pub is_test : test_of state ≡ Some (record { at = at; asked = asked })
-  pub within : (j : ℕ) → is_among (targets (tests at edges otherwise)) j ≡ true → j < length states
+  pub few : length edges ≤ weight state
+  pub leads : (j : ℕ) → is_among (targets (tests at edges otherwise)) j ≡ true
+      → (later : StateTree) × Names states j later × (length edges + weight later ≤ weight state)
   pub moves : (found : Answer) → IsKind types asked found
       → (j : ℕ) × (next_by edges otherwise found ≡ Some j) × (later : StateTree) × Names states j later × Moves types at found state later
 
@@ -94,7 +96,12 @@ right_sound types states state (chooses row) right = right
 right_sound types states state (tests at edges otherwise) right = record {
   asked = right.asked;
   is_test = right.is_test;
-  within = λ j among. let leads = right.leads j among in slice_get_within states j (after at leads.0 state) leads.2;
+  few = (let few = right.few in let lighter = lighter_by at None state in omega (arith, few, lighter));
+  leads = λ j among.
+      let leads = right.leads j among in
+      let few = right.few in
+      let lighter = lighter_by at leads.0 state in
+      (after at leads.0 state, leads.2, omega (arith, few, lighter));
   moves = λ found kind. let whole = right.whole found kind in (whole.0, whole.1, after at (Some found) state, whole.2, after_moves types at found state);
 }
 
@@ -116,7 +123,7 @@ get_turned last (first ∷ nodes) zero k node sum is =
 get_turned last (first ∷ nodes) (suc i) k node sum is =
     get_left (turned last nodes) (turn_node last first ∷ []) k (turn_node last node) (get_turned last nodes i k node (omega (arith, sum)) is)
 
-next_turned : (last : ℕ) (edges : List Edge) (otherwise : Option ℕ) (found : Answer)
+pub next_turned : (last : ℕ) (edges : List Edge) (otherwise : Option ℕ) (found : Answer)
     → next_by (map (turn_edge last) edges) (option_map (λ j. last - j) otherwise) found ≡ option_map (λ j. last - j) (next_by edges otherwise found)
 next_turned last [] otherwise found = refl
 next_turned last (edge ∷ edges) otherwise found = by (is_answer edge.found found) (next_turned last edges otherwise found)
@@ -283,7 +290,8 @@ are_orderly types rows states nodes last sound count below = record {
         of : (node : NodeTree) → IsSound types at.at.before at.state node → WasTarget last node j → (k < j) × (j < length (turned last nodes))
         of (chooses number) right target = absurd (both_ways false refl target.among)
         of (tests way edges otherwise) right target =
-            let within = right.within target.target target.among in
+            let leads = right.leads target.target target.among in
+            let within = slice_get_within at.at.before target.target leads.0 leads.1 in
             let before = at.at.long in
             let low : target.target < at.stands.place = omega (arith, within, before) in
             let ends = stands_later states last at.stands.place k target.target j (count ∙ sym long) at.stands.sum low target.turned in
