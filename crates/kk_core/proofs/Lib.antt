@@ -1,6 +1,7 @@
 mod Asking
 mod ChosenArms
 mod Examples
+pub mod FewParts
 mod PlainCodes
 mod PlainTypes
 mod Safe

@@ -1,4 +1,5 @@
 pub mod Asking
+pub mod Cases
 pub mod CellTypes
 pub mod Choosing
 pub mod Codes
@@ -6,8 +7,10 @@ pub mod ConstructorShapes
 pub mod CoreMachine
 pub mod CoreStates
 pub mod CoreTyping
+pub mod Costs
 pub mod Decisions
 pub mod Kinds
+pub mod Edges
 pub mod Needed
 pub mod NeverStuck
 pub mod Plain

@@ -4,7 +4,7 @@ use Rattle.std.specs.Prelude.{if◌then◌else◌}
 use lib.Pointwise.{pointwise, bytes_decides}
 use Rattle.kk_core.specs.declared.decisions.Answer.{Answer}
 use Rattle.kk_match.specs.Parts.{Part}
-use Rattle.kk_match.specs.Graphs.{StateTree, agrees, left_after, kept_line, after, first_of, test_of, weight}
+use Rattle.kk_match.specs.Graphs.{StateTree, agrees, left_after, kept_line, after, first_of, test_of, weight, parts_at, weight_at}
 
 -- the rows of a state are below a number, and so is the row that it chooses where it has none
 abbrev pub AreBelow : ℕ → StateTree → Type 0
@@ -42,7 +42,7 @@ shorter at outcome (q ∷ qs) = by (pointwise nat_eq q.at at) (agrees outcome q.
     by true false less = omega arith
     by false agreed less = let put = put_length q (left_after at outcome qs) in omega (arith, put, less)
 
-not_heavier : (at : List ℕ) (outcome : Option Answer) (state : StateTree) → weight (after at outcome state) ≤ weight state
+pub not_heavier : (at : List ℕ) (outcome : Option Answer) (state : StateTree) → weight (after at outcome state) ≤ weight state
 not_heavier at outcome [] = omega arith
 not_heavier at outcome (line ∷ lines) =
     let here = shorter at outcome line.left in
@@ -78,6 +78,26 @@ lighter_line row (p ∷ ps) lines q outcome is =
 pub lighter : (state : StateTree) (q : Part) (outcome : Option Answer) → test_of state ≡ Some q → weight (after q.at outcome state) < weight state
 lighter [] q outcome is = cc
 lighter (line ∷ lines) q outcome is = lighter_line line.row line.left lines q outcome is
+
+-- the parts at the position are left no more
+parts_lighter : (at : List ℕ) (outcome : Option Answer) (qs : List Part) → parts_at at qs + kept_length (left_after at outcome qs) ≤ length qs
+parts_lighter at outcome [] = omega arith
+parts_lighter at outcome (q ∷ qs) = by (pointwise nat_eq q.at at) (agrees outcome q.asked) (parts_lighter at outcome qs)
+  where
+    by : (here agreed : Bool) → parts_at at qs + kept_length (left_after at outcome qs) ≤ length qs
+        → (if here then 1 else 0) + parts_at at qs
+        + kept_length (if here then (if agreed then left_after at outcome qs else None) else option_map (λ rest. q ∷ rest) (left_after at outcome qs)) ≤ length (q ∷ qs)
+    by true true less = omega arith
+    by true false less = omega arith
+    by false agreed less = let put = put_length q (left_after at outcome qs) in omega (arith, put, less)
+
+pub lighter_by : (at : List ℕ) (outcome : Option Answer) (state : StateTree) → weight_at at state + weight (after at outcome state) ≤ weight state
+lighter_by at outcome [] = omega arith
+lighter_by at outcome (line ∷ lines) =
+    let here = parts_lighter at outcome line.left in
+    let behind = lighter_by at outcome lines in
+    let is = kept_weight line.row (left_after at outcome line.left) (after at outcome lines) in
+    omega (arith, here, behind, is)
 
 -- ---- outcomes that nothing at a position agrees with leave the same
 

@@ -1,9 +1,10 @@
 -- The edges of a test lead on for each answer of its kind.
-use Rattle.std.proofs.Common.{◌≡◌, ℕ, zero, suc, ◌+◌, ◌<◌, Bool, true, false, not, ◌&&◌, ◌||◌, ◌⊎◌, nat_eq, Option, None, Some, List, [], ◌∷◌, ◌++◌, length, get_or, map, refl, sym, ap, ◌∙◌, subst, inl, inr, arith, add-zero}
+use Rattle.std.proofs.Common.{◌≡◌, ℕ, zero, suc, ◌+◌, ◌<◌, Bool, true, false, not, ◌&&◌, ◌||◌, ◌⊎◌, ◌≤◌, nat_eq, Option, None, Some, List, [], ◌∷◌, ◌++◌, length, get_or, map, refl, sym, ap, ◌∙◌, subst, inl, inr, arith, add-zero, length-append}
 use Rattle.std.specs.Prelude.{slice_get, if◌then◌else◌, ◌==◌}
 use Rattle.std.specs.List.{list_any}
 use Rattle.std.proofs.lemmas.Bool.{cases_Bool, both_ways, eqb-true, eq-eqb}
 use Rattle.std.proofs.lemmas.Bool.Decides.{Decides-int_eq}
+use Rattle.std.proofs.lemmas.List.{length-map}
 use Rattle.std.proofs.lemmas.List.Folds.{list_any-append}
 use Rattle.std.proofs.lemmas.Option.{slice_get_within}
 use lib.Pointwise.{pointwise, bytes_decides}
@@ -13,7 +14,7 @@ use Rattle.kk_core.specs.declared.decisions.Answer.TheVariants.{Number, Construc
 use Rattle.kk_core.specs.declared.decisions.Edge.{Edge}
 use Rattle.kk_core.specs.Decisions.{tests, targets, is_answer, next_by}
 use Rattle.kk_match.specs.Parts.{Part, both_same, is_kind, IsKind}
-use Rattle.kk_match.specs.Graphs.{StateTree, after, test_of}
+use Rattle.kk_match.specs.Graphs.{StateTree, after, test_of, parts_at, weight_at}
 use Rattle.kk_match.specs.Outcomes.{is_listed, with_asked, with_parts, with_lines, unlisted_from, unlisted, IsOutcome}
 use Rattle.kk_match.specs.Built.{Names, AreOfKind, Branches}
 use Rattle.kk_match.specs.Growing.{EdgesLead, OtherLeads}
@@ -268,6 +269,31 @@ edge_leads types asked states at state (edge ∷ edges) lead kind j among = elim
   | inr behind ↦ edge_leads types asked states at state edges lead.1 kind.1 j behind
 ]
 
+-- no more answers are asked than parts are left at the position
+asked_few : (types : List ℕ) (test : Part) (answers : List Answer) (q : Part) → length (with_asked types test answers q) ≤ length answers + parts_at test.at (q ∷ [])
+asked_few types test answers q = by (pointwise nat_eq q.at test.at) (is_kind types test.asked q.asked) (is_listed answers q.asked)
+  where
+    by : (here same listed : Bool)
+        → length (if here && (same && not listed) then answers ++ q.asked ∷ [] else answers) ≤ length answers + ((if here then 1 else 0) + 0)
+    by false same listed = omega arith
+    by true false listed = omega arith
+    by true true true = omega arith
+    by true true false = let both = length-append answers (q.asked ∷ []) in omega (arith, both)
+
+parts_few : (types : List ℕ) (test : Part) (answers : List Answer) (qs : List Part) → length (with_parts types test answers qs) ≤ length answers + parts_at test.at qs
+parts_few types test answers [] = omega arith
+parts_few types test answers (q ∷ qs) =
+    let here = asked_few types test answers q in
+    let behind = parts_few types test (with_asked types test answers q) qs in
+    omega (arith, here, behind)
+
+lines_few : (types : List ℕ) (test : Part) (answers : List Answer) (lines : StateTree) → length (with_lines types test answers lines) ≤ length answers + weight_at test.at lines
+lines_few types test answers [] = omega arith
+lines_few types test answers (line ∷ lines) =
+    let here = parts_few types test answers line.left in
+    let behind = lines_few types test (with_parts types test answers line.left) lines in
+    omega (arith, here, behind)
+
 pub branches : (types : List ℕ) (states : List StateTree) (state : StateTree) (test : Part) (answers : List Answer) (edges : List Edge) (otherwise : Option ℕ)
     → test_of state ≡ Some test → answers ≡ with_lines types test [] state → map (λ (e : Edge). e.found) edges ≡ answers → EdgesLead states test.at state edges
     → OtherLeads states test.at state (unlisted types test.asked answers) otherwise → Branches types states state test.at edges otherwise
@@ -281,6 +307,12 @@ branches types states state test answers edges otherwise is_test answers_are fou
     | inr none ↦ whole_by answer kind none (unlisted types test.asked answers) otherwise (rest_right types test.asked answers) other (next_else edges otherwise answer (ap (λ fs. is_listed fs answer) found ∙ none))
   ];
   another = another_by test.asked otherwise other;
+  few = (
+      let as_many = length-map edges (λ (e : Edge). e.found) in
+      let all : length (map (λ (e : Edge). e.found) edges) ≡ length (with_lines types test [] state) = ap length (found ∙ answers_are) in
+      let few = lines_few types test [] state in
+      omega (arith, as_many, all, few)
+      );
 }
   where
     another_by : (asked : Answer) (otherwise : Option ℕ) → OtherLeads states test.at state (unlisted types asked answers) otherwise → IsOutcome types asked None

@@ -1,13 +1,13 @@
 -- Rows that are tried one after the other: each node moves on as its state asks.
-use Rattle.std.proofs.Common.{◌≡◌, ℕ, ◌-◌, ◌<◌, Bool, true, false, ◌&&◌, ◌||◌, Some, List, [], ◌∷◌, ◌++◌, length, inl, inr, refl, ap, ◌∙◌, subst, arith, length-append}
+use Rattle.std.proofs.Common.{◌≡◌, ℕ, ◌+◌, ◌-◌, ◌<◌, ◌≤◌, Bool, true, false, ◌&&◌, ◌||◌, Some, List, [], ◌∷◌, ◌++◌, length, inl, inr, refl, ap, ◌∙◌, subst, arith, length-append}
 use Rattle.std.specs.Prelude.{slice_get, if◌then◌else◌, ◌==◌}
 use Rattle.std.proofs.lemmas.Bool.{cases_Bool, eqb-true}
-use Rattle.std.proofs.lemmas.Option.{none-some, slice_get_within}
+use Rattle.std.proofs.lemmas.Option.{none-some}
 use Rattle.kk_source.specs.State.{Value, Store}
 use Rattle.kk_core.specs.declared.decisions.Answer.{Answer}
 use Rattle.kk_core.specs.Decisions.{NodeTree, chooses, tests, found_at, is_answer}
 use Rattle.kk_match.specs.Parts.{Part}
-use Rattle.kk_match.specs.Graphs.{LineTree, StateTree, agrees}
+use Rattle.kk_match.specs.Graphs.{LineTree, StateTree, agrees, weight}
 use Rattle.kk_match.specs.Built.{Names, InRow, no_state, one_more}
 use Rattle.kk_match.specs.InTurn.{with_part, with_parts, with_row, with_rows}
 use Rattle.kk_match.proofs.After.{AreBelow}
@@ -54,15 +54,20 @@ record PartsDone (types : List ℕ) (row : ℕ) (lines : StateTree) (other : ℕ
 
 -- the test of a part moves on
 part_sound : (types : List ℕ) (row : ℕ) (lines : StateTree) (other : ℕ) (behind : StateTree) (q : Part) (qs : List Part) (states : List StateTree) (nodes : List NodeTree) → Falls types lines behind
-    → PartsDone types row lines other behind qs states nodes
+    → weight behind ≤ weight lines → PartsDone types row lines other behind qs states nodes
     → Turns types states (row_with row (q ∷ qs) lines) q.at (record { found = q.asked; next = length nodes - 1 } ∷ []) (Some other)
-part_sound types row lines other behind q qs states nodes falls done = record {
+part_sound types row lines other behind q qs states nodes falls light done = record {
   asked = q.asked;
   is_test = refl;
   of_kind = λ found kind. (kind_between types q.asked found q.asked kind (kind_itself types q.asked found kind), tt);
-  within = λ j among. elim (either (other == j) ((length nodes - 1) == j || false) among) [
-    | inl here ↦ subst (λ n. n < length states) (eqb-true other j here) (slice_get_within states other behind done.falls)
-    | inr last ↦ subst (λ n. n < length states) (eqb-true (length nodes - 1) j (only ((length nodes - 1) == j) last)) (slice_get_within states (length nodes - 1) (row_with row qs lines) done.ends)
+  few = omega arith;
+  leads = λ j among. elim (either (other == j) ((length nodes - 1) == j || false) among) [
+    | inl here ↦ (behind, subst (λ n. Names states n behind) (eqb-true other j here) done.falls, omega (arith, light))
+    | inr last ↦ (
+      row_with row qs lines,
+      subst (λ n. Names states n (row_with row qs lines)) (eqb-true (length nodes - 1) j (only ((length nodes - 1) == j) last)) done.ends,
+      omega arith,
+    )
   ];
   moves = λ found kind. elim (cases_Bool (is_answer q.asked found)) [
     | inl same ↦ (length nodes - 1, ap (λ (b : Bool). if b then Some (length nodes - 1) else Some other) same, row_with row qs lines, done.ends, on found (swapped found q.asked same))
@@ -90,10 +95,10 @@ part_sound types row lines other behind q qs states nodes falls done = record {
         )
 
 parts_done : (types : List ℕ) (row : ℕ) (lines : StateTree) (other : ℕ) (behind : StateTree) (qs : List Part) (states : List StateTree) (nodes : List NodeTree) → Falls types lines behind
-    → PartsDone types row lines other behind [] states nodes → PartsDone types row lines other behind qs (states_of_parts row lines qs states) (with_parts other qs nodes)
-parts_done types row lines other behind [] states nodes falls done = done
-parts_done types row lines other behind (q ∷ qs) states nodes falls done =
-    one (states_of_parts row lines qs states) (with_parts other qs nodes) (parts_done types row lines other behind qs states nodes falls done)
+    → weight behind ≤ weight lines → PartsDone types row lines other behind [] states nodes → PartsDone types row lines other behind qs (states_of_parts row lines qs states) (with_parts other qs nodes)
+parts_done types row lines other behind [] states nodes falls light done = done
+parts_done types row lines other behind (q ∷ qs) states nodes falls light done =
+    one (states_of_parts row lines qs states) (with_parts other qs nodes) (parts_done types row lines other behind qs states nodes falls light done)
   where
     one : (states : List StateTree) (nodes : List NodeTree) → PartsDone types row lines other behind qs states nodes
         → PartsDone types row lines other behind (q ∷ qs) (states ++ row_with row (q ∷ qs) lines ∷ []) (with_part other q nodes)
@@ -102,7 +107,7 @@ parts_done types row lines other behind (q ∷ qs) states nodes falls done =
         let long = as_long (IsSound types) states nodes rest.sound in
         let more = length-append nodes (test ∷ []) in
         let place : length states ≡ length (nodes ++ test ∷ []) - 1 = omega (arith, long, more) in record {
-          sound = one_more (row_with row (q ∷ qs) lines) test rest.sound (part_sound types row lines other behind q qs states nodes falls rest);
+          sound = one_more (row_with row (q ∷ qs) lines) test rest.sound (part_sound types row lines other behind q qs states nodes falls light rest);
           some = omega (arith, more);
           falls = get_left states (row_with row (q ∷ qs) lines ∷ []) other behind rest.falls;
           ends = subst (λ n. Names (states ++ row_with row (q ∷ qs) lines ∷ []) n (row_with row (q ∷ qs) lines)) place (get_last states (row_with row (q ∷ qs) lines));
@@ -116,10 +121,11 @@ pub record RowsDone (types : List ℕ) (lines : StateTree) (states : List StateT
   pub some : 0 < length nodes
   pub ends : Names states (length nodes - 1) lines
 
-row_done : (types : List ℕ) (line : LineTree) (lines behind : StateTree) (states : List StateTree) (nodes : List NodeTree) → Falls types lines behind → InRow (IsSound types) states nodes
+row_done : (types : List ℕ) (line : LineTree) (lines behind : StateTree) (states : List StateTree) (nodes : List NodeTree) → Falls types lines behind
+    → weight behind ≤ weight lines → InRow (IsSound types) states nodes
     → Names (states ++ row_with line.row [] lines ∷ []) (length nodes - 1) behind
     → RowsDone types (line ∷ lines) (states_of_parts line.row lines line.left (states ++ row_with line.row [] lines ∷ [])) (with_row line nodes)
-row_done types line lines behind states nodes falls sound named =
+row_done types line lines behind states nodes falls light sound named =
     let long = as_long (IsSound types) states nodes sound in
     let more = length-append nodes (chooses line.row ∷ []) in
     let place : length states ≡ length (nodes ++ chooses line.row ∷ []) - 1 = omega (arith, long, more) in
@@ -129,15 +135,15 @@ row_done types line lines behind states nodes falls sound named =
       falls = named;
       ends = subst (λ n. Names (states ++ row_with line.row [] lines ∷ []) n (row_with line.row [] lines)) place (get_last states (row_with line.row [] lines));
     } in
-    let done = parts_done types line.row lines (length nodes - 1) behind line.left (states ++ row_with line.row [] lines ∷ []) (nodes ++ chooses line.row ∷ []) falls begins in
+    let done = parts_done types line.row lines (length nodes - 1) behind line.left (states ++ row_with line.row [] lines ∷ []) (nodes ++ chooses line.row ∷ []) falls light begins in
     record { sound = done.sound; some = done.some; ends = done.ends }
 
 pub rows_done : (types : List ℕ) (line : LineTree) (lines : StateTree) → RowsDone types (line ∷ lines) (states_of_rows (line ∷ lines)) (with_rows (line ∷ lines) [])
 rows_done types line [] =
-    row_done types line [] (row_with line.row [] []) [] [] (λ store v ready. ((tt, tt), λ row fit. absurd (none-some row fit))) no_state refl
+    row_done types line [] (row_with line.row [] []) [] [] (λ store v ready. ((tt, tt), λ row fit. absurd (none-some row fit))) (omega arith) no_state refl
 rows_done types line (next ∷ lines) =
     let rest = rows_done types next lines in
-    row_done types line (next ∷ lines) (next ∷ lines) (states_of_rows (next ∷ lines)) (with_rows (next ∷ lines) []) (λ store v ready. (ready, λ row fit. fit)) rest.sound
+    row_done types line (next ∷ lines) (next ∷ lines) (states_of_rows (next ∷ lines)) (with_rows (next ∷ lines) []) (λ store v ready. (ready, λ row fit. fit)) (omega arith) rest.sound
     (get_left (states_of_rows (next ∷ lines)) (row_with line.row [] (next ∷ lines) ∷ []) (length (with_rows (next ∷ lines) []) - 1) (next ∷ lines) rest.ends)
 
 -- ---- the rows of the states
@@ -145,19 +151,41 @@ rows_done types line (next ∷ lines) =
 abbrev pub AllBelow : ℕ → List StateTree → Type 0
 AllBelow rows states = (k : ℕ) (state : StateTree) → Names states k state → AreBelow rows state
 
-below_push : (rows : ℕ) (states : List StateTree) (last : StateTree) → AllBelow rows states → AreBelow rows last → AllBelow rows (states ++ last ∷ [])
-below_push rows states last below here k state named = elim (get_push states last state k named) [
-  | inl before ↦ below k state before
-  | inr at ↦ subst (AreBelow rows) at.1 here
+each_push : (P : StateTree → Type 0) (states : List StateTree) (last : StateTree) → ((k : ℕ) (state : StateTree) → Names states k state → P state) → P last
+    → (k : ℕ) (state : StateTree) → Names (states ++ last ∷ []) k state → P state
+each_push P states last each here k state named = elim (get_push states last state k named) [
+  | inl before ↦ each k state before
+  | inr at ↦ subst P at.1 here
 ]
 
 parts_below : (rows row : ℕ) (lines : StateTree) (qs : List Part) (states : List StateTree) → row < rows → AreBelow rows lines → AllBelow rows states → AllBelow rows (states_of_parts row lines qs states)
 parts_below rows row lines [] states here behind below = below
 parts_below rows row lines (q ∷ qs) states here behind below =
-    below_push rows (states_of_parts row lines qs states) (row_with row (q ∷ qs) lines) (parts_below rows row lines qs states here behind below) (here, behind)
+    each_push (AreBelow rows) (states_of_parts row lines qs states) (row_with row (q ∷ qs) lines) (parts_below rows row lines qs states here behind below) (here, behind)
 
 pub rows_below : (rows : ℕ) (lines : StateTree) → AreBelow rows lines → AllBelow rows (states_of_rows lines)
 rows_below rows [] below = λ k state named. absurd (none-some state named)
 rows_below rows (line ∷ lines) below =
     parts_below rows line.row lines line.left (states_of_rows lines ++ row_with line.row [] lines ∷ []) below.0 below.1
-    (below_push rows (states_of_rows lines) (row_with line.row [] lines) (rows_below rows lines below.1) (below.0, below.1))
+    (each_push (AreBelow rows) (states_of_rows lines) (row_with line.row [] lines) (rows_below rows lines below.1) (below.0, below.1))
+
+-- ---- the parts that are left in the states
+
+abbrev pub AllLight : ℕ → List StateTree → Type 0
+AllLight most states = (k : ℕ) (state : StateTree) → Names states k state → weight state ≤ most
+
+abbrev IsLight : ℕ → StateTree → Type 0
+IsLight most state = weight state ≤ most
+
+parts_light : (most row : ℕ) (lines : StateTree) (qs : List Part) (states : List StateTree) → length qs + weight lines ≤ most → AllLight most states
+    → AllLight most (states_of_parts row lines qs states)
+parts_light most row lines [] states few light = light
+parts_light most row lines (q ∷ qs) states few light =
+    each_push (IsLight most) (states_of_parts row lines qs states) (row_with row (q ∷ qs) lines)
+    (parts_light most row lines qs states (omega (arith, few)) light) few
+
+pub rows_light : (most : ℕ) (lines : StateTree) → weight lines ≤ most → AllLight most (states_of_rows lines)
+rows_light most [] few = λ k state named. absurd (none-some state named)
+rows_light most (line ∷ lines) few =
+    parts_light most line.row lines line.left (states_of_rows lines ++ row_with line.row [] lines ∷ []) few
+    (each_push (IsLight most) (states_of_rows lines) (row_with line.row [] lines) (rows_light most lines (omega (arith, few))) (omega (arith, few)))

@@ -3,6 +3,7 @@ pub mod Asking
 pub mod Branching
 pub mod Counted
 pub mod Decided
+pub mod Edges
 pub mod Exact
 mod Examples
 pub mod Fitting

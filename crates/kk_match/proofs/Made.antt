@@ -1,12 +1,12 @@
 -- What a value of a type is where a constructor makes values of that type: one constructor made it, of that type.
-use Rattle.std.proofs.Common.{◌≡◌, ℕ, zero, suc, ◌+◌, ◌≤◌, Bool, true, false, Option, None, Some, option_map, List, [], ◌∷◌, map, refl, sym, ap, ◌∙◌, subst, arith}
+use Rattle.std.proofs.Common.{◌≡◌, ℕ, zero, suc, ◌+◌, ◌≤◌, false, None, Some, option_map, List, [], ◌∷◌, refl, sym, ap, ◌∙◌, subst, arith}
 use Rattle.std.specs.Prelude.{slice_get, count_by, cond, if◌then◌else◌, ◌==◌}
-use Rattle.std.proofs.lemmas.Bool.{eqb-true, eq-eqb, ltb-false}
+use Rattle.std.proofs.lemmas.Bool.{eq-eqb, ltb-false}
 use Rattle.std.proofs.lemmas.List.Sums.{sum_by-cons}
-use Rattle.std.proofs.lemmas.Option.{none-some, same_Some, slice_get-map}
+use Rattle.std.proofs.lemmas.Option.{none-some, same_Some}
 use Rattle.kk_syntax.specs.OfType.{field_types}
 use Rattle.kk_syntax.specs.Programs.{ConstructorTree}
-use Rattle.kk_syntax.specs.Types.{TypeTree, TypeTrees, int32, unit_type, type_variable, named}
+use Rattle.kk_syntax.specs.Types.{TypeTree}
 use Rattle.kk_source.specs.Matching.{fields_under, fields_made_by}
 use Rattle.kk_source.specs.State.{Value, Cell, Store}
 use Rattle.kk_source.specs.ValueTypes.{Content, amount, nothing, built, Contents, no_content, content, IsMadeBy, HasContent, HaveContents, IsContentOf, AreContentsOf, IsOf, AreOf}

@@ -11,10 +11,10 @@ use Rattle.kk_core.specs.declared.decisions.Answer.TheVariants.{Number, Construc
 use Rattle.kk_core.specs.declared.decisions.Edge.{Edge}
 use Rattle.kk_core.specs.Decisions.{NodeTree, chooses, tests, targets, row_chosen, found_at, is_answer, next_by, row_at, chosen_from, AreOrderly}
 use Rattle.kk_match.specs.Parts.{Part, both_same, is_kind, IsKind}
-use Rattle.kk_match.specs.Graphs.{StateTree, after, first_of, test_of, row_of}
+use Rattle.kk_match.specs.Graphs.{StateTree, after, first_of, test_of, row_of, weight}
 use Rattle.kk_match.specs.Built.{Names, AreOfKind, IsRight, InRow, no_state, one_more, AreRight}
 use Rattle.kk_match.specs.Turned.{turn_edge, turn_node, turned}
-use Rattle.kk_match.proofs.After.{AreBelow}
+use Rattle.kk_match.proofs.After.{AreBelow, lighter_by}
 use Rattle.kk_match.proofs.Branching.{either}
 use Rattle.kk_match.proofs.Fitting.{fits, first_fit, IsFound, AreReady, test_ready, after_fits, after_ready}
 use Rattle.kk_match.proofs.Places.{get_left, get_last, get_push, get_there, get_same}
@@ -79,7 +79,9 @@ pub record Turns (types : List ℕ) (states : List StateTree) (state : StateTree
   pub asked : Answer
   pub is_test : test_of state ≡ Some (record { at = at; asked = asked })
   pub of_kind : (found : Answer) → IsKind types asked found → AreOfKind types found edges
-  pub within : (j : ℕ) → is_among (targets (tests at edges otherwise)) j ≡ true → j < length states
+  pub few : length edges ≤ weight state
+  pub leads : (j : ℕ) → is_among (targets (tests at edges otherwise)) j ≡ true
+      → (later : StateTree) × Names states j later × (length edges + weight later ≤ weight state)
   pub moves : (found : Answer) → IsKind types asked found
       → (j : ℕ) × (next_by edges otherwise found ≡ Some j) × (later : StateTree) × Names states j later × Moves types at found state later
 
@@ -126,7 +128,12 @@ right_sound types states state (tests at edges otherwise) right = record {
   asked = right.asked;
   is_test = right.is_test;
   of_kind = λ found kind. kind_of_edges types right.asked found edges kind right.of_kind;
-  within = λ j among. let leads = right.leads j among in slice_get_within states j (after at leads.0 state) leads.2;
+  few = (let few = right.few in let lighter = lighter_by at None state in omega (arith, few, lighter));
+  leads = λ j among.
+      let leads = right.leads j among in
+      let few = right.few in
+      let lighter = lighter_by at leads.0 state in
+      (after at leads.0 state, leads.2, omega (arith, few, lighter));
   moves = λ found kind. let whole = right.whole found kind in (whole.0, whole.1, after at (Some found) state, whole.2, after_moves types at found state);
 }
 
@@ -315,7 +322,8 @@ are_orderly types rows states nodes last sound count below = record {
         of : (node : NodeTree) → IsSound types at.at.before at.state node → WasTarget last node j → (k < j) × (j < length (turned last nodes))
         of (chooses number) right target = absurd (both_ways false refl target.among)
         of (tests way edges otherwise) right target =
-            let within = right.within target.target target.among in
+            let leads = right.leads target.target target.among in
+            let within = slice_get_within at.at.before target.target leads.0 leads.1 in
             let before = at.at.long in
             let low : target.target < at.stands.place = omega (arith, within, before) in
             let ends = stands_later states last at.stands.place k target.target j (count ∙ sym long) at.stands.sum low target.turned in

@@ -1,11 +1,11 @@
 -- A graph while it is built: each node stands behind those that it names.
-use Rattle.std.specs.Prelude.{◌≡◌, ℕ, true, List, [], ◌∷◌, ◌++◌, Option, None, Some, slice_get}
+use Rattle.std.specs.Prelude.{◌≡◌, ◌≤◌, ℕ, true, List, [], ◌∷◌, ◌++◌, length, Option, None, Some, slice_get}
 use Rattle.kk_syntax.specs.Shapes.{is_among}
 use Rattle.kk_core.specs.declared.decisions.Answer.{Answer}
 use Rattle.kk_core.specs.declared.decisions.Edge.{Edge}
 use Rattle.kk_core.specs.Decisions.{NodeTree, chooses, tests, targets, next_by}
 use Rattle.kk_match.specs.Parts.{IsKind}
-use Rattle.kk_match.specs.Graphs.{StateTree, after, test_of, row_of}
+use Rattle.kk_match.specs.Graphs.{StateTree, after, test_of, row_of, weight_at}
 use Rattle.kk_match.specs.Outcomes.{IsOutcome}
 
 -- the node of a state has a number
@@ -18,7 +18,7 @@ AreOfKind types asked [] = Unit {0}
 AreOfKind types asked (edge ∷ edges) = IsKind types asked edge.found × AreOfKind types asked edges
 
 -- A test leads from a state to those that are left: by each edge to one that an outcome leaves, and by each outcome to the one
--- that this outcome leaves. Its edges have answers of its kind alone.
+-- that this outcome leaves. Its edges have answers of its kind alone, and are no more than the parts left at its position.
 pub record Branches (types : List ℕ) (states : List StateTree) (state : StateTree) (at : List ℕ) (edges : List Edge) (otherwise : Option ℕ) : Type 0 where
   pub asked : Answer
   pub is_test : test_of state ≡ Some (record { at = at; asked = asked })
@@ -28,6 +28,7 @@ pub record Branches (types : List ℕ) (states : List StateTree) (state : StateT
   pub whole : (found : Answer) → IsKind types asked found
       → (j : ℕ) × (next_by edges otherwise found ≡ Some j) × Names states j (after at (Some found) state)
   pub another : IsOutcome types asked None → (j : ℕ) × Names states j (after at None state)
+  pub few : length edges ≤ weight_at at state
 
 -- the node of a state: it chooses the first row, or tests
 abbrev pub IsRight : List ℕ → List StateTree → StateTree → NodeTree → Type 0

@@ -54,6 +54,15 @@ abbrev pub weight : StateTree → ℕ
 weight [] = 0
 weight (line ∷ lines) = length line.left + weight lines
 
+-- the parts that are left at a position
+abbrev pub parts_at : List ℕ → List Part → ℕ
+parts_at at [] = 0
+parts_at at (q ∷ qs) = (if pointwise nat_eq q.at at then 1 else 0) + parts_at at qs
+
+abbrev pub weight_at : List ℕ → StateTree → ℕ
+weight_at at [] = 0
+weight_at at (line ∷ lines) = parts_at at line.left + weight_at at lines
+
 -- the state of rows that have these parts, from one of a number on
 abbrev pub lines_of : ℕ → List (List Part) → StateTree
 lines_of k [] = []

@@ -1,0 +1,29 @@
+-- What the steps of the core machine cost: so much for each, and so much for each part that it looks at.
+use Rattle.std.specs.Prelude.{ℕ, ◌+◌, ◌*◌, length, slice_get}
+use Rattle.kk_source.specs.Live.{value_of}
+use Rattle.kk_source.specs.State.{Store, Environment}
+use Rattle.kk_core.specs.Codes.{Code, tail_call, case, compute, unpack}
+use Rattle.kk_core.specs.CoreStates.{CoreControl, running, stopped, CoreState}
+use Rattle.kk_core.specs.Edges.{edges_seen}
+
+-- the parts that the step at a code looks at: its arguments, the fields that it opens, or the edges of the tests on its way to a row
+abbrev pub parts_seen : Code → Environment → Store → ℕ
+parts_seen (tail_call f arguments) environment store = length arguments
+parts_seen (case x decisions arms) environment store = edges_seen (slice_get store) (value_of environment x) decisions
+parts_seen (compute x form arguments rest) environment store = length arguments
+parts_seen (unpack x c fields rest) environment store = length fields
+parts_seen _ environment store = 0
+
+abbrev pub step_cost : ℕ
+step_cost = 128
+
+abbrev pub part_cost : ℕ
+part_cost = 40
+
+-- the cost of the step from a state; an ended machine has none
+abbrev pub control_cost : CoreControl → Store → ℕ
+control_cost (running code environment joins) store = step_cost + part_cost * parts_seen code environment store
+control_cost (stopped by) store = 0
+
+abbrev pub core_cost : CoreState → ℕ
+core_cost s = control_cost s.machine.control s.machine.store

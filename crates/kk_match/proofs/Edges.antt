@@ -1,0 +1,197 @@
+-- Turned nodes lead no value through more edges than parts are left in the state of the first one.
+use Rattle.std.proofs.Common.{◌≡◌, ℕ, zero, suc, ◌+◌, ◌-◌, ◌<◌, ◌≤◌, Bool, true, false, ◌||◌, ◌⊎◌, Option, None, Some, option_map, List, [], ◌∷◌, ◌++◌, length, map, inl, inr, refl, sym, ◌∙◌, subst, arith, length-append}
+use Rattle.std.specs.Prelude.{slice_get, sum_by, if◌then◌else◌, ◌==◌}
+use Rattle.std.proofs.lemmas.Bool.{eq-eqb}
+use Rattle.std.proofs.lemmas.List.{length-map}
+use Rattle.std.proofs.lemmas.List.Sums.{sum_by-cons}
+use Rattle.std.proofs.lemmas.Option.{none-some, same_Some, slice_get_within}
+use Rattle.kk_syntax.specs.Patterns.{Pattern, anything, variable, exactly, constructor, Patterns, no_part, part}
+use Rattle.kk_syntax.specs.Shapes.{is_among, nodes_of_pattern, nodes_of_patterns}
+use Rattle.kk_source.specs.Matching.{and_then}
+use Rattle.kk_source.specs.State.{Value, Cell}
+use Rattle.kk_core.specs.declared.decisions.Answer.{Answer}
+use Rattle.kk_core.specs.declared.decisions.Answer.TheVariants.{Constructor}
+use Rattle.kk_core.specs.declared.decisions.Edge.{Edge}
+use Rattle.kk_core.specs.Decisions.{NodeTree, chooses, tests, targets, found_at, is_answer, next_by}
+use Rattle.kk_core.specs.Edges.{edges_behind, edges_at, edges_from, HasFewEdges}
+use Rattle.kk_match.specs.Parts.{has_several, parts_of, parts_of_all}
+use Rattle.kk_match.specs.Graphs.{StateTree, IsReached, at_start, by_answer, by_another, weight, lines_from}
+use Rattle.kk_match.specs.Built.{Names, InRow}
+use Rattle.kk_match.specs.Decided.{most_tests, IsFormed}
+use Rattle.kk_match.specs.Turned.{turn_edge, turn_node, turned}
+use Rattle.kk_match.proofs.After.{not_heavier}
+use Rattle.kk_match.proofs.InTurn.{AllLight}
+use Rattle.kk_match.proofs.Places.{get_left}
+use Rattle.kk_match.proofs.Running.{IsAt, IsSound, Stands, as_long, at_place, get_turned, next_turned, turned_at}
+
+-- ---- the nodes that a test leads to
+
+edge_among : (edges : List Edge) (otherwise : Option ℕ) (found : Answer) (j : ℕ) → next_by edges otherwise found ≡ Some j
+    → (otherwise ≡ Some j) ⊎ (is_among (map (λ (edge : Edge). edge.next) edges) j ≡ true)
+edge_among [] otherwise found j is = inl is
+edge_among (edge ∷ edges) otherwise found j is = by (is_answer edge.found found) (edge_among edges otherwise found j) is
+  where
+    or_else : (a b : Bool) → b ≡ true → (a || b) ≡ true
+    or_else true b is = refl
+    or_else false b is = is
+
+    or_first : (a b : Bool) → a ≡ true → (a || b) ≡ true
+    or_first true b is = refl
+    or_first false b is = absurd (cc)
+
+    by : (here : Bool)
+        → (next_by edges otherwise found ≡ Some j → (otherwise ≡ Some j) ⊎ (is_among (map (λ (edge : Edge). edge.next) edges) j ≡ true))
+        → (if here then Some edge.next else next_by edges otherwise found) ≡ Some j
+        → (otherwise ≡ Some j) ⊎ (((edge.next == j) || is_among (map (λ (edge : Edge). edge.next) edges) j) ≡ true)
+    by true rest is = inr (or_first (edge.next == j) (is_among (map (λ (edge : Edge). edge.next) edges) j) (eq-eqb edge.next j (same_Some edge.next j is)))
+    by false rest is = elim (rest is) [
+      | inl other ↦ inl other
+      | inr behind ↦ inr (or_else (edge.next == j) (is_among (map (λ (edge : Edge). edge.next) edges) j) behind)
+    ]
+
+next_among : (at : List ℕ) (edges : List Edge) (otherwise : Option ℕ) (found : Answer) (j : ℕ) → next_by edges otherwise found ≡ Some j
+    → is_among (targets (tests at edges otherwise)) j ≡ true
+next_among at edges None found j is = elim (edge_among edges None found j is) [
+  | inl other ↦ absurd (none-some j other)
+  | inr behind ↦ behind
+]
+next_among at edges (Some other) found j is = elim (edge_among edges (Some other) found j is) [
+  | inl same ↦ first (other == j) (is_among (map (λ (edge : Edge). edge.next) edges) j) (eq-eqb other j (same_Some other j same))
+  | inr behind ↦ later (other == j) (is_among (map (λ (edge : Edge). edge.next) edges) j) behind
+]
+  where
+    first : (a b : Bool) → a ≡ true → (a || b) ≡ true
+    first true b is = refl
+    first false b is = absurd (cc)
+
+    later : (a b : Bool) → b ≡ true → (a || b) ≡ true
+    later true b is = refl
+    later false b is = is
+
+-- ---- turned nodes
+
+module _ (types : List ℕ) (states : List StateTree) (nodes : List NodeTree) (last : ℕ) (sound : InRow (IsSound types) states nodes)
+    (count : suc last ≡ length nodes) (cells : ℕ → Option Cell) (v : Value) where
+  -- from the node of a state on there are no more edges than parts are left
+  edges_left : (steps k : ℕ) (state : StateTree) → Stands states k state → edges_from cells v (turned last nodes) steps k ≤ weight state
+  edges_left zero k state stands = omega arith
+  edges_left (suc steps) k state stands =
+      subst (λ (o : Option NodeTree). edges_at cells v (edges_from cells v (turned last nodes) steps) o ≤ weight state)
+      (sym (get_turned last nodes stands.place k here.node (stands.sum ∙ long) here.is))
+      (by here.node here.right
+      (λ j later low named. edges_left steps (last - j) later (record { place = j; sum = summed j low; named = named })))
+    where
+      long : length states ≡ length nodes
+      long = as_long (IsSound types) states nodes sound
+
+      here : IsAt (IsSound types) states nodes stands.place state
+      here = at_place (IsSound types) states nodes sound stands.place state stands.named
+
+      summed : (j : ℕ) → j < stands.place → j + suc (last - j) ≡ length states
+      summed j low = let a = long in let b = stands.sum in omega (arith, a, b, low, count)
+
+      by : (node : NodeTree) → IsSound types here.before state node
+          → ((j : ℕ) (later : StateTree) → j < stands.place → Names states j later
+          → edges_from cells v (turned last nodes) steps (last - j) ≤ weight later)
+          → edges_at cells v (edges_from cells v (turned last nodes) steps) (Some (turn_node last node)) ≤ weight state
+      by (chooses row) right rest = omega arith
+      by (tests at edges otherwise) right rest = at_answer (found_at cells at v)
+        where
+          none : length (map (turn_edge last) edges) + 0 ≤ weight state
+          none = let same = length-map edges (turn_edge last) in let few = right.few in omega (arith, same, few)
+
+          on : (o : Option ℕ) → ((j : ℕ) → o ≡ Some j → is_among (targets (tests at edges otherwise)) j ≡ true)
+              → length (map (turn_edge last) edges) + edges_behind (edges_from cells v (turned last nodes) steps) (option_map (λ j. last - j) o) ≤ weight state
+          on None among = none
+          on (Some j) among =
+              let leads = right.leads j (among j refl) in
+              let within = slice_get_within here.before j leads.0 leads.1 in
+              let long_before = here.long in
+              let low : j < stands.place = omega (arith, within, long_before) in
+              let named : Names states j leads.0
+              = subst (λ ss. Names ss j leads.0) (sym here.all) (get_left here.before here.more j leads.0 leads.1) in
+              let behind = rest j leads.0 low named in
+              let same = length-map edges (turn_edge last) in
+              let lighter = leads.2 in
+              omega (arith, behind, same, lighter)
+
+          at_answer : (o : Option Answer)
+              → length (map (turn_edge last) edges)
+              + edges_behind (edges_from cells v (turned last nodes) steps) (and_then o (next_by (map (turn_edge last) edges) (option_map (λ j. last - j) otherwise)))
+              ≤ weight state
+          at_answer None = none
+          at_answer (Some found) =
+              subst
+              (λ (next : Option ℕ). length (map (turn_edge last) edges) + edges_behind (edges_from cells v (turned last nodes) steps) next ≤ weight state)
+              (sym (next_turned last edges otherwise found))
+              (on (next_by edges otherwise found) (λ j is. next_among at edges otherwise found j is))
+
+  few_from : (most : ℕ) → AllLight most states → (steps k : ℕ) → edges_from cells v (turned last nodes) steps k ≤ most
+  few_from most light zero k = omega arith
+  few_from most light (suc steps) k = by (slice_get (turned last nodes) k) refl
+    where
+      by : (o : Option NodeTree) → slice_get (turned last nodes) k ≡ o
+          → edges_at cells v (edges_from cells v (turned last nodes) steps) (slice_get (turned last nodes) k) ≤ most
+      by None is = subst (λ (o : Option NodeTree). edges_at cells v (edges_from cells v (turned last nodes) steps) o ≤ most) (sym is) (omega arith)
+      by (Some node) is =
+          let at = turned_at (IsSound types) states nodes last k node sound count is in
+          let left = edges_left (suc steps) k at.state at.stands in
+          let here = light at.stands.place at.state at.stands.named in
+          omega (arith, left, here)
+
+pub has_few : (types : List ℕ) (states : List StateTree) (nodes : List NodeTree) (last most : ℕ) → InRow (IsSound types) states nodes
+    → suc last ≡ length nodes → AllLight most states → HasFewEdges (turned last nodes) most
+has_few types states nodes last most sound count light =
+    λ cells v steps k. few_from types states nodes last sound count cells v most light steps k
+
+-- ---- the parts that are left
+
+pub reached_light : (types : List ℕ) (start state : StateTree) → IsReached types start state → weight state ≤ weight start
+reached_light types start _ at_start = omega arith
+reached_light types start _ (by_answer {state} {q} found reached is kind) =
+    let before = reached_light types start state reached in
+    let light = not_heavier q.at (Some found) state in
+    omega (arith, before, light)
+reached_light types start _ (by_another {state} {at} n reached is) =
+    let before = reached_light types start state reached in
+    let light = not_heavier at None state in
+    omega (arith, before, light)
+
+-- a pattern has no more parts than nodes
+mutual
+  parts_small : (types at : List ℕ) (p : Pattern) → length (parts_of types at p) ≤ nodes_of_pattern p
+  parts_small types at anything = omega arith
+  parts_small types at (variable x) = omega arith
+  parts_small types at (exactly n) = omega arith
+  parts_small types at (constructor c ps) = by (has_several types c) (all_parts_small types at 0 ps)
+    where
+      by : (several : Bool) → length (parts_of_all types at 0 ps) ≤ nodes_of_patterns ps
+          → length ((if several then record { at = at; asked = Constructor c } ∷ [] else []) ++ parts_of_all types at 0 ps) ≤ nodes_of_patterns ps + 1
+      by true few = omega (arith, few)
+      by false few = omega (arith, few)
+
+  all_parts_small : (types at : List ℕ) (field : ℕ) (ps : Patterns) → length (parts_of_all types at field ps) ≤ nodes_of_patterns ps
+  all_parts_small types at field no_part = omega arith
+  all_parts_small types at field (part first rest) =
+      let both = length-append (parts_of types (at ++ field ∷ []) first) (parts_of_all types at (field + 1) rest) in
+      let one = parts_small types (at ++ field ∷ []) first in
+      let others = all_parts_small types at (field + 1) rest in
+      omega (arith, both, one, others)
+
+pub lines_small : (types : List ℕ) (k : ℕ) (ps : List Pattern) → weight (lines_from types k ps) ≤ sum_by nodes_of_pattern ps
+lines_small types k [] = omega arith
+lines_small types k (p ∷ ps) =
+    let one = parts_small types [] p in
+    let others = lines_small types (k + 1) ps in
+    let all = sum_by-cons nodes_of_pattern p ps in
+    omega (arith, one, others, all)
+
+-- ---- the tests
+
+pub formed_few : (types : List ℕ) (ps : List Pattern) (nodes : List NodeTree) (count : ℕ) (by_rows : Bool)
+    → IsFormed types ps nodes count by_rows → count ≤ most_tests ps
+formed_few types ps nodes count false formed = formed.1
+formed_few types ps nodes count true formed =
+    let same = formed.1 in
+    let few = lines_small types 0 ps in
+    omega (arith, same, few)
