@@ -15,7 +15,8 @@ use Rattle.kk_source.specs.FormEffects.{truth}
 use Rattle.kk_source.specs.Live.{value_of}
 use Rattle.kk_source.specs.State.{Value, integer, place, Cell, Store}
 use Rattle.kk_source.specs.ValueTypes.{IsOf}
-use Rattle.kk_core.specs.Codes.{Code, give, tail_call, branch, case, compute, use_of, unpack, inside, Arms, no_arm, arm, patterns_of, FunctionCode, ProgramCode}
+use Rattle.kk_core.specs.Cases.{EachCase, EachCaseOfArms, EachCaseOfAll}
+use Rattle.kk_core.specs.Codes.{Code, branch, case, compute, Arms, ProgramCode}
 use Rattle.kk_core.specs.CoreMachine.{core_machine}
 use Rattle.kk_core.specs.CoreStates.{CoreSetting, CoreControl, running, CoreConfiguration, CoreState, core_first_state}
 use Rattle.kk_core.specs.Decisions.{NodeTree, chooses, tests, value_at, answer_of, next_by}
@@ -101,27 +102,15 @@ AsksTyped constructors patterns decisions =
     → IsOf constructors store t v
     → TestsAlike (MakeOneType constructors) (field_count constructors) (slice_get store) v decisions
 
--- each case of a code asks what types tell
-abbrev mutual
-  pub AskTyped : List ConstructorTree → Code → Type 0
-  AskTyped constructors (give x) = Unit {0}
-  AskTyped constructors (tail_call f arguments) = Unit {0}
-  AskTyped constructors (branch x positive negative) = AskTyped constructors positive × AskTyped constructors negative
-  AskTyped constructors (case x decisions arms) =
-      AsksTyped constructors (patterns_of arms) decisions × ArmsAskTyped constructors arms
-  AskTyped constructors (compute x form arguments rest) = AskTyped constructors rest
-  AskTyped constructors (use_of x rest) = AskTyped constructors rest
-  AskTyped constructors (unpack x by fields rest) = AskTyped constructors rest
-  AskTyped constructors (inside x block rest) = AskTyped constructors block × AskTyped constructors rest
+-- each case of a code asks what types tell, and so in each function of a program
+abbrev pub AskTyped : List ConstructorTree → Code → Type 0
+AskTyped constructors = EachCase (λ decisions patterns. AsksTyped constructors patterns decisions)
 
-  pub ArmsAskTyped : List ConstructorTree → Arms → Type 0
-  ArmsAskTyped constructors no_arm = Unit {0}
-  ArmsAskTyped constructors (arm pattern body rest) = AskTyped constructors body × ArmsAskTyped constructors rest
+abbrev pub ArmsAskTyped : List ConstructorTree → Arms → Type 0
+ArmsAskTyped constructors = EachCaseOfArms (λ decisions patterns. AsksTyped constructors patterns decisions)
 
--- in each function of a program
 abbrev pub AllAskTyped : List ConstructorTree → ProgramCode → Type 0
-AllAskTyped constructors code =
-    (f : ℕ) (function : FunctionCode) → slice_get code.functions f ≡ Some function → AskTyped constructors function.body
+AllAskTyped constructors = EachCaseOfAll (λ decisions patterns. AsksTyped constructors patterns decisions)
 
 -- ---- states
 

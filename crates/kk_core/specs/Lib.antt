@@ -1,4 +1,3 @@
-pub mod Asking
 pub mod Cases
 pub mod CellTypes
 pub mod Choosing

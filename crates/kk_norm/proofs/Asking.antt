@@ -7,7 +7,7 @@ use Rattle.kk_syntax.specs.declared.program.Form.TheVariants.{Number, Unit as No
 use Rattle.kk_syntax.specs.Patterns.{Pattern, anything, variable as pattern_variable, exactly, constructor, Patterns, no_part, part}
 use Rattle.kk_syntax.specs.Programs.{ConstructorTree, FunctionTree, ProgramTree}
 use Rattle.kk_syntax.specs.Trees.{Tree, variable, apply, branch, match, sequence, Trees, no_tree, tree, Rows, no_row, row}
-use Rattle.kk_core.specs.Asking.{CodeAsksTyped, ArmsAskTyped, AllAskTyped}
+use Rattle.kk_core.specs.Kinds.{AskTyped, ArmsAskTyped, AllAskTyped}
 use Rattle.kk_core.specs.Codes.{Code, Arms, arm, FunctionCode, ProgramCode}
 use Rattle.kk_core.specs.Kinds.{AsksTyped}
 use Rattle.kk_norm.specs.Names.{Names}
@@ -19,21 +19,21 @@ module _ (constructors : List ConstructorTree) where
 
   abbrev ThenAsksTyped : Then → Type 0
   ThenAsksTyped (final tail) = Unit {0}
-  ThenAsksTyped (next rest) = CodeAsksTyped constructors rest
+  ThenAsksTyped (next rest) = AskTyped constructors rest
 
   within_asks : (k : Then) → ThenAsksTyped (within k)
   within_asks (final tail) = tt
   within_asks (next rest) = tt
 
-  used_asks : (k : Then) (x : ℕ) → ThenAsksTyped k → CodeAsksTyped constructors (after_use k x)
+  used_asks : (k : Then) (x : ℕ) → ThenAsksTyped k → AskTyped constructors (after_use k x)
   used_asks (final tail) x then = tt
   used_asks (next rest) x then = then
 
-  joined_asks : (k : Then) (m : ℕ) (c : Code) → CodeAsksTyped constructors c → ThenAsksTyped k → CodeAsksTyped constructors (joined k m c)
+  joined_asks : (k : Then) (m : ℕ) (c : Code) → AskTyped constructors c → ThenAsksTyped k → AskTyped constructors (joined k m c)
   joined_asks (final tail) m c own then = own
   joined_asks (next rest) m c own then = (own, then)
 
-  finish_asks : (k : Then) (m : ℕ) (form : Form) (xs : List ℕ) → ThenAsksTyped k → CodeAsksTyped constructors (finish k m form xs)
+  finish_asks : (k : Then) (m : ℕ) (form : Form) (xs : List ℕ) → ThenAsksTyped k → AskTyped constructors (finish k m form xs)
   finish_asks (final true) m (Call f) xs then = tt
   finish_asks (final false) m (Call f) xs then = tt
   finish_asks (next rest) m (Call f) xs then = then
@@ -56,7 +56,7 @@ module _ (constructors : List ConstructorTree) where
 
   -- openings have no cases
   mutual
-    opened_asks : (a n : ℕ) (pattern : Pattern) (rest : Code) → CodeAsksTyped constructors rest → CodeAsksTyped constructors (opened a n pattern rest)
+    opened_asks : (a n : ℕ) (pattern : Pattern) (rest : Code) → AskTyped constructors rest → AskTyped constructors (opened a n pattern rest)
     opened_asks a n anything rest then = then
     opened_asks a n (pattern_variable x) rest then = then
     opened_asks a n (exactly value) rest then = then
@@ -64,7 +64,7 @@ module _ (constructors : List ConstructorTree) where
     opened_asks a n (constructor c (part first others)) rest then =
         opened_asks n _ first _ (all_opened_ask (n + 1) _ others rest then)
 
-    all_opened_ask : (a n : ℕ) (parts : Patterns) (rest : Code) → CodeAsksTyped constructors rest → CodeAsksTyped constructors (opened_all a n parts rest)
+    all_opened_ask : (a n : ℕ) (parts : Patterns) (rest : Code) → AskTyped constructors rest → AskTyped constructors (opened_all a n parts rest)
     all_opened_ask a n no_part rest then = then
     all_opened_ask a n (part first others) rest then = opened_asks a n first _ (all_opened_ask (a + 1) _ others rest then)
 
@@ -72,8 +72,8 @@ module _ (constructors : List ConstructorTree) where
 
   mutual
     code_asks : (k : Then) (names : Names) (n : ℕ) (e : Tree) (c : Code) → IsCode constructors k names n e c → ThenAsksTyped k
-        → CodeAsksTyped constructors c
-    code_asks k names n (variable x) c is then = subst (CodeAsksTyped constructors) (sym is) (used_asks k _ then)
+        → AskTyped constructors c
+    code_asks k names n (variable x) c is then = subst (AskTyped constructors) (sym is) (used_asks k _ then)
     code_asks k names n (apply form es) c is then = codes_ask names n es _ c is (finish_asks k _ form _ then)
     code_asks k names n (branch e positive negative) c is then =
         code_asks _ names n e c is.4
@@ -88,9 +88,9 @@ module _ (constructors : List ConstructorTree) where
     code_asks k names n (sequence binder first rest) c is then =
         code_asks _ names n first c is.2 (code_asks k _ _ rest is.0 is.1 then)
 
-    codes_ask : (names : Names) (n : ℕ) (es : Trees) (last c : Code) → AreCodes constructors names n es last c → CodeAsksTyped constructors last
-        → CodeAsksTyped constructors c
-    codes_ask names n no_tree last c is then = subst (CodeAsksTyped constructors) (sym is) then
+    codes_ask : (names : Names) (n : ℕ) (es : Trees) (last c : Code) → AreCodes constructors names n es last c → AskTyped constructors last
+        → AskTyped constructors c
+    codes_ask names n no_tree last c is then = subst (AskTyped constructors) (sym is) then
     codes_ask names n (tree first rest) last c is then = code_asks _ names n first c is.2 (codes_ask names _ rest last is.0 is.1 then)
 
     arms_ask : (k : Then) (names : Names) (a n : ℕ) (rows : Rows) (arms : Arms) → AreArms constructors k names a n rows arms → ThenAsksTyped k
@@ -101,11 +101,11 @@ module _ (constructors : List ConstructorTree) where
         (opened_asks a n pattern are.0 (code_asks k _ _ body are.0 are.3 then), arms_ask k names a _ rest are.1 are.4 then)
 
   functions_ask : (functions : List FunctionTree) (cores : List FunctionCode) → AreCoresOf constructors functions cores
-      → (f : ℕ) (core : FunctionCode) → slice_get cores f ≡ Some core → CodeAsksTyped constructors core.body
+      → (f : ℕ) (core : FunctionCode) → slice_get cores f ≡ Some core → AskTyped constructors core.body
   functions_ask [] cores are f core is = absurd (none-some core (subst (λ (some : List FunctionCode). slice_get some f ≡ Some core) are is))
   functions_ask (function ∷ functions) [] are f core is = absurd are
   functions_ask (function ∷ functions) (first ∷ cores) are zero core is =
-      subst (λ (one : FunctionCode). CodeAsksTyped constructors one.body) (same_Some first core is)
+      subst (λ (one : FunctionCode). AskTyped constructors one.body) (same_Some first core is)
       (code_asks (final true) [] _ function.body first.body are.0.body tt)
   functions_ask (function ∷ functions) (first ∷ cores) are (suc f) core is = functions_ask functions cores are.1 f core is
 

@@ -1,7 +1,7 @@
 ghost use Rattle.std.specs.Prelude.{◌≡◌, true};
 ghost use Rattle.kk_syntax.specs.GroundTyping.{table_of, IsGroundTyped};
 ghost use Rattle.kk_syntax.specs.Programs.{ProgramTree};
-ghost use Rattle.kk_core.specs.Asking.{AllAskTyped};
+ghost use Rattle.kk_core.specs.Kinds.{AllAskTyped};
 ghost use Rattle.kk_core.specs.Codes.{ProgramCode};
 ghost use Rattle.kk_core.specs.CoreTyping.{IsCoreTyped, IsSmall};
 ghost use Rattle.kk_core.specs.Plain.{are_plain_codes};
