@@ -108,11 +108,19 @@ module _ (setting : CoreSetting) (promise : IsInsertable setting.positions setti
       (ap (λ (o : Option CountedFunction). performed
       (counted_tail_step o (map (value_of environment) arguments)
       (conf (Counted.tail_call f arguments) environment [] frames after)) input)
-      (inserted_there setting.positions setting.code.functions f function there))
-      (tt, (tt, (tt, (
-        (inserted_function setting.positions f function, inserted_there setting.positions setting.code.functions f function there),
+      (inserted_there setting.positions setting.code.functions f function there)) (
         tt,
-      ))))
+        (
+          tt,
+          (
+            tt,
+            (
+              (inserted_function setting.positions f function, inserted_there setting.positions setting.code.functions f function there),
+              tt,
+            ),
+          ),
+        ),
+      )
       (enters setting from lent below frames after (store ∙ same_store heap after (sym cells)) waits input f function
       (map (value_of environment) arguments) (promise.each f function there) many
       (λ at among.

@@ -295,11 +295,19 @@ module _ (setting : CoreSetting) (from : CoreConfiguration) (lent : List ℕ) (b
         (ap (λ (o : Option Counted.Counted). performed
         (counted_case_step o environment (image_joins setting.positions setting.code.functions lent joins)
         (conf (inserted_code (case x decisions arms)) environment
-        (image_joins setting.positions setting.code.functions lent joins) frames heap)) input) found)
-        (tt, (tt, (tt, (
-          (row, (dropping (owning (case x decisions arms)) (owning body) (inserted_code body), (row_there, arm_there))),
-          subst (λ (s : Store). Test s (value_of environment x) decisions) store tested,
-        ))))
+        (image_joins setting.positions setting.code.functions lent joins) frames heap)) input) found) (
+          tt,
+          (
+            tt,
+            (
+              tt,
+              (
+                (row, (dropping (owning (case x decisions arms)) (owning body) (inserted_code body), (row_there, arm_there))),
+                subst (λ (s : Store). Test s (value_of environment x) decisions) store tested,
+              ),
+            ),
+          ),
+        )
         (path_by (Passing (inserted_setting setting)) (PassingBy Test (inserted_setting setting)) (inserted_setting setting) 0 []
         (StandsAs (performed (goes (at_code body environment joins from)) input))
         (with_input (conf (dropping (owning (case x decisions arms)) (owning body) (inserted_code body)) environment
