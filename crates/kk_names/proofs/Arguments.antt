@@ -12,12 +12,11 @@ use Rattle.kk_syntax.specs.Trees.{Tree, Trees, no_tree, tree, variable, trees_of
 use Rattle.kk_names.specs.declared.fault.FaultKind.TheVariants.{Unknown}
 use Rattle.kk_names.specs.declared.resolver.Resolver.{Resolver}
 use Rattle.kk_names.specs.declared.table.Callee.{Callee}
-use Rattle.kk_names.specs.declared.table.Declared.{Declared}
 use Rattle.kk_names.specs.Expressions.{alone, applied, variable_or_unit, meant_all}
 use Rattle.kk_names.specs.Faults.{fault_at, faults_in, faults_in_all, use_faults, count_of}
-use Rattle.kk_names.specs.Methods.{State, before_of, state_of, grown, noting, behind_all, meant_at, meant_all_at, newest_first, Notes, Resolves, ResolvesAll}
+use Rattle.kk_names.specs.Methods.{known_of, State, before_of, state_of, grown, noting, behind_all, meant_at, meant_all_at, newest_first, Notes, Resolves, ResolvesAll}
 use Rattle.kk_names.specs.Scopes.{Scope, number_in, names_in, Before, past, past_all}
-use Rattle.kk_names.specs.Tables.{meaning_in, constructors}
+use Rattle.kk_names.specs.Tables.{Known, meaning_in}
 use Rattle.kk_names.proofs.Growing.{grown_twice, before_is, state_is}
 use Rattle.kk_names.proofs.Tables.{is_seen}
 
@@ -48,7 +47,7 @@ all_more old now new e left all trees t so_far one =
     record {
       state =
           ap (behind_all left) one.state
-          ∙ (grown_twice s (past e s.before) (past_all left (past e s.before)) (faults_in s.functions (names_in s.scope) e) (faults_in_all s.functions (names_in s.scope) left)
+          ∙ (grown_twice s (past e s.before) (past_all left (past e s.before)) (faults_in s.known (names_in s.scope) e) (faults_in_all s.known (names_in s.scope) left)
           ∙ so_far.state);
       scope = one.scope ∙ so_far.scope;
       trees_are =
@@ -76,7 +75,7 @@ first_resolved e es old between new t ts one others =
       state =
           others.state
           ∙ (ap (behind_all es) one.state
-          ∙ grown_twice s (past e s.before) (past_all es (past e s.before)) (faults_in s.functions (names_in s.scope) e) (faults_in_all s.functions (names_in s.scope) es));
+          ∙ grown_twice s (past e s.before) (past_all es (past e s.before)) (faults_in s.known (names_in s.scope) e) (faults_in_all s.known (names_in s.scope) es));
       scope = others.scope ∙ one.scope;
       trees_are =
           ap (λ x. tree x (trees_of ts)) one.tree_is
@@ -84,13 +83,13 @@ first_resolved e es old between new t ts one others =
     }
 
 -- as many trees as expressions
-count_is : (functions : List Declared) (scope : Scope) (b : Before) (es : Writtens) (ts : List Tree) → trees_of ts ≡ meant_all functions scope b es → length ts ≡ count_of es
-count_is functions scope b no_written [] is = refl
-count_is functions scope b no_written (t ∷ ts) is = absurd (cc is)
-count_is functions scope b (written.written e es) [] is = absurd (cc is)
-count_is functions scope b (written.written e es) (t ∷ ts) is =
-    let rest : trees_of ts ≡ meant_all functions scope (past e b) es = cc is in
-    let same : length ts ≡ count_of es = count_is functions scope (past e b) es ts rest in
+count_is : (known : Known) (scope : Scope) (b : Before) (es : Writtens) (ts : List Tree) → trees_of ts ≡ meant_all known scope b es → length ts ≡ count_of es
+count_is known scope b no_written [] is = refl
+count_is known scope b no_written (t ∷ ts) is = absurd (cc is)
+count_is known scope b (written.written e es) [] is = absurd (cc is)
+count_is known scope b (written.written e es) (t ∷ ts) is =
+    let rest : trees_of ts ≡ meant_all known scope (past e b) es = cc is in
+    let same : length ts ≡ count_of es = count_is known scope (past e b) es ts rest in
     omega arith
 
 module _ (name : Identifier) (es : Writtens) (callee meaning : Option Callee) (old between new : Resolver) (arguments : List Expr) (count : ℕ) (t : Tree)
@@ -102,15 +101,15 @@ module _ (name : Identifier) (es : Writtens) (callee meaning : Option Callee) (o
   counted_so : count ≡ count_of es
   counted_so =
       counted ∙ (sym (length-map arguments expr_tree)
-      ∙ count_is old.functions.items (state_of old).scope (before_of old) es (map expr_tree arguments) all.trees_are)
+      ∙ count_is (known_of old) (state_of old).scope (before_of old) es (map expr_tree arguments) all.trees_are)
 
-  state_so : state_of new ≡ grown (state_of old) (past_all es (before_of old)) (faults_in_all old.functions.items (names_in (state_of old).scope) es ++ use_faults meaning name (count_of es))
+  state_so : state_of new ≡ grown (state_of old) (past_all es (before_of old)) (faults_in_all (known_of old) (names_in (state_of old).scope) es ++ use_faults meaning name (count_of es))
   state_so =
       notes.state
       ∙ (ap (noting (use_faults callee name count)) all.state
-      ∙ (grown_twice (state_of old) (past_all es (before_of old)) (past_all es (before_of old)) (faults_in_all old.functions.items (names_in (state_of old).scope) es) (use_faults callee name count)
-      ∙ (ap (λ c. grown (state_of old) (past_all es (before_of old)) (faults_in_all old.functions.items (names_in (state_of old).scope) es ++ use_faults c name count)) means
-      ∙ ap (λ n. grown (state_of old) (past_all es (before_of old)) (faults_in_all old.functions.items (names_in (state_of old).scope) es ++ use_faults meaning name n)) counted_so)))
+      ∙ (grown_twice (state_of old) (past_all es (before_of old)) (past_all es (before_of old)) (faults_in_all (known_of old) (names_in (state_of old).scope) es) (use_faults callee name count)
+      ∙ (ap (λ c. grown (state_of old) (past_all es (before_of old)) (faults_in_all (known_of old) (names_in (state_of old).scope) es ++ use_faults c name count)) means
+      ∙ ap (λ n. grown (state_of old) (past_all es (before_of old)) (faults_in_all (known_of old) (names_in (state_of old).scope) es ++ use_faults meaning name n)) counted_so)))
 
   tree_so : t ≡ applied meaning (meant_all_at (state_of old) es)
   tree_so = made ∙ (ap (λ c. applied c (trees_of (map expr_tree arguments))) means ∙ ap (applied meaning) all.trees_are)
@@ -123,7 +122,7 @@ pub call_resolved : (name : Identifier) (es : Writtens) (callee : Option Callee)
     → Notes (use_faults callee name count) between new → count ≡ length arguments → t ≡ applied callee (trees_of (map expr_tree arguments))
     → Resolves (written.call name es) old new t
 call_resolved name es callee old between new arguments count t all means notes counted made =
-    let here : callee ≡ meaning_in old.functions.items name.name = means ∙ ap (λ state. meaning_in state.functions name.name) all.state in
+    let here : callee ≡ meaning_in old.functions.items name.name = means ∙ ap (λ state. meaning_in state.known.functions name.name) all.state in
     record {
       state = state_so name es callee (meaning_in old.functions.items name.name) old between new arguments count t all here notes counted made;
       scope = scope_so name es callee (meaning_in old.functions.items name.name) old between new arguments count t all here notes counted made;
@@ -131,14 +130,15 @@ call_resolved name es callee old between new arguments count t all means notes c
     }
 
 pub construct_resolved : (name : Identifier) (es : Writtens) (callee : Option Callee) (old between new : Resolver) (arguments : List Expr) (count : ℕ) (t : Tree)
-    → ResolvesAll es old between (trees_of (map expr_tree arguments)) → callee ≡ meaning_in constructors name.name
+    → ResolvesAll es old between (trees_of (map expr_tree arguments)) → callee ≡ meaning_in between.constructors.items name.name
     → Notes (use_faults callee name count) between new → count ≡ length arguments → t ≡ applied callee (trees_of (map expr_tree arguments))
     → Resolves (written.construct name es) old new t
 construct_resolved name es callee old between new arguments count t all means notes counted made =
+    let here : callee ≡ meaning_in old.constructors.items name.name = means ∙ ap (λ state. meaning_in state.known.constructors name.name) all.state in
     record {
-      state = state_so name es callee (meaning_in constructors name.name) old between new arguments count t all means notes counted made;
-      scope = scope_so name es callee (meaning_in constructors name.name) old between new arguments count t all means notes counted made;
-      tree_is = tree_so name es callee (meaning_in constructors name.name) old between new arguments count t all means notes counted made;
+      state = state_so name es callee (meaning_in old.constructors.items name.name) old between new arguments count t all here notes counted made;
+      scope = scope_so name es callee (meaning_in old.constructors.items name.name) old between new arguments count t all here notes counted made;
+      tree_is = tree_so name es callee (meaning_in old.constructors.items name.name) old between new arguments count t all here notes counted made;
     }
 
 -- a dot call is a call with its first argument in front
@@ -148,7 +148,7 @@ dot_call_resolved first name others old new t call = record { state = call.state
 -- ---- variables
 
 names_so : (name : Identifier) (resolver : Resolver) (b : Bool) → is_some (number_in (newest_first resolver.scope.items) name.name) ≡ b
-    → faults_in resolver.functions.items (names_in (newest_first resolver.scope.items)) (written.variable name) ≡ (if b then [] else fault_at Unknown name ∷ [])
+    → faults_in (known_of resolver) (names_in (newest_first resolver.scope.items)) (written.variable name) ≡ (if b then [] else fault_at Unknown name ∷ [])
 names_so name resolver b is = ap (λ x. if x then [] else fault_at Unknown name ∷ []) (sym (is_seen (newest_first resolver.scope.items) name.name) ∙ is)
 
 pub variable_found : (name : Identifier) (number : ℕ) (resolver : Resolver) (t : Tree) → Some number ≡ number_in (newest_first resolver.scope.items) name.name → t ≡ variable number
@@ -172,12 +172,12 @@ variable_unknown name old new t lacking made notes =
     }
 
 -- a print of a string
-pub text_resolved : (form : PrintForm) (text : List ℕ) (number : ℕ) (old new : Resolver) (t : Tree) → number ≡ length old.texts.items → new.functions.items ≡ old.functions.items → new.scope.items ≡ old.scope.items
+pub text_resolved : (form : PrintForm) (text : List ℕ) (number : ℕ) (old new : Resolver) (t : Tree) → number ≡ length old.texts.items → known_of new ≡ known_of old → new.scope.items ≡ old.scope.items
     → new.next ≡ old.next → new.texts.items ≡ old.texts.items ++ text ∷ [] → new.first ≡ old.first → t ≡ alone (PrintText form number)
     → Resolves (written.print_text form text) old new t
-text_resolved form text number old new t number_is functions scope next texts first made =
+text_resolved form text number old new t number_is known scope next texts first made =
     record {
-      state = state_is _ _ _ _ _ _ _ _ functions (ap newest_first scope) (before_is _ _ _ _ next texts) first;
+      state = state_is _ _ _ _ _ _ _ _ known (ap newest_first scope) (before_is _ _ _ _ next texts) first;
       scope = scope;
       tree_is = made ∙ ap (λ n. alone (PrintText form n)) number_is;
     }

@@ -8,10 +8,12 @@ use Rattle.kk_syntax.specs.Trees.{Tree, no_tree, tree, apply, branch}
 use Rattle.kk_names.specs.declared.fault.Fault.{Fault}
 use Rattle.kk_names.specs.declared.resolver.Resolver.{Resolver}
 use Rattle.kk_names.specs.declared.table.Declared.{Declared}
+use Rattle.kk_names.specs.declared.table.DeclaredType.{DeclaredType}
 use Rattle.kk_names.specs.Expressions.{meant, alone}
 use Rattle.kk_names.specs.Faults.{faults_in}
-use Rattle.kk_names.specs.Methods.{State, before_of, state_of, grown, earlier_of, first_with, behind, meant_at, newest_first, Resolves}
+use Rattle.kk_names.specs.Methods.{known_of, State, before_of, state_of, grown, earlier_of, first_with, behind, meant_at, newest_first, Resolves}
 use Rattle.kk_names.specs.Scopes.{Scope, names_in, Before, past}
+use Rattle.kk_names.specs.Tables.{Known}
 
 pub first_more : (first : Option Fault) (xs ys : List Fault) → first_with first (xs ++ ys) ≡ first_with (first_with first xs) ys
 first_more first [] ys = refl
@@ -19,28 +21,37 @@ first_more first (x ∷ xs) ys = first_more (earlier_of first x) xs ys
 
 pub grown_twice : (state : State) (a b : Before) (xs ys : List Fault) → grown (grown state a xs) b ys ≡ grown state b (xs ++ ys)
 grown_twice state a b xs ys =
-    ap (λ f. let s : State = record { functions = state.functions; scope = state.scope; before = b; first = f } in s) (sym (first_more state.first xs ys))
+    ap (λ f. let s : State = record { known = state.known; scope = state.scope; before = b; first = f } in s) (sym (first_more state.first xs ys))
 
 -- what stands before, and how far the resolver has come, from their parts
 pub before_is : (n m : ℕ) (s t : List (List ℕ)) → n ≡ m → s ≡ t → (let here : Before = record { variables = n; texts = s } in here) ≡ record { variables = m; texts = t }
 before_is n m s t variables texts =
     ap (λ z. let here : Before = record { variables = z; texts = s } in here) variables ∙ ap (λ z. let here : Before = record { variables = m; texts = z } in here) texts
 
-pub state_is : (f g : List Declared) (s r : Scope) (a b : Before) (x y : Option Fault) → f ≡ g → s ≡ r → a ≡ b → x ≡ y
-    → (let here : State = record { functions = f; scope = s; before = a; first = x } in here) ≡ record { functions = g; scope = r; before = b; first = y }
-state_is f g s r a b x y functions scope before first =
-    ap (λ z. let here : State = record { functions = z; scope = s; before = a; first = x } in here) functions
-    ∙ (ap (λ z. let here : State = record { functions = g; scope = z; before = a; first = x } in here) scope
-    ∙ (ap (λ z. let here : State = record { functions = g; scope = r; before = z; first = x } in here) before
-    ∙ ap (λ z. let here : State = record { functions = g; scope = r; before = b; first = z } in here) first))
+pub known_is : (types types' : List DeclaredType) (constructors constructors' functions functions' : List Declared)
+    → types ≡ types' → constructors ≡ constructors' → functions ≡ functions'
+    → (let here : Known = record { types = types; constructors = constructors; functions = functions } in here)
+    ≡ record { types = types'; constructors = constructors'; functions = functions' }
+known_is types types' constructors constructors' functions functions' t c f =
+    ap (λ z. let here : Known = record { types = z; constructors = constructors; functions = functions } in here) t
+    ∙ (ap (λ z. let here : Known = record { types = types'; constructors = z; functions = functions } in here) c
+    ∙ ap (λ z. let here : Known = record { types = types'; constructors = constructors'; functions = z } in here) f)
+
+pub state_is : (f g : Known) (s r : Scope) (a b : Before) (x y : Option Fault) → f ≡ g → s ≡ r → a ≡ b → x ≡ y
+    → (let here : State = record { known = f; scope = s; before = a; first = x } in here) ≡ record { known = g; scope = r; before = b; first = y }
+state_is f g s r a b x y known scope before first =
+    ap (λ z. let here : State = record { known = z; scope = s; before = a; first = x } in here) known
+    ∙ (ap (λ z. let here : State = record { known = g; scope = z; before = a; first = x } in here) scope
+    ∙ (ap (λ z. let here : State = record { known = g; scope = r; before = z; first = x } in here) before
+    ∙ ap (λ z. let here : State = record { known = g; scope = r; before = b; first = z } in here) first))
 
 -- one expression, and then another
 pub record ResolvesTwo (left right : Written) (old new : Resolver) (first second : Tree) : Type 0 where
   pub state : state_of new ≡ grown (state_of old) (past right (past left (before_of old)))
-      (faults_in old.functions.items (names_in (newest_first old.scope.items)) left ++ faults_in old.functions.items (names_in (newest_first old.scope.items)) right)
+      (faults_in (known_of old) (names_in (newest_first old.scope.items)) left ++ faults_in (known_of old) (names_in (newest_first old.scope.items)) right)
   pub scope : new.scope.items ≡ old.scope.items
   pub first_is : first ≡ meant_at (state_of old) left
-  pub second_is : second ≡ meant old.functions.items (newest_first old.scope.items) (past left (before_of old)) right
+  pub second_is : second ≡ meant (known_of old) (newest_first old.scope.items) (past left (before_of old)) right
 
 pub two_resolved : (left right : Written) (old between new : Resolver) (first second : Tree) → Resolves left old between first → Resolves right between new second → ResolvesTwo left right old new first second
 two_resolved left right old between new first second x y =
@@ -48,7 +59,7 @@ two_resolved left right old between new first second x y =
     record {
       state =
           y.state ∙ (ap (behind right) x.state
-          ∙ grown_twice s (past left s.before) (past right (past left s.before)) (faults_in s.functions (names_in s.scope) left) (faults_in s.functions (names_in s.scope) right));
+          ∙ grown_twice s (past left s.before) (past right (past left s.before)) (faults_in s.known (names_in s.scope) left) (faults_in s.known (names_in s.scope) right));
       scope = y.scope ∙ x.scope;
       first_is = x.tree_is;
       second_is = y.tree_is ∙ ap (λ state. meant_at state right) x.state;
@@ -103,14 +114,14 @@ branch_resolved condition positive negative old on then new first second third x
     record {
       state =
           two.state
-          ∙ (ap (λ state. grown state (past negative (past positive state.before)) (faults_in state.functions (names_in state.scope) positive ++ faults_in state.functions (names_in state.scope) negative)) x.state
-          ∙ grown_twice s (past condition s.before) (past negative (past positive (past condition s.before))) (faults_in s.functions names condition) (faults_in s.functions names positive ++ faults_in s.functions names negative));
+          ∙ (ap (λ state. grown state (past negative (past positive state.before)) (faults_in state.known (names_in state.scope) positive ++ faults_in state.known (names_in state.scope) negative)) x.state
+          ∙ grown_twice s (past condition s.before) (past negative (past positive (past condition s.before))) (faults_in s.known names condition) (faults_in s.known names positive ++ faults_in s.known names negative));
       scope = two.scope ∙ x.scope;
       tree_is =
           ap (λ t. branch t second third) x.tree_is
           ∙ (ap (λ t. branch (meant_at s condition) t third) (two.first_is ∙ ap (λ state. meant_at state positive) x.state)
-          ∙ ap (λ t. branch (meant_at s condition) (meant s.functions s.scope (past condition s.before) positive) t)
-          (two.second_is ∙ ap (λ state. meant state.functions state.scope (past positive state.before) negative) x.state));
+          ∙ ap (λ t. branch (meant_at s condition) (meant s.known s.scope (past condition s.before) positive) t)
+          (two.second_is ∙ ap (λ state. meant state.known state.scope (past positive state.before) negative) x.state));
     }
 
 -- an expression goes by what it is written as, and by the tree that it means

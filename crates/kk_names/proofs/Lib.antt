@@ -1,5 +1,8 @@
 pub mod Arguments
+pub mod Constructors
 pub mod Declarations
+pub mod Declaring
+mod Examples
 pub mod Firsts
 pub mod Growing
 pub mod Mains
@@ -10,5 +13,6 @@ pub mod Rows
 pub mod Statements
 pub mod Tables
 pub mod Texts
+pub mod TypesDeclared
 pub mod TypesMeant
 pub mod Written

@@ -12,7 +12,7 @@ use Rattle.kk_syntax.specs.Types.{TypeTree, int32, unit_type, type_variable, nam
 use Rattle.kk_names.specs.declared.fault.Fault.{Fault}
 use Rattle.kk_names.specs.Faults.{error_of, faults_of}
 use Rattle.kk_names.specs.Methods.{first_with}
-use Rattle.kk_names.specs.Names.{functions_meant, texts_meant, main_of, program_of, IsMainShaped, HasOtherMain, MeansProgram, first_fault, no_main, main_shape, ResolvesAs, EachTreeIsResolved}
+use Rattle.kk_names.specs.Names.{functions_meant, Parts, parts_meant, main_of, program_of, IsMainShaped, HasOtherMain, MeansProgram, first_fault, no_main, main_shape, ResolvesAs, EachTreeIsResolved}
 use Rattle.kk_names.proofs.Firsts.{kept_is_first, first_is_kept, none_is_kept}
 
 -- ---- the one outcome
@@ -40,46 +40,44 @@ other_is function other = by (is_shaped function.parameters function.result) ref
     by true e = let so = is_so_shaped function.parameters function.result e in absurd (other (record { parameters = so.0; result = so.1 }))
     by false e = e
 
-abbrev at_function : List FunctionTree → List (List ℕ) → ℕ → Option FunctionTree → Result ProgramTree NameError
-at_function functions texts main None = Err NoMemory
-at_function functions texts main (Some function) = if is_shaped function.parameters function.result then Ok (program_of functions texts main) else Err (MainShape function.name function.at)
+abbrev at_function : Parts → ℕ → Option FunctionTree → Result ProgramTree NameError
+at_function parts main None = Err NoMemory
+at_function parts main (Some function) = if is_shaped function.parameters function.result then Ok (program_of parts main) else Err (MainShape function.name function.at)
 
-abbrev at_main : List FunctionTree → List (List ℕ) → ℕ → Option ℕ → Result ProgramTree NameError
-at_main functions texts length None = Err (NoMain (codes "main") length)
-at_main functions texts length (Some main) = at_function functions texts main (slice_get functions main)
+abbrev at_main : Parts → ℕ → Option ℕ → Result ProgramTree NameError
+at_main parts length None = Err (NoMain (codes "main") length)
+at_main parts length (Some main) = at_function parts main (slice_get parts.functions main)
 
-abbrev at_fault : List FunctionTree → List (List ℕ) → ℕ → Option Fault → Result ProgramTree NameError
-at_fault functions texts length None = at_main functions texts length (main_of functions)
-at_fault functions texts length (Some fault) = Err (error_of fault)
+abbrev at_fault : Parts → ℕ → Option Fault → Result ProgramTree NameError
+at_fault parts length None = at_main parts length (main_of parts.functions)
+at_fault parts length (Some fault) = Err (error_of fault)
 
 abbrev outcome_of : WrittenTree → Result ProgramTree NameError
-outcome_of tree = at_fault (functions_meant tree.declarations) (texts_meant tree.declarations) tree.length (first_with None (faults_of tree.declarations))
+outcome_of tree = at_fault (parts_meant tree.declarations) tree.length (first_with None (faults_of tree.declarations))
 
-without_faults : (tree : WrittenTree) → faults_of tree.declarations ≡ [] → outcome_of tree ≡ at_main (functions_meant tree.declarations) (texts_meant tree.declarations) tree.length (main_of (functions_meant tree.declarations))
-without_faults tree none = ap (λ fs. at_fault (functions_meant tree.declarations) (texts_meant tree.declarations) tree.length (first_with None fs)) none
+without_faults : (tree : WrittenTree) → faults_of tree.declarations ≡ [] → outcome_of tree ≡ at_main (parts_meant tree.declarations) tree.length (main_of (functions_meant tree.declarations))
+without_faults tree none = ap (λ fs. at_fault (parts_meant tree.declarations) tree.length (first_with None fs)) none
 
-with_function : (functions : List FunctionTree) (texts : List (List ℕ)) (length main : ℕ) (function : FunctionTree) → main_of functions ≡ Some main → slice_get functions main ≡ Some function
-    → at_main functions texts length (main_of functions) ≡ (if is_shaped function.parameters function.result then Ok (program_of functions texts main) else Err (MainShape function.name function.at))
-with_function functions texts length main function found there = ap (at_main functions texts length) found ∙ ap (at_function functions texts main) there
+with_function : (parts : Parts) (length main : ℕ) (function : FunctionTree) → main_of parts.functions ≡ Some main → slice_get parts.functions main ≡ Some function
+    → at_main parts length (main_of parts.functions) ≡ (if is_shaped function.parameters function.result then Ok (program_of parts main) else Err (MainShape function.name function.at))
+with_function parts length main function found there = ap (at_main parts length) found ∙ ap (at_function parts main) there
 
 its_outcome : (tree : WrittenTree) (outcome : Result ProgramTree NameError) → ResolvesAs tree outcome → outcome_of tree ≡ outcome
 its_outcome tree (Ok program) h =
-    let functions = functions_meant tree.declarations in
-    let texts = texts_meant tree.declarations in
+    let parts = parts_meant tree.declarations in
     let m = h.makes in
     without_faults tree h.faults
-    ∙ (with_function functions texts tree.length m.main m.function m.main_is m.there
-    ∙ (ap (λ b. if b then Ok (program_of functions texts m.main) else Err (MainShape m.function.name m.function.at)) (shaped_is m.function m.shape) ∙ ap Ok (sym m.is)))
+    ∙ (with_function parts tree.length m.main m.function m.main_is m.there
+    ∙ (ap (λ b. if b then Ok (program_of parts m.main) else Err (MainShape m.function.name m.function.at)) (shaped_is m.function m.shape) ∙ ap Ok (sym m.is)))
 its_outcome tree (Err error) (first_fault fault first is) =
-    ap (at_fault (functions_meant tree.declarations) (texts_meant tree.declarations) tree.length) (kept_is_first (faults_of tree.declarations) fault first) ∙ ap Err (sym is)
+    ap (at_fault (parts_meant tree.declarations) tree.length) (kept_is_first (faults_of tree.declarations) fault first) ∙ ap Err (sym is)
 its_outcome tree (Err error) (no_main none lacks) =
-    without_faults tree none ∙ (ap (at_main (functions_meant tree.declarations) (texts_meant tree.declarations) tree.length) lacks.lacking ∙ ap Err (sym lacks.error_is))
+    without_faults tree none ∙ (ap (at_main (parts_meant tree.declarations) tree.length) lacks.lacking ∙ ap Err (sym lacks.error_is))
 its_outcome tree (Err error) (main_shape none has) =
-    let functions = functions_meant tree.declarations in
-    let texts = texts_meant tree.declarations in
+    let parts = parts_meant tree.declarations in
     without_faults tree none
-    ∙ (with_function functions texts tree.length has.main has.function has.main_is has.there
-    ∙ (ap (λ b. if b then Ok (program_of functions texts has.main) else Err (MainShape has.function.name has.function.at)) (other_is has.function has.other) ∙ ap Err (sym has.error_is)))
+    ∙ (with_function parts tree.length has.main has.function has.main_is has.there
+    ∙ (ap (λ b. if b then Ok (program_of parts has.main) else Err (MainShape has.function.name has.function.at)) (other_is has.function has.other) ∙ ap Err (sym has.error_is)))
 
 pub only_outcome : (tree : WrittenTree) (outcome : Result ProgramTree NameError) → ResolvesAs tree outcome → IsOnly (ResolvesAs tree) outcome
 only_outcome tree outcome h = record { holds = h; only = λ other k. sym (its_outcome tree other k) ∙ its_outcome tree outcome h }
@@ -92,17 +90,14 @@ main_there functions main e = (_, slice_get-get_or functions main no_function (p
 pub each_tree_is_resolved : EachTreeIsResolved
 each_tree_is_resolved tree = by_fault (first_with None (faults_of tree.declarations)) refl
   where
-    functions : List FunctionTree
-    functions = functions_meant tree.declarations
-
     by_shape : (main : ℕ) (function : FunctionTree) (b : Bool) → is_shaped function.parameters function.result ≡ b → faults_of tree.declarations ≡ [] → main_of (functions_meant tree.declarations) ≡ Some main → slice_get (functions_meant tree.declarations) main ≡ Some function → ExactlyOne (ResolvesAs tree)
     by_shape main function true e none found there =
         let so = is_so_shaped function.parameters function.result e in
-        let means : MeansProgram tree.declarations (program_of (functions_meant tree.declarations) (texts_meant tree.declarations) main) = record {
+        let means : MeansProgram tree.declarations (program_of (parts_meant tree.declarations) main) = record {
           faults = none;
           makes = record { main = main; function = function; main_is = found; there = there; shape = record { parameters = so.0; result = so.1 }; is = refl };
         } in
-        (Ok (program_of (functions_meant tree.declarations) (texts_meant tree.declarations) main), only_outcome tree (Ok _) means)
+        (Ok (program_of (parts_meant tree.declarations) main), only_outcome tree (Ok _) means)
     by_shape main function false e none found there =
         let never : IsMainShaped function → ⊥ = λ shape. (let yes = shaped_is function shape in cc) in
         let has : HasOtherMain (functions_meant tree.declarations) (MainShape function.name function.at) = record { main = main; function = function; main_is = found; there = there; other = never; error_is = refl } in

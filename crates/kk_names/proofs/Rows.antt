@@ -11,7 +11,7 @@ use Rattle.kk_names.specs.declared.resolver.Resolver.{Resolver}
 use Rattle.kk_names.specs.declared.scope.Bound.{Bound}
 use Rattle.kk_names.specs.Expressions.{pattern_meant, meant, meant_rows}
 use Rattle.kk_names.specs.Faults.{pattern_faults, faults_in, faults_in_rows}
-use Rattle.kk_names.specs.Methods.{State, before_of, state_of, grown, first_with, newest_before}
+use Rattle.kk_names.specs.Methods.{known_of, State, before_of, state_of, grown, first_with, newest_before}
 use Rattle.kk_names.specs.Methods.{newest_first, behind, meant_at, Resolves, ResolvesPattern, ResolvesRow, ResolvesRows}
 use Rattle.kk_names.specs.Scopes.{Scope, names_in, in_row, with_pattern, pattern_names, past_pattern, past, past_rows}
 use Rattle.kk_names.proofs.Growing.{first_more, grown_twice, state_is}
@@ -34,10 +34,10 @@ before_none [] = refl
 before_none (t ∷ ts) = ap (program.row t.pattern t.body) (before_none ts)
 
 abbrev behind_rows : WrittenRows → State → State
-behind_rows rows state = grown state (past_rows rows state.before) (faults_in_rows state.functions (names_in state.scope) rows)
+behind_rows rows state = grown state (past_rows rows state.before) (faults_in_rows state.known (names_in state.scope) rows)
 
 abbrev meant_rows_at : State → WrittenRows → Rows
-meant_rows_at state rows = meant_rows state.functions state.scope state.before rows
+meant_rows_at state rows = meant_rows state.known state.scope state.before rows
 
 -- of all rows some are left
 pub record RowsSoFar (old now : Resolver) (left all : WrittenRows) (trees : List RowTree) : Type 0 where
@@ -52,20 +52,20 @@ rows_more old now new r left all trees t so_far one =
     let s : State = state_of now in
     let between = past_pattern r.pattern s.before in
     let names = names_in s.scope in
-    let here = pattern_faults [] r.pattern ++ faults_in s.functions (pattern_names r.pattern [] ++ names) r.body in
+    let here = pattern_faults s.known [] r.pattern ++ faults_in s.known (pattern_names r.pattern [] ++ names) r.body in
     let rest = meant_rows_at (state_of new) left in
-    let body = meant s.functions (in_row r.pattern s.before s.scope) between r.body in
+    let body = meant s.known (in_row r.pattern s.before s.scope) between r.body in
     record {
       state =
           ap (behind_rows left) one.state
-          ∙ (grown_twice s (past r.body between) (past_rows left (past r.body between)) here (faults_in_rows s.functions names left)
+          ∙ (grown_twice s (past r.body between) (past_rows left (past r.body between)) here (faults_in_rows s.known names left)
           ∙ so_far.state);
       scope = one.scope ∙ so_far.scope;
       trees_are =
           before_one_more trees t rest
           ∙ (ap (λ p. before trees (program.row p t.body rest)) one.pattern_is
-          ∙ (ap (λ e. before trees (program.row (pattern_meant s.before r.pattern) e rest)) one.body_is
-          ∙ (ap (λ state. before trees (program.row (pattern_meant s.before r.pattern) body
+          ∙ (ap (λ e. before trees (program.row (pattern_meant s.known s.before r.pattern) e rest)) one.body_is
+          ∙ (ap (λ state. before trees (program.row (pattern_meant s.known s.before r.pattern) body
           (meant_rows_at state left))) one.state ∙ so_far.trees_are)));
     }
 
@@ -95,13 +95,13 @@ newest_both older (bound ∷ first) second = newest_both (bound ∷ older) first
 pub row_resolved : (pattern : WrittenPattern) (body : Written) (old matched seen valued new : Resolver) (bound : List Bound)
     (p : Pattern) (t : Tree)
     → ResolvesPattern pattern old matched [] (newest_first bound) p
-    → seen.functions.items ≡ matched.functions.items → seen.scope.items ≡ matched.scope.items ++ bound
+    → known_of seen ≡ known_of matched → seen.scope.items ≡ matched.scope.items ++ bound
     → before_of seen ≡ before_of matched → seen.first ≡ matched.first
     → Resolves body seen valued t
-    → new.functions.items ≡ valued.functions.items → new.scope.items ≡ take (length old.scope.items) valued.scope.items
+    → known_of new ≡ known_of valued → new.scope.items ≡ take (length old.scope.items) valued.scope.items
     → before_of new ≡ before_of valued → new.first ≡ valued.first
     → ResolvesRow (record { pattern = pattern; body = body }) old new (record { pattern = p; body = t })
-row_resolved pattern body old matched seen valued new bound p t one functions scope next first value new_functions new_scope new_next new_first =
+row_resolved pattern body old matched seen valued new bound p t one known scope next first value new_known new_scope new_next new_first =
     let s : State = state_of old in
     let between = past_pattern pattern s.before in
     let names = pattern_names pattern [] ++ names_in s.scope in
@@ -112,21 +112,21 @@ row_resolved pattern body old matched seen valued new bound p t one functions sc
     let names_so : names_in (in_row pattern s.before s.scope) ≡ names =
     map-append (λ b. b.name) (with_pattern pattern s.before []) s.scope
     ∙ ap (λ ns. ns ++ names_in s.scope) (names_with_pattern pattern s.before []) in
-    let seen_so : state_of seen ≡ record { functions = s.functions; scope = in_row pattern s.before s.scope; before = between; first = matched.first } =
-    state_is _ _ _ _ _ _ _ _ (functions ∙ ap (λ state. state.functions) one.state) scope_so (next
+    let seen_so : state_of seen ≡ record { known = s.known; scope = in_row pattern s.before s.scope; before = between; first = matched.first } =
+    state_is _ _ _ _ _ _ _ _ (known ∙ ap (λ state. state.known) one.state) scope_so (next
     ∙ ap (λ state. state.before) one.state) first in
     let valued_so = value.state ∙ ap (behind body) seen_so in
     let back : new.scope.items ≡ old.scope.items =
     new_scope ∙ (ap (take (length old.scope.items)) (value.scope ∙ items) ∙ take-append_seam old.scope.items bound) in
     record {
       state = state_is _ _ _ _ _ _ _ _
-          (new_functions ∙ ap (λ state. state.functions) valued_so)
+          (new_known ∙ ap (λ state. state.known) valued_so)
           (ap newest_first back)
           (new_next ∙ ap (λ state. state.before) valued_so)
           (new_first ∙ (ap (λ state. state.first) valued_so
-          ∙ (ap (λ ns. first_with matched.first (faults_in s.functions ns body)) names_so
-          ∙ (ap (λ f. first_with f (faults_in s.functions names body)) (ap (λ state. state.first) one.state)
-          ∙ sym (first_more s.first (pattern_faults [] pattern) (faults_in s.functions names body))))));
+          ∙ (ap (λ ns. first_with matched.first (faults_in s.known ns body)) names_so
+          ∙ (ap (λ f. first_with f (faults_in s.known names body)) (ap (λ state. state.first) one.state)
+          ∙ sym (first_more s.first (pattern_faults s.known [] pattern) (faults_in s.known names body))))));
       scope = back;
       pattern_is = one.tree_is;
       body_is = value.tree_is ∙ ap (λ state. meant_at state body) seen_so;
@@ -145,7 +145,7 @@ match_resolved scrutinee rows old between new t ts one others =
           others.state
           ∙ (ap (behind_rows rows) one.state
           ∙ grown_twice s (past scrutinee s.before) (past_rows rows (past scrutinee s.before))
-          (faults_in s.functions names scrutinee) (faults_in_rows s.functions names rows));
+          (faults_in s.known names scrutinee) (faults_in_rows s.known names rows));
       scope = others.scope ∙ one.scope;
       tree_is =
           ap (λ x. program.match x ts) one.tree_is

@@ -1,12 +1,13 @@
--- Tables of functions, and lists of names.
+-- Tables of names, and lists of names.
 use Rattle.std.proofs.Common.{◌≡◌, ℕ, ◌+◌, ◌<◌, List, [], ◌∷◌, ◌++◌, map, length, take, drop, get_or, suc, Bool, true, false, bytes_eq, Option, Some, refl, sym, ap, ◌∙◌, arith}
 use Rattle.std.specs.Prelude.{if◌then◌else◌, is_some, ◌||◌}
 use Rattle.std.proofs.Math.Seq.{take-suc, drop-cons}
 use Rattle.kk_names.specs.declared.scope.Bound.{Bound}
 use Rattle.kk_names.specs.declared.table.Declared.{Declared}
+use Rattle.kk_names.specs.declared.table.DeclaredType.{DeclaredType}
 use Rattle.kk_names.specs.Methods.{newest_before, newest_first}
 use Rattle.kk_names.specs.Scopes.{Scope, number_in, names_in, is_among}
-use Rattle.kk_names.specs.Tables.{meaning_in}
+use Rattle.kk_names.specs.Tables.{meaning_in, type_in}
 
 -- one more of a list is taken, and one less is left
 pub take_more : {A : Type 0} (xs : List A) (i : ℕ) (d : A) → i < length xs → take (i + 1) xs ≡ take i xs ++ get_or xs i d ∷ []
@@ -36,6 +37,10 @@ either_way false found rest among h = h
 pub is_meant : (table : List Declared) (name : List ℕ) → is_some (meaning_in table name) ≡ is_among (map (λ d. d.name) table) name
 is_meant [] name = refl
 is_meant (d ∷ more) name = either_way (bytes_eq d.name name) d.callee (meaning_in more name) (is_among (map (λ d. d.name) more) name) (is_meant more name)
+
+pub type_is_meant : (table : List DeclaredType) (name : List ℕ) → is_some (type_in table name) ≡ is_among (map (λ d. d.name) table) name
+type_is_meant [] name = refl
+type_is_meant (d ∷ more) name = either_way (bytes_eq d.name name) d.meaning (type_in more name) (is_among (map (λ d. d.name) more) name) (type_is_meant more name)
 
 pub is_seen : (scope : Scope) (name : List ℕ) → is_some (number_in scope name) ≡ is_among (names_in scope) name
 is_seen [] name = refl

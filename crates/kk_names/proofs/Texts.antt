@@ -1,24 +1,22 @@
 -- Each string literal that a resolved program prints is one of its own; and its first type is `bool`, as it must be.
-use Rattle.std.proofs.Common.{◌≡◌, ◌≤◌, ◌<◌, ◌+◌, ℕ, zero, suc, List, [], ◌∷◌, ◌++◌, length, length-append, Bool, true, false, Option, Some, None, bytes_eq, codes, refl, sym, subst, ◌∙◌, arith}
+use Rattle.std.proofs.Common.{◌≡◌, ◌≤◌, ◌<◌, ◌+◌, ℕ, List, [], ◌∷◌, ◌++◌, length, length-append, Bool, true, false, Option, Some, None, bytes_eq, refl, sym, subst, ◌∙◌, arith}
 use Rattle.std.specs.Prelude.{if◌then◌else◌}
 use Rattle.kk_syntax.specs.declared.tree.SurfaceBinder.{SurfaceBinder}
 use Rattle.kk_syntax.specs.declared.tree.SurfaceBinder.TheVariants as OfSurface
 use Rattle.kk_syntax.specs.Checked.{printed_by, of_texts, printed}
 use Rattle.kk_syntax.specs.Covered.{Each}
-use Rattle.kk_syntax.specs.OfType.{field_types}
 use Rattle.kk_syntax.specs.Programs.{FunctionTree}
 use Rattle.kk_syntax.specs.Shapes.{gathered_all, gathered_rows}
-use Rattle.kk_syntax.specs.Surface.{WrittenPattern, anything, pattern_variable, exactly, constructor, WrittenPatterns, no_part, part, Written, number, unit, variable, call, dot_call, construct, unary, binary, both, either, print_text, branch, branch_alone, match, sequence, Writtens, no_written, written, WrittenRows, no_row, row, WrittenDeclaration, type_declaration, function_declaration}
+use Rattle.kk_syntax.specs.Surface.{WrittenPattern, anything, pattern_variable, exactly, constructor, WrittenPatterns, no_part, part, Written, number, unit, variable, call, dot_call, construct, unary, binary, both, either, print_text, branch, branch_alone, match, sequence, Writtens, no_written, written, WrittenRows, no_row, row, WrittenConstructor, WrittenDeclaration, type_declaration, function_declaration}
 use Rattle.kk_syntax.specs.Trees.{Trees}
-use Rattle.kk_syntax.specs.Types.{TypeTree}
-use Rattle.kk_syntax.specs.Typing.{bool}
 use Rattle.kk_syntax.proofs.Elements.{each_both}
 use Rattle.kk_names.specs.declared.table.Callee.{Callee}
 use Rattle.kk_names.specs.declared.table.Declared.{Declared}
 use Rattle.kk_names.specs.Expressions.{applied, variable_or_unit, meant, meant_all, meant_rows}
-use Rattle.kk_names.specs.Names.{bool_constructor, before_body, with_texts, with_all_texts, functions_of, texts_meant, HasTruthsAndTexts, ResolvedProgramsHaveTruthsAndTexts}
+use Rattle.kk_names.specs.Names.{before_body, with_texts, with_all_texts, functions_of, constructors_of, texts_meant, HasTruthsAndTexts, ResolvedProgramsHaveTruthsAndTexts}
 use Rattle.kk_names.specs.Scopes.{Scope, number_in, with_parameters, with_binder, in_row, Before, past_binder, past_pattern, past_parts, past, past_all, past_rows}
-use Rattle.kk_names.specs.Tables.{constructors, numbered, functions_in, meaning_in}
+use Rattle.kk_names.specs.Tables.{Known, known_in, built_in_constructors, built_in_functions, cases_from, constructors_from, functions_from, meaning_in}
+use Rattle.kk_names.proofs.Constructors.{truth, no_other, constructors_other}
 
 -- ---- names
 
@@ -31,16 +29,24 @@ abbrev IsPrintless : Option Callee → Type 0
 IsPrintless None = Unit {0}
 IsPrintless (Some callee) = printed_by callee.form ≡ []
 
-numbered_printless : (n : ℕ) (ds : List WrittenDeclaration) → ArePrintless (numbered n ds)
-numbered_printless n [] = tt
-numbered_printless n (type_declaration name parameters cases ∷ more) = numbered_printless n more
-numbered_printless n (function_declaration name parameters effects result body ∷ more) = (refl, numbered_printless (n + 1) more)
+printless_both : (xs ys : List Declared) → ArePrintless xs → ArePrintless ys → ArePrintless (xs ++ ys)
+printless_both [] ys one more = more
+printless_both (x ∷ xs) ys one more = (one.0, printless_both xs ys one.1 more)
 
-functions_printless : (ds : List WrittenDeclaration) → ArePrintless (functions_in ds)
-functions_printless ds = (refl, (refl, (refl, numbered_printless 0 ds)))
+functions_printless : (n : ℕ) (ds : List WrittenDeclaration) → ArePrintless (functions_from n ds)
+functions_printless n [] = tt
+functions_printless n (type_declaration name parameters cases ∷ more) = functions_printless n more
+functions_printless n (function_declaration name parameters effects result body ∷ more) = (refl, functions_printless (n + 1) more)
 
-constructors_printless : ArePrintless constructors
-constructors_printless = (refl, (refl, tt))
+cases_printless : (n : ℕ) (cases : List WrittenConstructor) → ArePrintless (cases_from n cases)
+cases_printless n [] = tt
+cases_printless n (case ∷ more) = (refl, cases_printless (n + 1) more)
+
+constructors_printless : (n : ℕ) (ds : List WrittenDeclaration) → ArePrintless (constructors_from n ds)
+constructors_printless n [] = tt
+constructors_printless n (type_declaration name parameters cases ∷ more) =
+    printless_both (cases_from n cases) (constructors_from (n + length cases) more) (cases_printless n cases) (constructors_printless (n + length cases) more)
+constructors_printless n (function_declaration name parameters effects result body ∷ more) = constructors_printless n more
 
 meaning_printless : (names : List Declared) (name : List ℕ) → ArePrintless names → IsPrintless (meaning_in names name)
 meaning_printless [] name printless = tt
@@ -156,24 +162,24 @@ variable_prints n (Some by) = tt
 in_turn : (n : ℕ) (xs ys : List ℕ) → AreBelow n xs → AreBelow n ys → AreBelow n (xs ++ ys)
 in_turn n = each_both (λ text. text < n)
 
-module _ (functions : List Declared) (names : ArePrintless functions) (n : ℕ) where
+module _ (known : Known) (calls : ArePrintless known.functions) (makers : ArePrintless known.constructors) (n : ℕ) where
   mutual
     tree_prints : (scope : Scope) (before : Before) (w : Written) → count (past w before) ≤ n
-        → AreBelow n (printed (meant functions scope before w))
+        → AreBelow n (printed (meant known scope before w))
     tree_prints scope before (number value) few = tt
     tree_prints scope before unit few = tt
     tree_prints scope before (variable name) few = variable_prints n (number_in scope name.name)
     tree_prints scope before (call name arguments) few =
-        applied_prints n (meaning_in functions name.name) (meant_all functions scope before arguments)
-        (meaning_printless functions name.name names) (trees_print scope before arguments few)
+        applied_prints n (meaning_in known.functions name.name) (meant_all known scope before arguments)
+        (meaning_printless known.functions name.name calls) (trees_print scope before arguments few)
     tree_prints scope before (dot_call first name others) few =
         let more = all_longer others (past first before) in
-        applied_prints n (meaning_in functions name.name) (meant_all functions scope before (written first others))
-        (meaning_printless functions name.name names)
+        applied_prints n (meaning_in known.functions name.name) (meant_all known scope before (written first others))
+        (meaning_printless known.functions name.name calls)
         (in_turn n _ _ (tree_prints scope before first (omega (arith, few, more))) (trees_print scope (past first before) others few))
     tree_prints scope before (construct name arguments) few =
-        applied_prints n (meaning_in constructors name.name) (meant_all functions scope before arguments)
-        (meaning_printless constructors name.name constructors_printless) (trees_print scope before arguments few)
+        applied_prints n (meaning_in known.constructors name.name) (meant_all known scope before arguments)
+        (meaning_printless known.constructors name.name makers) (trees_print scope before arguments few)
     tree_prints scope before (unary operator operand) few = in_turn n _ [] (tree_prints scope before operand few) tt
     tree_prints scope before (binary operator left right) few =
         in_turn n _ _ (tree_prints scope before left (let more = longer right (past left before) in omega (arith, few, more)))
@@ -205,14 +211,14 @@ module _ (functions : List Declared) (names : ArePrintless functions) (n : ℕ) 
         (tree_prints (with_binder binder before.variables scope) (past first (past_binder binder before)) rest few)
 
     trees_print : (scope : Scope) (before : Before) (ws : Writtens) → count (past_all ws before) ≤ n
-        → AreBelow n (gathered_all of_texts (meant_all functions scope before ws))
+        → AreBelow n (gathered_all of_texts (meant_all known scope before ws))
     trees_print scope before no_written few = tt
     trees_print scope before (written first rest) few =
         in_turn n _ _ (tree_prints scope before first (let more = all_longer rest (past first before) in omega (arith, few, more)))
         (trees_print scope (past first before) rest few)
 
     rows_print : (scope : Scope) (before : Before) (rows : WrittenRows) → count (past_rows rows before) ≤ n
-        → AreBelow n (gathered_rows of_texts (meant_rows functions scope before rows))
+        → AreBelow n (gathered_rows of_texts (meant_rows known scope before rows))
     rows_print scope before no_row few = tt
     rows_print scope before (row pattern body rest) few =
         let behind = past body (past_pattern pattern before) in
@@ -231,7 +237,7 @@ module _ (functions : List Declared) (names : ArePrintless functions) (n : ℕ) 
       omega (arith, one, more)
 
   functions_print : (ds : List WrittenDeclaration) (texts : List (List ℕ)) → length (with_all_texts texts ds) ≤ n
-      → Each (λ (function : FunctionTree). AreBelow n (printed function.body)) (functions_of functions texts ds)
+      → Each (λ (function : FunctionTree). AreBelow n (printed function.body)) (functions_of known texts ds)
   functions_print [] texts few = tt
   functions_print (type_declaration name parameters cases ∷ ds) texts few = functions_print ds texts few
   functions_print (function_declaration name parameters effects result body ∷ ds) texts few =
@@ -240,22 +246,20 @@ module _ (functions : List Declared) (names : ArePrintless functions) (n : ℕ) 
       let first = tree_prints (with_parameters 0 parameters []) (before_body texts parameters) body (omega (arith, few, more)) in
       (first, functions_print ds behind few)
 
-truth : (c : ℕ) → c ≤ 1 → field_types (bool_constructor (codes "False") 0 ∷ bool_constructor (codes "True") 1 ∷ []) bool c ≡ Some []
-truth zero small = refl
-truth (suc zero) small = refl
-truth (suc (suc c)) small = absurd (omega arith)
-
-no_other : (c : ℕ) (ts : List TypeTree)
-    → field_types (bool_constructor (codes "False") 0 ∷ bool_constructor (codes "True") 1 ∷ []) bool c ≡ Some ts → c ≤ 1
-no_other zero ts is = omega arith
-no_other (suc zero) ts is = omega arith
-no_other (suc (suc c)) ts is = absurd (cc)
+-- ---- the whole
 
 pub resolved_programs_have_truths_and_texts : ResolvedProgramsHaveTruthsAndTexts
 resolved_programs_have_truths_and_texts tree program resolved =
+    let known = known_in tree.declarations in
+    let others = constructors_of known 1 tree.declarations in
     subst HasTruthsAndTexts (sym resolved.makes.is) (record {
-      truths = record { truths = truth; no_others = no_other };
+      truths = record {
+        truths = truth others;
+        no_others = no_other others (constructors_other known 1 tree.declarations (omega arith));
+      };
       texts =
-          functions_print (functions_in tree.declarations) (functions_printless tree.declarations)
+          functions_print known
+          (printless_both built_in_functions (functions_from 0 tree.declarations) (refl, (refl, (refl, tt))) (functions_printless 0 tree.declarations))
+          (printless_both built_in_constructors (constructors_from 2 tree.declarations) (refl, (refl, tt)) (constructors_printless 2 tree.declarations))
           (length (texts_meant tree.declarations)) tree.declarations [] (omega arith);
     })

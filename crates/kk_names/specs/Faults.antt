@@ -4,16 +4,15 @@ use Rattle.std.specs.Prelude.{◌≡◌, ◌<◌, ◌==◌, ℕ, ◌+◌, List, 
 use Rattle.kk_base.specs.declared.error.NameError.{NameError}
 use Rattle.kk_base.specs.declared.error.NameError.TheVariants as OfError
 use Rattle.kk_syntax.specs.declared.tree.Identifier.{Identifier}
-use Rattle.kk_syntax.specs.Surface.{WrittenType, WrittenTypes, unit_type, type_variable, named, no_type, type, WrittenPattern, anything, pattern_variable, exactly, constructor, WrittenPatterns, no_part, part, Written, number, unit, variable, call, dot_call, construct, unary, binary, both, either, print_text, branch, branch_alone, match, sequence, Writtens, no_written, written, WrittenRows, no_row, row, WrittenParameter, WrittenDeclaration, type_declaration, function_declaration}
+use Rattle.kk_syntax.specs.Surface.{WrittenType, WrittenTypes, unit_type, type_variable, named, no_type, type, WrittenPattern, anything, pattern_variable, exactly, constructor, WrittenPatterns, no_part, part, Written, number, unit, variable, call, dot_call, construct, unary, binary, both, either, print_text, branch, branch_alone, match, sequence, Writtens, no_written, written, WrittenRows, no_row, row, WrittenParameter, WrittenConstructor, WrittenDeclaration, type_declaration, function_declaration}
 use Rattle.kk_names.specs.declared.fault.Fault.{Fault}
 use Rattle.kk_names.specs.declared.fault.FaultKind.{FaultKind}
 use Rattle.kk_names.specs.declared.fault.FaultKind.TheVariants.{Twice, Unknown, Arity}
 use Rattle.kk_names.specs.declared.table.Callee.{Callee}
-use Rattle.kk_names.specs.declared.table.Declared.{Declared}
 use Rattle.kk_names.specs.declared.table.TypeMeaning.{TypeMeaning}
 use Rattle.kk_names.specs.Scopes.{is_among, parameter_names, binder_names, pattern_names}
-use Rattle.kk_names.specs.Tables.{constructors, functions_in, meaning_in}
-use Rattle.kk_names.specs.TypeNames.{type_named, place_of, signature_variables}
+use Rattle.kk_names.specs.Tables.{Known, known_in, meaning_in, type_in, names_of, type_names, constructor_names, function_names}
+use Rattle.kk_names.specs.TypeNames.{place_of, signature_variables}
 
 abbrev pub fault_at : FaultKind → Identifier → Fault
 fault_at kind name = record { kind = kind; name = name.name; at = name.at }
@@ -67,15 +66,15 @@ types_count (type first rest) = 1 + types_count rest
 
 -- the faults of a type, where those type variables are seen
 abbrev mutual
-  pub type_faults : List (List ℕ) → WrittenType → List Fault
-  type_faults variables unit_type = []
-  type_faults variables (type_variable name) = variable_faults (place_of variables name.name) name
-  type_faults variables (named name arguments) =
-      types_faults variables arguments ++ named_faults (type_named name.name) name (types_count arguments)
+  pub type_faults : Known → List (List ℕ) → WrittenType → List Fault
+  type_faults known variables unit_type = []
+  type_faults known variables (type_variable name) = variable_faults (place_of variables name.name) name
+  type_faults known variables (named name arguments) =
+      types_faults known variables arguments ++ named_faults (type_in known.types name.name) name (types_count arguments)
 
-  pub types_faults : List (List ℕ) → WrittenTypes → List Fault
-  types_faults variables no_type = []
-  types_faults variables (type first rest) = type_faults variables first ++ types_faults variables rest
+  pub types_faults : Known → List (List ℕ) → WrittenTypes → List Fault
+  types_faults known variables no_type = []
+  types_faults known variables (type first rest) = type_faults known variables first ++ types_faults known variables rest
 
 -- a name that is used with so many arguments
 abbrev pub use_faults : Option Callee → Identifier → ℕ → List Fault
@@ -92,80 +91,97 @@ parts_count (part first rest) = 1 + parts_count rest
 
 -- the faults of a pattern, of which variables of these names stand before
 abbrev mutual
-  pub pattern_faults : List (List ℕ) → WrittenPattern → List Fault
-  pattern_faults names anything = []
-  pattern_faults names (pattern_variable name) = twice_faults names name
-  pattern_faults names (exactly value) = []
-  pattern_faults names (constructor name parts) =
-      parts_faults names parts ++ use_faults (meaning_in constructors name.name) name (parts_count parts)
+  pub pattern_faults : Known → List (List ℕ) → WrittenPattern → List Fault
+  pattern_faults known names anything = []
+  pattern_faults known names (pattern_variable name) = twice_faults names name
+  pattern_faults known names (exactly value) = []
+  pattern_faults known names (constructor name parts) =
+      parts_faults known names parts ++ use_faults (meaning_in known.constructors name.name) name (parts_count parts)
 
-  pub parts_faults : List (List ℕ) → WrittenPatterns → List Fault
-  parts_faults names no_part = []
-  parts_faults names (part first rest) = pattern_faults names first ++ parts_faults (pattern_names first names) rest
+  pub parts_faults : Known → List (List ℕ) → WrittenPatterns → List Fault
+  parts_faults known names no_part = []
+  parts_faults known names (part first rest) = pattern_faults known names first ++ parts_faults known (pattern_names first names) rest
 
 -- the faults of an expression, where variables of these names are seen
 abbrev mutual
-  pub faults_in : List Declared → List (List ℕ) → Written → List Fault
-  faults_in functions names (number value) = []
-  faults_in functions names unit = []
-  faults_in functions names (print_text form text) = []
-  faults_in functions names (variable name) = if is_among names name.name then [] else fault_at Unknown name ∷ []
-  faults_in functions names (call name arguments) =
-      faults_in_all functions names arguments ++ use_faults (meaning_in functions name.name) name (count_of arguments)
-  faults_in functions names (dot_call first name others) =
-      (faults_in functions names first ++ faults_in_all functions names others) ++ use_faults (meaning_in functions name.name) name (1 + count_of others)
-  faults_in functions names (construct name arguments) =
-      faults_in_all functions names arguments ++ use_faults (meaning_in constructors name.name) name (count_of arguments)
-  faults_in functions names (unary operator operand) = faults_in functions names operand
-  faults_in functions names (binary operator left right) = faults_in functions names left ++ faults_in functions names right
-  faults_in functions names (both left right) = faults_in functions names left ++ faults_in functions names right
-  faults_in functions names (either left right) = faults_in functions names left ++ faults_in functions names right
-  faults_in functions names (branch condition positive negative) =
-      faults_in functions names condition ++ (faults_in functions names positive ++ faults_in functions names negative)
-  faults_in functions names (branch_alone condition positive) = faults_in functions names condition ++ faults_in functions names positive
-  faults_in functions names (sequence binder first rest) =
-      faults_in functions names first ++ faults_in functions (binder_names binder names) rest
-  faults_in functions names (match scrutinee rows) = faults_in functions names scrutinee ++ faults_in_rows functions names rows
+  pub faults_in : Known → List (List ℕ) → Written → List Fault
+  faults_in known names (number value) = []
+  faults_in known names unit = []
+  faults_in known names (print_text form text) = []
+  faults_in known names (variable name) = if is_among names name.name then [] else fault_at Unknown name ∷ []
+  faults_in known names (call name arguments) =
+      faults_in_all known names arguments ++ use_faults (meaning_in known.functions name.name) name (count_of arguments)
+  faults_in known names (dot_call first name others) =
+      (faults_in known names first ++ faults_in_all known names others) ++ use_faults (meaning_in known.functions name.name) name (1 + count_of others)
+  faults_in known names (construct name arguments) =
+      faults_in_all known names arguments ++ use_faults (meaning_in known.constructors name.name) name (count_of arguments)
+  faults_in known names (unary operator operand) = faults_in known names operand
+  faults_in known names (binary operator left right) = faults_in known names left ++ faults_in known names right
+  faults_in known names (both left right) = faults_in known names left ++ faults_in known names right
+  faults_in known names (either left right) = faults_in known names left ++ faults_in known names right
+  faults_in known names (branch condition positive negative) =
+      faults_in known names condition ++ (faults_in known names positive ++ faults_in known names negative)
+  faults_in known names (branch_alone condition positive) = faults_in known names condition ++ faults_in known names positive
+  faults_in known names (sequence binder first rest) =
+      faults_in known names first ++ faults_in known (binder_names binder names) rest
+  faults_in known names (match scrutinee rows) = faults_in known names scrutinee ++ faults_in_rows known names rows
 
-  pub faults_in_all : List Declared → List (List ℕ) → Writtens → List Fault
-  faults_in_all functions names no_written = []
-  faults_in_all functions names (written first rest) = faults_in functions names first ++ faults_in_all functions names rest
+  pub faults_in_all : Known → List (List ℕ) → Writtens → List Fault
+  faults_in_all known names no_written = []
+  faults_in_all known names (written first rest) = faults_in known names first ++ faults_in_all known names rest
 
-  pub faults_in_rows : List Declared → List (List ℕ) → WrittenRows → List Fault
-  faults_in_rows functions names no_row = []
-  faults_in_rows functions names (row pattern body rest) =
-      (pattern_faults [] pattern ++ faults_in functions (pattern_names pattern [] ++ names) body) ++ faults_in_rows functions names rest
+  pub faults_in_rows : Known → List (List ℕ) → WrittenRows → List Fault
+  faults_in_rows known names no_row = []
+  faults_in_rows known names (row pattern body rest) =
+      (pattern_faults known [] pattern ++ faults_in known (pattern_names pattern [] ++ names) body) ++ faults_in_rows known names rest
 
 -- ---- the faults of declarations
 
 -- parameters, where those type variables are seen, and those of these names are declared already
-abbrev pub parameter_faults : List (List ℕ) → List (List ℕ) → List WrittenParameter → List Fault
-parameter_faults variables names [] = []
-parameter_faults variables names (parameter ∷ more) =
-    (twice_faults names parameter.name ++ type_faults variables parameter.of_type) ++ parameter_faults variables (parameter.name.name ∷ names) more
+abbrev pub parameter_faults : Known → List (List ℕ) → List (List ℕ) → List WrittenParameter → List Fault
+parameter_faults known variables names [] = []
+parameter_faults known variables names (parameter ∷ more) =
+    (twice_faults names parameter.name ++ type_faults known variables parameter.of_type) ++ parameter_faults known variables (parameter.name.name ∷ names) more
 
-abbrev pub result_faults : List (List ℕ) → Option WrittenType → List Fault
-result_faults variables None = []
-result_faults variables (Some of_type) = type_faults variables of_type
+abbrev pub result_faults : Known → List (List ℕ) → Option WrittenType → List Fault
+result_faults known variables None = []
+result_faults known variables (Some of_type) = type_faults known variables of_type
 
--- The faults inside of a declaration. A declared type has no meaning yet: its name is unknown.
-abbrev pub inside_faults : List Declared → WrittenDeclaration → List Fault
-inside_faults functions (type_declaration name parameters cases) = fault_at Unknown name ∷ []
-inside_faults functions (function_declaration name parameters effects result body) =
-    parameter_faults (signature_variables parameters result) [] parameters
-    ++ (result_faults (signature_variables parameters result) result ++ faults_in functions (parameter_names parameters []) body)
+-- names in the order in which they are declared, behind those: each that was declared before
+abbrev pub second_names : List (List ℕ) → List Identifier → List Fault
+second_names names [] = []
+second_names names (name ∷ more) = twice_faults names name ++ second_names (names ++ name.name ∷ []) more
 
-abbrev pub inside_all : List Declared → List WrittenDeclaration → List Fault
-inside_all functions [] = []
-inside_all functions (declaration ∷ more) = inside_faults functions declaration ++ inside_all functions more
+-- the fields of the constructors of a type with those type variables; each constructor has names of its own
+abbrev pub field_faults : Known → List (List ℕ) → List WrittenConstructor → List Fault
+field_faults known variables [] = []
+field_faults known variables (case ∷ more) = parameter_faults known variables [] case.fields ++ field_faults known variables more
 
--- functions that have the name of an earlier one
-abbrev pub second_functions : List (List ℕ) → List WrittenDeclaration → List Fault
-second_functions names [] = []
-second_functions names (type_declaration name parameters cases ∷ more) = second_functions names more
-second_functions names (function_declaration name parameters effects result body ∷ more) =
-    twice_faults names name ++ second_functions (names ++ name.name ∷ []) more
+-- a declared type: its type variables, and the fields of its constructors
+abbrev pub faults_in_type : Known → WrittenDeclaration → List Fault
+faults_in_type known (type_declaration name parameters cases) = second_names [] parameters ++ field_faults known (names_of parameters) cases
+faults_in_type known (function_declaration name parameters effects result body) = []
 
--- the faults of a text; the functions that are built in are there before its own
+abbrev pub faults_in_types : Known → List WrittenDeclaration → List Fault
+faults_in_types known [] = []
+faults_in_types known (declaration ∷ more) = faults_in_type known declaration ++ faults_in_types known more
+
+-- a declared function: its parameters, its result and its body
+abbrev pub faults_in_function : Known → WrittenDeclaration → List Fault
+faults_in_function known (type_declaration name parameters cases) = []
+faults_in_function known (function_declaration name parameters effects result body) =
+    parameter_faults known (signature_variables parameters result) [] parameters
+    ++ (result_faults known (signature_variables parameters result) result ++ faults_in known (parameter_names parameters []) body)
+
+abbrev pub faults_in_functions : Known → List WrittenDeclaration → List Fault
+faults_in_functions known [] = []
+faults_in_functions known (declaration ∷ more) = faults_in_function known declaration ++ faults_in_functions known more
+
+-- The faults of a text: names that are declared twice, where those of what is built in come first, and the faults inside
+-- of the declarations.
 abbrev pub faults_of : List WrittenDeclaration → List Fault
-faults_of declarations = second_functions (codes "print" ∷ codes "println" ∷ codes "read-byte" ∷ []) declarations ++ inside_all (functions_in declarations) declarations
+faults_of declarations =
+    second_names (codes "int32" ∷ codes "bool" ∷ []) (type_names declarations)
+    ++ (second_names (codes "False" ∷ codes "True" ∷ []) (constructor_names declarations)
+    ++ (second_names (codes "print" ∷ codes "println" ∷ codes "read-byte" ∷ []) (function_names declarations)
+    ++ (faults_in_types (known_in declarations) declarations ++ faults_in_functions (known_in declarations) declarations)))

@@ -1,18 +1,11 @@
--- What a type means as it is written. `int32` and `bool` are the types that have names; neither has arguments.
-use Rattle.std.specs.Prelude.{ℕ, List, [], ◌∷◌, ◌++◌, bytes_eq, codes, position, is_some, Option, Some, None, if◌then◌else◌}
+-- What a type means as it is written.
+use Rattle.std.specs.Prelude.{ℕ, List, [], ◌∷◌, ◌++◌, bytes_eq, position, is_some, Option, Some, None, if◌then◌else◌}
 use Rattle.kk_syntax.specs.Surface as written
 use Rattle.kk_syntax.specs.Surface.{WrittenType, WrittenTypes, type_variable, named, WrittenParameter}
 use Rattle.kk_syntax.specs.Types as program
 use Rattle.kk_syntax.specs.Types.{TypeTree, TypeTrees}
 use Rattle.kk_names.specs.declared.table.TypeMeaning.{TypeMeaning}
-
--- `int32`, which has no number, or the type of that number; and how many arguments it has
-abbrev pub type_with : Option ℕ → ℕ → TypeMeaning
-type_with number parameters = record { number = number; parameters = parameters }
-
--- the type of a name, if it has one
-abbrev pub type_named : List ℕ → Option TypeMeaning
-type_named name = if bytes_eq name (codes "int32") then Some (type_with None 0) else (if bytes_eq name (codes "bool") then Some (type_with (Some 0) 0) else None)
+use Rattle.kk_names.specs.Tables.{Known, type_in}
 
 -- the number of a type variable: its place among those that are seen
 abbrev pub place_of : List (List ℕ) → List ℕ → Option ℕ
@@ -31,21 +24,21 @@ abbrev pub applied_type : Option TypeMeaning → TypeTrees → TypeTree
 applied_type None arguments = program.unit_type
 applied_type (Some meaning) arguments = numbered_type meaning.number arguments
 
--- the meaning of a type, where those type variables are seen
+-- the meaning of a type, where those names are known and those type variables are seen
 abbrev mutual
-  pub type_meant : List (List ℕ) → WrittenType → TypeTree
-  type_meant variables written.unit_type = program.unit_type
-  type_meant variables (type_variable name) = variable_type (place_of variables name.name)
-  type_meant variables (named name arguments) = applied_type (type_named name.name) (types_meant variables arguments)
+  pub type_meant : Known → List (List ℕ) → WrittenType → TypeTree
+  type_meant known variables written.unit_type = program.unit_type
+  type_meant known variables (type_variable name) = variable_type (place_of variables name.name)
+  type_meant known variables (named name arguments) = applied_type (type_in known.types name.name) (types_meant known variables arguments)
 
-  pub types_meant : List (List ℕ) → WrittenTypes → TypeTrees
-  types_meant variables written.no_type = program.no_type
-  types_meant variables (written.type first rest) = program.type (type_meant variables first) (types_meant variables rest)
+  pub types_meant : Known → List (List ℕ) → WrittenTypes → TypeTrees
+  types_meant known variables written.no_type = program.no_type
+  types_meant known variables (written.type first rest) = program.type (type_meant known variables first) (types_meant known variables rest)
 
 -- the type of a function's result, which is `()` where none is written
-abbrev pub result_meant : List (List ℕ) → Option WrittenType → TypeTree
-result_meant variables None = program.unit_type
-result_meant variables (Some type) = type_meant variables type
+abbrev pub result_meant : Known → List (List ℕ) → Option WrittenType → TypeTree
+result_meant known variables None = program.unit_type
+result_meant known variables (Some type) = type_meant known variables type
 
 -- ---- the type variables of a function, in the order in which its parameters and its result first name them
 

@@ -1,6 +1,6 @@
 ghost use Rattle.std.specs.Prelude.{◌≡◌, [], ◌∷◌, map, codes, IfOk};
 ghost use Rattle.kk_syntax.specs.Programs.{constructor_tree};
-ghost use Rattle.kk_names.specs.Names.{bool_type, bool_constructor};
+ghost use Rattle.kk_names.specs.Names.{bool_type, bool_constructor, bool_constructors};
 
 use kk_base::{Name, NoMemory};
 use kk_syntax::{Constructor, Program, TypeDecl};
@@ -24,8 +24,7 @@ pub fn types(alloc: Global) -> Result<Vec<TypeDecl>, NoMemory>
 
 /// The constructors that are built in: `False` and `True`.
 pub fn constructors(alloc: Global) -> Result<Vec<Constructor>, NoMemory>
-    ensures { IfOk result (λ constructors. map constructor_tree constructors.items
-        ≡ bool_constructor (codes "False") 0 ∷ bool_constructor (codes "True") 1 ∷ []) }
+    ensures { IfOk result (λ constructors. map constructor_tree constructors.items ≡ bool_constructors) }
 {
     let negative = constructor(alloc, "False", 0)?;
     let positive = constructor(alloc, "True", 1)?;

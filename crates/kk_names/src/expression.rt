@@ -4,7 +4,7 @@ ghost use Rattle.kk_syntax.specs.Trees.{expr_tree, row_tree, statement_tree, row
 ghost use Rattle.kk_names.specs.Methods.{Resolves, ResolvesAll, ResolvesRow, ResolvesRows, choice_of, ResolvesStatement, ResolvesStatements, KeepsScope};
 
 use crate::resolver::{Resolver, alone};
-use crate::table::{constructor, meaning_in};
+use crate::table::meaning_in;
 use kk_base::NoMemory;
 use kk_syntax::{
     Binder, Expr, Form, Identifier, Program, Row, Statement, SurfaceBinder, SurfaceExpr,
@@ -30,7 +30,8 @@ impl Resolver {
             SurfaceExpr::DotCall(first, name, others) => self.dot_call(name, others, first),
             SurfaceExpr::Construct(name, arguments) => {
                 let arguments = self.expressions(arguments)?;
-                self.applied(constructor(&name.name), name, arguments)
+                let callee = meaning_in(self.constructors.as_slice(), &name.name);
+                self.applied(callee, name, arguments)
             }
             SurfaceExpr::Unary(operator, operand) => {
                 let operand = self.expression(operand)?;

@@ -2,6 +2,7 @@
 #![tactic(auto)]
 
 mod builtin;
+mod declaration;
 mod expression;
 mod fault;
 mod function;
@@ -11,6 +12,7 @@ mod resolver;
 mod scope;
 mod signature;
 mod table;
+mod types;
 mod variables;
 
 pub use program::{

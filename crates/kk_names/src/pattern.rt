@@ -8,7 +8,7 @@ ghost use Rattle.kk_names.specs.Methods.{newest_first, Notes, ResolvesPattern, R
 use crate::fault::FaultKind;
 use crate::resolver::Resolver;
 use crate::scope::{Bound, number_in};
-use crate::table::{Callee, constructor};
+use crate::table::{Callee, meaning_in};
 use kk_base::NoMemory;
 use kk_syntax::{Form, Identifier, Pat, SurfacePattern};
 
@@ -29,7 +29,8 @@ impl Resolver {
             SurfacePattern::Number(value) => Ok(Pat::Number(*value)),
             SurfacePattern::Constructor(name, parts) => {
                 let parts = self.patterns(parts, bound)?;
-                self.constructed(constructor(&name.name), name, parts)
+                let callee = meaning_in(self.constructors.as_slice(), &name.name);
+                self.constructed(callee, name, parts)
             }
         }
     }

@@ -2,19 +2,17 @@ ghost use Rattle.std.specs.Prelude.{◌≡◌, ◌<◌, length, map, None, IfOk,
 ghost use Rattle.kk_syntax.specs.Programs.{function_tree, program_tree};
 ghost use Rattle.kk_syntax.specs.Surface.{written_declaration, written_tree};
 ghost use Rattle.kk_names.specs.Faults.{faults_of};
-ghost use Rattle.kk_names.specs.Methods.{main_among, first_with, AnswersMain, IsNoMain, IsOtherMain};
-ghost use Rattle.kk_names.specs.Names.{functions_meant, texts_meant, program_of, IsMainShaped, AnswersNames, KeepsNodes, EachTreeIsResolved, ResolvedProgramsHaveMain, ResolvedProgramsHaveTruthsAndTexts};
+ghost use Rattle.kk_names.specs.Methods.{parts_of, main_among, first_with, AnswersMain, IsNoMain, IsOtherMain};
+ghost use Rattle.kk_names.specs.Names.{parts_meant, program_of, IsMainShaped, AnswersNames, KeepsNodes, EachTreeIsResolved, ResolvedProgramsHaveMain, ResolvedProgramsHaveTruthsAndTexts};
 
-use crate::builtin;
 use crate::fault::Fault;
 use crate::resolver::Resolver;
+use crate::types::AllTypes;
 use kk_base::{Name, NameError, NoMemory};
-use kk_syntax::{Declaration, Fun, Program, StringLiteral, Tree, Ty};
+use kk_syntax::{Constructor, Declaration, Fun, Program, StringLiteral, Tree, Ty, TypeDecl};
 use std::alloc::Global;
 
 /// The program of a tree; or its first fault; or that it has no function `main`, or one with a parameter or a result.
-///
-/// Declared types have no meaning yet: the name of one is told as unknown.
 pub fn resolve(alloc: Global, tree: Tree) -> Result<Program, NameError>
     ensures resolved { AnswersNames tree result }
     ensures keeps_nodes { IfOk result (λ program.
@@ -23,14 +21,10 @@ pub fn resolve(alloc: Global, tree: Tree) -> Result<Program, NameError>
     let Ok(resolved) = resolve_all(alloc, tree.declarations.as_slice()) else {
         return Err(NameError::NoMemory);
     };
-    let Resolved {
-        functions,
-        texts,
-        fault,
-    } = resolved;
+    let Resolved { parts, fault } = resolved;
     match fault {
         Some(fault) => Err(fault.error()),
-        None => with_main(alloc, functions, texts, tree.length),
+        None => with_main(alloc, parts, tree.length),
     }
 }
 
@@ -51,48 +45,60 @@ pub fn resolved_programs_have_truths_and_texts()
     ensures { ResolvedProgramsHaveTruthsAndTexts }
 {}
 
-// What declarations come to: their functions, the string literals that those print, and the first fault.
+/// A program but for which function is `main`.
+#[derive(Drop)]
+pub struct ProgramParts {
+    pub types: Vec<TypeDecl>,
+    pub constructors: Vec<Constructor>,
+    pub functions: Vec<Fun>,
+    pub texts: Vec<StringLiteral>,
+}
+
+// What declarations come to: the parts of their program, and the first fault.
 #[derive(Drop)]
 struct Resolved {
-    functions: Vec<Fun>,
-    texts: Vec<StringLiteral>,
+    parts: ProgramParts,
     fault: Option<Fault>,
 }
 
 // What declarations come to.
 fn resolve_all(alloc: Global, declarations: &[Declaration]) -> Result<Resolved, NoMemory>
-    ensures functions { IfOk result (λ r. map function_tree r.functions.items ≡ functions_meant (map written_declaration declarations.now)) }
-    ensures texts { IfOk result (λ r. r.texts.items ≡ texts_meant (map written_declaration declarations.now)) }
+    ensures parts { IfOk result (λ r. parts_of r.parts ≡ parts_meant (map written_declaration declarations.now)) }
     ensures fault { IfOk result (λ r. r.fault ≡ first_with None (faults_of (map written_declaration declarations.now))) }
 {
     let mut resolver = Resolver::new(alloc)?;
     resolver.declare(declarations)?;
+    let all = resolver.all_types(declarations)?;
     let functions = resolver.all_functions(declarations)?;
+    let AllTypes {
+        types,
+        constructors,
+    } = all;
     let Resolver { texts, first, .. } = resolver;
-    Ok(Resolved {
+    let parts = ProgramParts {
+        types,
+        constructors,
         functions,
         texts,
+    };
+    Ok(Resolved {
+        parts,
         fault: first,
     })
 }
 
-// The program of functions without faults, or what is wrong with their `main`.
-fn with_main(
-    alloc: Global,
-    functions: Vec<Fun>,
-    texts: Vec<StringLiteral>,
-    length: u32,
-) -> Result<Program, NameError>
-    ensures { AnswersMain (map function_tree functions.items) texts.items length result }
+// The program of parts without faults, or what is wrong with their `main`.
+fn with_main(alloc: Global, parts: ProgramParts, length: u32) -> Result<Program, NameError>
+    ensures { AnswersMain (parts_of parts) length result }
 {
-    let Some(main) = find_main(functions.as_slice()) else {
+    let Some(main) = find_main(parts.functions.as_slice()) else {
         return Err(no_main(alloc, length));
     };
-    let function = &functions[main];
+    let function = &parts.functions[main];
     if !is_main_shaped(function) {
         return Err(other_main(alloc, function));
     }
-    match program(alloc, functions, texts, main) {
+    match program(parts, main) {
         Ok(program) => Ok(program),
         Err(NoMemory) => Err(NameError::NoMemory),
     }
@@ -145,22 +151,20 @@ fn find_main(functions: &[Fun]) -> Option<usize>
         .position(|function| function.name.as_str() == "main")
 }
 
-// The program of functions, of which one is `main`, and of the string literals that they print. There is no room for more
-// functions than a `u32` can number.
-fn program(
-    alloc: Global,
-    functions: Vec<Fun>,
-    texts: Vec<StringLiteral>,
-    main: usize,
-) -> Result<Program, NoMemory>
-    requires { main < vec_len functions }
-    ensures { IfOk result (λ program. program_tree program ≡ program_of (map function_tree functions.items) texts.items main) }
+// The program of parts, of whose functions one is `main`. There is no room for more functions than a `u32` can number.
+fn program(parts: ProgramParts, main: usize) -> Result<Program, NoMemory>
+    requires { main < vec_len parts.functions }
+    ensures { IfOk result (λ program. program_tree program ≡ program_of (parts_of parts) main) }
 {
     if main > u32::MAX as usize {
         return Err(NoMemory);
     }
-    let types = builtin::types(alloc)?;
-    let constructors = builtin::constructors(alloc)?;
+    let ProgramParts {
+        types,
+        constructors,
+        functions,
+        texts,
+    } = parts;
     Ok(Program {
         types,
         constructors,

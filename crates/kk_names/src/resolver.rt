@@ -3,13 +3,15 @@ ghost use Rattle.kk_syntax.specs.Trees.{expr_tree, trees_of};
 ghost use Rattle.kk_names.specs.Expressions.{alone, applied};
 ghost use Rattle.kk_syntax.specs.Surface.{variable, print_text};
 ghost use Rattle.kk_names.specs.Faults.{fault_at, use_faults};
-ghost use Rattle.kk_names.specs.Methods.{before_of, Notes, Resolves, Binds, faults_if};
+ghost use Rattle.kk_names.specs.Methods.{known_of, before_of, Notes, Resolves, Binds, faults_if};
 ghost use Rattle.kk_names.specs.Scopes.{binding, with_variable};
-ghost use Rattle.kk_names.specs.Tables.{built_in_functions};
+ghost use Rattle.kk_names.specs.Tables.{built_in_types, built_in_constructors, built_in_functions};
 
 use crate::fault::{Fault, FaultKind};
 use crate::scope::{Bound, number_in};
-use crate::table::{Callee, Declared, built_in_functions};
+use crate::table::{
+    Callee, Declared, DeclaredType, built_in_constructors, built_in_functions, built_in_types,
+};
 use kk_base::NoMemory;
 use kk_syntax::{Expr, Form, Identifier, PrintForm, StringLiteral};
 use std::alloc::Global;
@@ -18,7 +20,11 @@ use std::alloc::Global;
 #[derive(Drop)]
 pub struct Resolver {
     pub alloc: Global,
-    /// The functions of the text, and those that are built in.
+    /// The types that are built in, and those of the text.
+    pub types: Vec<DeclaredType>,
+    /// The constructors that are built in, and those of the text.
+    pub constructors: Vec<Declared>,
+    /// The functions that are built in, and those of the text.
     pub functions: Vec<Declared>,
     /// The variables that are seen. The last one of a name counts.
     pub scope: Vec<Bound>,
@@ -31,15 +37,21 @@ pub struct Resolver {
 }
 
 impl Resolver {
-    /// A resolver that knows the functions that are built in.
+    /// A resolver that knows the names that are built in.
     pub fn new(alloc: Global) -> Result<Self, NoMemory>
+        ensures types { IfOk result (λ r. r.types.items ≡ built_in_types) }
+        ensures constructors { IfOk result (λ r. r.constructors.items ≡ built_in_constructors) }
         ensures functions { IfOk result (λ r. r.functions.items ≡ built_in_functions) }
         ensures texts { IfOk result (λ r. r.texts.items ≡ []) }
         ensures first { IfOk result (λ r. r.first ≡ None) }
     {
+        let types = built_in_types(alloc)?;
+        let constructors = built_in_constructors(alloc)?;
         let functions = built_in_functions(alloc)?;
         Ok(Resolver {
             alloc,
+            types,
+            constructors,
             functions,
             scope: Vec::new(alloc),
             next: 0,
@@ -120,7 +132,7 @@ impl Resolver {
     pub fn number(&mut self) -> Result<u32, NoMemory>
         ensures number { IfOk result (λ number. number ≡ self.old.next) }
         ensures before { IfOk result (λ _. before_of self.new ≡ with_variable (before_of self.old)) }
-        ensures functions { self.new.functions.items ≡ self.old.functions.items }
+        ensures known { known_of self.new ≡ known_of self.old }
         ensures scope { self.new.scope.items ≡ self.old.scope.items }
         ensures first { self.new.first ≡ self.old.first }
     {

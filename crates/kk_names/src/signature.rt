@@ -2,13 +2,13 @@ ghost use Rattle.std.specs.Prelude.{◌≡◌, map, IfOk, vec_len};
 ghost use Rattle.kk_syntax.specs.Surface.{type_variable, types_of as writtens_of, written_type, written_parameter, written_result};
 ghost use Rattle.kk_syntax.specs.Types.{type_tree, types_of};
 ghost use Rattle.kk_names.specs.Faults.{named_faults, result_faults};
-ghost use Rattle.kk_names.specs.Methods.{Notes, MeansType, MeansTypes, ResolvesParameters};
+ghost use Rattle.kk_names.specs.Methods.{known_of, Notes, MeansType, MeansTypes, ResolvesParameters};
 ghost use Rattle.kk_names.specs.TypeNames.{applied_type, result_meant};
 
 use crate::fault::FaultKind;
 use crate::resolver::Resolver;
 use crate::scope::number_in;
-use crate::table::{TypeMeaning, type_named};
+use crate::table::{TypeMeaning, type_in};
 use crate::variables::place_of;
 use kk_base::{Name, NoMemory};
 use kk_syntax::{Identifier, Parameter, SurfaceType, Ty};
@@ -41,8 +41,8 @@ impl Resolver {
         written: &Option<SurfaceType>,
         variables: &[Name],
     ) -> Result<Ty, NoMemory>
-        ensures notes { IfOk result (λ _. Notes (result_faults variables.now (written_result written.now)) self.old self.new) }
-        ensures tree { IfOk result (λ t. type_tree t ≡ result_meant variables.now (written_result written.now)) }
+        ensures notes { IfOk result (λ _. Notes (result_faults (known_of self.old) variables.now (written_result written.now)) self.old self.new) }
+        ensures tree { IfOk result (λ t. type_tree t ≡ result_meant (known_of self.old) variables.now (written_result written.now)) }
     {
         match written {
             Some(written) => self.of_type(written, variables),
@@ -60,7 +60,8 @@ impl Resolver {
             SurfaceType::Variable(name) => self.type_variable(name, variables),
             SurfaceType::Named(name, arguments) => {
                 let arguments = self.of_types(arguments, variables)?;
-                self.named_type(type_named(&name.name), name, arguments)
+                let meaning = type_in(self.types.as_slice(), &name.name);
+                self.named_type(meaning, name, arguments)
             }
         }
     }

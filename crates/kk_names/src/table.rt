@@ -1,6 +1,5 @@
 ghost use Rattle.std.specs.Prelude.{◌≡◌, IfOk};
-ghost use Rattle.kk_names.specs.Tables.{meaning_in, means, built_in_functions, constructors};
-ghost use Rattle.kk_names.specs.TypeNames.{type_named};
+ghost use Rattle.kk_names.specs.Tables.{meaning_in, type_in, means, means_type, built_in_types, built_in_constructors, built_in_functions};
 
 use kk_base::{Name, NoMemory};
 use kk_syntax::{Form, PrintForm, Program};
@@ -15,7 +14,7 @@ pub struct Callee {
 }
 
 /// What a name of a type means.
-#[derive(Clone, Copy)]
+#[derive(Clone, Copy, Debug)]
 pub struct TypeMeaning {
     /// The number of the type; `int32` has none.
     pub number: Option<u32>,
@@ -30,7 +29,26 @@ pub struct Declared {
     pub callee: Callee,
 }
 
-/// What a name means: what the first of that name in the table does.
+/// A name of a type, and what it means.
+#[derive(Debug, Drop)]
+pub struct DeclaredType {
+    pub name: Name,
+    pub meaning: TypeMeaning,
+}
+
+/// What a name of a type means: what the first of that name in the table does.
+pub fn type_in(table: &[DeclaredType], name: &Name) -> Option<TypeMeaning>
+    ensures { result ≡ type_in table.now name.now }
+{
+    for declared in table {
+        if declared.name.as_str() == name.as_str() {
+            return Some(declared.meaning);
+        }
+    }
+    None
+}
+
+/// What a name of a constructor or of a function means: what the first of that name in the table does.
 pub fn meaning_in(table: &[Declared], name: &Name) -> Option<Callee>
     ensures { result ≡ meaning_in table.now name.now }
 {
@@ -56,25 +74,6 @@ pub fn built_in_functions(alloc: Global) -> Result<Vec<Declared>, NoMemory>
     Ok(table)
 }
 
-/// What a name of a constructor means: `False` and `True` are built in.
-pub fn constructor(name: &Name) -> Option<Callee>
-    ensures { result ≡ meaning_in constructors name.now }
-{
-    if name.as_str() == "False" {
-        return Some(Callee {
-            form: Form::Construct(Program::FALSE),
-            parameters: 0,
-        });
-    }
-    if name.as_str() == "True" {
-        return Some(Callee {
-            form: Form::Construct(Program::TRUE),
-            parameters: 0,
-        });
-    }
-    None
-}
-
 fn built_in(alloc: Global, name: &str, form: Form, parameters: usize) -> Result<Declared, NoMemory>
     ensures { IfOk result (λ declared. declared ≡ means name.now form parameters) }
 {
@@ -83,21 +82,37 @@ fn built_in(alloc: Global, name: &str, form: Form, parameters: usize) -> Result<
     Ok(Declared { name, callee })
 }
 
-/// What a name of a type means: `int32` and `bool` are built in.
-pub fn type_named(name: &Name) -> Option<TypeMeaning>
-    ensures { result ≡ type_named name.now }
+/// The constructors that are built in: `False` and `True`.
+pub fn built_in_constructors(alloc: Global) -> Result<Vec<Declared>, NoMemory>
+    ensures { IfOk result (λ table. table.items ≡ built_in_constructors) }
 {
-    if name.as_str() == "int32" {
-        return Some(TypeMeaning {
-            number: None,
-            parameters: 0,
-        });
-    }
-    if name.as_str() == "bool" {
-        return Some(TypeMeaning {
-            number: Some(Program::BOOL),
-            parameters: 0,
-        });
-    }
-    None
+    let negative = built_in(alloc, "False", Form::Construct(Program::FALSE), 0)?;
+    let positive = built_in(alloc, "True", Form::Construct(Program::TRUE), 0)?;
+    let mut table = Vec::new(alloc);
+    table.push(negative)?;
+    table.push(positive)?;
+    Ok(table)
+}
+
+/// The types that are built in: `int32` and `bool`.
+pub fn built_in_types(alloc: Global) -> Result<Vec<DeclaredType>, NoMemory>
+    ensures { IfOk result (λ table. table.items ≡ built_in_types) }
+{
+    let number = built_in_type(alloc, "int32", None)?;
+    let truth = built_in_type(alloc, "bool", Some(Program::BOOL))?;
+    let mut table = Vec::new(alloc);
+    table.push(number)?;
+    table.push(truth)?;
+    Ok(table)
+}
+
+fn built_in_type(alloc: Global, name: &str, number: Option<u32>) -> Result<DeclaredType, NoMemory>
+    ensures { IfOk result (λ declared. declared ≡ means_type name.now number 0) }
+{
+    let name = Name::new(String::from_str(alloc, name)?);
+    let meaning = TypeMeaning {
+        number,
+        parameters: 0,
+    };
+    Ok(DeclaredType { name, meaning })
 }

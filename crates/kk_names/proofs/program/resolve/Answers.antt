@@ -1,9 +1,8 @@
 use Rattle.std.proofs.Common.{map, None, sym, ap, ◌∙◌}
-use Rattle.kk_syntax.specs.Programs.{function_tree}
 use Rattle.kk_syntax.specs.Surface.{written_declaration}
 use Rattle.kk_names.specs.Faults.{faults_of}
-use Rattle.kk_names.specs.Methods.{first_with}
-use Rattle.kk_names.specs.Names.{functions_meant, texts_meant}
+use Rattle.kk_names.specs.Methods.{first_with, parts_of}
+use Rattle.kk_names.specs.Names.{parts_meant}
 use Rattle.kk_names.proofs.Firsts.{none_is_kept}
 use Rattle.kk_names.proofs.Mains.{fault_answers, main_answers, main_keeps}
 use Rattle.kk_names.proofs.program.resolve.Goals as goal
@@ -16,15 +15,13 @@ returns-in-Some-clause-resolved c =
 pub returns-clause-resolved : goal.returns-clause-resolved
 returns-clause-resolved c =
     let ds = map written_declaration c.args.tree.declarations.items in
-    let functions = c.in-Ok.ensures.functions ∙ ap (λ ds. functions_meant (map written_declaration ds)) c.as_slice.ensures.value in
-    let texts = c.in-Ok.ensures.texts ∙ ap (λ ds. texts_meant (map written_declaration ds)) c.as_slice.ensures.value in
+    let parts = c.in-Ok.ensures.parts ∙ ap (λ ds. parts_meant (map written_declaration ds)) c.as_slice.ensures.value in
     let kept = c.in-Ok.ensures.fault ∙ ap (λ ds. first_with None (faults_of (map written_declaration ds))) c.as_slice.ensures.value in
-    main_answers c.args.tree (map function_tree c.in-Ok.resolved.functions.items) c.in-Ok.resolved.texts.items functions texts (none_is_kept (faults_of ds) (sym kept ∙ c.in-None.is)) c.with_main.result c.with_main.ensures
+    main_answers c.args.tree (parts_of c.in-Ok.resolved.parts) parts (none_is_kept (faults_of ds) (sym kept ∙ c.in-None.is)) c.with_main.result c.with_main.ensures
 
 pub returns-clause-keeps_nodes : goal.returns-clause-keeps_nodes
 returns-clause-keeps_nodes c =
     let ds = map written_declaration c.args.tree.declarations.items in
-    let functions = c.in-Ok.ensures.functions ∙ ap (λ ds. functions_meant (map written_declaration ds)) c.as_slice.ensures.value in
-    let texts = c.in-Ok.ensures.texts ∙ ap (λ ds. texts_meant (map written_declaration ds)) c.as_slice.ensures.value in
+    let parts = c.in-Ok.ensures.parts ∙ ap (λ ds. parts_meant (map written_declaration ds)) c.as_slice.ensures.value in
     let kept = c.in-Ok.ensures.fault ∙ ap (λ ds. first_with None (faults_of (map written_declaration ds))) c.as_slice.ensures.value in
-    main_keeps c.args.tree (map function_tree c.in-Ok.resolved.functions.items) c.in-Ok.resolved.texts.items functions texts (none_is_kept (faults_of ds) (sym kept ∙ c.in-None.is)) c.with_main.result c.with_main.ensures
+    main_keeps c.args.tree (parts_of c.in-Ok.resolved.parts) parts (none_is_kept (faults_of ds) (sym kept ∙ c.in-None.is)) c.with_main.result c.with_main.ensures

@@ -45,11 +45,12 @@ expression-returns-in_ok-arguments-in-Construct t c =
     let arguments = c.in_ok-arguments-in-Construct.arguments in
     let counted : vec_len arguments ≡ length arguments.items = arguments.ok.0 in
     let es = writtens_of (map written_expr c.deref-in-Construct.result.now) in
+    let means = c.meaning_in-callee-in-Construct.ensures ∙ ap (λ all. meaning_in all c.in-Construct.name.name) c.as_slice-in-Construct.ensures.value in
     IfOk-weaker c.applied-in-Construct.result _ _
     (λ e made.
     as_written (written_expr c.args.expr.now) (construct c.in-Construct.name es) c.args.self.now c.applied-in-Construct.new.self (expr_tree e) (expr_tree e) (construct_written c.args.expr.now c.in-Construct.name c.in-Construct.arguments c.deref-in-Construct.result.now c.in-Construct.is c.deref-in-Construct.ensures.value) refl
-    (construct_resolved c.in-Construct.name es c.constructor.result c.args.self.now c.expressions-in-Construct.new.self c.applied-in-Construct.new.self arguments.items (vec_len arguments) (expr_tree e)
-    c.in_ok-arguments-in-Construct.ensures c.constructor.ensures made.0 counted made.1))
+    (construct_resolved c.in-Construct.name es c.meaning_in-callee-in-Construct.result c.args.self.now c.expressions-in-Construct.new.self c.applied-in-Construct.new.self arguments.items (vec_len arguments) (expr_tree e)
+    c.in_ok-arguments-in-Construct.ensures means made.0 counted made.1))
     c.applied-in-Construct.ensures
 
 pub expression-returns-in_ok-arguments-in-Binary : goal.expression-returns-in_ok-arguments-in-Binary
@@ -138,7 +139,7 @@ choice-returns t c =
 pub block-returns : goal.block-returns
 block-returns t c =
     let old = c.args.self.now in
-    let new : Resolver = record { alloc = c.expression.new.self.alloc; functions = c.expression.new.self.functions; scope = c.truncate.new.self; next = c.expression.new.self.next; texts = c.expression.new.self.texts; first = c.expression.new.self.first } in
+    let new : Resolver = record { alloc = c.expression.new.self.alloc; types = c.expression.new.self.types; constructors = c.expression.new.self.constructors; functions = c.expression.new.self.functions; scope = c.truncate.new.self; next = c.expression.new.self.next; texts = c.expression.new.self.texts; first = c.expression.new.self.first } in
     let statements = map written_statement c.args.statements.now in
     let last = written_expr c.args.value.now in
     let made = map statement_tree c.in_ok-statements.statements.items in
@@ -175,7 +176,7 @@ statement-returns-in_ok-bind-in-Variable t c =
     subst (λ (x : StatementTree). ResolvesStatement (written_statement s) c.args.self.now c.bind.new.self x) (sym made)
     (variable_statement (written_statement s) c.in-Variable.name number (written_expr s.value) c.args.self.now c.number.new.self c.expression-in-Variable.new.self c.bind.new.self (record { binder = OfBinder.Variable number; value = expr_tree c.in_ok-value-in-Variable.value })
     (variable_written s c.in-Variable.name s.value c.in-Variable.is refl)
-    c.in_ok-number-in-Variable.ensures.number c.in_ok-number-in-Variable.ensures.before c.in_ok-number-in-Variable.ensures.functions c.in_ok-number-in-Variable.ensures.scope c.in_ok-number-in-Variable.ensures.first
+    c.in_ok-number-in-Variable.ensures.number c.in_ok-number-in-Variable.ensures.before c.in_ok-number-in-Variable.ensures.known c.in_ok-number-in-Variable.ensures.scope c.in_ok-number-in-Variable.ensures.first
     c.in_ok-value-in-Variable.ensures c.in_ok-bind-in-Variable.ensures refl)
 
 pub statements-loop-statement-preserved : goal.statements-loop-statement-preserved
@@ -235,8 +236,8 @@ row-returns t c =
     let matched = c.pattern.new.self in
     let valued = c.expression.new.self in
     let bound = c.pattern.new.bound.items in
-    let seen : Resolver = record { alloc = matched.alloc; functions = matched.functions; scope = c.append.new.self; next = matched.next; texts = matched.texts; first = matched.first } in
-    let new : Resolver = record { alloc = valued.alloc; functions = valued.functions; scope = c.truncate.new.self; next = valued.next; texts = valued.texts; first = valued.first } in
+    let seen : Resolver = record { alloc = matched.alloc; types = matched.types; constructors = matched.constructors; functions = matched.functions; scope = c.append.new.self; next = matched.next; texts = matched.texts; first = matched.first } in
+    let new : Resolver = record { alloc = valued.alloc; types = valued.types; constructors = valued.constructors; functions = valued.functions; scope = c.truncate.new.self; next = valued.next; texts = valued.texts; first = valued.first } in
     let made : Row = roll-Row (record { pattern = c.in_ok-pattern.pattern; body = c.in_ok-body.body }) in
     let p = written_pattern r.pattern in
     let body = written_expr r.body in

@@ -5,6 +5,7 @@ use Rattle.kk_syntax.specs.declared.tree.SurfacePattern.{SurfacePattern}
 use Rattle.kk_syntax.specs.Patterns.{Pattern, pattern_tree}
 use Rattle.kk_syntax.specs.Surface.{WrittenPattern, WrittenPatterns, written_pattern, patterns_of}
 use Rattle.kk_names.specs.Methods.{newest_first, ResolvesPattern}
+use Rattle.kk_names.specs.Tables.{meaning_in}
 use Rattle.kk_names.proofs.Patterns.{PatternsSoFar, patterns_more, patterns_done, constructor_resolved}
 use Rattle.kk_names.proofs.Written.{pattern_written, next_pattern}
 use Rattle.kk_names.proofs.resolver.Resolver.+pattern.Goals as goal
@@ -19,11 +20,12 @@ pattern-returns-in_ok-parts-in-Constructor t c =
     let is = pattern_written c.args.pattern.now name c.in-Constructor.parts c.deref.result.now c.in-Constructor.is c.deref.ensures.value in
     let fresh = newest_first c.args.bound.now.items in
     let bound = newest_first c.patterns.new.bound.items in
+    let means = c.meaning_in-callee.ensures ∙ ap (λ all. meaning_in all name.name) c.as_slice.ensures.value in
     IfOk-weaker c.constructed.result _ _
     (λ p made.
     subst (λ (w : WrittenPattern). ResolvesPattern w old c.constructed.new.self fresh bound (pattern_tree p)) (sym is)
-    (constructor_resolved name ps c.constructor.result old c.patterns.new.self c.constructed.new.self fresh bound parts.items (vec_len parts) (pattern_tree p)
-    c.in_ok-parts-in-Constructor.ensures c.constructor.ensures made.0 counted made.1))
+    (constructor_resolved name ps c.meaning_in-callee.result old c.patterns.new.self c.constructed.new.self fresh bound parts.items (vec_len parts) (pattern_tree p)
+    c.in_ok-parts-in-Constructor.ensures means made.0 counted made.1))
     c.constructed.ensures
 
 pub patterns-loop-pattern-preserved : goal.patterns-loop-pattern-preserved

@@ -5,6 +5,7 @@ use Rattle.kk_syntax.specs.declared.tree.SurfaceType.{SurfaceType}
 use Rattle.kk_syntax.specs.Surface.{WrittenType, WrittenTypes, written_type, types_of}
 use Rattle.kk_syntax.specs.Types.{TypeTree, type_tree}
 use Rattle.kk_names.specs.Methods.{MeansType}
+use Rattle.kk_names.specs.Tables.{type_in}
 use Rattle.kk_names.proofs.TypesMeant.{TypesSoFar, types_more, types_done, named_resolved}
 use Rattle.kk_names.proofs.Written.{named_written, next_type}
 use Rattle.kk_names.proofs.resolver.Resolver.+types.Goals as goal
@@ -18,11 +19,12 @@ of_type-returns-in_ok-arguments-in-Named t c =
     let ws = types_of (map written_type c.deref.result.now) in
     let old = c.args.self.now in
     let is = named_written c.args.written.now name c.in-Named.arguments c.deref.result.now c.in-Named.is c.deref.ensures.value in
+    let means = c.type_in-meaning.ensures ∙ ap (λ all. type_in all name.name) c.as_slice.ensures.value in
     IfOk-weaker c.named_type.result _ _
     (λ x made.
     subst (λ (w : WrittenType). MeansType variables w old c.named_type.new.self (type_tree x)) (sym is)
-    (named_resolved variables name ws c.type_named.result old c.of_types.new.self c.named_type.new.self arguments.items (vec_len arguments) (type_tree x)
-    c.in_ok-arguments-in-Named.ensures c.type_named.ensures made.0 counted made.1))
+    (named_resolved variables name ws c.type_in-meaning.result old c.of_types.new.self c.named_type.new.self arguments.items (vec_len arguments) (type_tree x)
+    c.in_ok-arguments-in-Named.ensures means made.0 counted made.1))
     c.named_type.ensures
 
 pub of_types-loop-written-preserved : goal.of_types-loop-written-preserved

@@ -27,6 +27,6 @@ loop-parameter-preserved c =
     (parameters_more c.args.variables.now old now c.note_if.new.self c.of_type.new.self c.number.new.self c.bind.new.self p left all (map type_tree made) c.in_ok-number.number (type_tree c.in_ok-of_type.of_type)
     (subst (λ (ps : List WrittenParameter). ParametersSoFar c.args.variables.now old now ps all (map type_tree made)) (next_parameter c.args.parameters.now c.loop-parameter.parameter-index c.parameter-item.result c.parameter-item.is c.loop-parameter-test.true) c.loop-parameter.invariant)
     (subst (λ (fs : List Fault). Notes fs now c.note_if.new.self) twice c.in_ok-note_if.ensures)
-    c.in_ok-of_type.ensures.notes c.in_ok-of_type.ensures.tree_is
-    c.in_ok-number.ensures.number c.in_ok-number.ensures.before c.in_ok-number.ensures.functions c.in_ok-number.ensures.scope c.in_ok-number.ensures.first
+    c.in_ok-of_type.ensures
+    c.in_ok-number.ensures.number c.in_ok-number.ensures.before c.in_ok-number.ensures.known c.in_ok-number.ensures.scope c.in_ok-number.ensures.first
     c.in_ok-bind.ensures)

@@ -19,6 +19,6 @@ returns c =
     let is_second = c.is_some-is_second.ensures ∙ ap is_some (c.number_in.ensures ∙ ap (λ all. number_in (newest_first all) name.name) c.as_slice.ensures.value) in
     let notes = subst (λ (b : Bool). Notes (faults_if b Twice name) old c.note_if.new.self) is_second c.in_ok-note_if.ensures in
     variable_resolved name number old c.note_if.new.self c.number.new.self (newest_first bound) (newest_first c.push.new.self.items) _ notes
-    c.in_ok-number.ensures.number c.in_ok-number.ensures.before c.in_ok-number.ensures.functions c.in_ok-number.ensures.scope c.in_ok-number.ensures.first
+    c.in_ok-number.ensures.number c.in_ok-number.ensures.before c.in_ok-number.ensures.known c.in_ok-number.ensures.scope c.in_ok-number.ensures.first
     (ap newest_first c.in_ok-push.ensures.items ∙ (newest_more [] bound one ∙ ap (λ n. (let b : Bound = record { name = n; number = number } in b) ∷ newest_first bound) c.in_ok-name.ensures))
     (variable_tree number)

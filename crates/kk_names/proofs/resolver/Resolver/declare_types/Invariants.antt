@@ -1,0 +1,9 @@
+use Rattle.std.proofs.Common.{◌≡◌, map, drop}
+use Rattle.kk_syntax.specs.Surface.{written_declaration}
+use Rattle.kk_names.specs.Methods.{state_of, behind_types}
+use Rattle.kk_names.proofs.resolver.Resolver.declare_types.Given as goal
+
+abbrev pub invariant-loop-declaration : goal.invariant-loop-declaration
+invariant-loop-declaration l =
+    behind_types l.number (map written_declaration (drop l.declaration-index l.declarations)) (state_of l.self)
+    ≡ behind_types 1 (map written_declaration l.declarations) (state_of l.fn.self)
