@@ -345,7 +345,7 @@ mutual
 -- ---- the code of an expression
 
 -- the patterns of a match's arms are those of its rows
-patterns_are : (constructors : List ConstructorTree) (k : Then) (names : Names) (a n : ℕ) (of : Rows) (arms : Arms)
+pub patterns_are : (constructors : List ConstructorTree) (k : Then) (names : Names) (a n : ℕ) (of : Rows) (arms : Arms)
     → AreArms constructors k names a n of arms → patterns_of arms ≡ patterns_in of
 patterns_are constructors k names a n no_row arms are = ap patterns_of are
 patterns_are constructors k names a n (row pattern body rest) arms are =
@@ -406,7 +406,7 @@ mutual
       (within_high table inner later n x x top k s u inside_goes))
       (subst (λ (outlines : List Outline). IsCovered (values_of table.constructors) has.0 outlines)
       (asked_are of ∙ ap (map outline_of) (sym same)) has.3)
-      (subst (λ (patterns : List Pattern). Decides table.constructors patterns coded.0) (sym same) coded.2)))
+      (subst (λ (patterns : List Pattern). Decides table.constructors patterns coded.0) (sym same) coded.2.decides)))
   code_fits table tail k names n (sequence binder first rest) c scope facts low high s t coded has are le goes =
       let a : ℕ = atom names n first in
       let from : ℕ = n + size first in
