@@ -11,6 +11,5 @@ mod Agreeing
 mod Marked
 mod Special
 mod Instances
-mod WholeCases
 mod SpecialMarks
 mod Programs

@@ -1,5 +1,4 @@
 pub mod LentNames
 pub mod Compiled
 pub mod Meaning
-pub mod WholeCases
 pub mod MarkedPrograms

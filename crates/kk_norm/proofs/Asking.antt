@@ -81,7 +81,7 @@ module _ (constructors : List ConstructorTree) where
     code_asks k names n (match e rows) c is then =
         code_asks _ names n e c is.4
         (joined_asks k _ _ (
-          subst (λ (patterns : List Pattern). AsksTyped constructors patterns is.0) (sym (patterns_are constructors (within k) names _ _ rows is.1 is.3)) is.2.1,
+          subst (λ (patterns : List Pattern). AsksTyped constructors patterns is.0) (sym (patterns_are constructors (within k) names _ _ rows is.1 is.3)) is.2.asks,
           arms_ask (within k) names _ _ rows is.1 is.3 (within_asks k),
         )
         then)

@@ -406,7 +406,7 @@ mutual
       (within_high table inner later n x x top k s u inside_goes))
       (subst (λ (outlines : List Outline). IsCovered (values_of table.constructors) has.0 outlines)
       (asked_are of ∙ ap (map outline_of) (sym same)) has.3)
-      (subst (λ (patterns : List Pattern). Decides table.constructors patterns coded.0) (sym same) coded.2.0)))
+      (subst (λ (patterns : List Pattern). Decides table.constructors patterns coded.0) (sym same) coded.2.decides)))
   code_fits table tail k names n (sequence binder first rest) c scope facts low high s t coded has are le goes =
       let a : ℕ = atom names n first in
       let from : ℕ = n + size first in

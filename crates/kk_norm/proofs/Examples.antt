@@ -1,14 +1,19 @@
 -- A core form of a match with a nested pattern, whose variables, openings and order can be read here.
-use Rattle.std.proofs.Common.{◌≡◌, ℕ, Bool, true, false, List, [], ◌∷◌, Some, None, refl}
-use Rattle.std.specs.Prelude.{if◌then◌else◌}
+use Rattle.std.proofs.Common.{◌≡◌, ℕ, zero, suc, ◌<◌, Bool, true, false, ◌||◌, List, [], ◌∷◌, Option, Some, None, refl, sym, subst, arith}
+use Rattle.std.specs.Prelude.{if◌then◌else◌, slice_get, ◌==◌}
+use Rattle.std.proofs.lemmas.Bool.{eqb-true}
 use Rattle.kk_syntax.specs.declared.operator.BinaryOperator.TheVariants.{Subtract}
 use Rattle.kk_syntax.specs.declared.program.Form.TheVariants.{Binary}
 use Rattle.kk_syntax.specs.Patterns.{Pattern, anything, variable as pattern_variable, constructor, no_part, part}
 use Rattle.kk_syntax.specs.Programs.{ConstructorTree}
+use Rattle.kk_syntax.specs.Shapes.{is_among}
 use Rattle.kk_syntax.specs.Trees.{Tree, variable, apply, match, no_tree, tree, no_row, row}
+use Rattle.kk_source.specs.State.{Value, Cell}
 use Rattle.kk_core.specs.Choosing.{Decides, matches}
 use Rattle.kk_core.specs.Codes.{Code, give, case, compute, use_of, unpack, Arms, no_arm, arm}
-use Rattle.kk_core.specs.Decisions.{chooses}
+use Rattle.kk_core.specs.Decisions.{NodeTree, chooses, tests, targets, row_chosen, AreOrderly}
+use Rattle.kk_core.specs.Edges.{edges_from}
+use Rattle.kk_norm.specs.Deciding.{AreDecisions}
 use Rattle.kk_norm.specs.Normalized.{final, IsCode}
 use Rattle.kk_norm.specs.OpenedCells.{openings}
 
@@ -37,12 +42,52 @@ one_row false i is = absurd (cc)
 decides : (constructors : List ConstructorTree) → Decides constructors (nested ∷ []) (chooses 0 ∷ [])
 decides constructors = λ t store v i of value is. one_row (matches store nested v) i is
 
+no_edges : (cells : ℕ → Option Cell) (v : Value) (steps k : ℕ) → edges_from cells v (chooses 0 ∷ []) steps k ≡ 0
+no_edges cells v zero k = refl
+no_edges cells v (suc steps) zero = refl
+no_edges cells v (suc steps) (suc k) = refl
+
+none_later : (k j : ℕ) (node : NodeTree) → slice_get (chooses 0 ∷ []) k ≡ Some node → is_among (targets node) j ≡ true → ⊥
+none_later zero j (chooses r) is among = absurd (cc)
+none_later zero j (tests at edges otherwise) is among = absurd (cc)
+none_later (suc k) j node is among = absurd (cc)
+
+row_zero : (r : ℕ) → is_among (0 ∷ []) r ≡ true → r < 1
+row_zero r among = omega (arith, eqb-true 0 r (alone (0 == r) among))
+  where
+    alone : (b : Bool) → (b || false) ≡ true → b ≡ true
+    alone true same = refl
+    alone false same = same
+
+first_alone : (k r : ℕ) (node : NodeTree) → slice_get (chooses 0 ∷ []) k ≡ Some node → is_among (row_chosen node) r ≡ true → r < 1
+first_alone zero r node is among = row_zero r (subst (λ (one : NodeTree). is_among (row_chosen one) r ≡ true) (sym only) among)
+  where
+    only : chooses 0 ≡ node
+    only = cc
+first_alone (suc k) r node is among = absurd (cc)
+
+only_row : AreOrderly (chooses 0 ∷ []) 1
+only_row = record {
+  first = omega arith;
+  later = λ k j node is among. absurd (none_later k j node is among);
+  below = λ k r node is among. first_alone k r node is among;
+}
+
+are_decisions : (constructors : List ConstructorTree) → AreDecisions constructors (nested ∷ []) (chooses 0 ∷ [])
+are_decisions constructors = record {
+  decides = decides constructors;
+  asks = λ t store v typed of. tt;
+  orderly = only_row;
+  few_tests = omega arith;
+  few_edges = λ cells v steps k. omega (arith, no_edges cells v steps k);
+}
+
 pub is_its_code : (constructors : List ConstructorTree)
     → IsCode constructors (final true) [] 1 body (use_of 0 (case 0 (chooses 0 ∷ []) arms))
 is_its_code constructors = (
   chooses 0 ∷ [],
   arms,
-  (decides constructors, λ t store v typed of. tt),
+  are_decisions constructors,
   (
     subtraction,
     no_arm,

@@ -1,17 +1,21 @@
 -- The core form of a typed program does what the program does.
-use Rattle.std.proofs.Common.{◌≡◌, ℕ, ◌+◌, ◌*◌, ◌<◌, ◌≤◌, true, List, ◌∷◌, length, map, refl, subst, arith}
+use Rattle.std.proofs.Common.{◌≡◌, ℕ, suc, ◌+◌, ◌-◌, ◌*◌, ◌<◌, ◌≤◌, true, List, ◌∷◌, length, map, Some, refl, ap, subst, ◌∙◌, arith}
+use Rattle.std.specs.Prelude.{min, slice_get, slice_index_or}
 use Rattle.std.proofs.lemmas.List.{length-map}
-use Rattle.std.proofs.lemmas.Option.{slice_get_within}
+use Rattle.std.proofs.lemmas.Option.{slice_get_within, slice_get-get_or}
+use Rattle.kk_base.specs.Agreements.{Agree}
 use Rattle.kk_syntax.specs.Covered.{Each, asked_by}
 use Rattle.kk_syntax.specs.GroundTyping.{table_of, IsGroundTyped}
 use Rattle.kk_syntax.specs.OfType.{IsPatternOf, values_of}
 use Rattle.kk_syntax.specs.Outlines.{Outline}
 use Rattle.kk_syntax.specs.Patterns.{Pattern, anything, variable as pattern_variable, exactly, constructor, Patterns, no_part, part}
 use Rattle.kk_syntax.specs.GroundTyping.{signature_of}
-use Rattle.kk_syntax.specs.Programs.{ProgramTree}
+use Rattle.kk_syntax.specs.PositionsOf.{PositionTable}
+use Rattle.kk_syntax.specs.Programs.{FunctionTree, ProgramTree, no_function}
 use Rattle.kk_syntax.specs.Shapes.{greatest_nodes, nodes_of, nodes_of_all, nodes_of_rows, nodes_of_pattern, nodes_of_patterns}
 use Rattle.kk_syntax.specs.Trees.{Tree, variable, apply, branch, match, sequence, Trees, no_tree, tree, Rows, no_row, row}
 use Rattle.kk_source.specs.State.{Setting, Value, Store, Environment, Frame, rows, value}
+use Rattle.kk_source.specs.SourceAfter.{first_state, State}
 use Rattle.kk_source.specs.Step.{step_of}
 use Rattle.kk_source.proofs.Bindings.{rows_of_type}
 use Rattle.kk_source.proofs.Kept.{performed_keeps}
@@ -19,38 +23,40 @@ use Rattle.kk_source.proofs.Matching.{takes_one}
 use Rattle.kk_source.proofs.Safe.{IsStateTyped, step_safe}
 use Rattle.kk_source.proofs.SafeRuns.{start_typed}
 use Rattle.kk_core.specs.Codes.{ProgramCode}
-use Rattle.kk_norm.specs.Meaning.{KeepsMeaningByCells, core_steps, setting_of}
+use Rattle.kk_core.specs.CoreMachine.{core_step, core_ending_of, core_machine}
+use Rattle.kk_core.specs.CoreStates.{CoreSetting, CoreState, core_first_state}
+use Rattle.kk_core.specs.Costs.{step_cost, part_cost}
+use Rattle.kk_core.proofs.FewParts.{run_cheap}
+use Rattle.kk_norm.specs.Meaning.{KeepsMeaningByCells, CostsLittle, weighed_store_machine, core_steps, openings_at, core_setting_of, core_after, setting_of}
 use Rattle.kk_norm.specs.Normalized.{IsCoreForm}
 use Rattle.kk_norm.specs.OpenedCells.{openings, openings_all}
 use Rattle.kk_norm.proofs.Bounds.{Bounds, OpensAtMost, AllOpenAtMost, RowsOpenAtMost}
 use Rattle.kk_norm.proofs.Closed.{is_closed}
 use Rattle.kk_norm.proofs.Delivery.{source_at}
+use Rattle.kk_norm.proofs.FormByForm.{tree_some, have_few_parts}
 use Rattle.kk_norm.proofs.Functions.{AreGood, core_at_number, no_core_at_number}
 use Rattle.kk_norm.proofs.Keeping.{at_most_greatest, agrees}
 use Rattle.kk_norm.proofs.Matches.{RowFound}
 use Rattle.kk_norm.proofs.PatternNames.{asked_are}
 use Rattle.kk_norm.proofs.Picking.{row_found}
+use Rattle.kk_norm.proofs.Weights.{reweighed}
 
--- ---- a pattern opens no more cells than it has nodes
+-- ---- a pattern opens fewer cells than it has nodes
 
 mutual
-  openings_small : (p : Pattern) → openings p ≤ nodes_of_pattern p
+  openings_small : (p : Pattern) → openings p + 1 ≤ nodes_of_pattern p
   openings_small anything = omega arith
   openings_small (pattern_variable x) = omega arith
   openings_small (exactly n) = omega arith
-  openings_small (constructor c ps) = constructor_small c ps (openings_all_small ps)
+  openings_small (constructor c no_part) = omega arith
+  openings_small (constructor c (part first rest)) = omega (arith, openings_small first, openings_all_small rest)
 
   openings_all_small : (ps : Patterns) → openings_all ps ≤ nodes_of_patterns ps
   openings_all_small no_part = omega arith
   openings_all_small (part first rest) = omega (arith, openings_small first, openings_all_small rest)
 
-  constructor_small : (c : ℕ) (ps : Patterns) → openings_all ps ≤ nodes_of_patterns ps
-      → openings (constructor c ps) ≤ nodes_of_patterns ps + 1
-  constructor_small c no_part le = omega arith
-  constructor_small c (part first rest) le = omega (arith, le)
-
 mutual
-  opens_nodes : (given : Bounds) (e : Tree) → given.matches ≡ true → nodes_of e ≤ given.cells → OpensAtMost given e
+  opens_nodes : (given : Bounds) (e : Tree) → given.matches ≡ true → nodes_of e ≤ given.cells + 1 → OpensAtMost given e
   opens_nodes given (variable x) some le = tt
   opens_nodes given (apply form es) some le = all_open_nodes given es some (omega arith)
   opens_nodes given (branch e positive negative) some le = (
@@ -64,12 +70,12 @@ mutual
   opens_nodes given (sequence binder first rest) some le =
       (opens_nodes given first some (omega arith), opens_nodes given rest some (omega arith))
 
-  all_open_nodes : (given : Bounds) (es : Trees) → given.matches ≡ true → nodes_of_all es ≤ given.cells → AllOpenAtMost given es
+  all_open_nodes : (given : Bounds) (es : Trees) → given.matches ≡ true → nodes_of_all es ≤ given.cells + 1 → AllOpenAtMost given es
   all_open_nodes given no_tree some le = tt
   all_open_nodes given (tree first rest) some le =
       (opens_nodes given first some (omega arith), all_open_nodes given rest some (omega arith))
 
-  rows_open_nodes : (given : Bounds) (of : Rows) → given.matches ≡ true → nodes_of_rows of ≤ given.cells → RowsOpenAtMost given of
+  rows_open_nodes : (given : Bounds) (of : Rows) → given.matches ≡ true → nodes_of_rows of ≤ given.cells + 1 → RowsOpenAtMost given of
   rows_open_nodes given no_row some le = tt
   rows_open_nodes given (row pattern body rest) some le = (
     omega (arith, openings_small pattern),
@@ -82,7 +88,7 @@ mutual
 
 abbrev typed_bounds : ProgramTree → Bounds
 typed_bounds program =
-    record { constructors = program.constructors; matches = true; most = greatest_nodes program; cells = greatest_nodes program }
+    record { constructors = program.constructors; matches = true; most = greatest_nodes program; cells = greatest_nodes program - 1 }
 
 are_good : (program : ProgramTree) (code : ProgramCode) → IsGroundTyped program → IsCoreForm program code
     → AreGood (typed_bounds program) program.functions code.functions
@@ -96,7 +102,7 @@ are_good program code typed form =
             found = one.1;
             is = one.2;
             closed = is_closed (table_of program) function (typed.functions f function is);
-            open_few = opens_nodes (typed_bounds program) function.body refl small;
+            open_few = opens_nodes (typed_bounds program) function.body refl (omega (arith, small));
             small = small;
           };
       none = λ f is. no_core_at_number program.constructors program.functions code.functions form.functions f is;
@@ -122,25 +128,84 @@ typed_row program of environment fs v store input typed =
       first = first.1;
     }
 
-pub typed_keeps_meaning : (program : ProgramTree) (code : ProgramCode) → IsGroundTyped program → IsCoreForm program code
-    → KeepsMeaningByCells program code
-typed_keeps_meaning program code typed form =
-    let in_range : program.main < length program.functions
-    = omega (
+main_there : (program : ProgramTree) → IsGroundTyped program → program.main < length program.functions
+main_there program typed =
+    omega (
       arith,
       slice_get_within (map signature_of program.functions) program.main _ typed.main,
       length-map program.functions
           signature_of,
-    ) in
+    )
+
+-- The machines agree, where no step of the run weighs more than so much, and a step of the source weighs as much as those of
+-- the core that do it.
+typed_agrees : (program : ProgramTree) (code : ProgramCode) → IsGroundTyped program → IsCoreForm program code
+    → (positions : PositionTable) (cells depth : ℕ) (input : List ℕ) (cost : ℕ) (weight : CoreState → ℕ) (heavy : State → ℕ)
+    → ((n : ℕ) → weight (core_after (core_setting_of code positions cells depth) input n) ≤ cost)
+    → ((s : State) → openings_at s.machine.control s.machine.frames s.machine.store ≤ greatest_nodes program - 1 → core_steps s * cost ≤ heavy s)
+    → Agree (weighed_store_machine heavy (setting_of program positions cells depth))
+    (core_machine weight (core_setting_of code positions cells depth)) 0
+    (λ m. m * (greatest_nodes program + 1) + greatest_nodes program + 1)
+    (first_state (setting_of program positions cells depth) input)
+    (core_first_state (core_setting_of code positions cells depth) input)
+typed_agrees program code typed form positions cells depth input cost weight heavy light enough =
+    let setting : Setting = setting_of program positions cells depth in
+    let core : CoreSetting = core_setting_of code positions cells depth in
+    reweighed (λ t. min (weight t) cost) weight core_ending_of (core_step core) (weighed_store_machine heavy setting) 0
+    (λ m. m * (greatest_nodes program + 1) + greatest_nodes program + 1) (first_state setting input) (core_first_state core input)
+    (λ n. omega (arith, light n))
+    (agrees program code (typed_bounds program) (are_good program code typed form) form.texts form.main (main_there program typed)
+    positions cells depth input cost (λ t. min (weight t) cost) (λ t. omega arith)
+    (λ s. IsStateTyped (table_of program) s.machine) heavy
+    (λ s sane. performed_keeps (IsStateTyped (table_of program)) (step_of setting s.machine) s.input
+    (step_safe setting typed s.machine sane))
+    (λ of environment fs v store rest some sane. typed_row program of environment fs v store rest sane)
+    enough (start_typed setting typed))
+
+pub typed_keeps_meaning : (program : ProgramTree) (code : ProgramCode) → IsGroundTyped program → IsCoreForm program code
+    → KeepsMeaningByCells program code
+typed_keeps_meaning program code typed form =
     record {
       agrees = λ positions cells depth input cost weight light.
-          let setting : Setting = setting_of program positions cells depth in
-          agrees program code (typed_bounds program) (are_good program code typed form) form.texts form.main in_range positions
-          cells depth input cost weight light
-          (λ s. IsStateTyped (table_of program) s.machine) (λ s. core_steps s * cost)
-          (λ s sane. performed_keeps (IsStateTyped (table_of program)) (step_of setting s.machine) s.input
-          (step_safe setting typed s.machine sane))
-          (λ of environment fs v store rest some sane. typed_row program of environment fs v store rest sane)
-          (λ s few. omega arith)
-          (start_typed setting typed);
+          typed_agrees program code typed form positions cells depth input cost weight (λ s. core_steps s * cost) light
+          (λ s few. omega arith);
+    }
+
+-- ---- costs
+
+-- by the cells that a step opens, and the nodes of the greatest body
+square : (o d e : ℕ) → (2 + o) * (128 + 40 * (o + d)) ≤ 256 * ((suc (o + d) + e) * (suc (o + d) + e))
+square o d e = omega arith
+
+step_costs : (o most nodes : ℕ) → o ≤ most → suc most ≤ nodes → (2 + o) * (step_cost + part_cost * most) ≤ 256 * (nodes * nodes)
+step_costs o most nodes few large =
+    let first : o + (most - o) ≡ most = omega (arith, few) in
+    let second : suc most + (nodes - suc most) ≡ nodes = omega (arith, large) in
+    subst (λ (n : ℕ). (2 + o) * (128 + 40 * most) ≤ 256 * (n * n)) second
+    (subst (λ (m : ℕ). (2 + o) * (128 + 40 * m) ≤ 256 * ((suc m + (nodes - suc most)) * (suc m + (nodes - suc most)))) first
+    (square o (most - o) (nodes - suc most)))
+
+pub typed_costs_little : (program : ProgramTree) (code : ProgramCode) → IsGroundTyped program → IsCoreForm program code
+    → CostsLittle program code
+typed_costs_little program code typed form =
+    let function : FunctionTree = slice_index_or program.functions program.main no_function in
+    let found : slice_get program.functions program.main ≡ Some function
+    = slice_get-get_or program.functions program.main no_function (main_there program typed) in
+    let some : 1 ≤ greatest_nodes program
+    = omega (arith, at_most_greatest program.functions program.main function found, tree_some function.body) in
+    let most : ℕ = greatest_nodes program - 1 in
+    let main = core_at_number program.constructors program.functions code.functions form.functions program.main function found in
+    let there : slice_get code.functions code.main ≡ Some main.0 = ap (slice_get code.functions) form.main ∙ main.1 in
+    record {
+      agrees = λ positions cells depth input nodes weight large light.
+          let core : CoreSetting = core_setting_of code positions cells depth in
+          typed_agrees program code typed form positions cells depth input (step_cost + part_cost * most) weight
+          (λ s. 256 * (nodes * nodes))
+          (λ n. omega (
+            arith,
+            light n,
+            run_cheap core most (have_few_parts program code most form (omega (arith, some))) main.0 there (λ s. 1) input n,
+          ))
+          (λ s few. step_costs (openings_at s.machine.control s.machine.frames s.machine.store) most nodes few
+          (omega (arith, some, large)));
     }

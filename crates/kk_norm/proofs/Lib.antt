@@ -4,9 +4,11 @@ pub mod CellTables
 pub mod Closed
 pub mod CoreTyped
 pub mod CoreTypedPrograms
+pub mod Decisions
 pub mod Delivery
 pub mod Examples
 pub mod Facts
+pub mod FormByForm
 pub mod Forms
 pub mod Functions
 pub mod HeldValues
@@ -22,12 +24,14 @@ pub mod Picking
 pub mod PlainCodes
 pub mod ProgramTrees
 pub mod Programs
+mod RunExamples
 pub mod Scopes
 pub mod Simulation
 pub mod Steps
 pub mod TypeNumbers
 pub mod Variables
 pub mod Waits
+pub mod Weights
 pub mod Writing
 pub mod WritingAll
 pub mod WritingMatches

@@ -117,7 +117,7 @@ module _ (setting : Setting) (code : ProgramCode) (given : Bounds) (cost : ℕ) 
         decisions = a.coded.0;
         arms = a.coded.1;
         allowed = a.open_few.0;
-        decide = a.coded.2.0;
+        decide = a.coded.2.decides;
         arms_are = a.coded.3;
         rest_is = refl;
         stands = stands_right a.names environment a.core a.n (free e) (free_rows of) a.stands;

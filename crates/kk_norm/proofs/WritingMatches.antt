@@ -6,11 +6,10 @@ use Rattle.kk_syntax.specs.Patterns.{Pattern, pattern_tree}
 use Rattle.kk_syntax.specs.Programs.{ConstructorTree}
 use Rattle.kk_syntax.specs.Trees.{Tree, match, Rows, no_row, row, row_tree, rows_of}
 use Rattle.kk_syntax.proofs.Views.{row_tree_is}
-use Rattle.kk_core.specs.Choosing.{Decides}
 use Rattle.kk_core.specs.Codes.{Code, inside, case, Arms, arm, ArmCode, arms_of, runs, plug, step_piece}
 use Rattle.kk_core.specs.Decisions.{NodeTree}
-use Rattle.kk_core.specs.Kinds.{AsksTyped}
 use Rattle.kk_norm.specs.declared.writer.Writer.{Writer}
+use Rattle.kk_norm.specs.Deciding.{AreDecisions}
 use Rattle.kk_norm.specs.MatchRows.{MatchesHaveRows, IsSomeRow, BodiesHaveRows}
 use Rattle.kk_norm.specs.Names.{Names}
 use Rattle.kk_norm.specs.Normalized.{final, next, pattern_size, size, size_rows, atom, opened, pattern_names, patterns_in, IsCode, AreArms}
@@ -104,7 +103,7 @@ arm_asked {constructors} tail a old now left all arms pattern body rest so_far i
 
 -- a scrutinee and the arms of its rows
 pub case_done : {constructors : List ConstructorTree} → (tail : Bool) (e : Tree) (rows : Rows) (old first new : Writer) (x : ℕ) (decisions : List NodeTree) (arms : Arms) (last : Code)
-    → WritesValue constructors e old first x → Decides constructors (patterns_in rows) decisions × AsksTyped constructors (patterns_in rows) decisions → WritesArms constructors tail rows x first new arms
+    → WritesValue constructors e old first x → AreDecisions constructors (patterns_in rows) decisions → WritesArms constructors tail rows x first new arms
     → last ≡ case x decisions arms → WritesCase constructors tail e rows old new last
 case_done {constructors} tail e rows old first new x decisions arms last writes decides one last_is =
     let names : Names = names_of old.names.items in

@@ -1,4 +1,5 @@
 pub mod CellTables
+pub mod Deciding
 pub mod MatchRows
 pub mod Meaning
 pub mod Names

@@ -1,7 +1,7 @@
 -- The machines that are compared: the store machine of a program, and the core machine of its core form.
 use Rattle.std.specs.Prelude.{ℕ, ◌+◌, ◌*◌, ◌≤◌, List, ◌∷◌, Option, None, Some}
 use Rattle.kk_base.specs.Agreements.{Agree}
-use Rattle.kk_base.specs.Machines.{Machine, weighing}
+use Rattle.kk_base.specs.Machines.{Machine, weighing, state}
 use Rattle.kk_syntax.specs.Shapes.{greatest_nodes}
 use Rattle.kk_syntax.specs.Programs.{ProgramTree}
 use Rattle.kk_syntax.specs.PositionsOf.{PositionTable}
@@ -14,6 +14,7 @@ use Rattle.kk_source.specs.SourceAfter.{step, ending_of, first_state, State}
 use Rattle.kk_core.specs.Codes.{ProgramCode}
 use Rattle.kk_core.specs.CoreStates.{CoreSetting, CoreState, core_first_state}
 use Rattle.kk_core.specs.CoreMachine.{core_machine}
+use Rattle.kk_core.specs.Costs.{core_cost}
 use Rattle.kk_norm.specs.OpenedCells.{openings}
 
 -- the store machine, where the steps weigh so much
@@ -53,13 +54,18 @@ core_steps s = 2 + openings_at s.machine.control s.machine.frames s.machine.stor
 abbrev pub core_setting_of : ProgramCode → PositionTable → ℕ → ℕ → CoreSetting
 core_setting_of code positions cells depth = record { code = code; positions = positions; cells = cells; depth = depth }
 
+-- the state of the core machine after so many steps on an input
+abbrev pub core_after : CoreSetting → List ℕ → ℕ → CoreState
+core_after setting input n = state (core_machine (λ s. 1) setting) n (core_first_state setting input)
+
 -- A core form keeps the meaning of a program: on each input, for all positions, cells and depth, its machine tells what the
 -- store machine tells, which are the events, the live places at each construction with fields and the call frames at each
--- call that is no tail call; and it ends if and only if the other ends, and alike. Where no step of the core weighs more
+-- call that is no tail call; and it ends if and only if the other ends, and alike. Where no step of the run weighs more
 -- than `cost`, a step of the source pays by so many times as much for those that do it: two, and one for each cell that it
 -- opens. The other way round, m steps of the core come by at most (m + 1) times the nodes of the greatest body and one.
 pub record KeepsMeaningByCells (program : ProgramTree) (code : ProgramCode) : Type 0 where
-  pub agrees : (positions : PositionTable) (cells depth : ℕ) (input : List ℕ) (cost : ℕ) (weight : CoreState → ℕ) → ((t : CoreState) → weight t ≤ cost)
+  pub agrees : (positions : PositionTable) (cells depth : ℕ) (input : List ℕ) (cost : ℕ) (weight : CoreState → ℕ)
+      → ((n : ℕ) → weight (core_after (core_setting_of code positions cells depth) input n) ≤ cost)
       → Agree (weighed_store_machine (λ s. core_steps s * cost) (setting_of program positions cells depth)) (core_machine weight (core_setting_of code positions cells depth)) 0 (λ m. m * (greatest_nodes program + 1) + greatest_nodes program + 1)
       (first_state (setting_of program positions cells depth) input) (core_first_state (core_setting_of code positions cells depth) input)
 
@@ -67,4 +73,14 @@ pub record KeepsMeaningByCells (program : ProgramTree) (code : ProgramCode) : Ty
 pub record KeepsMeaning (program : ProgramTree) (code : ProgramCode) : Type 0 where
   pub agrees : (positions : PositionTable) (cells depth : ℕ) (input : List ℕ) (cost : ℕ) (weight : CoreState → ℕ) → ((t : CoreState) → weight t ≤ cost)
       → Agree (heavy_store_machine (2 * cost) (setting_of program positions cells depth)) (core_machine weight (core_setting_of code positions cells depth)) 0 (λ m. m * (greatest_nodes program + 1) + greatest_nodes program + 1)
+      (first_state (setting_of program positions cells depth) input) (core_first_state (core_setting_of code positions cells depth) input)
+
+-- The core steps that do a step of the source cost at most 256 times the square of the nodes of the greatest body, or of a
+-- greater number: so the machines agree where the one weighs as much, and the steps of the other no more than they cost.
+pub record CostsLittle (program : ProgramTree) (code : ProgramCode) : Type 0 where
+  pub agrees : (positions : PositionTable) (cells depth : ℕ) (input : List ℕ) (nodes : ℕ) (weight : CoreState → ℕ)
+      → greatest_nodes program ≤ nodes
+      → ((n : ℕ) → weight (core_after (core_setting_of code positions cells depth) input n)
+      ≤ core_cost (core_after (core_setting_of code positions cells depth) input n))
+      → Agree (heavy_store_machine (256 * (nodes * nodes)) (setting_of program positions cells depth)) (core_machine weight (core_setting_of code positions cells depth)) 0 (λ m. m * (greatest_nodes program + 1) + greatest_nodes program + 1)
       (first_state (setting_of program positions cells depth) input) (core_first_state (core_setting_of code positions cells depth) input)

@@ -3,10 +3,11 @@ use Rattle.std.specs.Prelude.{◌≡◌, ◌+◌, ◌≤◌, ℕ, List, [], ◌�
 use Rattle.kk_syntax.specs.GroundTyping.{table_of}
 use Rattle.kk_syntax.specs.Shapes.{nodes_of}
 use Rattle.kk_syntax.specs.Programs.{FunctionTree, ProgramTree}
+use Rattle.kk_core.specs.Cases.{CasesAreWhole, CasesAreLean}
 use Rattle.kk_core.specs.Codes.{ProgramCode}
 use Rattle.kk_core.specs.CoreTyping.{IsCoreTyped, IsSmall}
 use Rattle.kk_core.specs.Sizes.{most_parameters, most_nodes, most_instances, most_program_nodes}
-use Rattle.kk_norm.specs.Meaning.{KeepsMeaningByCells}
+use Rattle.kk_norm.specs.Meaning.{KeepsMeaningByCells, CostsLittle}
 
 -- a function has few parameters, and its body few nodes
 pub record IsFunctionWithin (function : FunctionTree) : Type 0 where
@@ -30,8 +31,13 @@ pub record IsWithin (program : ProgramTree) : Type 0 where
   pub few : length program.functions ≤ most_instances
   pub all : all_nodes program.functions ≤ most_program_nodes
 
--- A code is a core form of a program: it keeps the program's meaning, it is typed, its variables in order, and it is small.
+-- A code is a core form of a program: it keeps the program's meaning, it is typed, its variables in order, and it is small. Each
+-- of its cases has an arm for each row of its decisions, and looks at no more edges than its patterns have nodes; so its steps
+-- cost little.
 pub record IsNormalForm (program : ProgramTree) (code : ProgramCode) : Type 0 where
   pub keeps_meaning : KeepsMeaningByCells program code
   pub typed : IsCoreTyped (table_of program) code
   pub small : IsSmall code
+  pub whole : CasesAreWhole code
+  pub lean : CasesAreLean code
+  pub costs : CostsLittle program code

@@ -10,9 +10,8 @@ use Rattle.kk_syntax.specs.Patterns.{Pattern, anything, variable as pattern_vari
 use Rattle.kk_syntax.specs.Shapes.{variable_of}
 use Rattle.kk_core.specs.Codes.{Code, give, tail_call, case, compute, use_of, unpack, inside, Arms, no_arm, arm, FunctionCode, ProgramCode}
 use Rattle.kk_core.specs.Codes as Core
-use Rattle.kk_core.specs.Choosing.{Decides}
 use Rattle.kk_core.specs.Decisions.{NodeTree}
-use Rattle.kk_core.specs.Kinds.{AsksTyped}
+use Rattle.kk_norm.specs.Deciding.{AreDecisions}
 use Rattle.kk_norm.specs.Names.{Names, name_of, named}
 
 -- ---- how many numbers are taken
@@ -139,7 +138,7 @@ patterns_in no_row = []
 patterns_in (row pattern body rest) = pattern ∷ patterns_in rest
 
 -- A code is that of an expression whose numbers begin at n, and of what comes after it. The value is in `atom names n e`. It
--- is determined but for the decisions of the matches, which are any that choose among the rows and ask what types tell.
+-- is determined but for the decisions of the matches, which are any that choose among the rows, ask what types tell, and are small.
 abbrev mutual
   pub IsCode : List ConstructorTree → Then → Names → ℕ → Tree → Code → Type 0
   IsCode constructors k names n (variable x) c = c ≡ after_use k (name_of names x)
@@ -151,8 +150,7 @@ abbrev mutual
       × IsCode constructors (within k) names (n + size e + size positive) negative second
       × IsCode constructors (next (joined k (n + size e + size positive + size negative) (Core.branch (atom names n e) first second))) names n e c
   IsCode constructors k names n (match e rows) c =
-      (decisions : List NodeTree) × (arms : Arms)
-      × (Decides constructors (patterns_in rows) decisions × AsksTyped constructors (patterns_in rows) decisions)
+      (decisions : List NodeTree) × (arms : Arms) × AreDecisions constructors (patterns_in rows) decisions
       × AreArms constructors (within k) names (atom names n e) (n + size e) rows arms
       × IsCode constructors (next (joined k (n + size e + size_rows rows) (case (atom names n e) decisions arms))) names n e c
   IsCode constructors k names n (sequence binder first rest) c =

@@ -3,12 +3,11 @@ use Rattle.std.specs.Prelude.{◌≡◌, ◌+◌, ◌≤◌, ℕ, List, [], ◌�
 use Rattle.kk_syntax.specs.Patterns.{Pattern, Patterns}
 use Rattle.kk_syntax.specs.Programs.{ConstructorTree}
 use Rattle.kk_syntax.specs.Trees.{Tree, Trees, Rows, StatementTree, block_of}
-use Rattle.kk_core.specs.Choosing.{Decides}
 use Rattle.kk_core.specs.Codes.{Code, branch, case, Arms, Piece, put, plug, step_piece}
 use Rattle.kk_core.specs.Decisions.{NodeTree}
-use Rattle.kk_core.specs.Kinds.{AsksTyped}
 use Rattle.kk_norm.specs.declared.naming.Named.{Named}
 use Rattle.kk_norm.specs.declared.writer.Writer.{Writer}
+use Rattle.kk_norm.specs.Deciding.{AreDecisions}
 use Rattle.kk_norm.specs.Names.{Names}
 use Rattle.kk_norm.specs.Normalized.{part_count, pattern_size, parts_size, Then, final, next, size, size_all, size_rows, atom, atoms, numbers, opened, opened_all, pattern_names, parts_names, patterns_in, IsCode, AreCodes, AreArms}
 
@@ -139,8 +138,7 @@ pub record WritesArms (constructors : List ConstructorTree) (tail : Bool) (rows 
 -- a code goes on by variable a as the arms of rows whose numbers begin at n
 abbrev pub IsCase : List ConstructorTree → Bool → Names → ℕ → ℕ → Rows → Code → Type 0
 IsCase constructors tail names n a rows code =
-    (decisions : List NodeTree) × (arms : Arms)
-    × (Decides constructors (patterns_in rows) decisions × AsksTyped constructors (patterns_in rows) decisions)
+    (decisions : List NodeTree) × (arms : Arms) × AreDecisions constructors (patterns_in rows) decisions
     × AreArms constructors (final tail) names a n rows arms × (code ≡ case a decisions arms)
 
 -- a scrutinee is written, and `last` goes on by it; the rows take the numbers behind its own

@@ -2,10 +2,9 @@ ghost use Rattle.std.specs.Prelude.{◌≡◌, ◌+◌, ◌<◌, ◌^◌, map, l
 ghost use Rattle.kk_syntax.specs.Patterns.{pattern_tree};
 ghost use Rattle.kk_syntax.specs.GroundPrograms.{ground_program};
 ghost use Rattle.kk_syntax.specs.Trees.{Tree, expr_tree, trees_of, row_tree, rows_of, statement_tree, block_of};
-ghost use Rattle.kk_core.specs.Choosing.{Decides};
 ghost use Rattle.kk_core.specs.Codes.{block_code, last_code, arm_code, arms_of};
 ghost use Rattle.kk_core.specs.Decisions.{node_tree};
-ghost use Rattle.kk_core.specs.Kinds.{AsksTyped};
+ghost use Rattle.kk_norm.specs.Deciding.{AreDecisions};
 ghost use Rattle.kk_norm.specs.MatchRows.{MatchesHaveRows, AllMatchesHaveRows, IsSomeRow, BodiesHaveRows};
 ghost use Rattle.kk_norm.specs.Normalized.{size, size_all, size_rows, pattern_size, patterns_in};
 ghost use Rattle.kk_norm.specs.Written.{WritesValue, WritesValues, WritesStatements, KeepsNames, WritesEnd, WritesChoice, WritesCase, WritesArms, WritesArm, WritesBlock};
@@ -225,8 +224,7 @@ impl Writer {
 // What decides among the rows of a match.
 fn decisions(alloc: Global, given: &Ground, rows: &[Row]) -> Result<Decisions, NoMemory>
     requires { IsSomeRow (rows_of (map row_tree rows.now)) }
-    ensures decides { IfOk result (λ decisions. Decides (ground_program given.now).constructors (patterns_in (rows_of (map row_tree rows.now))) (map node_tree decisions.nodes.items)) }
-    ensures asks { IfOk result (λ decisions. AsksTyped (ground_program given.now).constructors (patterns_in (rows_of (map row_tree rows.now))) (map node_tree decisions.nodes.items)) }
+    ensures { IfOk result (λ decisions. AreDecisions (ground_program given.now).constructors (patterns_in (rows_of (map row_tree rows.now))) (map node_tree decisions.nodes.items)) }
 {
     let mut patterns = Vec::new(alloc);
     for row in rows {

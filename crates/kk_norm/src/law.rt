@@ -5,7 +5,7 @@ ghost use Rattle.kk_core.specs.Kinds.{AllAskTyped};
 ghost use Rattle.kk_core.specs.Codes.{ProgramCode};
 ghost use Rattle.kk_core.specs.CoreTyping.{IsCoreTyped, IsSmall};
 ghost use Rattle.kk_core.specs.Plain.{are_plain_codes};
-ghost use Rattle.kk_norm.specs.Meaning.{KeepsMeaning, KeepsMeaningByCells};
+ghost use Rattle.kk_norm.specs.Meaning.{KeepsMeaning, KeepsMeaningByCells, CostsLittle};
 ghost use Rattle.kk_norm.specs.Normal.{IsWithin};
 ghost use Rattle.kk_norm.specs.Normalized.{IsCoreForm};
 ghost use Rattle.kk_norm.specs.PlainTrees.{are_plain_functions};
@@ -36,6 +36,13 @@ pub fn core_forms_of_typed_programs_keep_meaning()
 /// finds an answer of the type of its edges. It is a law, and does nothing.
 pub fn core_forms_ask_what_types_tell()
     ensures { (program : ProgramTree) (code : ProgramCode) → IsCoreForm program code → AllAskTyped program.constructors code }
+{}
+
+/// A core form of a program that is typed, and whose matches are covered, costs little: the steps that do one step of the program
+/// cost at most 256 times the square of the nodes of the greatest body. A step costs so much, and so much more for each argument or
+/// field, and for each edge that a case looks at. It is a law, and does nothing.
+pub fn core_forms_of_typed_programs_cost_little()
+    ensures { (program : ProgramTree) (code : ProgramCode) → IsGroundTyped program → IsCoreForm program code → CostsLittle program code }
 {}
 
 /// A core form of a program that is within the limits is small: a node of a body binds at most one variable, and makes at most

@@ -42,7 +42,8 @@ impl Writer {
         let first = self.next;
         let fields = self.number_parts(parts)?;
         self.push(Step::Open(variable, of, fields))?;
-        self.open_parts(first, parts)
+        self.open_parts(first, parts)?;
+        Ok(())
     }
 
     /// Gives numbers to the parts of a pattern, from left to right.

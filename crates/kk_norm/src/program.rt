@@ -22,7 +22,7 @@ use kk_syntax::{Ground, Instance, copied_texts};
 use std::alloc::Global;
 
 /// The core form of a program of instances, of which the first is `main`. It keeps the program's meaning, is typed and is
-/// small.
+/// small. Each case has an arm for each row.
 ///
 /// The recursion is as deep as the deepest expression.
 pub fn normal(alloc: Global, given: &Ground) -> Result<Core, NoMemory>

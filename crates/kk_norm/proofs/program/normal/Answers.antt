@@ -7,8 +7,9 @@ use Rattle.kk_norm.specs.CellTables.{AreShapesOf, TellCells}
 use Rattle.kk_norm.specs.Normalized.{IsCoreForm}
 use Rattle.kk_norm.proofs.CellTables.{tells_cells}
 use Rattle.kk_norm.proofs.CoreTypedPrograms.{core_form_typed}
+use Rattle.kk_norm.proofs.FormByForm.{are_whole, are_lean}
 use Rattle.kk_norm.proofs.Forms.{as_many, is_small}
-use Rattle.kk_norm.proofs.KeepingTyped.{typed_keeps_meaning}
+use Rattle.kk_norm.proofs.KeepingTyped.{typed_keeps_meaning, typed_costs_little}
 use Rattle.kk_norm.proofs.MatchRows.{functions_have_rows}
 use Rattle.kk_norm.proofs.Programs.{main_in_range}
 use Rattle.kk_norm.proofs.program.normal.Goals as goal
@@ -29,6 +30,9 @@ returns-clause-means c =
       keeps_meaning = typed_keeps_meaning program _ c.requires.typed form;
       typed = core_form_typed program _ c.requires.typed form;
       small = is_small program _ form c.requires.small;
+      whole = are_whole program _ form;
+      lean = are_lean program _ form;
+      costs = typed_costs_little program _ c.requires.typed form;
     }
 
 pub invariant_of-result : goal.invariant_of-result

@@ -169,7 +169,7 @@ value-returns-in_ok-last-in-Match t c =
 pub case-returns : goal.case-returns
 case-returns t c =
     case_done c.args.tail (expr_tree c.args.scrutinee.now) (rows_of (map row_tree c.args.rows.now)) c.args.self.now c.value.new.self c.arms.new.self c.in_ok-on.on _ _ _
-    c.in_ok-on.ensures (c.in_ok-decisions.ensures.decides, c.in_ok-decisions.ensures.asks) c.in_ok-arms.ensures (case_code c.in_ok-on.on c.in_ok-decisions.decisions c.in_ok-arms.arms)
+    c.in_ok-on.ensures c.in_ok-decisions.ensures c.in_ok-arms.ensures (case_code c.in_ok-on.on c.in_ok-decisions.decisions c.in_ok-arms.arms)
 
 pub case-arms-requires : goal.case-arms-requires
 case-arms-requires t c = (search (rules, the_lemmas), (c.requires.bodies, omega (arith, c.in_ok-on.ensures.number, c.requires.room)))

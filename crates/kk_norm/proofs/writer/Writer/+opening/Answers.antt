@@ -1,7 +1,6 @@
 use Rattle.std.proofs.Common.{◌+◌, List, map, drop, subst, ap, ◌∙◌, refl, arith}
 use Rattle.std.proofs.Common.{rules}
 use Rattle.std.proofs.lemmas.List.{drop_all, length-map}
-use Rattle.std.proofs.lemmas.Result.{IfOk-weaker}
 use Rattle.kk_syntax.specs.declared.program.Pat.{Pat}
 use Rattle.kk_syntax.specs.declared.program.Pat.TheViews.{the_lemmas}
 use Rattle.kk_syntax.specs.Patterns.{Patterns, patterns_of, pattern_tree}
@@ -28,11 +27,9 @@ pub open_cell-returns : goal.open_cell-returns
 open_cell-returns t c =
     let items = map pattern_tree c.args.parts.now in
     let long = length-map c.args.parts.now pattern_tree in
-    IfOk-weaker c.open_parts.result _ _
-    (λ done writes. cell_done c.args.of items c.args.variable c.args.self.now.next c.in_ok-fields.fields.items c.args.self.now c.number_parts.new.self c.push.new.self c.open_parts.new.self
+    cell_done c.args.of items c.args.variable c.args.self.now.next c.in_ok-fields.fields.items c.args.self.now c.number_parts.new.self c.push.new.self c.open_parts.new.self
     (omega (arith, long, some_items c.args.parts.now c.is_empty.result c.is_empty.ensures c.if-is_empty.false)) refl c.in_ok-fields.ensures
-    (writes_piece c.number_parts.new.self c.push.new.self _ _ (open_piece c.args.variable c.args.of c.in_ok-fields.fields) c.in_ok-push.ensures) writes)
-    c.open_parts.ensures
+    (writes_piece c.number_parts.new.self c.push.new.self _ _ (open_piece c.args.variable c.args.of c.in_ok-fields.fields) c.in_ok-push.ensures) c.in_ok-open_parts.ensures
 
 pub open_parts-open-requires : goal.open_parts-open-requires
 open_parts-open-requires t c = (
