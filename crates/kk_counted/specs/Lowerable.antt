@@ -1,9 +1,12 @@
--- Counted code that can be lowered to assembler code: its variables are numbered in order and few, each case has its arms, and each
--- block inside gives a value.
-use Rattle.std.specs.Prelude.{◌≡◌, ℕ, ◌<◌, ◌≤◌, Bool, false, List, [], ◌∷◌, ◌++◌, Option, Some, None, slice_get}
+-- Counted code that can be lowered to assembler code: its variables are numbered in order and few, each case has its arms, each
+-- block inside gives a value, and each form has as many arguments as it takes.
+use Rattle.std.specs.Prelude.{◌≡◌, ℕ, ◌<◌, ◌≤◌, Bool, false, List, [], ◌∷◌, ◌++◌, length, Option, Some, None, slice_get}
+use Rattle.kk_syntax.specs.declared.program.Form.{Form}
+use Rattle.kk_syntax.specs.declared.program.Form.TheVariants.{Unary, Binary, Print, Call}
 use Rattle.kk_syntax.specs.Shapes.{is_among}
 use Rattle.kk_core.specs.Sizes.{most_parameters, most_variables}
 use Rattle.kk_counted.specs.Arms.{HasArms}
+use Rattle.kk_counted.specs.CountBounds.{EachHasAnArm}
 use Rattle.kk_counted.specs.CountedCodes.{Counted, give, tail_call, branch, case, compute, inside, read, open_cell, if_unique, dup, drop, CountedArms, no_arm, arm, CountedFunction}
 use Rattle.kk_counted.specs.Marks.{CellMarks, IsMarked}
 use Rattle.kk_counted.specs.Spending.{AreApart, numbers_from}
@@ -90,10 +93,40 @@ abbrev mutual
   BlocksOfArmsGive no_arm = Unit {0}
   BlocksOfArmsGive (arm body rest) = BlocksGive body × BlocksOfArmsGive rest
 
+-- ---- arguments
+
+-- how many arguments a form takes: an operator and a print as many as it has operands, and a call few
+abbrev pub HasArity : Form → List ℕ → Type 0
+HasArity (Unary operator) arguments = length arguments ≡ 1
+HasArity (Binary operator) arguments = length arguments ≡ 2
+HasArity (Print form) arguments = length arguments ≡ 1
+HasArity (Call f) arguments = length arguments ≤ most_parameters
+HasArity _ arguments = Unit {0}
+
+-- each form and each call of a code has as many arguments as it takes
+abbrev mutual
+  pub HasArities : Counted → Type 0
+  HasArities (give x) = Unit {0}
+  HasArities (tail_call f arguments) = HasArity (Call f) arguments
+  HasArities (branch x positive negative) = HasArities positive × HasArities negative
+  HasArities (case x decisions arms) = HaveArities arms
+  HasArities (compute x form arguments rest) = HasArity form arguments × HasArities rest
+  HasArities (inside x block rest) = HasArities block × HasArities rest
+  HasArities (read x c fields rest) = HasArities rest
+  HasArities (open_cell x c fields used rest) = HasArities rest
+  HasArities (if_unique x c fields used rest) = HasArities rest
+  HasArities (dup x rest) = HasArities rest
+  HasArities (drop x rest) = HasArities rest
+
+  pub HaveArities : CountedArms → Type 0
+  HaveArities no_arm = Unit {0}
+  HaveArities (arm body rest) = HasArities body × HaveArities rest
+
 -- ---- functions
 
 -- A function by its number can be lowered: some variables of it are marked as types tell, its variables are few and numbered in
--- order, each case has an arm for each row, and each block inside gives a value.
+-- order, each case has an arm for each row and one at least, each block inside gives a value, and forms have as many arguments as
+-- they take.
 pub record IsLowerable (table : CellMarks) (f : ℕ) (function : CountedFunction) : Type 0 where
   pub holds : ℕ → Bool
   pub base : ℕ
@@ -103,7 +136,9 @@ pub record IsLowerable (table : CellMarks) (f : ℕ) (function : CountedFunction
   pub numbered : AreNumbered base (numbers_from 0 function.parameters) function.body
   pub parameters_below : function.parameters ≤ base
   pub arms : HasArms function.body
+  pub some_arm : EachHasAnArm function.body
   pub gives : BlocksGive function.body
+  pub arities : HasArities function.body
 
 abbrev pub AreLowerable : CellMarks → List CountedFunction → Type 0
 AreLowerable table functions = (f : ℕ) (function : CountedFunction) → slice_get functions f ≡ Some function
