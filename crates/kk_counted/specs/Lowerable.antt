@@ -5,7 +5,8 @@ use Rattle.kk_syntax.specs.declared.program.Form.{Form}
 use Rattle.kk_syntax.specs.declared.program.Form.TheVariants.{Unary, Binary, Print, Call}
 use Rattle.kk_syntax.specs.Shapes.{is_among}
 use Rattle.kk_core.specs.Sizes.{most_parameters, most_variables}
-use Rattle.kk_counted.specs.Arms.{HasArms, arm_count}
+use Rattle.kk_counted.specs.Arms.{HasArms}
+use Rattle.kk_counted.specs.CountBounds.{EachHasAnArm}
 use Rattle.kk_counted.specs.CountedCodes.{Counted, give, tail_call, branch, case, compute, inside, read, open_cell, if_unique, dup, drop, CountedArms, no_arm, arm, CountedFunction}
 use Rattle.kk_counted.specs.Marks.{CellMarks, IsMarked}
 use Rattle.kk_counted.specs.Spending.{AreApart, numbers_from}
@@ -102,13 +103,13 @@ HasArity (Print form) arguments = length arguments ≡ 1
 HasArity (Call f) arguments = length arguments ≤ most_parameters
 HasArity _ arguments = Unit {0}
 
--- each form and each call of a code has as many arguments as it takes, and each case an arm
+-- each form and each call of a code has as many arguments as it takes
 abbrev mutual
   pub HasArities : Counted → Type 0
   HasArities (give x) = Unit {0}
   HasArities (tail_call f arguments) = HasArity (Call f) arguments
   HasArities (branch x positive negative) = HasArities positive × HasArities negative
-  HasArities (case x decisions arms) = (0 < arm_count arms) × HaveArities arms
+  HasArities (case x decisions arms) = HaveArities arms
   HasArities (compute x form arguments rest) = HasArity form arguments × HasArities rest
   HasArities (inside x block rest) = HasArities block × HasArities rest
   HasArities (read x c fields rest) = HasArities rest
@@ -135,6 +136,7 @@ pub record IsLowerable (table : CellMarks) (f : ℕ) (function : CountedFunction
   pub numbered : AreNumbered base (numbers_from 0 function.parameters) function.body
   pub parameters_below : function.parameters ≤ base
   pub arms : HasArms function.body
+  pub some_arm : EachHasAnArm function.body
   pub gives : BlocksGive function.body
   pub arities : HasArities function.body
 

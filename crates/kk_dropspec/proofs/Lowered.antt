@@ -2,7 +2,7 @@
 use Rattle.std.proofs.Common.{◌≡◌, ℕ, suc, ◌<◌, Bool, List, ◌∷◌, ◌++◌, map, refl, sym, ap, ◌∙◌, subst}
 use Rattle.kk_core.specs.Decisions.{AreOrderly}
 use Rattle.kk_counted.specs.Arms.{arm_count, HasArms, HaveArms}
-use Rattle.kk_counted.specs.CountBounds.{HasAnArm, SpendsAtMost, SpendAtMost, AllSpendAtMost}
+use Rattle.kk_counted.specs.CountBounds.{HasAnArm, EachHasAnArm, AllHaveAnArm, SpendsAtMost, SpendAtMost, AllSpendAtMost}
 use Rattle.kk_counted.specs.CountedCodes.{Counted, give, tail_call, branch, case, compute, inside, read, open_cell, if_unique, dup, drop, CountedArms, no_arm, arm, CountedFunction, CountedProgram}
 use Rattle.kk_counted.specs.Lowerable.{first_of, given_by, given_by_arms, BlocksGive, BlocksOfArmsGive, HasArities, HaveArities, AreNumbered, AreArmsNumbered, IsLowerable, AreLowerable}
 use Rattle.kk_counted.specs.Marks.{CellMarks, result_mark, HasMark, HaveMark, IsMarked}
@@ -137,7 +137,7 @@ mutual
   has_arities (give x) has = tt
   has_arities (tail_call f arguments) has = has
   has_arities (branch x positive negative) has = (has_arities positive has.0, has_arities negative has.1)
-  has_arities (case x decisions arms) has = (subst (λ n. 0 < n) (sym (same_count arms)) has.0, have_arities arms has.1)
+  has_arities (case x decisions arms) has = have_arities arms has
   has_arities (compute x form arguments rest) has = (has.0, has_arities rest has.1)
   has_arities (inside x block rest) has = (has_arities block has.0, has_arities rest has.1)
   has_arities (read x c fields rest) has = has_arities rest has
@@ -155,6 +155,24 @@ mutual
 still_one : (arms : CountedArms) → HasAnArm arms → HasAnArm (special_arms arms)
 still_one no_arm has = has
 still_one (arm body rest) has = tt
+
+mutual
+  some_arm : (code : Counted) → EachHasAnArm code → EachHasAnArm (special code)
+  some_arm (give x) has = tt
+  some_arm (tail_call f arguments) has = tt
+  some_arm (branch x positive negative) has = (some_arm positive has.0, some_arm negative has.1)
+  some_arm (case x decisions arms) has = (still_one arms has.0, some_arms arms has.1)
+  some_arm (compute x form arguments rest) has = some_arm rest has
+  some_arm (inside x block rest) has = (some_arm block has.0, some_arm rest has.1)
+  some_arm (read x c fields rest) has = some_arm rest has
+  some_arm (open_cell x c fields used rest) has = some_arm rest has
+  some_arm (if_unique x c fields used rest) has = some_arm rest has
+  some_arm (dup x rest) has = some_arm rest has
+  some_arm (drop x rest) has = some_arm rest has
+
+  some_arms : (arms : CountedArms) → AllHaveAnArm arms → AllHaveAnArm (special_arms arms)
+  some_arms no_arm have = tt
+  some_arms (arm body rest) have = (some_arm body have.0, some_arms rest have.1)
 
 mutual
   spends : (code : Counted) (n : ℕ) → SpendsAtMost code n → SpendsAtMost (special code) n
@@ -194,6 +212,7 @@ special_is table f function lowerable =
       numbered = numbered lowerable.base _ function.body lowerable.numbered;
       parameters_below = lowerable.parameters_below;
       arms = has_arms function.body lowerable.arms;
+      some_arm = some_arm function.body lowerable.some_arm;
       gives = blocks_give function.body lowerable.gives;
       arities = has_arities function.body lowerable.arities;
     }

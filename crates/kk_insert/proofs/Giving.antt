@@ -107,9 +107,8 @@ module _ (positions : PositionTable) (lent : List ℕ) (table : Table) where
   opening_well false x c fields in_use code well = well
 
   has_one : (left all : List ℕ) (arms : Arms) → (arms ≡ no_arm → ⊥) → HasAnArm (insert_arms positions lent left all arms)
-      × (0 < arm_count (insert_arms positions lent left all arms))
   has_one left all no_arm some = absurd (some refl)
-  has_one left all (arm pattern body rest) some = (tt, omega arith)
+  has_one left all (arm pattern body rest) some = tt
 
   module _ (few : HasFew table) where
     has_arity : (form : Form) (facts : Facts) (arguments : List ℕ) (ts : List TypeTree) (t : TypeTree) → HaveTypes facts arguments ts
@@ -144,7 +143,7 @@ module _ (positions : PositionTable) (lent : List ℕ) (table : Table) where
           let all = own positions lent left (case x decisions arms) in
           let each = arms_well left all arms tail facts x has.0 t has.2 in
           let some = has_one left all arms (some_arm table has.0 arms has.3) in
-          (each.0, ((some.0, each.1.0), (some.1, each.1.1)))
+          (each.0, ((some, each.1.0), each.1.1))
       well left (compute x form arguments rest) tail facts t has =
           let now = own positions lent left rest in
           let given = lends positions form arguments in

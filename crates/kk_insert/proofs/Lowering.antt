@@ -117,6 +117,7 @@ module _ (positions : PositionTable) (table : Table) (code : ProgramCode) (typed
         numbered = function_numbered positions f most_variables from.0 signed.1.1.ordered few.variables;
         parameters_below = let most = few.parameters in omega (arith, most);
         arms = function_has_arms positions f from.0 (rows f from.0 from.1.0);
+        some_arm = well.1.0;
         gives = well.0;
         arities = well.1.1;
       })

@@ -88,7 +88,7 @@ index_some [] i less = absurd (omega (arith, less))
 index_some (v ∷ vs) zero less = (v, refl)
 index_some (v ∷ vs) (suc i) less = index_some vs i (omega (arith, less))
 
-among_numbers : (k n x : ℕ) → is_among (numbers_from k n) x ≡ true → (i : ℕ) × (x ≡ k + i) × (i < n)
+pub among_numbers : (k n x : ℕ) → is_among (numbers_from k n) x ≡ true → (i : ℕ) × (x ≡ k + i) × (i < n)
 among_numbers k zero x is = cc
 among_numbers k (suc n) x is =
     elim (among_by k (numbers_from (suc k) n) x is) [

@@ -270,6 +270,7 @@ inc_lowered = record {
     );
   };
   few = lit≤ tt;
+  low = lit≤ tt;
   numbered = (
     tt,
     (
@@ -413,6 +414,7 @@ main_lowered = record {
     );
   };
   few = lit≤ tt;
+  low = lit≤ tt;
   numbered = (
     lit< tt,
     (

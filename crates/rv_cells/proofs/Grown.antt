@@ -42,6 +42,7 @@ use Rattle.kk_core.specs.declared.decisions.Edge.{Edge}
 use Rattle.kk_core.specs.declared.decisions.Node.{Node}
 use Rattle.kk_core.specs.declared.decisions.Node.TheVariants.{Test}
 use Rattle.kk_counted.proofs.FormViews as Views
+use Rattle.kk_counted.specs.Arms.{arm_count}
 use Rattle.kk_counted.specs.CountedCodes.{Counted, give, tail_call, branch, case, inside, CountedArms}
 use Rattle.kk_counted.specs.CountedForms.{
   Move,
@@ -78,7 +79,7 @@ use Rattle.rv_lower.specs.Written.{lines_written, texts_written, Wrote, WroteLin
 use Rattle.rv_lower.proofs.Grown.{grows_of, grows_took, grows_none, grows_then, grows_more, later_texts}
 use Rattle.rv_cells.specs.declared.decide.Targets.{Targets}
 use Rattle.rv_cells.specs.CellLines.{ReadLines, OpenLines, dup_lines, drop_lines}
-use Rattle.rv_cells.specs.CountedLines.{Setting, CodeLines, ArmsLines, NodesLines, count_arms}
+use Rattle.rv_cells.specs.CountedLines.{Setting, CodeLines, ArmsLines, NodesLines}
 use Rattle.rv_cells.specs.Sizes.{forms, forms_of_arms}
 use Rattle.rv_cells.specs.Written.{Facts, setting_in, TookTargets, WroteUnique, WroteValue, WroteCode, WroteArms, WroteSteps}
 
@@ -402,7 +403,7 @@ arms_then {a} {b} {c} {d} {here} facts goal label each body is wrote labelled on
       (code_same facts goal body one.lines d.next_label (labelled.base ∙ wrote.grows.base) refl labelled.label (one.are later));
 }
 
-count_of_arms : (each : List Counted) → count_arms (arms_of each) ≡ length each
+count_of_arms : (each : List Counted) → arm_count (arms_of each) ≡ length each
 count_of_arms [] = refl
 count_of_arms (body ∷ each) = ap suc (count_of_arms each)
 

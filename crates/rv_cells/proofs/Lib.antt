@@ -40,3 +40,7 @@ pub mod FormedSteps
 pub mod FormedUniques
 pub mod FormedTests
 pub mod FormedNodes
+pub mod FormedForms
+pub mod FormedCases
+pub mod FormedCodes
+pub mod FormedFunctions

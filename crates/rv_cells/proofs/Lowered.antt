@@ -195,6 +195,7 @@ form_of shape literals functions each texts lowerable are = record {
           };
           marked = found.marked;
           few = found.few;
+          low = found.low;
           numbered = found.numbered;
         },
       );

@@ -32,7 +32,7 @@ use Rattle.std.proofs.Common.{
   length-append,
 }
 use Rattle.std.proofs.lemmas.Bool.{or_cases, or_left, or_right, eqb-true, cases_eq, eq-eqb, false≢true}
-use Rattle.kk_core.specs.Sizes.{AreBound}
+use Rattle.kk_core.specs.Sizes.{AreBound, most_variables}
 use Rattle.kk_syntax.specs.Shapes.{is_among}
 use Rattle.kk_syntax.specs.declared.program.Form.{Form}
 use Rattle.kk_syntax.specs.declared.program.Form.TheVariants.{
@@ -473,6 +473,60 @@ module _ (holds : ℕ → Bool) where
               let others = now_arms rest bound given middle has.1 gives.1 right_there keeps in
               ((one.0, others.0), λ base is. (one.1 base is.0, others.1 base is.1))
 
+-- ---- how many marks there are
+
+marked_short : (base x : ℕ) (mark : Bool) (marks : List Bool) → x < base → length marks ≤ base
+    → length (marked x mark marks) ≤ base
+marked_short zero x mark marks less short = absurd (omega (arith, less))
+marked_short (suc base) zero mark [] less short = omega arith
+marked_short (suc base) zero mark (old ∷ marks) less short = short
+marked_short (suc base) (suc x) mark [] less short =
+    let more = marked_short base x mark [] (omega (arith, less)) (omega arith) in omega (arith, more)
+marked_short (suc base) (suc x) mark (old ∷ marks) less short =
+    let more = marked_short base x mark marks (omega (arith, less)) (omega (arith, short)) in omega (arith, more)
+
+fields_short : (base : ℕ) (xs : List ℕ) (each marks : List Bool) → AreBelow base xs → length marks ≤ base
+    → length (all_marked xs each marks) ≤ base
+fields_short base [] each marks below short = short
+fields_short base (x ∷ xs) [] marks below short = short
+fields_short base (x ∷ xs) (mark ∷ each) marks below short =
+    fields_short base xs each (marked x mark marks) below.1 (marked_short base x mark marks below.0 short)
+
+module _ (table : CellMarks) (base : ℕ) where
+  mutual
+    -- the marks behind a code are of variables below its bound
+    behind_short : (code : Counted) (bound : List ℕ) (marks : List Bool) → AreNumbered base bound code → length marks ≤ base
+        → length (marks_behind table code marks) ≤ base
+    behind_short (give x) bound marks is short = short
+    behind_short (tail_call f arguments) bound marks is short = short
+    behind_short (branch x positive negative) bound marks is short =
+        behind_short negative bound (marks_behind table positive marks) is.1 (behind_short positive bound marks is.0 short)
+    behind_short (case x decisions arms) bound marks is short = arms_short arms bound marks is short
+    behind_short (compute x form arguments rest) bound marks is short =
+        behind_short rest (x ∷ bound) (marked x (mark_of_form table form arguments) marks) is.1.1
+        (marked_short base x (mark_of_form table form arguments) marks is.0 short)
+    behind_short (inside x block rest) bound marks is short =
+        let inner : List Bool = marks_behind table block marks in
+        behind_short rest (x ∷ bound) (marked x (mark_given (given_by block) inner) inner) is.1.1
+        (marked_short base x (mark_given (given_by block) inner) inner is.0 (behind_short block bound marks is.1.0 short))
+    behind_short (read x c fields rest) bound marks is short =
+        behind_short rest (fields ++ bound) (all_marked fields (field_marks table c) marks) is.1
+        (fields_short base fields (field_marks table c) marks is.0.0 short)
+    behind_short (open_cell x c fields used rest) bound marks is short =
+        behind_short rest (fields ++ bound) (all_marked fields (field_marks table c) marks) is.1
+        (fields_short base fields (field_marks table c) marks is.0.0 short)
+    behind_short (if_unique x c fields used rest) bound marks is short =
+        behind_short rest (fields ++ bound) (all_marked fields (field_marks table c) marks) is.1
+        (fields_short base fields (field_marks table c) marks is.0.0 short)
+    behind_short (dup x rest) bound marks is short = behind_short rest bound marks is short
+    behind_short (drop x rest) bound marks is short = behind_short rest bound marks is short
+
+    arms_short : (arms : CountedArms) (bound : List ℕ) (marks : List Bool) → AreArmsNumbered base bound arms
+        → length marks ≤ base → length (marks_behind_arms table arms marks) ≤ base
+    arms_short no_arm bound marks is short = short
+    arms_short (arm body rest) bound marks is short =
+        arms_short rest bound (marks_behind table body marks) is.1 (behind_short body bound marks is.0 short)
+
 -- ---- functions
 
 holds_at : (before : List Bool) (mark : Bool) (behind : List Bool) → holds_in (before ++ mark ∷ behind) (length before) ≡ mark
@@ -497,10 +551,11 @@ params_right holds before (mark ∷ each) k (suc n) is have =
       ap suc more.1,
     )
 
--- A function that can be lowered is marked by what is found, and its variables are numbered below its temporaries.
+-- A function that can be lowered is marked by what is found, and its variables are few, and numbered below its temporaries.
 pub record IsKnown (table : CellMarks) (f : ℕ) (function : CountedFunction) (marks : List Bool) : Type 0 where
   pub marked : IsMarked table (holds_in marks) f function
   pub few : function.parameters ≤ length marks
+  pub low : length marks ≤ most_variables
   pub numbered : AreNumbered (length marks) (numbers_from 0 function.parameters) function.body
 
 pub known : (table : CellMarks) (f : ℕ) (function : CountedFunction) → IsLowerable table f function
@@ -513,6 +568,7 @@ known table f function is = record {
     body_marked = at_last.0;
   };
   few = omega (arith, right.1, behind.keeps.0);
+  low = omega (arith, short, is.few);
   numbered = at_last.1 is.base is.numbered;
 }
   where
@@ -533,6 +589,9 @@ known table f function is = record {
 
     behind : Found is.holds table result result (given_by function.body) each last
     behind = found is.holds table result function.body params result each is.marked.body_marked is.gives right.0
+
+    short : length last ≤ is.base
+    short = behind_short table is.base function.body params each is.numbered (omega (arith, right.1, is.parameters_below))
 
     at_last : IsNow is.holds last table result params result function.body
     at_last = now is.holds last table result function.body params result each is.marked.body_marked is.gives right.0

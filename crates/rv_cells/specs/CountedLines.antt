@@ -6,6 +6,7 @@ use Rattle.kk_core.specs.Decisions.{NodeTree, chooses, tests}
 use Rattle.kk_core.specs.declared.decisions.Answer.{Answer}
 use Rattle.kk_core.specs.declared.decisions.Answer.TheVariants.{Number, Constructor}
 use Rattle.kk_core.specs.declared.decisions.Edge.{Edge}
+use Rattle.kk_counted.specs.Arms.{arm_count}
 use Rattle.kk_counted.specs.CountedCodes.{Counted, give, tail_call, branch, case, compute, inside, read, open_cell, if_unique, dup, drop, CountedArms, no_arm, arm, CountedFunction}
 use Rattle.rv_isa.specs.Arithmetic.{word_of}
 use Rattle.rv_isa.specs.declared.asm.Action.TheVariants.{Label, Jump, Branch, TailCall}
@@ -79,10 +80,6 @@ NodesLines layout base nodes arms x k (node ∷ more) lines =
     (first : List Line) × (rest : List Line) × NodeLines layout base nodes arms x node first
     × NodesLines layout base nodes arms x (suc k) more rest × (lines ≡ acts (Label (nodes + k)) [] ∷ (first ++ rest))
 
-abbrev pub count_arms : CountedArms → ℕ
-count_arms no_arm = 0
-count_arms (arm body rest) = suc (count_arms rest)
-
 -- ---- code
 
 -- which variables of a function are of types with cells, where its temporaries begin, how values look, and the texts
@@ -109,7 +106,7 @@ abbrev mutual
       × CodeLines setting goal middle negative no high
       × (lines ≡ test_lines setting.base x low ++ (yes ++ (acts (Label low) [] ∷ no)))
   CodeLines setting goal low (case x decisions arms) lines high =
-      (choice : List Line) × (bodies : List Line) × (nodes : ℕ) × (nodes ≡ low + count_arms arms)
+      (choice : List Line) × (bodies : List Line) × (nodes : ℕ) × (nodes ≡ low + arm_count arms)
       × NodesLines setting.layout setting.base nodes low x 0 decisions choice
       × ArmsLines setting goal low (nodes + length decisions) arms bodies high × (lines ≡ choice ++ bodies)
   CodeLines setting goal low (compute x form arguments rest) lines high =

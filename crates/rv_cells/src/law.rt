@@ -1,9 +1,11 @@
-ghost use Rattle.std.specs.Prelude.{◌≡◌, ◌<◌, ◌≤◌, ℕ, suc, ◌%◌, ◌^◌, Bool, List, [], ◌∷◌, length, All, Option, Some, None, true};
+ghost use Rattle.std.specs.Prelude.{◌≡◌, ◌<◌, ◌≤◌, ℕ, suc, ◌%◌, ◌^◌, Bool, List, [], ◌∷◌, length, All, Option, Some, None, true, slice_get};
 ghost use Rattle.cell_heap.specs.Pool.{Pool};
 ghost use Rattle.cell_heap.specs.Blocks.{Cells, own, with_block, with_word, request, unused_cells};
 ghost use Rattle.kk_source.specs.State.{Value, Cell};
 ghost use Rattle.kk_source.specs.Sound.{AllWithin};
-ghost use Rattle.kk_counted.specs.CountedCodes.{CountedProgram};
+ghost use Rattle.kk_counted.specs.CountedCodes.{CountedFunction, CountedProgram};
+ghost use Rattle.kk_counted.specs.declared.shape.Shape.{Shape};
+ghost use Rattle.kk_counted.specs.Lowerable.{AreLowerable};
 ghost use Rattle.kk_counted.specs.CountBounds.{AllSpendAtMost};
 ghost use Rattle.kk_counted.specs.CountedStates.{CountedSetting, CountedState};
 ghost use Rattle.kk_counted.specs.Keeping.{counted_after, FitsAlways, HasShapeAlways};
@@ -12,6 +14,8 @@ ghost use Rattle.kk_syntax.specs.PositionsOf.{PositionTable};
 ghost use Rattle.kk_counted.specs.Marks.{CellMarks, field_marks, AreMarked};
 ghost use Rattle.kk_counted.specs.Heaps.{Heap, count_at, set_count, fields_held, busy, dup_value, drop_value};
 ghost use Rattle.rv_cells.specs.Layout.{Layout, IsNarrow, FitsField};
+ghost use Rattle.rv_cells.specs.Lowered.{IsLoweredForm};
+ghost use Rattle.rv_cells.specs.Tables.{table_of, layout_in};
 ghost use Rattle.rv_cells.specs.Follows.{IsBlockOf, Owner, nobody, cell_of, in_hand, Follows, with_owner, assign, NoneInHand};
 ghost use Rattle.rv_isa.specs.AsmCode.{Lines};
 ghost use Rattle.rv_cells.specs.Costs.{counted_cost};
@@ -93,6 +97,17 @@ pub fn cells_in_hand_are_released()
     ensures { (pool : Pool) (layout : Layout) (address : ℕ → ℕ) (owners : ℕ → Owner) (heap : Heap) (cells : Cells)
         → Follows pool layout address owners heap cells
         → (at : ℕ) (words : ℕ → Option ℕ) → owners at ≡ in_hand words → Released pool layout address owners heap cells at }
+{}
+
+/// A program in counted form that can be lowered, and is so, is one whose assembler code is well formed, and which runs the same by the
+/// next law: where its shape has tags of a byte, six fields a constructor at most, and `False` and `True` first, and `main`, which has no
+/// parameters, is there. It is a law, and does nothing.
+pub fn lowered_programs_are_well_formed()
+    ensures { (shape : Shape) (code : CountedProgram) (texts : List (List ℕ)) (each : List Lines)
+        → AreLowerable (table_of shape) code.functions → IsLoweredForm shape code.texts code.functions each texts
+        → IsNarrow (layout_in shape) → (layout_in shape).tag 0 ≡ 0 → (layout_in shape).tag 1 ≡ 1
+        → (main : CountedFunction) → slice_get code.functions code.main ≡ Some main → main.parameters ≡ 0
+        → IsProgramLowered (layout_in shape) (table_of shape) code texts each }
 {}
 
 /// A program in counted form whose functions are all lowered runs the same as its assembler code, where each state of its run is not

@@ -26,7 +26,7 @@ below_less (suc n) v is = split (or_cases (n == v) (is_bound (below n) v) is) (b
     split (inl same) later = let e = eqb-true n v same in omega (arith, e)
     split (inr is) later = let less = later is in omega (arith, less)
 
-among_from_to : (at n v : ℕ) → at ≤ v → v < at + n → is_among v (from_to at n) ≡ true
+pub among_from_to : (at n v : ℕ) → at ≤ v → v < at + n → is_among v (from_to at n) ≡ true
 among_from_to at zero v le less = absurd (omega (arith, le, less))
 among_from_to at (suc n) v le less = split (cases_eq at v) (λ above under. among_from_to (at + 1) n v above under)
   where
@@ -42,15 +42,15 @@ from_to_above at zero v less = refl
 from_to_above at (suc n) v less =
     ap (λ b. b || is_among v (from_to (at + 1) n)) (ne_eqb at v (λ same. absurd (omega (arith, same, less)))) ∙ from_to_above (at + 1) n v (omega (arith, less))
 
-from_to_distinct : (at n : ℕ) → AreDistinct (from_to at n)
+pub from_to_distinct : (at n : ℕ) → AreDistinct (from_to at n)
 from_to_distinct at zero = tt
 from_to_distinct at (suc n) = (from_to_above (at + 1) n at (omega arith), from_to_distinct (at + 1) n)
 
-from_to_length : (at n : ℕ) → length (from_to at n) ≡ n
+pub from_to_length : (at n : ℕ) → length (from_to at n) ≡ n
 from_to_length at zero = refl
 from_to_length at (suc n) = ap suc (from_to_length (at + 1) n)
 
-from_to_each : (P : ℕ → Type 0) (at n : ℕ) → ((v : ℕ) → v < at + n → P v) → Each P (from_to at n)
+pub from_to_each : (P : ℕ → Type 0) (at n : ℕ) → ((v : ℕ) → v < at + n → P v) → Each P (from_to at n)
 from_to_each P at zero each = tt
 from_to_each P at (suc n) each = (each at (omega arith), from_to_each P (at + 1) n (λ v less. each v (omega (arith, less))))
 

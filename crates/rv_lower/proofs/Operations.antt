@@ -255,7 +255,7 @@ module _ (base : ℕ) (bound : List ℕ) (has : HasRoom base bound) (x : ℕ) (l
       left v other (inr is) = is
 
   -- the lines of a call
-  call_lines : (f : ℕ) (arguments : List ℕ) → length arguments ≤ 8 → AreBound bound arguments
+  pub call_lines : (f : ℕ) (arguments : List ℕ) → length arguments ≤ 8 → AreBound bound arguments
       → Serves (copies base arguments ++ record { action = OfAction.Call f; args = temporaries base arguments; into = Some x } ∷ [])
   call_lines f arguments few each =
       serves (length arguments + 1) _ (omega (arith, few)) (leads_then (Before base) (Before (base + length arguments)) (Behind base) (length arguments) 1 (copies base arguments) _ (copied base bound has arguments few each)
