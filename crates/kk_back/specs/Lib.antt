@@ -1,1 +1,4 @@
+pub mod Sizes
+pub mod Assembled
 pub mod Images
+pub mod CountedImages

@@ -1,42 +1,14 @@
-use Rattle.std.proofs.Common.{◌≡◌, ◌+◌, ◌*◌, ◌%◌, ◌≤◌, ℕ, List, length, sym, subst, ◌∙◌, ap, arith}
 use Rattle.kk_core.specs.Codes.{core_code}
-use Rattle.rv_isa.specs.PlacedCode.{placed_functions}
-use Rattle.elf_image.specs.Parts.{greatest_end}
-use Rattle.elf_image.specs.Program.{greatest_text, memory_start, program_parts}
-use Rattle.cell_runtime.specs.Texts.{IsText}
-use Rattle.rv_place.specs.Addresses.{frame_size}
-use Rattle.kk_back.proofs.Imaging.{Makes, makes_of, placeable, fits, image_of}
-use Rattle.kk_back.proofs.Placeable.{slots_most, frame_most}
+use Rattle.rv_isa.specs.AsmCode.{asm_functions, asm_constants}
+use Rattle.kk_back.proofs.Imaging.{placeable_of, image_is}
 use Rattle.kk_back.proofs.image.Goals as goal
 
-pub frame_bytes-requires : goal.frame_bytes-requires
-frame_bytes-requires c = let few = slots_most (placed_functions c.in_ok-program.program) c.in_ok-program.ensures.shape.slots in omega (arith, few)
-
-pub text-requires-clause-frame : goal.text-requires-clause-frame
-text-requires-clause-frame c =
-    let small : frame_size (placed_functions c.in_ok-program.program) ≤ 2044 = frame_most (placed_functions c.in_ok-program.program) c.in_ok-program.ensures.shape.slots in
-    let is : c.frame_bytes.result ≡ frame_size (placed_functions c.in_ok-program.program) = c.frame_bytes.ensures in
-    omega (arith, small, is)
-
-pub place-requires : goal.place-requires
-place-requires c = record {
-  placeable =
-      placeable (core_code c.args.core.now) c.args.cells c.args.depth c.in_ok-asm.asm c.in_ok-program.program c.in_ok-runtime.runtime c.requires.small c.in_ok-asm.ensures
-      c.in_ok-program.ensures.valid c.in_ok-program.ensures.shape
-      (subst (λ (frame : ℕ). IsText c.args.cells c.args.depth frame c.in_ok-runtime.runtime) c.frame_bytes.ensures c.in_ok-runtime.ensures) c.requires.sizes;
-}
-
-pub program-requires-clause-text_fits : goal.program-requires-clause-text_fits
-program-requires-clause-text_fits c =
-    subst (λ (text : List ℕ). length text ≤ greatest_text) (sym c.from_vec.ensures) (fits (makes_of {frame = c.frame_bytes.result} c.requires.small c.requires.sizes c.in_ok-asm.ensures c.in_ok-program.ensures.valid c.in_ok-program.ensures.shape c.frame_bytes.ensures c.in_ok-runtime.ensures c.in_ok-words.ensures c.in_ok-bytes.ensures)).text_fits
-
-pub program-requires-clause-memory_fits : goal.program-requires-clause-memory_fits
-program-requires-clause-memory_fits c =
-    subst (λ (text : List ℕ). memory_start (length text) + c.in_ok-runtime.runtime.memory.size ≤ greatest_end) (sym c.from_vec.ensures)
-    (fits (makes_of {frame = c.frame_bytes.result} c.requires.small c.requires.sizes c.in_ok-asm.ensures c.in_ok-program.ensures.valid c.in_ok-program.ensures.shape c.frame_bytes.ensures c.in_ok-runtime.ensures c.in_ok-words.ensures c.in_ok-bytes.ensures)).memory_fits
+pub assembled-requires-clause-placeable : goal.assembled-requires-clause-placeable
+assembled-requires-clause-placeable c =
+    placeable_of (core_code c.args.core.now) (asm_functions c.in_ok-asm.asm) (asm_constants c.in_ok-asm.asm) c.requires.small c.in_ok-asm.ensures
 
 pub returns : goal.returns
 returns c =
-    image_of (makes_of {frame = c.frame_bytes.result} c.requires.small c.requires.sizes c.in_ok-asm.ensures c.in_ok-program.ensures.valid c.in_ok-program.ensures.shape c.frame_bytes.ensures c.in_ok-runtime.ensures c.in_ok-words.ensures c.in_ok-bytes.ensures) c.placed_text_agrees.ensures c.placed_text_ends_with_its_cells.ensures
-    c.in_ok-image.image.entry c.in_ok-image.image.parts c.in_ok-image.ensures.is_program c.in_ok-image.ensures.entry
-    (c.in_ok-image.ensures.parts ∙ ap (λ (text : List ℕ). program_parts text c.in_ok-runtime.runtime.memory.size) c.from_vec.ensures)
+    image_is (core_code c.args.core.now) (asm_functions c.in_ok-asm.asm) (asm_constants c.in_ok-asm.asm) c.requires.small c.in_ok-asm.ensures
+    c.args.cells c.args.depth c.in_ok-made.made.entry c.in_ok-made.made.parts c.requires.sizes
+    (c.in_ok-made.ensures c.in_ok-asm.ensures.main c.in_ok-asm.ensures.main_is)

@@ -1,0 +1,259 @@
+-- The image of assembler code does what that code does, layer by layer: the placed code and the processor.
+use Rattle.std.proofs.Common.{◌≡◌, ◌+◌, ◌*◌, ◌%◌, ◌^◌, ◌<◌, ◌≤◌, ◌≢◌, ℕ, List, [], ◌∷◌, All, Some, length, slice_get, refl, sym, ap, subst, ◌∙◌, arith}
+use Rattle.kk_base.specs.Agreements.{Agree}
+use Rattle.kk_base.specs.Machines.{state}
+use Rattle.kk_base.specs.Sizes.{AreSizes}
+use Rattle.kk_base.proofs.Agreements.{agree_through}
+use Rattle.kk_base.proofs.Simulations.{simulates_many}
+use Rattle.rv_isa.specs.declared.asm.Asm.{Asm}
+use Rattle.rv_isa.specs.declared.placed.DataSection.{DataSection}
+use Rattle.rv_isa.specs.declared.placed.Placed.{Placed}
+use Rattle.rv_isa.specs.AsmCode.{Lines, asm_functions, asm_constants}
+use Rattle.rv_isa.specs.AsmMachine.{AsmTurn, asm_machine, asm_start}
+use Rattle.rv_isa.specs.PlacedCode.{PlacedLines, placed_functions, placed_constants}
+use Rattle.rv_isa.specs.PlacedMachine.{PlacedTurn, placed_machine, placed_start}
+use Rattle.rv_isa.specs.Primitives.{go, ended, stuck}
+use Rattle.rv_isa.specs.Processor.{Ending, start, goes}
+use Rattle.rv_isa.specs.Execution.{rv32im, run}
+use Rattle.rv_isa.specs.ProcessorMachine.{processor_machine}
+use Rattle.rv_isa.specs.WellFormed.{all_lines}
+use Rattle.elf_image.specs.Parts.{memory_of}
+use Rattle.elf_image.specs.Program.{IsProgramImage, program_parts, text_start, memory_start}
+use Rattle.elf_image.specs.declared.part.Part.{Part}
+use Rattle.cell_heap.specs.Pool.{Pool}
+use Rattle.cell_runtime.specs.Layouts.{next_page}
+use Rattle.cell_runtime.specs.Texts.{IsText}
+use Rattle.rv_world.specs.Operations.{Constants, all_bytes}
+use Rattle.rv_world.specs.World.{World, first_world, primitives}
+use Rattle.rv_regs.specs.Valid.{IsValid}
+use Rattle.rv_regs.specs.Shape as Shape
+use Rattle.rv_regs.specs.Shape.{IsPlainlyPlaced, most_moves}
+use Rattle.rv_regs.specs.Relation.{NeverStuck as RegsNeverStuck, StandsFor as RegsStandsFor, Related as RegsRelated, IsNotStuck}
+use Rattle.rv_regs.proofs.Simulating.{agrees, starts, simulates, never_stuck}
+use Rattle.rv_place.specs.Addresses.{frame_size}
+use Rattle.rv_place.specs.Bytes.{IsTextOf}
+use Rattle.rv_place.specs.Images.{IsPlacedImage, EndsWithCells, first_processor, outside_lines}
+use Rattle.rv_place.specs.Running.{NeverStuck}
+use Rattle.rv_place.specs.Texts.{ArePlaceable, ArePlacedWords, map_of, pool_in, constants_of, text_bytes, all_items}
+use Rattle.rv_place.proofs.BootFits.{FitsImage, fits-image}
+use Rattle.rv_place.proofs.BootSizes.{bytes_most, page_multiple}
+use Rattle.rv_place.specs.declared.words.Words.{Words}
+use Rattle.kk_back.specs.Assembled.{IsPlaceable, IsAsmImage}
+use Rattle.kk_back.specs.Sizes.{FitsText}
+use Rattle.kk_back.proofs.Placeable.{frame_most, as_many}
+use Rattle.kk_back.proofs.Plain.{placed_is_plain}
+
+-- ---- a runtime and a program that can be placed
+
+same_items : (functions : List PlacedLines) → all_items functions ≡ Shape.all_items functions
+same_items [] = refl
+same_items (function ∷ functions) = ap (λ n. length function.code + n) (same_items functions)
+
+-- what the layers before the placing promise can be placed behind the runtime
+pub placeable : (cells depth : ℕ) (asm : Asm) (placed runtime : Placed) → IsPlaceable (asm_functions asm) (asm_constants asm)
+    → IsValid asm placed → IsPlainlyPlaced (asm_functions asm) placed → IsText cells depth (frame_size (placed_functions placed)) runtime
+    → AreSizes cells depth → ArePlaceable runtime placed
+placeable cells depth asm placed runtime made valid plain runtime_is sizes =
+    let functions : List Lines = asm_functions asm in
+    let placed_are : List PlacedLines = placed_functions placed in
+    let same : length placed_are ≡ length functions = as_many functions placed_are valid.functions in
+    let frame : frame_size placed_are ≤ 2044 = frame_most placed_are plain.slots in
+    let few : length functions < 1025 = made.few in
+    let lines : all_lines functions ≤ 698000 = made.fits.lines in
+    let items : Shape.all_items placed_are ≤ 12 * all_lines functions + 8 * length functions = plain.few_items in
+    let bytes : length (all_bytes (placed_constants placed)) ≡ length (all_bytes (asm_constants asm)) = ap (λ (texts : List (List ℕ)). length (all_bytes texts)) valid.constants in
+    let most : length (all_bytes (asm_constants asm)) ≤ 8388608 = made.fits.bytes in
+    let bottom_is : runtime.memory.stack_bottom ≡ next_page (32 + 32 * cells + 4) = ap (λ (memory : DataSection). memory.stack_bottom) runtime_is.memory in
+    record {
+      lines = runtime_is.within;
+      runtime_size = omega (arith, runtime_is.words);
+      bottom = omega (arith, bottom_is, sizes.few_cells);
+      bottom_page = omega (arith, bottom_is, page_multiple (32 + 32 * cells + 4));
+      frames = frame;
+      few_functions = omega (arith, same, few);
+      few_items = omega (arith, same_items placed_are, lines, items, few);
+      few_bytes = omega (arith, bytes, most);
+    }
+
+-- ---- the layers
+
+pub same_some : {A : Type 0} (a b : A) → Some a ≡ Some b → a ≡ b
+same_some a b same = cc
+
+-- what a layer below the placing is promised of an image
+abbrev pub PlacedTextAgrees : Type 0
+PlacedTextAgrees =
+    (cells depth : ℕ) (runtime program : Placed) (words : Words) (text input : List ℕ) (main : PlacedLines)
+    → IsPlacedImage cells depth runtime program words text main → All (λ byte. byte < 256) input
+    → NeverStuck (map_of runtime program) (pool_in cells runtime program) (placed_functions program) depth (placed_start main (first_world (pool_in cells runtime program) input))
+    → (up : ℕ → ℕ) × Agree (placed_machine (primitives (constants_of runtime program) (pool_in cells runtime program)) depth (placed_functions program)) (processor_machine rv32im) outside_lines up (placed_start main (first_world (pool_in cells runtime program) input)) (goes (first_processor text runtime.memory.size input))
+
+-- and of how it ends
+abbrev pub PlacedTextEnds : Type 0
+PlacedTextEnds =
+    (cells depth : ℕ) (runtime program : Placed) (words : Words) (text input : List ℕ) (main : PlacedLines)
+    → IsPlacedImage cells depth runtime program words text main → All (λ byte. byte < 256) input
+    → NeverStuck (map_of runtime program) (pool_in cells runtime program) (placed_functions program) depth (placed_start main (first_world (pool_in cells runtime program) input))
+    → (steps : ℕ) (how : Ending) (world : World)
+    → state (placed_machine (primitives (constants_of runtime program) (pool_in cells runtime program)) depth (placed_functions program)) steps (placed_start main (first_world (pool_in cells runtime program) input)) ≡ ended how world
+    → (count : ℕ) × EndsWithCells (pool_in cells runtime program) how world (run count (first_processor text runtime.memory.size input))
+
+-- Assembler code, its runtime and the text that is made of both.
+pub record Makes (cells depth : ℕ) (asm : Asm) (placed runtime : Placed) (words : Words) (text : List ℕ) : Type 0 where
+  pub sizes : AreSizes cells depth
+  pub made : IsPlaceable (asm_functions asm) (asm_constants asm)
+  pub valid : IsValid asm placed
+  pub plain : IsPlainlyPlaced (asm_functions asm) placed
+  pub runtime_is : IsText cells depth (frame_size (placed_functions placed)) runtime
+  pub words_are : ArePlacedWords runtime placed words
+  pub text_is : IsTextOf words text
+
+pub makes_of : {cells depth frame : ℕ} {asm : Asm} {placed runtime : Placed} {words : Words} {text : List ℕ} → AreSizes cells depth
+    → IsPlaceable (asm_functions asm) (asm_constants asm) → IsValid asm placed → IsPlainlyPlaced (asm_functions asm) placed
+    → frame ≡ frame_size (placed_functions placed) → IsText cells depth frame runtime → ArePlacedWords runtime placed words
+    → IsTextOf words text → Makes cells depth asm placed runtime words text
+makes_of {cells} {depth} {frame} {asm} {placed} {runtime} {words} {text} sizes made valid plain frame_is runtime_is words_are text_is =
+    record {
+      sizes = sizes;
+      made = made;
+      valid = valid;
+      plain = plain;
+      runtime_is = subst (λ (frame : ℕ). IsText cells depth frame runtime) frame_is runtime_is;
+      words_are = words_are;
+      text_is = text_is;
+    }
+
+-- a turn that stands for an end is that end
+ended_alike : (how : Ending) (world : World) (t : PlacedTurn World Ending) → RegsStandsFor (ended how world) t → t ≡ ended how world
+ended_alike how world (go t) stands = absurd stands
+ended_alike how world (ended other shared) stands = cc (stands.0, stands.1)
+ended_alike how world stuck stands = absurd stands
+
+module _ {cells depth : ℕ} {asm : Asm} {placed runtime : Placed} {words : Words} {text : List ℕ} (makes : Makes cells depth asm placed runtime words text) where
+  pub can_be_placed : ArePlaceable runtime placed
+  can_be_placed = placeable cells depth asm placed runtime makes.made makes.valid makes.plain makes.runtime_is makes.sizes
+
+  pub fits : FitsImage runtime text
+  fits = fits-image makes.sizes.few_cells makes.sizes.small_depth makes.runtime_is can_be_placed makes.words_are makes.text_is
+
+  -- where the constants begin, and the constants as the assembler code has them
+  abbrev first : ℕ
+  first = (constants_of runtime placed).first
+
+  -- where the cells stand
+  abbrev pool : Pool
+  pool = pool_in cells runtime placed
+
+  abbrev constants : Constants
+  constants = record { first = first; texts = asm_constants asm }
+
+  abbrev main : Lines
+  main = makes.made.main
+
+  same_constants : constants_of runtime placed ≡ constants
+  same_constants = ap (λ (texts : List (List ℕ)). record { first = first; texts = texts }) makes.valid.constants
+
+  constants_fit : first + length (all_bytes (asm_constants asm)) < 2 ^ 32
+  constants_fit =
+      let most : text_bytes runtime placed ≤ 176193536 = bytes_most can_be_placed in
+      let bytes : length (all_bytes (placed_constants placed)) ≡ length (all_bytes (asm_constants asm)) = ap (λ (texts : List (List ℕ)). length (all_bytes texts)) makes.valid.constants in
+      omega (arith, most, bytes)
+
+  module _ (input : List ℕ) (bytes : All (λ byte. byte < 256) input)
+      (never : RegsNeverStuck (primitives constants pool) depth (asm_functions asm) (asm_start main (first_world pool input))) where
+    -- the assembler code agrees with the placed code from its first function on, which never is at a loss
+    placed_agrees : (placed_main : PlacedLines) × (slice_get (placed_functions placed) 0 ≡ Some placed_main)
+        × Agree (asm_machine (primitives constants pool) most_moves depth (asm_functions asm)) (placed_machine (primitives constants pool) depth (placed_functions placed)) 0 (λ steps. steps * 1 + 0 + 1) (asm_start main (first_world pool input)) (placed_start placed_main (first_world pool input))
+    placed_agrees = agrees (primitives constants pool) depth (asm_functions asm) (placed_functions placed) makes.valid.functions most_moves 0 main (first_world pool input) makes.plain.few_moves makes.made.main_is makes.made.main_params never
+
+    goes_on : (placed_main : PlacedLines) × (slice_get (placed_functions placed) 0 ≡ Some placed_main)
+        × ((steps : ℕ) → state (placed_machine (primitives constants pool) depth (placed_functions placed)) steps (placed_start placed_main (first_world pool input)) ≢ stuck)
+    goes_on = never_stuck (primitives constants pool) depth (asm_functions asm) (placed_functions placed) makes.valid.functions most_moves 0 main (first_world pool input) makes.plain.few_moves makes.made.main_is makes.made.main_params never
+
+    same_main : placed_agrees.0 ≡ goes_on.0
+    same_main = same_some placed_agrees.0 goes_on.0 (sym placed_agrees.1 ∙ goes_on.1)
+
+    -- the placed image
+    placed_image : IsPlacedImage cells depth runtime placed words text placed_agrees.0
+    placed_image = record {
+      sizes = makes.sizes;
+      runtime_is = makes.runtime_is;
+      placeable = can_be_placed;
+      plain = placed_is_plain asm placed makes.valid makes.made.formed;
+      words_are = makes.words_are;
+      text_is = makes.text_is;
+      first = placed_agrees.1;
+    }
+
+    placed_never : NeverStuck (map_of runtime placed) pool (placed_functions placed) depth (placed_start placed_agrees.0 (first_world pool input))
+    placed_never =
+        subst (λ (c : Constants). (steps : ℕ) → state (placed_machine (primitives c pool) depth (placed_functions placed)) steps (placed_start placed_agrees.0 (first_world pool input)) ≢ stuck) (sym same_constants)
+        (subst (λ (placed_main : PlacedLines). (steps : ℕ) → state (placed_machine (primitives constants pool) depth (placed_functions placed)) steps (placed_start placed_main (first_world pool input)) ≢ stuck) (sym same_main) goes_on.2)
+
+    pub does : PlacedTextAgrees
+        → (up : ℕ → ℕ) × Agree (asm_machine (primitives constants pool) most_moves depth (asm_functions asm)) (processor_machine rv32im) outside_lines up
+        (asm_start main (first_world pool input)) (goes (first_processor text runtime.memory.size input))
+    does text_agrees =
+        let image = text_agrees cells depth runtime placed words text input placed_agrees.0 placed_image bytes placed_never in
+        let whole : PlacedTurn World Ending = placed_start placed_agrees.0 (first_world pool input) in
+        let low = subst (λ (c : Constants). Agree (placed_machine (primitives c pool) depth (placed_functions placed)) (processor_machine rv32im) outside_lines image.0 whole (goes (first_processor text runtime.memory.size input))) same_constants image.1 in (
+          (λ m. image.0 m * 1 + 0 + 1),
+          agree_through (asm_machine (primitives constants pool) most_moves depth (asm_functions asm)) (placed_machine (primitives constants pool) depth (placed_functions placed)) (processor_machine rv32im)
+              0 outside_lines (λ steps. steps * 1 + 0 + 1) image.0 (asm_start main (first_world pool input)) whole (goes (first_processor text runtime.memory.size input)) placed_agrees.2 low,
+        )
+
+    -- where the assembler code has ended, so has the placed code
+    placed_ends : (n : ℕ) (how : Ending) (world : World)
+        → state (asm_machine (primitives constants pool) most_moves depth (asm_functions asm)) n (asm_start main (first_world pool input)) ≡ ended how world
+        → (steps : ℕ) × (state (placed_machine (primitives constants pool) depth (placed_functions placed)) steps (placed_start placed_agrees.0 (first_world pool input)) ≡ ended how world)
+    placed_ends n how world is =
+        let begins = starts (primitives constants pool) depth (asm_functions asm) (placed_functions placed) makes.valid.functions most_moves 0 main (first_world pool input) makes.plain.few_moves makes.made.main_is makes.made.main_params never in
+        let same : begins.0 ≡ placed_agrees.0 = same_some begins.0 placed_agrees.0 (sym begins.1 ∙ placed_agrees.1) in
+        let reaches = simulates_many (asm_machine (primitives constants pool) most_moves depth (asm_functions asm)) (placed_machine (primitives constants pool) depth (placed_functions placed))
+        (RegsRelated (primitives constants pool) most_moves depth (asm_functions asm)) IsNotStuck 1 (simulates (primitives constants pool) depth (asm_functions asm) (placed_functions placed) makes.valid.functions most_moves makes.plain.few_moves)
+        n 0 0 (asm_start main (first_world pool input)) (placed_start begins.0 (first_world pool input)) begins.2 in
+        let last = state (placed_machine (primitives constants pool) depth (placed_functions placed)) reaches.steps (placed_start begins.0 (first_world pool input)) in
+        let stands = subst (λ (t : AsmTurn World Ending). RegsStandsFor t last) is reaches.related.1.0 in (
+          reaches.steps,
+          subst (λ (m : PlacedLines). state (placed_machine (primitives constants pool) depth (placed_functions placed)) reaches.steps (placed_start m (first_world pool input)) ≡ ended how world) same (ended_alike how world last stands),
+        )
+
+    pub ends : PlacedTextEnds → (n : ℕ) (how : Ending) (world : World)
+        → state (asm_machine (primitives constants pool) most_moves depth (asm_functions asm)) n (asm_start main (first_world pool input)) ≡ ended how world
+        → (count : ℕ) × EndsWithCells pool how world (run count (first_processor text runtime.memory.size input))
+    ends text_ends n how world is =
+        let there = placed_ends n how world is in
+        let on_constants = subst (λ (c : Constants). state (placed_machine (primitives c pool) depth (placed_functions placed)) there.0 (placed_start placed_agrees.0 (first_world pool input)) ≡ ended how world) (sym same_constants) there.1 in
+        text_ends cells depth runtime placed words text input placed_agrees.0 placed_image bytes placed_never there.0 how world on_constants
+
+memory_aligned : (text : ℕ) → (memory_start text + 32) % 32 ≡ 0
+memory_aligned text = omega arith
+
+-- The image of the text, with the memory that the runtime asks for, is an image of the assembler code.
+pub image_of : {cells depth : ℕ} {asm : Asm} {placed runtime : Placed} {words : Words} {text : List ℕ}
+    (makes : Makes cells depth asm placed runtime words text) → PlacedTextAgrees → PlacedTextEnds
+    → (entry : ℕ) (parts : List Part) → IsProgramImage entry parts → entry ≡ text_start → parts ≡ program_parts text runtime.memory.size
+    → IsAsmImage (asm_functions asm) (asm_constants asm) makes.made.main cells depth entry parts
+image_of {cells} {depth} {asm} {placed} {runtime} {words} {text} makes text_agrees text_ends entry parts program entry_is parts_are =
+    let there : start (memory_of parts) entry ≡ start (memory_of (program_parts text runtime.memory.size)) text_start
+    = ap (λ (p : List Part). start (memory_of p) entry) parts_are ∙ ap (λ e. start (memory_of (program_parts text runtime.memory.size)) e) entry_is in
+    record {
+      program = program;
+      pool = pool makes;
+      cells_are = refl;
+      aligned = memory_aligned (text_bytes runtime placed);
+      behind = omega arith;
+      first = first makes;
+      constants_fit = constants_fit makes;
+      does = λ input bytes never.
+          let whole = does makes input bytes never text_agrees in (
+            whole.0,
+            subst (λ (s : _). Agree (asm_machine (primitives (constants makes) (pool makes)) most_moves depth (asm_functions asm)) (processor_machine rv32im) outside_lines whole.0 (asm_start makes.made.main (first_world (pool makes) input)) (goes (s input))) (sym there)
+                whole.1,
+          );
+      ends = λ input bytes never steps how world is.
+          let whole = ends makes input bytes never text_ends steps how world is in (
+            whole.0,
+            subst (λ (s : _). EndsWithCells (pool makes) how world (run whole.0 (s input))) (sym there) whole.1,
+          );
+    }

@@ -1,0 +1,74 @@
+-- Where all cells of the world are free, so are all cells of the image.
+use Rattle.std.proofs.Common.{◌≡◌, ◌≢◌, ◌+◌, ◌*◌, ◌<◌, ◌≤◌, ◌%◌, ◌/◌, ◌^◌, ℕ, Bool, true, false, List, [], ◌∷◌, length, Option, Some, None, nat_lt, refl, sym, ap, ◌∙◌, arith}
+use Rattle.std.specs.Prelude.{if◌then◌else◌}
+use Rattle.cell_heap.specs.Blocks.{Block, no_block, unused, own, kept, Cells, seen, seen_with, seen_cells, fields_of, view_of}
+use Rattle.cell_heap.specs.Cells.{Cell, no_cell, free, token, counted, occurs}
+use Rattle.cell_heap.specs.Counts.{total}
+use Rattle.cell_heap.specs.FreeCells.{ListsFree}
+use Rattle.cell_heap.specs.Pool.{Pool, IsCell, places}
+use Rattle.cell_heap.proofs.Counted.{cells_from-member, length-cells_from, length-total}
+use Rattle.cell_heap.proofs.FreeCells.{free_list-lists}
+use Rattle.cell_heap.proofs.Frames.{shown-cell, free-some}
+use Rattle.cell_heap.proofs.Sums.{occurs-cells, occurs-same, occurs-other, occurs-first, occurs-later}
+use Rattle.rv_isa.specs.FreeCells.{free_list, free_cells}
+use Rattle.rv_isa.specs.Processor.{Processor}
+use Rattle.rv_cells.specs.Meaning.{AreFree}
+use Rattle.rv_place.specs.Running.{HasCells}
+
+-- a sum of ones
+total-ones : (f : ℕ → ℕ) (xs : List ℕ) → ((x : ℕ) → occurs x xs ≢ 0 → f x ≡ 1) → total f xs ≡ length xs
+total-ones f [] each = refl
+total-ones f (x ∷ xs) each =
+    let here : f x ≡ 1 = each x (occurs-first x xs) in
+    let rest = total-ones f xs (λ y some. each y (occurs-later y x xs some)) in
+    omega (arith, here, rest)
+
+-- what is seen as free is unused
+by_test : (b : Bool) (one other : Cell) → one ≢ free → other ≢ free → (if b then one else other) ≢ free
+by_test true one other first second = first
+by_test false one other first second = second
+
+seen_words : (count header : Option ℕ) (fields : List ℕ) → seen_with count header fields ≢ free
+seen_words None header fields is = cc
+seen_words (Some count) None fields is = cc
+seen_words (Some count) (Some header) fields =
+    by_test (nat_lt (header / 256) (2 ^ length fields)) (counted count (record { tag = header % 256; mask = header / 256; fields = fields })) (token fields)
+    (λ is. cc) (λ is. cc)
+
+pub all_are_free : (pool : Pool) (cells : Cells) (s : Processor) → AreFree pool cells → HasCells pool cells s
+    → free_cells pool.cells s ≡ pool.cells
+all_are_free pool cells s free_are has =
+    let list = free_list pool.cells s in
+    let lists : ListsFree (seen_cells cells) list = free_list-lists pool (view_of cells has.0) s has.1.memory in
+    let counted_there = length-total list (places pool) (λ x some. listed x some lists) in
+    let ones = total-ones (λ p. occurs p list) (places pool) (λ x some. once x some lists) in
+    let many = length-cells_from pool.first pool.cells in
+    sym counted_there ∙ ones ∙ many
+  where
+    aligned : pool.first % 32 ≡ 0
+    aligned = has.1.memory.usable.aligned
+
+    place_is : (x : ℕ) → occurs x (places pool) ≢ 0 → IsCell pool x
+    place_is x some =
+        let member = cells_from-member x pool.first pool.cells some in
+        record { behind = member.0; before = member.1; aligned = member.2 ∙ aligned }
+
+    once : (x : ℕ) → occurs x (places pool) ≢ 0 → ListsFree (seen_cells cells) (free_list pool.cells s) → occurs x (free_list pool.cells s) ≡ 1
+    once x some lists = lists.once x (ap seen (free_are x (place_is x some)))
+
+    of_block : (x : ℕ) (block : Block) → cells.blocks x ≡ block → occurs x (free_list pool.cells s) ≢ 0
+        → ListsFree (seen_cells cells) (free_list pool.cells s) → seen_cells cells x ≡ free
+    of_block x no_block is some lists = absurd (some (lists.no_other x (λ same. let all : no_cell ≡ free = sym (ap seen is) ∙ same in cc)))
+    of_block x unused is some lists = ap seen is
+    of_block x (own words) is some lists =
+        absurd (some (lists.no_other x (λ same. seen_words (words 0) (words 1) (fields_of words) (sym (ap seen is) ∙ same))))
+    of_block x (kept words) is some lists =
+        absurd (some (lists.no_other x (λ same. let all : token (fields_of words) ≡ free = sym (ap seen is) ∙ same in cc)))
+
+    listed : (x : ℕ) → occurs x (free_list pool.cells s) ≢ 0 → ListsFree (seen_cells cells) (free_list pool.cells s) → occurs x (places pool) ≡ 1
+    listed x some lists =
+        let is_free = of_block x (cells.blocks x) refl some lists in
+        let cell = shown-cell has.1.memory.shown x free is_free free-some in
+        let low = cell.behind in
+        let high = cell.before in
+        occurs-cells x pool.first pool.cells low high (aligned ∙ sym cell.aligned)

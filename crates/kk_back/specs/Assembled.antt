@@ -1,0 +1,60 @@
+-- The image of assembler code: the loaded image does what the machine of assembler code does. Only private functions speak of it.
+use Rattle.std.specs.Prelude.{◌≡◌, ◌≢◌, ℕ, ◌+◌, ◌%◌, ◌^◌, ◌<◌, List, [], All, Some, length, slice_get}
+use Rattle.kk_base.specs.Agreements.{Agree}
+use Rattle.kk_base.specs.Machines.{state}
+use Rattle.cell_heap.specs.Pool.{Pool}
+use Rattle.elf_image.specs.Parts.{memory_of}
+use Rattle.elf_image.specs.Program.{IsProgramImage}
+use Rattle.elf_image.specs.declared.part.Part.{Part}
+use Rattle.rv_isa.specs.AsmCode.{Lines}
+use Rattle.rv_isa.specs.AsmMachine.{asm_machine, asm_start}
+use Rattle.rv_isa.specs.Execution.{rv32im, run}
+use Rattle.rv_isa.specs.Primitives.{ended, stuck}
+use Rattle.rv_isa.specs.Processor.{Ending, start, goes}
+use Rattle.rv_isa.specs.ProcessorMachine.{processor_machine}
+use Rattle.rv_isa.specs.WellFormed.{AreWellFormed}
+use Rattle.rv_place.specs.Images.{EndsWithCells, outside_lines}
+use Rattle.rv_regs.specs.Shape.{most_moves}
+use Rattle.rv_world.specs.Operations.{Constants, all_bytes}
+use Rattle.rv_world.specs.World.{World, first_world, primitives}
+use Rattle.kk_back.specs.Sizes.{FitsText}
+
+-- Assembler code that can be placed: it is well formed and small, its functions are few, and the first one takes no arguments.
+pub record IsPlaceable (functions : List Lines) (texts : List (List ℕ)) : Type 0 where
+  pub formed : AreWellFormed functions
+  pub fits : FitsText functions texts
+  pub few : length functions < 1025
+  pub main : Lines
+  pub main_is : slice_get functions 0 ≡ Some main
+  pub main_params : main.params ≡ []
+
+-- An image of assembler code, for so many cells and such a depth, by where its cells and its constants stand. On each input on which
+-- that code never is at a loss, the processor's machine agrees with the code's; and where the code ends, so does the processor, whose
+-- memory has the cells of the world then.
+pub record IsAsmImage (functions : List Lines) (texts : List (List ℕ)) (main : Lines) (cells depth entry : ℕ) (parts : List Part)
+    : Type 0 where
+  pub program : IsProgramImage entry parts
+  pub pool : Pool
+  pub cells_are : pool.cells ≡ cells
+  pub aligned : pool.first % 32 ≡ 0
+  pub behind : 0 < pool.first
+  pub first : ℕ
+  pub constants_fit : first + length (all_bytes texts) < 2 ^ 32
+  pub does : (input : List ℕ) → All (λ byte. byte < 256) input
+      → ((n : ℕ) → state (asm_machine (primitives (record { first = first; texts = texts }) pool) 0 depth functions) n
+      (asm_start main (first_world pool input)) ≢ stuck)
+      → (up : ℕ → ℕ) × Agree (asm_machine (primitives (record { first = first; texts = texts }) pool) most_moves depth functions)
+      (processor_machine rv32im) outside_lines up (asm_start main (first_world pool input))
+      (goes (start (memory_of parts) entry input))
+  pub ends : (input : List ℕ) → All (λ byte. byte < 256) input
+      → ((n : ℕ) → state (asm_machine (primitives (record { first = first; texts = texts }) pool) 0 depth functions) n
+      (asm_start main (first_world pool input)) ≢ stuck)
+      → (steps : ℕ) (how : Ending) (world : World)
+      → state (asm_machine (primitives (record { first = first; texts = texts }) pool) most_moves depth functions) steps
+      (asm_start main (first_world pool input)) ≡ ended how world
+      → (count : ℕ) × EndsWithCells pool how world (run count (start (memory_of parts) entry input))
+
+-- an image of assembler code, by its first function
+abbrev pub IsImageOfAsm : List Lines → List (List ℕ) → ℕ → ℕ → ℕ → List Part → Type 0
+IsImageOfAsm functions texts cells depth entry parts =
+    (main : Lines) → slice_get functions 0 ≡ Some main → IsAsmImage functions texts main cells depth entry parts

@@ -1,0 +1,31 @@
+//! From assembler code to its image.
+
+ghost use Rattle.std.specs.Prelude.{IfOk};
+ghost use Rattle.kk_base.specs.Sizes.{AreSizes};
+ghost use Rattle.rv_isa.specs.AsmCode.{Lines, asm_functions, asm_constants};
+ghost use Rattle.kk_back.specs.Assembled.{IsPlaceable, IsImageOfAsm};
+
+use cell_runtime::text;
+use elf_image::Image;
+use kk_base::{Bytes, NoMemory};
+use rv_isa::Asm;
+use rv_place::{frame_bytes, place, placed_text_agrees, placed_text_ends_with_its_cells};
+use rv_regs::assign;
+use std::alloc::Global;
+
+/// The image of assembler code, with a heap of `cells` cells, of whose calls at most `depth` are open at a time. The loaded image
+/// does what the code does.
+pub fn assembled(alloc: Global, asm: &Asm, cells: u32, depth: u32) -> Result<Image, NoMemory>
+    requires placeable { IsPlaceable (asm_functions asm.now) (asm_constants asm.now) }
+    requires sizes { AreSizes cells depth }
+    ensures { IfOk result (λ image. IsImageOfAsm (asm_functions asm.now) (asm_constants asm.now) cells depth image.entry image.parts) }
+{
+    let program = assign(alloc, asm)?;
+    let runtime = text(alloc, cells, depth, frame_bytes(&program))?;
+    let words = place(alloc, &runtime, &program)?;
+    let bytes = words.bytes(alloc)?;
+    placed_text_agrees();
+    placed_text_ends_with_its_cells();
+    let image = Image::program(alloc, Bytes::from_vec(bytes), runtime.memory.size)?;
+    Ok(image)
+}
