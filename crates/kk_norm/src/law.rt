@@ -2,6 +2,7 @@ ghost use Rattle.std.specs.Prelude.{◌≡◌, true};
 ghost use Rattle.kk_syntax.specs.GroundTyping.{table_of, IsGroundTyped};
 ghost use Rattle.kk_syntax.specs.Programs.{ProgramTree};
 ghost use Rattle.kk_core.specs.Kinds.{AllAskTyped};
+ghost use Rattle.kk_core.specs.Cases.{CasesAreWhole};
 ghost use Rattle.kk_core.specs.Codes.{ProgramCode};
 ghost use Rattle.kk_core.specs.CoreTyping.{IsCoreTyped, IsSmall};
 ghost use Rattle.kk_core.specs.Plain.{are_plain_codes};
@@ -55,4 +56,9 @@ pub fn core_forms_are_small()
 /// variables are in order. It is a law, and does nothing.
 pub fn core_forms_of_typed_programs_are_typed()
     ensures { (program : ProgramTree) (code : ProgramCode) → IsGroundTyped program → IsCoreForm program code → IsCoreTyped (table_of program) code }
+{}
+
+/// Each case of a core form has an arm for each row of its decisions. It is a law, and does nothing.
+pub fn core_forms_are_whole()
+    ensures { (program : ProgramTree) (code : ProgramCode) → IsCoreForm program code → CasesAreWhole code }
 {}
