@@ -7,7 +7,8 @@ use Rattle.kk_syntax.specs.Surface.{WrittenTree}
 use Rattle.kk_syntax.specs.Typing.{TypesAs}
 use Rattle.kk_names.specs.Names.{ResolvesAs}
 use Rattle.kk_cover.specs.Matches.{CoversAs}
-use Rattle.kk_mono.specs.Counts.{ParametersAs, CountsAs}
+use Rattle.kk_mono.specs.Counts.{CountsAs}
+use Rattle.kk_mono.specs.Declarations.{DeclarationsAs}
 use Rattle.kk_front.specs.Judgement.{ChecksTypes, ChecksCover, ChecksProgram, IsProgramOf}
 use Rattle.kk_front.proofs.Chains.{came_through, through_check, through_told_check}
 use Rattle.kk_front.proofs.Judging.{OfLength, OfLexemes, OfGrammar, OfNames, OfCounts, FromLexemes, FromGrammar, FromNames, FromTypes, FromCover}
@@ -16,7 +17,7 @@ use Rattle.kk_front.proofs.Judging.{OfLength, OfLexemes, OfGrammar, OfNames, OfC
 pub record IsFound (program : ProgramTree) : Type 0 where
   pub tree : WrittenTree
   pub resolved : ResolvesAs tree (Ok program)
-  pub parameters : ParametersAs program (Ok tt)
+  pub declarations : DeclarationsAs program (Ok tt)
   pub types : TypesAs program (Ok tt)
   pub covered : CoversAs program (Ok tt)
   pub counts : CountsAs program (Ok tt)
@@ -27,9 +28,9 @@ found text program h =
     let grammar = came_through OfLexemes FromGrammar lexemes.0 program lexemes.2 in
     let names = came_through OfGrammar FromNames grammar.0 program grammar.2 in
     let checks = came_through OfNames ChecksProgram names.0 program names.2 in
-    let parameters = through_told_check FromTypes checks.0 program OfText.Over ParametersAs checks.2 in
-    let types = through_check FromCover checks.0 program ChecksTypes parameters.1 in
+    let declarations = through_told_check FromTypes checks.0 program OfText.Over DeclarationsAs checks.2 in
+    let types = through_check FromCover checks.0 program ChecksTypes declarations.1 in
     let cover = through_check OfCounts checks.0 program ChecksCover types.1 in
     let counts = cover.1 in
-    let passed : IsFound checks.0 = record { tree = names.0; resolved = checks.1; parameters = parameters.0; types = types.0; covered = cover.0; counts = counts.1 } in
+    let passed : IsFound checks.0 = record { tree = names.0; resolved = checks.1; declarations = declarations.0; types = types.0; covered = cover.0; counts = counts.1 } in
     subst IsFound (sym counts.0) passed

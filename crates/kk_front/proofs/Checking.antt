@@ -124,3 +124,11 @@ checked mains whole text program typings h are =
     let facts = found text program h in
     program_checked program facts.tree facts.resolved facts.covered (mains facts.tree program facts.resolved)
     (whole facts.tree program facts.resolved) typings are
+
+-- a program that is typed and covered, as it was resolved
+pub checked_of : ResolvedProgramsHaveMain → ResolvedProgramsHaveTruthsAndTexts → (program made : ProgramTree) (tree : WrittenTree)
+    → ResolvesAs tree (Ok program) → made ≡ program → Each (IsFunctionCovered made) made.functions
+    → (typings : List (List Choice)) → ArePrincipal made typings → IsChecked made typings
+checked_of mains whole program made tree resolved same covered typings are =
+    let of_made = subst (λ (p : ProgramTree). ResolvesAs tree (Ok p)) (sym same) resolved in
+    program_checked made tree of_made covered (mains tree made of_made) (whole tree made of_made) typings are

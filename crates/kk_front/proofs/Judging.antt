@@ -34,7 +34,8 @@ use Rattle.kk_names.specs.declared.fault.FaultKind.TheVariants.{Twice, Unknown, 
 use Rattle.kk_names.specs.Faults.{error_for}
 use Rattle.kk_names.specs.Names.{ResolvesAs, bool_constructor, IsRefusedFor, first_fault, no_main, main_shape, AnswersNames, KeepsNodes, EachTreeIsResolved}
 use Rattle.kk_types.specs.Checks.{EachProgramIsChecked, EachTypedProgramHasPrincipalTypes}
-use Rattle.kk_mono.specs.Counts.{ParametersAs, CountsAs, AnswersCounts, EachProgramIsCounted}
+use Rattle.kk_mono.specs.Counts.{CountsAs, AnswersCounts, EachProgramIsCounted}
+use Rattle.kk_mono.specs.Declarations.{DeclarationsAs}
 use Rattle.kk_cover.specs.Matches.{Miss, CoversAs, missed_in, IsDecided, EachTypedProgramIsDecided}
 use Rattle.kk_cover.specs.Spelled.{spelled}
 use Rattle.kk_front.specs.Chain.{Then, ToldAs, Checking}
@@ -59,8 +60,8 @@ OfGrammar = ToldAs OfText.Parse LaidOutParses
 abbrev pub OfNames : WrittenTree → Result ProgramTree Refusal → Type 0
 OfNames = ToldAs OfText.Name ResolvesAs
 
-abbrev pub OfParameters : ProgramTree → Result ProgramTree Refusal → Type 0
-OfParameters = ToldAs OfText.Over (Checking ParametersAs)
+abbrev pub OfDeclarations : ProgramTree → Result ProgramTree Refusal → Type 0
+OfDeclarations = ToldAs OfText.Over (Checking DeclarationsAs)
 
 abbrev pub OfTypes : ProgramTree → Result ProgramTree Refusal → Type 0
 OfTypes = Checking ChecksTypes
@@ -257,8 +258,8 @@ module _ (types : EachProgramIsChecked) (principal : EachTypedProgramHasPrincipa
 
   sound_program : IsSound wants_memory ChecksProgram program
   sound_program =
-      sound_then wants_memory OfParameters FromTypes program
-      (sound_told wants_memory OfText.Over (Checking ParametersAs) program (exactly_checking ParametersAs program (counts program).0) (λ limit h. refl))
+      sound_then wants_memory OfDeclarations FromTypes program
+      (sound_told wants_memory OfText.Over (Checking DeclarationsAs) program (exactly_checking DeclarationsAs program (counts program).0) (λ limit h. refl))
       (λ passed h. subst (IsSound wants_memory FromTypes) (sym h.0) sound_types)
 
 -- each text comes to one thing
@@ -294,12 +295,12 @@ module _ (program : ProgramTree) where
   at_program : LeadsTo (ChecksProgram program) ChecksProgram program
   at_program = record { comes = λ outcome h. h }
 
-  pub parameters_judged : (limit : Limit) → IsOnly (ParametersAs program) (Err limit) → IsOutcome (ChecksProgram program) (Err (OfText.Over limit))
-  parameters_judged limit h = fails_at at_program (OfText.Over limit) (passes ParametersAs program limit h)
+  pub declarations_judged : (limit : Limit) → IsOnly (DeclarationsAs program) (Err limit) → IsOutcome (ChecksProgram program) (Err (OfText.Over limit))
+  declarations_judged limit h = fails_at at_program (OfText.Over limit) (passes DeclarationsAs program limit h)
 
-  module _ (parameters : IsOnly (ParametersAs program) (Ok tt)) where
+  module _ (declared : IsOnly (DeclarationsAs program) (Ok tt)) where
     at_types : LeadsTo (ChecksProgram program) FromTypes program
-    at_types = passes_to at_program program (keeps ParametersAs program parameters)
+    at_types = passes_to at_program program (keeps DeclarationsAs program declared)
 
     pub types_judged : (refusal : Refusal) → IsOnly (ChecksTypes program) (Err refusal) → IsOutcome (ChecksProgram program) (Err refusal)
     types_judged refusal h = fails_at at_types refusal (only_checking_err ChecksTypes program refusal h)
@@ -323,12 +324,12 @@ module _ (program : ProgramTree) where
 
 -- a limit as it is answered is the one that the program passes
 pub count_judged : (program : ProgramTree) → All (λ function. nodes_of function.body < 2 ^ 31) program.functions
-    → IsOnly (ParametersAs program) (Ok tt) → IsOnly (ChecksTypes program) (Ok tt) → IsOutcome (ChecksCover program) (Ok tt) → (limit : Limit) → AnswersCounts program (Err limit)
+    → IsOnly (DeclarationsAs program) (Ok tt) → IsOnly (ChecksTypes program) (Ok tt) → IsOutcome (ChecksCover program) (Ok tt) → (limit : Limit) → AnswersCounts program (Err limit)
     → IsOutcome (ChecksProgram program) (Err (OfText.Over limit))
-count_judged program few parameters typed covered limit h =
+count_judged program few declared typed covered limit h =
     let P : Limit → Type 0 = λ x. IsOutcome (ChecksProgram program) (Err (OfText.Over x)) in
     let told : h.0 ≡ limit = sym (h.2 ∙ limit_told program h.0 few h.1.holds) in
-    subst P told (limit_judged program parameters typed covered h.0 h.1)
+    subst P told (limit_judged program declared typed covered h.0 h.1)
 
 -- ---- a text
 

@@ -16,7 +16,8 @@ use Rattle.kk_parser.specs.Parses.{ParsesAs}
 use Rattle.kk_names.specs.Names.{ResolvesAs}
 use Rattle.kk_cover.specs.Matches.{Miss, CoversAs}
 use Rattle.kk_cover.specs.Spelled.{spelled}
-use Rattle.kk_mono.specs.Counts.{ParametersAs, CountsAs}
+use Rattle.kk_mono.specs.Counts.{CountsAs}
+use Rattle.kk_mono.specs.Declarations.{DeclarationsAs}
 use Rattle.kk_front.specs.Chain.{Then, ToldAs, Checking}
 use Rattle.kk_front.specs.Outcome.{IsOutcome, HasOneOutcome}
 
@@ -51,18 +52,19 @@ abbrev pub ChecksCover : ProgramTree → Result (Unit {0}) Refusal → Type 0
 ChecksCover program (Ok _) = CoversAs program (Ok tt)
 ChecksCover program (Err refusal) = TellsUncovered program refusal
 
--- what a program whose names are resolved comes to: its parameters, its types, its matches, and its nodes and instances are
+-- what a program whose names are resolved comes to: its declarations, its types, its matches, and its nodes and instances are
 -- checked
 abbrev pub ChecksProgram : ProgramTree → Result ProgramTree Refusal → Type 0
 ChecksProgram =
-    Then (ToldAs OfText.Over (Checking ParametersAs))
+    Then (ToldAs OfText.Over (Checking DeclarationsAs))
     (Then (Checking ChecksTypes)
     (Then (Checking ChecksCover)
     (ToldAs OfText.Over (Checking CountsAs))))
 
 -- What a text comes to. The first failure decides, in this order: its length; a lexeme that cannot be read; tokens that,
--- laid out, are no program; names; a function with too many parameters; a function that is not typed; a function with a match
--- that is not covered; a function with too many nodes; too many instances; too many nodes in all.
+-- laid out, are no program; names; a declaration that passes a limit, on parameters, on constructors or on fields; a function
+-- that is not typed; a function with a match that is not covered; a function with too many nodes; too many instances; too many
+-- nodes in all.
 abbrev pub JudgedAs : List ℕ → Result ProgramTree Refusal → Type 0
 JudgedAs =
     Then (ToldAs OfText.Over (Checking ChecksLength))

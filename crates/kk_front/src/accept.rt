@@ -4,9 +4,11 @@ ghost use Rattle.kk_syntax.specs.Covered.{Each};
 ghost use Rattle.kk_syntax.specs.Outlines.{pattern_outline};
 ghost use Rattle.kk_syntax.specs.Programs.{program_tree};
 ghost use Rattle.kk_syntax.specs.Shapes.{nodes_of};
+ghost use Rattle.kk_syntax.specs.Surface.{WrittenTree};
 ghost use Rattle.kk_syntax.specs.Typing.{ArePrincipal, TypesAs};
 ghost use Rattle.kk_syntax.specs.TypedPrograms.{typings_of};
 ghost use Rattle.kk_syntax.specs.Matches.{IsFunctionCovered};
+ghost use Rattle.kk_names.specs.Names.{ResolvesAs};
 ghost use Rattle.kk_cover.specs.Spelled.{spelled};
 ghost use Rattle.kk_mono.specs.Grounds.{AreGiven};
 ghost use Rattle.kk_front.specs.Judgement.{ChecksTypes, ChecksCover, ChecksProgram, RefusesProgram, wants_memory};
@@ -14,7 +16,8 @@ ghost use Rattle.kk_front.specs.Outcome.{IsOutcome};
 
 use kk_base::{NoMemory, Refusal};
 use kk_cover::{CoverError, cover, each_typed_program_is_decided, example_text};
-use kk_mono::{MonoError, check_parameters, instances};
+use kk_mono::{MonoError, check_declarations, instances};
+use kk_names::{resolved_programs_have_main, resolved_programs_have_truths_and_texts};
 use kk_syntax::{Accepted, Fun, Pat, Program, Typed};
 use kk_types::{TypeError, check};
 use std::alloc::Global;
@@ -22,7 +25,8 @@ use std::alloc::Global;
 /// The program with its types and its instances, if it keeps the limits, is typed and its matches are covered; or its first
 /// failure.
 pub fn accept(alloc: Global, program: Program) -> Result<Accepted, Refusal>
-    requires { All (λ function. nodes_of function.body < 2 ^ 31) (program_tree program).functions }
+    requires few { All (λ function. nodes_of function.body < 2 ^ 31) (program_tree program).functions }
+    requires resolved { (tree : WrittenTree) × ResolvesAs tree (Ok (program_tree program)) }
     ensures program { IfOk result (λ accepted. program_tree accepted.typed.program ≡ program_tree program) }
     ensures ok { OnOk result (IsOutcome (ChecksProgram (program_tree program)) (Ok (program_tree program))) }
     ensures principal { IfOk result (λ accepted.
@@ -32,7 +36,9 @@ pub fn accept(alloc: Global, program: Program) -> Result<Accepted, Refusal>
     ensures instances { IfOk result (λ accepted. AreGiven accepted.typed accepted.instances) }
     ensures err { IfErr result (RefusesProgram (program_tree program)) }
 {
-    if let Err(limit) = check_parameters(&program) {
+    resolved_programs_have_main();
+    resolved_programs_have_truths_and_texts();
+    if let Err(limit) = check_declarations(&program) {
         return Err(Refusal::Over(limit));
     }
     let typed = typed(alloc, &program)?;

@@ -16,7 +16,7 @@ use crate::turn::Turn;
 use crate::value::Value;
 use kk_base::NoMemory;
 use kk_owned::owned_positions;
-use kk_syntax::Accepted;
+use kk_syntax::{Accepted, Program};
 use std::alloc::Global;
 
 /// The store machine of a program, somewhere in a run.
@@ -28,8 +28,8 @@ pub struct Meaning<'a> {
 }
 
 impl<'a> Meaning<'a> {
-    /// The machine at its start, with so many cells in its heap and call frames in its stack. It runs the program with
-    /// its owned positions, which are found here.
+    /// The machine of an accepted program at its start, with so many cells in its heap and call frames in its stack. It runs the
+    /// program with its owned positions, which are found here.
     pub fn start(
         alloc: Global,
         accepted: &'a Accepted,
@@ -41,7 +41,21 @@ impl<'a> Meaning<'a> {
         ensures start { IfOk result (λ meaning.
             configuration_of meaning.machine ≡ start (setting_of meaning.machine)) }
     {
-        let program = &accepted.typed.program;
+        Meaning::of_program(alloc, &accepted.typed.program, cells, depth)
+    }
+
+    /// The same of any program, be it accepted or not.
+    pub fn of_program(
+        alloc: Global,
+        program: &'a Program,
+        cells: u32,
+        depth: u32,
+    ) -> Result<Self, NoMemory>
+        ensures setting { IfOk result (λ meaning.
+            IsRun (program_tree program.now) cells depth (setting_of meaning.machine)) }
+        ensures start { IfOk result (λ meaning.
+            configuration_of meaning.machine ≡ start (setting_of meaning.machine)) }
+    {
         let positions = owned_positions(alloc, program)?;
         let mut frames = Vec::new(alloc);
         frames.push(Frame::Call {

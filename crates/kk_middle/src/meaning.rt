@@ -1,4 +1,4 @@
-ghost use Rattle.std.specs.Prelude.{◌≡◌, ℕ, List, Ok};
+ghost use Rattle.std.specs.Prelude.{◌≡◌, ℕ, List};
 ghost use Rattle.kk_syntax.specs.Checked.{IsChecked};
 ghost use Rattle.kk_syntax.specs.declared.ground.Ground.{Ground};
 ghost use Rattle.kk_syntax.specs.declared.typed.Typed.{Typed};
@@ -6,7 +6,6 @@ ghost use Rattle.kk_syntax.specs.GroundPrograms.{ground_program};
 ghost use Rattle.kk_syntax.specs.Programs.{program_tree};
 ghost use Rattle.kk_syntax.specs.TypedPrograms.{typings_of};
 ghost use Rattle.kk_source.specs.Settings.{setting_of};
-ghost use Rattle.kk_mono.specs.Counts.{ParametersAs};
 ghost use Rattle.kk_mono.specs.Grounds.{AreGiven};
 ghost use Rattle.kk_counted.specs.declared.counted.Counted.{Counted};
 ghost use Rattle.kk_middle.specs.LentNames.{AllKeepLent};
@@ -30,7 +29,7 @@ use kk_norm::{
 /// left where it ends by itself. It is a law, and does nothing.
 pub fn compiled_programs_keep_meaning()
     ensures { (typed : Typed) (given : Ground) (made : Counted) → IsChecked (program_tree typed.program) (typings_of typed)
-        → ParametersAs (program_tree typed.program) (Ok tt) → AreGiven typed given
+        → AreGiven typed given
         → (compiled : IsCompiled typed given made) → AllKeepLent (program_tree typed.program) compiled.table
         → (cells depth : ℕ) (input : List ℕ)
         → KeepsMeaning (setting_of (program_tree typed.program) compiled.table cells depth)

@@ -1,10 +1,9 @@
-ghost use Rattle.std.specs.Prelude.{Ok, IfOk};
+ghost use Rattle.std.specs.Prelude.{IfOk};
 ghost use Rattle.kk_syntax.specs.Checked.{IsChecked};
 ghost use Rattle.kk_syntax.specs.OwnedPositions.{IsLeast};
 ghost use Rattle.kk_syntax.specs.PositionsOf.{PositionTable};
 ghost use Rattle.kk_syntax.specs.Programs.{program_tree};
 ghost use Rattle.kk_syntax.specs.TypedPrograms.{typings_of};
-ghost use Rattle.kk_mono.specs.Counts.{ParametersAs};
 ghost use Rattle.kk_mono.specs.Grounds.{AreGiven};
 ghost use Rattle.kk_middle.specs.LentNames.{AllKeepLent};
 ghost use Rattle.kk_middle.specs.Compiled.{IsCompiled};
@@ -29,7 +28,6 @@ use std::alloc::Global;
 /// The recursion is as deep as the deepest expression.
 pub fn compile(alloc: Global, accepted: &Accepted) -> Result<Counted, NoMemory>
     requires checked { IsChecked (program_tree accepted.now.typed.program) (typings_of accepted.now.typed) }
-    requires parameters { ParametersAs (program_tree accepted.now.typed.program) (Ok tt) }
     requires given { AreGiven accepted.now.typed accepted.now.instances }
     requires lent { (positions : PositionTable) → IsLeast (program_tree accepted.now.typed.program) positions
         → AllKeepLent (program_tree accepted.now.typed.program) positions }

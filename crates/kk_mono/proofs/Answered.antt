@@ -109,7 +109,7 @@ module _ (program : ProgramTree) (typings : List (List Choice)) (principal : Are
           (λ i. record { functions = calls_are i; constructors = constructors_are i })
 
 -- no function has too many nodes
-each_few : (functions : List FunctionTree) (f : ℕ) → too_many_nodes functions ≡ None → nodes_of (get_or functions f no_function).body ≤ 480
+pub each_few : (functions : List FunctionTree) (f : ℕ) → too_many_nodes functions ≡ None → nodes_of (get_or functions f no_function).body ≤ 480
 each_few [] f none = omega arith
 each_few (function ∷ functions) zero none = elim (cases_Bool (nat_lt 480 (nodes_of function.body))) [
   | inl many ↦ let some = sym (cond-true (nat_lt 480 (nodes_of function.body)) (Some (nodes_of function.body)) (too_many_nodes functions) many) ∙ none in cc

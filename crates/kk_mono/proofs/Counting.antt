@@ -12,7 +12,7 @@ use Rattle.kk_mono.specs.Counts.{too_many_nodes, summed_nodes, AreTooMany, Keeps
 use Rattle.kk_mono.specs.Instances.{InstanceTree, IsInstance, AreInstances}
 use Rattle.kk_mono.proofs.Deciding.{counted}
 use Rattle.kk_mono.proofs.Distinct.{as_many}
-use Rattle.kk_mono.proofs.Parameters.{exactly_parameters}
+use Rattle.kk_mono.proofs.Quantities.{exactly_declared}
 use Rattle.kk_mono.proofs.Renamings.{also_instances, also_too_many}
 use Rattle.kk_mono.proofs.Searched.{one_list}
 
@@ -83,4 +83,4 @@ module _ (program : ProgramTree) where
       by (Some count) some = (Err _, only_counts (Err _) (of_function some refl))
 
 pub each_program_is_counted : EachProgramIsCounted
-each_program_is_counted program = (exactly_parameters program, exactly_counts program)
+each_program_is_counted program = (exactly_declared program, exactly_counts program)

@@ -1,9 +1,9 @@
 -- The numbers of types tell the types apart, and ground constructors make values of declared types that are there.
-use Rattle.std.proofs.Common.{◌≡◌, ℕ, ◌<◌, true, List, [], ◌∷◌, length, All, ap, ◌∙◌, refl, arith}
+use Rattle.std.proofs.Common.{◌≡◌, ◌<◌, true, List, [], ◌∷◌, length, All, ap, arith}
 use Rattle.std.specs.List.{AllZip}
 use Rattle.std.proofs.lemmas.List.Elements.{All-cons}
 use Rattle.kk_syntax.specs.declared.ground.GroundConstructor.{GroundConstructor}
-use Rattle.kk_syntax.specs.GroundTypes.{ground_types, is_declared, AreNumbered}
+use Rattle.kk_syntax.specs.GroundTypes.{is_declared, AreNumbered}
 use Rattle.kk_syntax.specs.Programs.{ConstructorTree}
 use Rattle.kk_syntax.specs.Types.{type_at}
 use Rattle.kk_syntax.proofs.GroundTypes.{all_apart}

@@ -1,22 +1,14 @@
--- Which programs keep the limits on parameters, on nodes and on instances, and which limit another passes first.
+-- Which programs keep the limits on nodes and on instances, and which limit another passes first.
 use Rattle.std.specs.Prelude.{◌≡◌, ℕ, ◌+◌, ◌-◌, ◌^◌, ◌<◌, ◌≤◌, min, List, length, map, sum, find, nat_lt, All, AllPairs, ◌≢◌, Option, Some, None, Result, Ok, Err}
 use Rattle.kk_base.specs.Exactly.{IsOnly, ExactlyOne}
 use Rattle.kk_base.specs.Limits.{greatest_of}
 use Rattle.kk_base.specs.declared.limit.Limit.{Limit}
-use Rattle.kk_base.specs.declared.limit.LimitKind.TheVariants.{Parameters, FunctionNodes, Instances, ProgramNodes}
+use Rattle.kk_base.specs.declared.limit.LimitKind.TheVariants.{FunctionNodes, Instances, ProgramNodes}
 use Rattle.kk_syntax.specs.Programs.{FunctionTree, ProgramTree, body_of}
 use Rattle.kk_syntax.specs.Shapes.{nodes_of}
 use Rattle.kk_syntax.specs.Typing.{Choice, ArePrincipal}
+use Rattle.kk_mono.specs.Declarations.{DeclarationsAs}
 use Rattle.kk_mono.specs.Instances.{InstanceTree, IsInstance, AreInstances}
-
--- the number of the parameters of the first function that has more than 8
-abbrev pub too_many_parameters : List FunctionTree → Option ℕ
-too_many_parameters functions = find (λ count. nat_lt (greatest_of Parameters) count) (map (λ function. length function.parameters) functions)
-
--- What a program comes to: no function has too many parameters, or one has first, with the number of its parameters.
-abbrev pub ParametersAs : ProgramTree → Result (Unit {0}) Limit → Type 0
-ParametersAs program (Ok _) = too_many_parameters program.functions ≡ None
-ParametersAs program (Err limit) = (count : ℕ) × (too_many_parameters program.functions ≡ Some count) × (limit ≡ record { kind = Parameters; count = count })
 
 -- the nodes of the first function that has more than 480
 abbrev pub too_many_nodes : List FunctionTree → Option ℕ
@@ -54,10 +46,10 @@ abbrev pub CountsAs : ProgramTree → Result (Unit {0}) Limit → Type 0
 CountsAs program (Ok _) = KeepsCounts program
 CountsAs program (Err limit) = PassesFirst program limit
 
--- each program comes to exactly one thing by its parameters, and each typed program by its nodes and instances: which
+-- each program comes to exactly one thing by its declarations, and each typed program by its nodes and instances: which
 -- principal typings are taken makes no difference
 abbrev pub EachProgramIsCounted : Type 0
-EachProgramIsCounted = (program : ProgramTree) → ExactlyOne (ParametersAs program) × ((typings : List (List Choice)) → ArePrincipal program typings → ExactlyOne (CountsAs program))
+EachProgramIsCounted = (program : ProgramTree) → ExactlyOne (DeclarationsAs program) × ((typings : List (List Choice)) → ArePrincipal program typings → ExactlyOne (CountsAs program))
 
 -- a limit as it is answered: its count as far as a u64 goes
 abbrev pub in_u64 : Limit → Limit

@@ -1,9 +1,9 @@
 -- Limits that are passed by the functions of a program in memory, and by its instances.
-use Rattle.std.specs.Prelude.{◌≡◌, ◌⊎◌, ℕ, ◌+◌, ◌<◌, ◌≤◌, List, length, map, sum, Some, None, option_map, Result, Ok, Err}
+use Rattle.std.specs.Prelude.{◌≡◌, ◌⊎◌, ℕ, ◌+◌, ◌<◌, ◌≤◌, List, length, map, sum, All, Some, None, option_map, Result, Ok, Err}
 use Rattle.kk_base.specs.Limits.{greatest_of}
 use Rattle.kk_base.specs.declared.limit.Limit.{Limit}
 use Rattle.kk_base.specs.declared.limit.LimitKind.{LimitKind}
-use Rattle.kk_base.specs.declared.limit.LimitKind.TheVariants.{FunctionNodes, Instances, ProgramNodes}
+use Rattle.kk_base.specs.declared.limit.LimitKind.TheVariants.{Parameters, FunctionNodes, Instances, ProgramNodes}
 use Rattle.kk_syntax.specs.declared.ground.Ground.{Ground}
 use Rattle.kk_syntax.specs.declared.typed.Typed.{Typed}
 use Rattle.kk_syntax.specs.Programs.{ProgramTree, program_tree, body_of}
@@ -11,8 +11,10 @@ use Rattle.kk_syntax.specs.Shapes.{nodes_of, greatest_nodes}
 use Rattle.kk_mono.specs.declared.error.MonoError.{MonoError}
 use Rattle.kk_mono.specs.declared.error.MonoError.TheVariants.{Over, NoMemory}
 use Rattle.kk_mono.specs.declared.search.Found.{Found}
+use Rattle.kk_mono.specs.declared.search.Looked.{Looked}
 use Rattle.kk_mono.specs.Building.{IsBuilt}
 use Rattle.kk_mono.specs.Counts.{too_many_nodes, in_u64}
+use Rattle.kk_mono.specs.Declarations.{DeclarationsAs}
 use Rattle.kk_mono.specs.KeyTrees.{KeyTree, keys_in}
 use Rattle.kk_mono.specs.Searching.{HasSearched}
 
@@ -28,6 +30,13 @@ summed_keys program keys = sum (map (λ (key : KeyTree). nodes_of (body_of progr
 pub record AreFew (program : ProgramTree) (keys : List KeyTree) : Type 0 where
   pub few : length keys ≤ greatest_of Instances
   pub small : summed_keys program keys ≤ greatest_of ProgramNodes
+
+-- What has been found passes no limit, and nor does the program.
+pub record PassesNone (program : ProgramTree) (found : Found) : Type 0 where
+  pub declared : DeclarationsAs program (Ok tt)
+  pub none : too_many_nodes program.functions ≡ None
+  pub few : AreFew program (keys_in found.keys)
+  pub parameters : All (λ (looked : Looked). length looked.parameters.items ≤ greatest_of Parameters) found.looked.items
 
 -- the instances pass this limit first
 abbrev pub PassedBy : ProgramTree → List KeyTree → Limit → Type 0

@@ -1,9 +1,11 @@
-ghost use Rattle.std.specs.Prelude.{◌≡◌, ◌==◌, ◌<◌, count_by, length, map, All, IfOk};
+ghost use Rattle.std.specs.Prelude.{◌≡◌, ◌==◌, ◌<◌, ◌≤◌, count_by, length, map, All, IfOk};
 ghost use Rattle.std.specs.List.{AllZip};
-ghost use Rattle.kk_syntax.specs.Programs.{function_tree, constructor_tree};
+ghost use Rattle.kk_base.specs.Limits.{greatest_of};
+ghost use Rattle.kk_syntax.specs.Programs.{function_tree, constructor_tree, program_tree};
 ghost use Rattle.kk_mono.specs.Building.{ArePlaces, IsBuiltOf, AreBuilt, IsMadeAs, IsMadeOf, IsBuilt};
 ghost use Rattle.kk_mono.specs.KeyTrees.{KeyTree, key_tree, keys_in};
 ghost use Rattle.kk_mono.specs.Tables.{Grows};
+ghost use Rattle.kk_mono.specs.Told.{PassesNone};
 ghost use Rattle.kk_mono.specs.Views.{types_in};
 
 use crate::body::labelled;
@@ -12,7 +14,7 @@ use crate::labels::Labels;
 use crate::numbers::numbers_of_written;
 use crate::search::{Found, Looked};
 use crate::types::Types;
-use kk_base::NoMemory;
+use kk_base::{LimitKind, NoMemory};
 use kk_syntax::{
     Constructor, Fun, Ground, GroundConstructor, GroundType, Instance, Program,
     copied_declarations, copied_texts,
@@ -31,6 +33,9 @@ pub fn ground(
     requires full { length found.looked.items ≡ length (keys_in found.keys) }
     requires constructors { All (λ (key : KeyTree). key.number < length program.now.constructors.items) (keys_in found.constructors) }
     requires types { All (λ (key : KeyTree). All (λ n. n < length (types_in found.types)) key.at) (keys_in found.constructors) }
+    requires none { PassesNone (program_tree program.now) found }
+    requires greatest { greatest_nodes ≤ greatest_of LimitKind.FunctionNodes }
+    requires summed { summed_nodes ≤ greatest_of LimitKind.ProgramNodes }
     ensures built { IfOk result (λ given. IsBuilt program.now found given) }
     ensures greatest { IfOk result (λ given. given.greatest_nodes ≡ greatest_nodes) }
     ensures summed { IfOk result (λ given. given.summed_nodes ≡ summed_nodes) }
@@ -124,8 +129,8 @@ fn ground_constructor(
     })
 }
 
-// How many constructors are of a type.
-fn count_of_type(constructors: &[Constructor], of_type: u32) -> usize
+/// How many constructors are of a type.
+pub fn count_of_type(constructors: &[Constructor], of_type: u32) -> usize
     ensures { result ≡ count_by (λ c. c.of_type == of_type) constructors.now }
 {
     constructors.iter().filter(|c| c.of_type == of_type).count()

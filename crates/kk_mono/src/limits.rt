@@ -1,31 +1,14 @@
 ghost use Rattle.std.specs.Prelude.{◌≡◌, ◌-◌, ◌^◌, ◌<◌, min, map, option_map, length, All, IfOk, IfErr};
 ghost use Rattle.std.specs.Result.{result_err};
-ghost use Rattle.kk_base.specs.Exactly.{IsOnly};
 ghost use Rattle.kk_syntax.specs.Programs.{function_tree, program_tree};
 ghost use Rattle.kk_syntax.specs.Shapes.{greatest_of as nodes_at_most};
-ghost use Rattle.kk_mono.specs.Counts.{ParametersAs, EachProgramIsCounted, too_many_nodes};
+ghost use Rattle.kk_mono.specs.Counts.{EachProgramIsCounted, too_many_nodes};
 ghost use Rattle.kk_mono.specs.KeyTrees.{KeyTree, keys_in};
 ghost use Rattle.kk_mono.specs.Told.{told, summed_keys, AreFew, PassedBy};
 
 use crate::keys::Keys;
 use kk_base::{Limit, LimitKind};
 use kk_syntax::{Fun, Program, nodes};
-
-/// Checks that no function has more parameters than the limit allows; the first that has is told. Takes no memory.
-pub fn check_parameters(program: &Program) -> Result<(), Limit>
-    ensures { IsOnly (ParametersAs (program_tree program.now)) result }
-{
-    for function in &program.functions {
-        let count = function.parameters.len() as u64;
-        if count > LimitKind::Parameters.greatest() {
-            return Err(Limit {
-                kind: LimitKind::Parameters,
-                count,
-            });
-        }
-    }
-    Ok(())
-}
 
 /// Each program keeps its limits or passes exactly one first. It is a law, and does nothing.
 pub fn each_program_is_counted()

@@ -1,11 +1,13 @@
 ghost use Rattle.std.proofs.Props.{props};
+ghost use Rattle.kk_syntax.specs.GroundLimits.{AreWithinLimits};
 ghost use Rattle.kk_syntax.specs.GroundTypes.{AreNumbered};
 
 use crate::literal::StringLiteral;
 use crate::program::{Expr, TypeDecl};
 use crate::typed::Taken;
 
-/// The instances of a program: all that `main` comes to, at types without variables.
+/// The instances of a program: all that `main` comes to, at types without variables. They are within the limits on parameters,
+/// fields, constructors, nodes and instances.
 #[derive(Debug, Drop)]
 pub struct Ground {
     /// The types of the program, as they are declared.
@@ -24,6 +26,7 @@ pub struct Ground {
     /// The nodes of the bodies of the instances, summed.
     pub summed_nodes: u64,
     pub ghost numbered: { AreNumbered types.items constructors.items } by { Prim.hlevel props },
+    pub ghost within: { AreWithinLimits constructors.items instances.items greatest_nodes summed_nodes } by { Prim.hlevel props },
 }
 
 /// A type without variables, as a node among others: its arguments are nodes before it, by their numbers.

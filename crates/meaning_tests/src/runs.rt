@@ -6,7 +6,7 @@
 mod builder;
 mod programs;
 
-use builder::accepted;
+use builder::program;
 use kk_meaning::{Meaning, Turn};
 use std::alloc::Global;
 use std::test::Fail;
@@ -22,12 +22,12 @@ struct Outcome {
 const LIMIT: u32 = 2_000_000;
 
 fn run(alloc: Global, main: &str, input: &[u8], cells: u32, depth: u32) -> Result<Outcome, Fail> {
-    let accepted = accepted(alloc, main)?;
+    let program = program(alloc, main)?;
     let mut input = input.iter();
     let mut printed = Vec::new(alloc);
     let mut end = "goes on";
     let mut steps = 0;
-    let mut meaning = Meaning::start(alloc, &accepted, cells, depth)?;
+    let mut meaning = Meaning::of_program(alloc, &program, cells, depth)?;
     while steps < LIMIT && end == "goes on" {
         steps += 1;
         match meaning.step()? {

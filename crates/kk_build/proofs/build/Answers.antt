@@ -12,9 +12,7 @@ file_of-requires-clause-typed c =
     (c.instances_mean_the_program.ensures program (ground_program c.in-Ok.accepted.instances) _ _ checked c.in-Ok.ensures.instances.instances).typed
 
 pub file_of-requires-clause-small : goal.file_of-requires-clause-small
-file_of-requires-clause-small c =
-    let parameters = c.accepted_programs_are_typed.ensures.parameters _ _ c.in-Ok.ensures.program in
-    instances_are_within _ _ _ _ parameters c.in-Ok.ensures.instances.instances c.in-Ok.ensures.instances.small
+file_of-requires-clause-small c = instances_are_within c.in-Ok.accepted.instances
 
 pub returns-in-Ok-Some-clause-ok : goal.returns-in-Ok-Some-clause-ok
 returns-in-Ok-Some-clause-ok c =

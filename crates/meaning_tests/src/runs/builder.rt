@@ -7,33 +7,13 @@
 use super::programs::FUNCTIONS;
 use kk_base::Name;
 use kk_syntax::{
-    Accepted, BinaryOperator, Binder, Expr, Form, Fun, Ground, Pat, PrintForm, Program, Row,
-    Statement, Ty, Typed,
+    BinaryOperator, Binder, Expr, Form, Fun, Pat, PrintForm, Program, Row, Statement, Ty,
 };
 use std::alloc::Global;
 use std::test::Fail;
 
-/// The program of all functions, and `main` with this body, as one that is accepted. Its types and its instances do not
-/// count for the machine, and are left out.
-pub fn accepted(alloc: Global, body: &str) -> Result<Accepted, Fail> {
-    Ok(Accepted {
-        typed: Typed {
-            program: program(alloc, body)?,
-            bodies: Vec::new(alloc),
-        },
-        instances: Ground {
-            declarations: Vec::new(alloc),
-            texts: Vec::new(alloc),
-            types: Vec::new(alloc),
-            constructors: Vec::new(alloc),
-            instances: Vec::new(alloc),
-            greatest_nodes: 0,
-            summed_nodes: 0,
-        },
-    })
-}
-
-fn program(alloc: Global, body: &str) -> Result<Program, Fail> {
+/// The program of all functions, and `main` with this body. Its types do not count for the machine, and are left out.
+pub fn program(alloc: Global, body: &str) -> Result<Program, Fail> {
     let mut functions = Vec::new(alloc);
     for function in &FUNCTIONS {
         functions.push(function_of(alloc, function.parameters, function.body)?)?;

@@ -1,4 +1,5 @@
 use Rattle.std.proofs.Common.{arith}
+use Rattle.kk_syntax.specs.Surface.{written_tree}
 use Rattle.kk_front.proofs.Judging.{long_judged, unreadable_judged, misspelled_judged, unnamed_judged, accepted_judged, unchecked_judged, nodes_counted}
 use Rattle.kk_front.proofs.judge.read.Goals as goal
 
@@ -18,11 +19,14 @@ returns-clause-err c =
     unnamed_judged c.args.text.now c.in_default.ensures c.in-Ok.tokens c.in-Ok-laid_out.tokens c.in-Ok.ensures.reading c.in-Ok-laid_out.ensures.value
     (omega (arith, c.in-Ok.ensures.few, c.in-Ok-laid_out.ensures.few)) c.in-Ok-parse.tree c.in-Ok-parse.ensures.parsed c.in-Err-resolve.error c.in-Err-resolve.ensures.resolved
 
-pub accept-requires : goal.accept-requires
-accept-requires c =
+pub accept-requires-clause-few : goal.accept-requires-clause-few
+accept-requires-clause-few c =
     nodes_counted c.args.text.now c.in_default.ensures c.in-Ok.tokens c.in-Ok-laid_out.tokens c.in-Ok.ensures.reading c.in-Ok-laid_out.ensures.value
     (omega (arith, c.in-Ok.ensures.few, c.in-Ok-laid_out.ensures.few)) c.in-Ok-parse.tree c.in-Ok-parse.ensures.parsed c.in-Ok-resolve.program c.in-Ok-resolve.ensures.resolved
     c.in-Ok-parse.ensures.few_nodes c.in-Ok-resolve.ensures.keeps_nodes
+
+pub accept-requires-clause-resolved : goal.accept-requires-clause-resolved
+accept-requires-clause-resolved c = (written_tree c.in-Ok-parse.tree, c.in-Ok-resolve.ensures.resolved.holds)
 
 pub returns-in-Ok-resolve-clause-program : goal.returns-in-Ok-resolve-clause-program
 returns-in-Ok-resolve-clause-program c =

@@ -11,8 +11,8 @@ returns-clause-covered c = λ text program h. (found text program h).covered
 pub returns-clause-checked : goal.returns-clause-checked
 returns-clause-checked c = checked c.resolved_programs_have_main.ensures c.resolved_programs_have_truths_and_texts.ensures
 
-pub returns-clause-parameters : goal.returns-clause-parameters
-returns-clause-parameters c = λ text program h. (found text program h).parameters
+pub returns-clause-declarations : goal.returns-clause-declarations
+returns-clause-declarations c = λ text program h. (found text program h).declarations
 
 pub returns-clause-small : goal.returns-clause-small
 returns-clause-small c = λ text program h. (found text program h).counts

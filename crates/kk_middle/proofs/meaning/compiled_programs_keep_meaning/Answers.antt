@@ -44,7 +44,7 @@ use Rattle.kk_middle.proofs.Within.{instances_are_within}
 use Rattle.kk_middle.proofs.meaning.compiled_programs_keep_meaning.Goals as goal
 
 pub returns : goal.returns
-returns c typed given made checked parameters are compiled keeps cells depth input =
+returns c typed given made checked are compiled keeps cells depth input =
     let program : ProgramTree = program_tree typed.program in
     let ground : ProgramTree = ground_program given in
     let typings : List (List Choice) = typings_of typed in
@@ -54,7 +54,7 @@ returns c typed given made checked parameters are compiled keeps cells depth inp
     let own : PositionTable = instance_positions given table in
     let code : ProgramCode = core_code compiled.core in
     let is_typed : IsGroundTyped ground = ground_typed program ground typings instances is checked in
-    let within = instances_are_within program ground typings instances parameters is are.small in
+    let within = instances_are_within given in
     let core_typed : IsCoreTyped (table_of ground) code
     = c.core_forms_of_typed_programs_are_typed.ensures ground code is_typed compiled.form in
     let small = c.core_forms_are_small.ensures ground code compiled.form within in

@@ -27,10 +27,7 @@ normal-requires-clause-typed c =
     c.requires.given.instances).typed
 
 pub normal-requires-clause-small : goal.normal-requires-clause-small
-normal-requires-clause-small c =
-    instances_are_within (program_tree c.args.accepted.now.typed.program) (ground_program c.args.accepted.now.instances)
-    (typings_of c.args.accepted.now.typed) (instances_of c.args.accepted.now.instances) c.requires.parameters
-    c.requires.given.instances c.requires.given.small
+normal-requires-clause-small c = instances_are_within c.args.accepted.now.instances
 
 pub run-requires-clause-insertable : goal.run-requires-clause-insertable
 run-requires-clause-insertable c =

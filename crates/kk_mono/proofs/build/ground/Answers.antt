@@ -6,6 +6,7 @@ use Rattle.kk_syntax.specs.Programs.{constructor_tree}
 use Rattle.kk_mono.specs.Building.{IsMadeOf}
 use Rattle.kk_mono.specs.KeyTrees.{keys_in}
 use Rattle.kk_mono.specs.Views.{types_in}
+use Rattle.kk_mono.proofs.Limited.{are_within}
 use Rattle.kk_mono.proofs.TypesOnce.{are_numbered}
 use Rattle.kk_mono.proofs.build.ground.Goals as goal
 
@@ -29,4 +30,9 @@ invariant_of-result c =
           subst (λ (nodes : List GroundType). AreNumbered nodes c.in_ok-constructors.constructors.items) (sym c.in_ok-into_nodes.ensures)
           (are_numbered c.ground_constructors.new.types (map constructor_tree c.deref.result.now) (keys_in c.args.found.constructors)
           c.in_ok-constructors.constructors.items c.in_ok-constructors.ensures.are);
+      within =
+          are_within c.args.program.now c.args.found c.requires.none (types_in c.ground_constructors.new.types)
+          c.in_ok-constructors.constructors.items c.in_ok-instances.instances.items c.args.greatest_nodes c.args.summed_nodes
+          (subst (λ cs. AllZip (IsMadeOf (map constructor_tree cs) (types_in c.ground_constructors.new.types)) (keys_in c.args.found.constructors) c.in_ok-constructors.constructors.items) c.deref.ensures.value c.in_ok-constructors.ensures.are)
+          c.requires.constructors c.in_ok-instances.ensures c.requires.full c.requires.greatest c.requires.summed;
     }
