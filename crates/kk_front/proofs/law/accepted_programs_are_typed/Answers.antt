@@ -16,3 +16,6 @@ returns-clause-declarations c = λ text program h. (found text program h).declar
 
 pub returns-clause-small : goal.returns-clause-small
 returns-clause-small c = λ text program h. (found text program h).counts
+
+pub returns-clause-resolved : goal.returns-clause-resolved
+returns-clause-resolved c = λ text program h. ((found text program h).tree, (found text program h).resolved)
