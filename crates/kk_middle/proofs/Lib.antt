@@ -11,5 +11,6 @@ mod Agreeing
 mod Marked
 mod Special
 mod Instances
+mod WholeCases
 mod SpecialMarks
 mod Programs

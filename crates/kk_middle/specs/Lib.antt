@@ -1,4 +1,5 @@
 pub mod LentNames
 pub mod Compiled
 pub mod Meaning
+pub mod WholeCases
 pub mod MarkedPrograms

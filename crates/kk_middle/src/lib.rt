@@ -5,6 +5,7 @@ mod law;
 mod meaning;
 mod positions;
 mod program;
+mod whole;
 
 pub use law::{
     core_constructors_are_consistent, owned_positions_of_instances_are_closed,

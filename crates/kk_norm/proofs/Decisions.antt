@@ -1,12 +1,12 @@
 -- What is known of the decisions that a call gives.
-use Rattle.std.proofs.Common.{◌≡◌, ℕ, ◌≤◌, Result, Ok, Err, List, length, map, sym, ap, subst, ◌∙◌, arith}
+use Rattle.std.proofs.Common.{◌≡◌, ℕ, Result, Ok, Err, List, length, map, subst, ◌∙◌, arith}
 use Rattle.std.specs.Prelude.{count_by, sum_by, IfOk}
 use Rattle.kk_syntax.specs.Patterns.{Pattern}
 use Rattle.kk_syntax.specs.Programs.{ConstructorTree}
 use Rattle.kk_syntax.specs.Shapes.{nodes_of_pattern}
 use Rattle.kk_core.specs.Choosing.{Decides}
 use Rattle.kk_core.specs.declared.decisions.Decisions.{Decisions}
-use Rattle.kk_core.specs.Decisions.{NodeTree, node_tree, AreOrderly}
+use Rattle.kk_core.specs.Decisions.{node_tree, AreOrderly}
 use Rattle.kk_core.specs.Edges.{HasFewEdges}
 use Rattle.kk_core.specs.Kinds.{AsksTyped}
 use Rattle.kk_match.specs.Decided.{is_test, IsFormed}

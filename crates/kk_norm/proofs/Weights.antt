@@ -1,6 +1,6 @@
 -- What a run does rests on the weights of its own states alone.
-use Rattle.std.proofs.Common.{◌≡◌, ℕ, zero, suc, ◌+◌, ◌≤◌, List, Option, Some, refl, sym, ap, subst, ◌∙◌, arith}
-use Rattle.kk_base.specs.Agreements.{Does, Agree}
+use Rattle.std.proofs.Common.{◌≡◌, ℕ, zero, suc, ◌+◌, ◌≤◌, List, Option, refl, sym, ap, subst, ◌∙◌}
+use Rattle.kk_base.specs.Agreements.{Agree}
 use Rattle.kk_base.specs.Machines.{Machine, step_unless, weight_unless, weighing, until, trace, state, weight_of, ending_after}
 use Rattle.kk_base.specs.Trace.{IsPrefix}
 use Rattle.kk_base.proofs.Machines.{trace-weighing, state-weighing}
