@@ -60,11 +60,11 @@ use Rattle.rv_cells.proofs.Celled.{below_among, all_among, apart_above, argument
 
 -- ---- words of numbers
 
-word_fits : (z : ℤ) → word_of z < 2 ^ 32
+pub word_fits : (z : ℤ) → word_of z < 2 ^ 32
 word_fits (pos n) = omega arith
 word_fits (negsuc n) = omega arith
 
-word_wraps : (z : ℤ) → signed (word_of z) ≡ wrapped z
+pub word_wraps : (z : ℤ) → signed (word_of z) ≡ wrapped z
 unfolding int_wrap
 word_wraps z = refl
 

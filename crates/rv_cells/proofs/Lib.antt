@@ -30,6 +30,7 @@ pub mod Telling
 pub mod Testing
 pub mod Deciding
 pub mod Simulating
+pub mod KindsFit
 pub mod Fits
 pub mod Examples
 pub mod Marks

@@ -1,17 +1,16 @@
 -- What is asked of a state of the counted machine: that it is not stuck, that its heap is sound with counts that are words, and
--- that
--- values are of the types that the code takes.
+-- that values are of the types that the code takes.
 use Rattle.std.specs.Prelude.{◌≡◌, ℕ, zero, suc, ◌+◌, ◌^◌, ◌<◌, Bool, true, false, List, [], ◌∷◌, map, length, Option, Some, None, slice_get}
 use Rattle.kk_syntax.specs.declared.program.Form.{Form}
 use Rattle.kk_syntax.specs.declared.program.Form.TheVariants.{Unary, Binary, Print}
 use Rattle.kk_syntax.specs.declared.operator.UnaryOperator.TheVariants.{Negate, Not}
 use Rattle.kk_source.specs.State.{Value, integer, place, Cell, Environment}
 use Rattle.kk_source.specs.Live.{value_of}
-use Rattle.kk_source.specs.FormEffects.{truth}
 use Rattle.kk_core.specs.Decisions.{NodeTree, chooses, tests, value_at, answer_of, next_by}
 use Rattle.kk_core.specs.declared.decisions.Answer.{Answer}
 use Rattle.kk_core.specs.declared.decisions.Answer.TheVariants.{Number as OfNumber, Constructor}
 use Rattle.kk_core.specs.declared.decisions.Edge.{Edge}
+use Rattle.kk_core.specs.Kinds.{IsTruth}
 use Rattle.kk_counted.specs.CountedCodes.{Counted, branch, case, compute}
 use Rattle.kk_counted.specs.CountedStates.{CountedJoin, CountedControl, running, CountedConfiguration}
 use Rattle.kk_counted.specs.CountedMachine.{NotStuck}
@@ -26,9 +25,6 @@ use Rattle.rv_cells.specs.CountedLines.{is_plain}
 abbrev pub IsInt32 : Value → Type 0
 IsInt32 v = (word : ℕ) × (v ≡ integer (signed word)) × (word < 2 ^ 32)
 
-abbrev pub IsTruth : Value → Type 0
-IsTruth v = (b : Bool) × (v ≡ truth b)
-
 -- operators and prints take numbers and truths
 abbrev pub FitsForm : Form → List Value → Type 0
 FitsForm (Unary Negate) (v ∷ []) = IsInt32 v
@@ -42,10 +38,17 @@ FitsForm form values = Unit {0}
 
 -- ---- tests
 
--- answers of one type: among the constructors of a type the tag tells which one it is
+-- the tag tells these constructors apart, as it does those of a type
+abbrev pub AreTagged : Layout → ℕ → ℕ → Type 0
+AreTagged layout c d = layout.tag c ≡ layout.tag d → c ≡ d
+
+abbrev pub count_of_fields : Layout → ℕ → ℕ
+count_of_fields layout c = length (layout.fields c)
+
+-- answers of one type
 abbrev pub AreAlike : Layout → Answer → Answer → Type 0
 AreAlike layout (OfNumber n) (OfNumber m) = IsInt32 (integer n) × IsInt32 (integer m)
-AreAlike layout (Constructor c) (Constructor d) = layout.tag c ≡ layout.tag d → c ≡ d
+AreAlike layout (Constructor c) (Constructor d) = AreTagged layout c d
 AreAlike layout _ _ = ⊥
 
 abbrev pub AllAlike : Layout → Answer → List Edge → Type 0

@@ -8,6 +8,8 @@ ghost use Rattle.kk_counted.specs.declared.shape.Shape.{Shape};
 ghost use Rattle.kk_counted.specs.Lowerable.{AreLowerable};
 ghost use Rattle.kk_counted.specs.CountBounds.{AllSpendAtMost};
 ghost use Rattle.kk_counted.specs.CountedStates.{CountedSetting, CountedState};
+ghost use Rattle.kk_counted.specs.Int32.{AllHaveInt32};
+ghost use Rattle.kk_counted.specs.Kinds.{HasKindsAlways};
 ghost use Rattle.kk_counted.specs.Keeping.{counted_after, FitsAlways, HasShapeAlways};
 ghost use Rattle.kk_counted.specs.Spending.{IsSpent};
 ghost use Rattle.kk_syntax.specs.PositionsOf.{PositionTable};
@@ -19,7 +21,7 @@ ghost use Rattle.rv_cells.specs.Tables.{table_of, layout_in};
 ghost use Rattle.rv_cells.specs.Follows.{IsBlockOf, Owner, nobody, cell_of, in_hand, Follows, with_owner, assign, NoneInHand};
 ghost use Rattle.rv_isa.specs.AsmCode.{Lines};
 ghost use Rattle.rv_cells.specs.Costs.{counted_cost};
-ghost use Rattle.rv_cells.specs.Fitting.{FitsControl, IsFit};
+ghost use Rattle.rv_cells.specs.Fitting.{AreTagged, count_of_fields, IsFit};
 ghost use Rattle.rv_cells.specs.Meaning.{setting_on, IsProgramLowered, RunsTheSame};
 ghost use Rattle.rv_cells.specs.Steps.{Served, Dupped, Dropped, IsPaid, Released};
 
@@ -122,14 +124,15 @@ pub fn lowered_counted_programs_run_the_same()
         → RunsTheSame code constants functions lowered.main_lines pool depth first moves input }
 {}
 
-/// Code that spends its references and is marked by types is fit in each state of its run, where its values are of the types that it
-/// takes, within the limits of cells, call frames and code. It is a law, and does nothing.
+/// Code that spends its references and is marked by types is fit in each state of its run, within the limits of cells, call frames
+/// and code: where its values are of the kinds that its types tell, tags tell the constructors of a type apart, its numbers are of
+/// 32 bits, and its input is of bytes. It is a law, and does nothing.
 pub fn judged_programs_are_fit()
     ensures { (positions : PositionTable) (marks : CellMarks) (holds : ℕ → ℕ → Bool) (setting : CountedSetting) (layout : Layout)
         (weight : CountedState → ℕ) (input : List ℕ) (most : ℕ)
         → IsSpent positions setting.program → FitsAlways weight setting input → HasShapeAlways weight setting input
         → AreMarked marks holds setting.program → AllSpendAtMost setting.program most → most ≤ 65000
         → ((c : ℕ) → length (field_marks marks c) ≤ 6) → 1 ≤ setting.depth → setting.depth ≤ 65536 → setting.cells ≤ 1048576
-        → ((n : ℕ) → FitsControl layout (counted_after weight setting input n).heap (counted_after weight setting input n).control)
-        → (n : ℕ) → IsFit layout (counted_after weight setting input n) }
+        → HasKindsAlways (AreTagged layout) (count_of_fields layout) weight setting input → AllHaveInt32 setting.program.functions
+        → All (λ byte. byte < 256) input → (n : ℕ) → IsFit layout (counted_after weight setting input n) }
 {}

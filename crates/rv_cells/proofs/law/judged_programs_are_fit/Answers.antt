@@ -1,5 +1,5 @@
-use Rattle.rv_cells.proofs.Fits.{always_fits}
+use Rattle.rv_cells.proofs.Fits.{typed_fits}
 use Rattle.rv_cells.proofs.law.judged_programs_are_fit.Goals as goal
 
 pub returns : goal.returns
-returns c = always_fits
+returns c = typed_fits
