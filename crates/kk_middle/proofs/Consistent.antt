@@ -94,22 +94,23 @@ back : (ts : List TypeTree) → type_list (types_of ts) ≡ ts
 back [] = refl
 back (t ∷ ts) = ap (λ us. t ∷ us) (back ts)
 
+-- of two numbers one is less, or they are equal
+pub order : (x y : ℕ) → (x < y) ⊎ ((x ≡ y) ⊎ (y < x))
+order zero zero = inr (inl refl)
+order zero (suc y) = inl (omega arith)
+order (suc x) zero = inr (inr (omega arith))
+order (suc x) (suc y) = more (order x y)
+  where
+    more : (x < y) ⊎ ((x ≡ y) ⊎ (y < x)) → (suc x < suc y) ⊎ ((suc x ≡ suc y) ⊎ (suc y < suc x))
+    more (inl less) = inl (omega (arith, less))
+    more (inr (inl same)) = inr (inl (ap suc same))
+    more (inr (inr less)) = inr (inr (omega (arith, less)))
+
 -- two numbers of a table without repetition
 same_number : (types : List TypeTree) → AllPairs (λ one other. one ≢ other) types → (a b : ℕ) → a < length types → b < length types
     → same_type (type_at types a) (type_at types b) ≡ (a == b)
 same_number types once a b one two = by (a == b) refl
   where
-    order : (x y : ℕ) → (x < y) ⊎ ((x ≡ y) ⊎ (y < x))
-    order zero zero = inr (inl refl)
-    order zero (suc y) = inl (omega arith)
-    order (suc x) zero = inr (inr (omega arith))
-    order (suc x) (suc y) = more (order x y)
-      where
-        more : (x < y) ⊎ ((x ≡ y) ⊎ (y < x)) → (suc x < suc y) ⊎ ((suc x ≡ suc y) ⊎ (suc y < suc x))
-        more (inl less) = inl (omega (arith, less))
-        more (inr (inl same)) = inr (inl (ap suc same))
-        more (inr (inr less)) = inr (inr (omega (arith, less)))
-
     differ : (a == b) ≡ false → type_at types a ≡ type_at types b → ⊥
     differ other same = go (order a b)
       where
@@ -131,11 +132,9 @@ same_number types once a b one two = by (a == b) refl
         ap (λ (n : ℕ). same_type (type_at types n) (type_at types b)) (Counting.same a b is) ∙ same_itself (type_at types b) ∙ sym is
     by false is = tested (same_type (type_at types a) (type_at types b)) is refl ∙ sym is
 
--- ---- the constructors of the core form
+-- ---- the ground constructors
 
-module _ (typed : Typed) (given : Ground) (core : Core) (is : AreGiven typed given) (tells : TellsCells (ground_program given) core)
-    (numbers : map (λ (c : ConstructorShape). c.of_type) core.constructors.items
-    ≡ map (λ (c : GroundConstructor). c.of_type) given.constructors.items) where
+module _ (typed : Typed) (given : Ground) (is : AreGiven typed given) where
   abbrev program : ProgramTree
   program = program_tree typed.program
 
@@ -144,9 +143,6 @@ module _ (typed : Typed) (given : Ground) (core : Core) (is : AreGiven typed giv
 
   abbrev items : List GroundConstructor
   items = given.constructors.items
-
-  abbrev shapes : List ConstructorShape
-  shapes = core.constructors.items
 
   abbrev tree : GroundConstructor → ConstructorTree
   tree made = ground_constructor_tree types made
@@ -178,7 +174,7 @@ module _ (typed : Typed) (given : Ground) (core : Core) (is : AreGiven typed giv
   has_types j m there = all_at (HasTypes types) items j m is.constructors there
 
   -- the type of its values
-  own_type : (j : ℕ) (m : GroundConstructor) → slice_get items j ≡ Some m → made_type (tree m) ≡ type_at types m.of_type
+  pub own_type : (j : ℕ) (m : GroundConstructor) → slice_get items j ≡ Some m → made_type (tree m) ≡ type_at types m.of_type
   own_type j m there =
       let has : HasTypes types m = has_types j m there in
       ap (λ (t : TypeTree). named (number_of_type t) (arguments_of_type t)) has.is ∙ sym has.is
@@ -190,7 +186,7 @@ module _ (typed : Typed) (given : Ground) (core : Core) (is : AreGiven typed giv
       ∙ ap (λ (ts : TypeTrees). named (number_of_type (type_at types m.of_type)) ts) (listed (arguments_of_type (type_at types m.of_type)))
       ∙ own_type j m there
 
-  number_test : (j i : ℕ) (m one : GroundConstructor) → slice_get items j ≡ Some m → slice_get items i ≡ Some one
+  pub number_test : (j i : ℕ) (m one : GroundConstructor) → slice_get items j ≡ Some m → slice_get items i ≡ Some one
       → same_type (type_at types m.of_type) (type_at types one.of_type) ≡ (m.of_type == one.of_type)
   number_test j i m one there here =
       same_number types is.once m.of_type one.of_type (has_types j m there).of_type (has_types i one here).of_type
@@ -230,35 +226,64 @@ module _ (typed : Typed) (given : Ground) (core : Core) (is : AreGiven typed giv
         sym (back x.at) ∙ ap (λ (t : TypeTree). type_list (arguments_of_type t)) same ∙ back (ground_view types one).at,
       )
 
-  lengths : length (grounds_of given) ≡ length shapes
+  -- it is the number of those of the type before
+  pub tag_counts : (i : ℕ) (one : GroundConstructor) → slice_get items i ≡ Some one
+      → one.tag ≡ count_by (λ (m : GroundConstructor). m.of_type == one.of_type) (take i items)
+  unfolding test
+  tag_counts i one there =
+      ap (λ (c : ConstructorTree). c.tag) (as_made i one there)
+      ∙ sym (placed program (grounds_of given) whole i (ground_view types one)
+      (slice_get-map (ground_view types) items i ∙ ap (option_map (ground_view types)) there) (test one) (tells_type i one there))
+      ∙ counts (test one) (λ (m : GroundConstructor). m.of_type == one.of_type) (grounds_of given) items
+      (length-map items (ground_view types))
+      (λ j x m here second.
+      let x_is : x ≡ ground_view types m =
+      same_element (grounds_of given) j x (ground_view types m) here
+      (slice_get-map (ground_view types) items j ∙ ap (option_map (ground_view types)) second) in
+      ap (test one) x_is ∙ ap (λ (t : TypeTree). same_type t (type_at types one.of_type)) (ground_type_is j m second)
+      ∙ number_test j i m one second there) i
+
+-- ---- the constructors of the core form
+
+module _ (typed : Typed) (given : Ground) (core : Core) (is : AreGiven typed given) (tells : TellsCells (ground_program given) core)
+    (numbers : map (λ (c : ConstructorShape). c.of_type) core.constructors.items
+    ≡ map (λ (c : GroundConstructor). c.of_type) given.constructors.items) where
+  abbrev ground_items : List GroundConstructor
+  ground_items = given.constructors.items
+
+  abbrev shapes : List ConstructorShape
+  shapes = core.constructors.items
+
+  abbrev ground_tree : GroundConstructor → ConstructorTree
+  ground_tree made = ground_constructor_tree (ground_types given.types.items) made
+
+  lengths : length ground_items ≡ length shapes
   lengths =
-      length-map items (ground_view types) ∙ sym (length-map items (λ (c : GroundConstructor). c.of_type)) ∙ ap length (sym numbers)
+      sym (length-map ground_items (λ (c : GroundConstructor). c.of_type)) ∙ ap length (sym numbers)
       ∙ length-map shapes (λ (c : ConstructorShape). c.of_type)
 
   tag_is : (i : ℕ) (shape : ConstructorShape) → slice_get shapes i ≡ Some shape
       → shape.tag ≡ count_by (λ other. other.of_type == shape.of_type) (take i shapes)
-  unfolding test
   tag_is i shape there =
-      let by_type = other_at (λ (c : ConstructorShape). c.of_type) (λ (c : GroundConstructor). c.of_type) shapes items i shape numbers there in
+      let by_type =
+      other_at (λ (c : ConstructorShape). c.of_type) (λ (c : GroundConstructor). c.of_type) shapes ground_items i shape numbers there in
       let one : GroundConstructor = by_type.y in
-      let by_tag = other_at (λ (c : ConstructorShape). c.tag) (λ (c : ConstructorTree). c.tag) shapes (map tree items) i shape tells.tags there in
-      let tree_is : by_tag.y ≡ tree one =
-      same_element (map tree items) i by_tag.y (tree one) by_tag.there (slice_get-map tree items i ∙ ap (option_map tree) by_type.there) in
+      let by_tag =
+      other_at (λ (c : ConstructorShape). c.tag) (λ (c : ConstructorTree). c.tag) shapes (map ground_tree ground_items) i shape
+      tells.tags there in
+      let tree_is : by_tag.y ≡ ground_tree one =
+      same_element (map ground_tree ground_items) i by_tag.y (ground_tree one) by_tag.there
+      (slice_get-map ground_tree ground_items i ∙ ap (option_map ground_tree) by_type.there) in
       let tag : shape.tag ≡ one.tag = by_tag.is ∙ ap (λ (c : ConstructorTree). c.tag) tree_is in
-      tag ∙ ap (λ (c : ConstructorTree). c.tag) (as_made i one by_type.there)
-      ∙ sym (ap (λ (n : ℕ). length (makers (take one.constructor program.constructors) n (types_of (ground_view types one).at))) refl)
-      ∙ sym (placed program (grounds_of given) whole i (ground_view types one)
-      (slice_get-map (ground_view types) items i ∙ ap (option_map (ground_view types)) by_type.there) (test one) (tells_type i one by_type.there))
-      ∙ counts (test one) (λ other. other.of_type == shape.of_type) (grounds_of given) shapes lengths
-      (λ j x other here second.
-      let member = other_at (λ (c : ConstructorShape). c.of_type) (λ (c : GroundConstructor). c.of_type) shapes items j other numbers second in
-      let m : GroundConstructor = member.y in
-      let x_is : x ≡ ground_view types m =
-      same_element (grounds_of given) j x (ground_view types m) here
-      (slice_get-map (ground_view types) items j ∙ ap (option_map (ground_view types)) member.there) in
-      ap (test one) x_is ∙ ap (λ (t : TypeTree). same_type t (type_at types one.of_type)) (ground_type_is j m member.there)
-      ∙ number_test j i m one member.there by_type.there
-      ∙ ap (λ (n : ℕ). m.of_type == n) (sym by_type.is) ∙ ap (λ (n : ℕ). n == shape.of_type) (sym member.is)) i
+      tag ∙ tag_counts typed given is i one by_type.there
+      ∙ counts (λ (m : GroundConstructor). m.of_type == one.of_type) (λ other. other.of_type == shape.of_type) ground_items shapes
+      lengths
+      (λ j m other here second.
+      let member =
+      other_at (λ (c : ConstructorShape). c.of_type) (λ (c : GroundConstructor). c.of_type) shapes ground_items j other numbers
+      second in
+      ap (λ (x : GroundConstructor). x.of_type == one.of_type) (same_element ground_items j m member.y here member.there)
+      ∙ ap (λ (n : ℕ). member.y.of_type == n) (sym by_type.is) ∙ ap (λ (n : ℕ). n == shape.of_type) (sym member.is)) i
 
   -- ---- cells
 
@@ -281,37 +306,37 @@ module _ (typed : Typed) (given : Ground) (core : Core) (is : AreGiven typed giv
   cells_are : (i : ℕ) (shape : ConstructorShape) → slice_get shapes i ≡ Some shape
       → shape.has_cells ≡ list_any (λ other. (other.of_type == shape.of_type) && has_fields other) shapes
   cells_are i shape there =
-      let by_type = other_at (λ (c : ConstructorShape). c.of_type) (λ (c : GroundConstructor). c.of_type) shapes items i shape numbers there in
+      let by_type = other_at (λ (c : ConstructorShape). c.of_type) (λ (c : GroundConstructor). c.of_type) shapes ground_items i shape numbers there in
       let one : GroundConstructor = by_type.y in
-      let by_cells = other_at (λ (c : ConstructorShape). c.has_cells) (λ (c : ConstructorTree). has_cells (map tree items) (made_type c)) shapes
-      (map tree items) i shape tells.types there in
-      let tree_is : by_cells.y ≡ tree one =
-      same_element (map tree items) i by_cells.y (tree one) by_cells.there
-      (slice_get-map tree items i ∙ ap (option_map tree) by_type.there) in
-      by_cells.is ∙ ap (λ (c : ConstructorTree). has_cells (map tree items) (made_type c)) tree_is
-      ∙ anys (λ (c : ConstructorTree). makes_cells c (made_type (tree one))) (λ other. (other.of_type == shape.of_type) && has_fields other)
-      (map tree items) shapes
-      (length-map items tree ∙ sym (length-map items (λ (c : GroundConstructor). c.of_type)) ∙ ap length (sym numbers)
+      let by_cells = other_at (λ (c : ConstructorShape). c.has_cells) (λ (c : ConstructorTree). has_cells (map ground_tree ground_items) (made_type c)) shapes
+      (map ground_tree ground_items) i shape tells.types there in
+      let tree_is : by_cells.y ≡ ground_tree one =
+      same_element (map ground_tree ground_items) i by_cells.y (ground_tree one) by_cells.there
+      (slice_get-map ground_tree ground_items i ∙ ap (option_map ground_tree) by_type.there) in
+      by_cells.is ∙ ap (λ (c : ConstructorTree). has_cells (map ground_tree ground_items) (made_type c)) tree_is
+      ∙ anys (λ (c : ConstructorTree). makes_cells c (made_type (ground_tree one))) (λ other. (other.of_type == shape.of_type) && has_fields other)
+      (map ground_tree ground_items) shapes
+      (length-map ground_items ground_tree ∙ sym (length-map ground_items (λ (c : GroundConstructor). c.of_type)) ∙ ap length (sym numbers)
       ∙ length-map shapes (λ (c : ConstructorShape). c.of_type))
       (λ j c other here second.
-      let member = other_at (λ (s : ConstructorShape). s.of_type) (λ (g : GroundConstructor). g.of_type) shapes items j other numbers second in
+      let member = other_at (λ (s : ConstructorShape). s.of_type) (λ (g : GroundConstructor). g.of_type) shapes ground_items j other numbers second in
       let m : GroundConstructor = member.y in
-      let c_is : c ≡ tree m =
-      same_element (map tree items) j c (tree m) here (slice_get-map tree items j ∙ ap (option_map tree) member.there) in
+      let c_is : c ≡ ground_tree m =
+      same_element (map ground_tree ground_items) j c (ground_tree m) here (slice_get-map ground_tree ground_items j ∙ ap (option_map ground_tree) member.there) in
       let by_fields = other_at (λ (s : ConstructorShape). s.fields.items)
-      (λ (d : ConstructorTree). map (has_cells (map tree items)) d.fields) shapes (map tree items) j other tells.fields second in
-      let d_is : by_fields.y ≡ tree m = same_element (map tree items) j by_fields.y (tree m) by_fields.there
-      (slice_get-map tree items j ∙ ap (option_map tree) member.there) in
-      let count : length (tree m).fields ≡ length other.fields.items =
-      sym (length-map (tree m).fields (has_cells (map tree items)))
-      ∙ ap (λ (d : ConstructorTree). length (map (has_cells (map tree items)) d.fields)) (sym d_is) ∙ sym (ap length by_fields.is) in
-      ap (λ (d : ConstructorTree). makes_cells d (made_type (tree one))) c_is
-      ∙ makes_is (tree m) (arguments_of_type (type_at types m.of_type)) (arguments_of_type (type_at types one.of_type))
-      (number_of_type (type_at types one.of_type)) refl
-      ∙ ap (λ (t : TypeTree). same_type t (made_type (tree one)) && not (length (tree m).fields == 0)) (own_type j m member.there)
-      ∙ ap (λ (t : TypeTree). same_type (type_at types m.of_type) t && not (length (tree m).fields == 0)) (own_type i one by_type.there)
-      ∙ ap (λ (t : Bool). t && not (length (tree m).fields == 0))
-      (number_test j i m one member.there by_type.there ∙ ap (λ (n : ℕ). m.of_type == n) (sym by_type.is)
+      (λ (d : ConstructorTree). map (has_cells (map ground_tree ground_items)) d.fields) shapes (map ground_tree ground_items) j other tells.fields second in
+      let d_is : by_fields.y ≡ ground_tree m = same_element (map ground_tree ground_items) j by_fields.y (ground_tree m) by_fields.there
+      (slice_get-map ground_tree ground_items j ∙ ap (option_map ground_tree) member.there) in
+      let count : length (ground_tree m).fields ≡ length other.fields.items =
+      sym (length-map (ground_tree m).fields (has_cells (map ground_tree ground_items)))
+      ∙ ap (λ (d : ConstructorTree). length (map (has_cells (map ground_tree ground_items)) d.fields)) (sym d_is) ∙ sym (ap length by_fields.is) in
+      ap (λ (d : ConstructorTree). makes_cells d (made_type (ground_tree one))) c_is
+      ∙ makes_is (ground_tree m) (arguments_of_type (type_at (ground_types given.types.items) m.of_type)) (arguments_of_type (type_at (ground_types given.types.items) one.of_type))
+      (number_of_type (type_at (ground_types given.types.items) one.of_type)) refl
+      ∙ ap (λ (t : TypeTree). same_type t (made_type (ground_tree one)) && not (length (ground_tree m).fields == 0)) (own_type typed given is j m member.there)
+      ∙ ap (λ (t : TypeTree). same_type (type_at (ground_types given.types.items) m.of_type) t && not (length (ground_tree m).fields == 0)) (own_type typed given is i one by_type.there)
+      ∙ ap (λ (t : Bool). t && not (length (ground_tree m).fields == 0))
+      (number_test typed given is j i m one member.there by_type.there ∙ ap (λ (n : ℕ). m.of_type == n) (sym by_type.is)
       ∙ ap (λ (n : ℕ). n == shape.of_type) (sym member.is))
       ∙ ap (λ (n : ℕ). (other.of_type == shape.of_type) && not (n == 0)) count)
 

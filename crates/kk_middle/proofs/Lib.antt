@@ -14,3 +14,5 @@ mod Instances
 mod WholeCases
 mod SpecialMarks
 mod Programs
+mod Apart
+mod ShapeKinds

@@ -79,7 +79,7 @@ of_facts : {Y : Type 0} (f : ConstructorFacts → Y) (xs : List ConstructorShape
 of_facts f [] = refl
 of_facts f (x ∷ xs) = ap (λ ys. f (facts_of x) ∷ ys) (of_facts f xs)
 
-same_facts : {Y : Type 0} (f : ConstructorFacts → Y) (xs ys : List ConstructorShape) → map facts_of xs ≡ map facts_of ys
+pub same_facts : {Y : Type 0} (f : ConstructorFacts → Y) (xs ys : List ConstructorShape) → map facts_of xs ≡ map facts_of ys
     → map (λ c. f (facts_of c)) xs ≡ map (λ c. f (facts_of c)) ys
 same_facts f xs ys same = of_facts f xs ∙ ap (map f) same ∙ sym (of_facts f ys)
 

@@ -3,3 +3,4 @@ pub mod Compiled
 pub mod Meaning
 pub mod WholeCases
 pub mod MarkedPrograms
+pub mod ShapeKinds

@@ -11,6 +11,9 @@ pub use law::{
     core_constructors_are_consistent, owned_positions_of_instances_are_closed,
     tail_calls_of_core_forms_lend_on,
 };
-pub use meaning::{compiled_programs_are_marked, compiled_programs_keep_meaning};
+pub use meaning::{
+    compiled_programs_are_marked, compiled_programs_have_their_kinds,
+    compiled_programs_keep_meaning,
+};
 pub use positions::positions_of_instances;
 pub use program::compile;

@@ -54,21 +54,10 @@ returns c typed given made checked are compiled keeps cells depth input =
     let own : PositionTable = instance_positions given table in
     let code : ProgramCode = core_code compiled.core in
     let is_typed : IsGroundTyped ground = ground_typed program ground typings instances is checked in
-    let within = instances_are_within given in
     let core_typed : IsCoreTyped (table_of ground) code
-    = c.core_forms_of_typed_programs_are_typed.ensures ground code is_typed compiled.form in
-    let small = c.core_forms_are_small.ensures ground code compiled.form within in
-    let told : Told ground own
-    = c.owned_positions_of_instances_are_closed.ensures.told program ground typings instances table is compiled.least.told in
-    let closed : ClosedUnderTailCalls ground (owned_in own)
-    = c.owned_positions_of_instances_are_closed.ensures.closed program ground typings instances table is compiled.least.told
-    compiled.least.closed.tail_calls in
-    let kept = c.owned_positions_of_instances_are_closed.ensures.keeps program ground typings instances table is
-    compiled.least.told keeps in
-    let lends : TailsLendOn own code
-    = c.tail_calls_of_core_forms_lend_on.ensures ground code own compiled.form told closed kept in
+    = c.compiled_core_forms_are_insertable.ensures.typed typed given made checked are compiled in
     let insertable : IsInsertable own code
-    = c.typed_code_is_insertable.ensures own (table_of ground) code core_typed small lends in
+    = c.compiled_core_forms_are_insertable.ensures.insertable typed given made checked are compiled keeps in
     let core : CoreSetting = Norm.core_setting_of code own cells depth in
     let counted : CountedSetting = Insert.inserted_setting core in
     let never = c.typed_code_is_never_stuck.ensures (table_of ground) core (λ s. 0) input core_typed in
