@@ -69,7 +69,7 @@ module _ (types : List TypeTree) where
   abbrev own_of : GroundConstructor → TypeTrees
   own_of made = arguments_of_type (type_at types made.of_type)
 
-  makes : (o : Option GroundConstructor) (by : ℕ) (arguments : TypeTrees) (us : List TypeTree)
+  pub makes : (o : Option GroundConstructor) (by : ℕ) (arguments : TypeTrees) (us : List TypeTree)
       → fields_of (option_map (ground_constructor_tree types) o) by arguments ≡ Some us → Makes by arguments o
   makes None by arguments us is = absurd (cc)
   makes (Some made) by arguments us is = by_test ((tree_of made).of_type == by) refl is
@@ -91,17 +91,17 @@ module _ (types : List TypeTree) where
       by_test false of is = absurd (cc)
 
 module _ (typed : Typed) (given : Ground) (are : AreGiven typed given) where
-  abbrev items : List GroundConstructor
+  abbrev pub items : List GroundConstructor
   items = given.constructors.items
 
-  abbrev types : List TypeTree
+  abbrev pub types : List TypeTree
   types = ground_types given.types.items
 
-  abbrev tree : GroundConstructor → ConstructorTree
+  abbrev pub tree : GroundConstructor → ConstructorTree
   tree = ground_constructor_tree types
 
   -- two of one type have the same number of their type
-  one_number : (c d : ℕ) (m n : GroundConstructor) → slice_get items c ≡ Some m → slice_get items d ≡ Some n
+  pub one_number : (c d : ℕ) (m n : GroundConstructor) → slice_get items c ≡ Some m → slice_get items d ≡ Some n
       → made_type (tree m) ≡ made_type (tree n) → m.of_type ≡ n.of_type
   one_number c d m n one two same =
       Counting.same m.of_type n.of_type
@@ -132,7 +132,7 @@ module _ (typed : Typed) (given : Ground) (are : AreGiven typed given) where
           absurd (omega (arith, more, counts_are))
 
   -- the tag of one that is there
-  tag_there : (c : ℕ) (m : GroundConstructor) → slice_get items c ≡ Some m
+  pub tag_there : (c : ℕ) (m : GroundConstructor) → slice_get items c ≡ Some m
       → slice_index_or (map (λ (one : ConstructorTree). one.tag) (map tree items)) c 0 ≡ m.tag
   tag_there c m there = in_list items c there
     where
@@ -165,7 +165,7 @@ module _ (typed : Typed) (given : Ground) (are : AreGiven typed given) where
 
   module _ (core : Core) (tells : TellsCells (ground_program given) core) (shapes : List ConstructorShape)
       (same : map facts_of shapes ≡ map facts_of core.constructors.items) where
-    tag_is : (c : ℕ) → tag_of shapes c ≡ slice_index_or (map (λ (one : ConstructorTree). one.tag) (map tree items)) c 0
+    pub tag_is : (c : ℕ) → tag_of shapes c ≡ slice_index_or (map (λ (one : ConstructorTree). one.tag) (map tree items)) c 0
     tag_is c =
         ap (λ (ns : List ℕ). slice_index_or ns c 0) (same_facts (λ f. f.tag) shapes core.constructors.items same ∙ tells.tags)
 

@@ -1,14 +1,16 @@
--- What the insertion asks of a core form: its functions have as many parameters as the table of positions tells of each.
+-- What the insertion asks of a core form: its cases have an arm for each row, and its functions have as many parameters as the
+-- table of positions tells of each.
 use Rattle.std.proofs.Common.{◌≡◌, ℕ, suc, List, [], ◌∷◌, length, map, refl, sym, ap, ◌∙◌}
 use Rattle.kk_syntax.specs.OwnedPositions.{Told}
 use Rattle.kk_syntax.specs.PositionsOf.{PositionTable}
 use Rattle.kk_syntax.specs.Programs.{ConstructorTree, FunctionTree, ProgramTree}
+use Rattle.kk_core.specs.Cases.{EachCase, EachCaseOfArms, IsWhole, CasesAreWhole}
 use Rattle.kk_core.specs.CellTypes.{has_cells, TellsCells}
-use Rattle.kk_core.specs.Codes.{FunctionCode, ProgramCode}
+use Rattle.kk_core.specs.Codes.{Code, give, tail_call, branch, case, compute, use_of, unpack, inside, Arms, no_arm, arm, FunctionCode, ProgramCode}
 use Rattle.kk_core.specs.declared.form.Core.{Core}
 use Rattle.kk_core.specs.declared.form.CoreFunction.{CoreFunction}
 use Rattle.kk_norm.specs.Normalized.{AreCoresOf, IsCoreForm}
-use Rattle.kk_insert.specs.Promise.{TellsParameters}
+use Rattle.kk_insert.specs.Promise.{HasRows, HaveRows, AllHaveRows, TellsParameters}
 use Rattle.kk_insert.specs.Shapes.{TellsAsMany}
 
 -- a core form has the parameters of its program
@@ -50,3 +52,22 @@ tells_as_many program core table tells told =
     ∙ sym (lengths (λ (f : FunctionTree). map (has_cells program.constructors) f.parameters) program.functions)
     ∙ ap (map length) (sym tells.parameters)
     ∙ lengths (λ (f : CoreFunction). f.parameters_have_cells.items) core.functions.items
+
+-- each case of a core form has an arm for each row
+mutual
+  code_has : (code : Code) → EachCase IsWhole code → HasRows code
+  code_has (give x) each = tt
+  code_has (tail_call f arguments) each = tt
+  code_has (branch x positive negative) each = (code_has positive each.0, code_has negative each.1)
+  code_has (case x decisions arms) each = (each.0, arms_have arms each.1)
+  code_has (compute x form arguments rest) each = code_has rest each
+  code_has (use_of x rest) each = code_has rest each
+  code_has (unpack x c fields rest) each = code_has rest each
+  code_has (inside x block rest) each = (code_has block each.0, code_has rest each.1)
+
+  arms_have : (arms : Arms) → EachCaseOfArms IsWhole arms → HaveRows arms
+  arms_have no_arm each = tt
+  arms_have (arm pattern body rest) each = (code_has body each.0, arms_have rest each.1)
+
+pub all_have_rows : (code : ProgramCode) → CasesAreWhole code → AllHaveRows code
+all_have_rows code whole = λ f function there. code_has function.body (whole f function there)

@@ -11,8 +11,9 @@ mod Agreeing
 mod Marked
 mod Special
 mod Instances
-mod WholeCases
 mod SpecialMarks
 mod Programs
 mod Apart
 mod ShapeKinds
+mod FewFields
+mod Tags

@@ -1,6 +1,6 @@
 pub mod LentNames
 pub mod Compiled
 pub mod Meaning
-pub mod WholeCases
 pub mod MarkedPrograms
 pub mod ShapeKinds
+pub mod Lowerings

@@ -13,7 +13,6 @@ use crate::law::{
     tail_calls_of_core_forms_lend_on,
 };
 use crate::positions::positions_of_instances;
-use crate::whole::cases_are_whole;
 use kk_base::NoMemory;
 use kk_borrow::owned;
 use kk_counted::Counted;
@@ -36,10 +35,6 @@ pub fn compile(alloc: Global, accepted: &Accepted) -> Result<Counted, NoMemory>
 {
     instances_mean_the_program();
     let core = normal(alloc, &accepted.instances)?;
-    // Each case that `normal` writes has an arm for each row. Its contract does not say so yet, so this is checked here.
-    if !cases_are_whole(&core) {
-        return Err(NoMemory);
-    }
     let table = owned(alloc, &accepted.typed.program)?;
     let positions = positions_of_instances(alloc, &table, &accepted.instances)?;
     owned_positions_of_instances_are_closed();

@@ -26,7 +26,7 @@ use Rattle.kk_middle.proofs.ShapeKinds.{control_kinds}
 use Rattle.kk_middle.proofs.meaning.compiled_programs_have_their_kinds.Goals as goal
 
 pub returns : goal.returns
-returns c typed given made checked parameters are compiled keeps asked cells depth input =
+returns c typed given made checked are compiled keeps cells depth input =
     let table : Table = table_of (ground_program given) in
     let constructors : List ConstructorTree = table.constructors in
     let shapes : List ConstructorShape = made.shape.constructors.items in
@@ -35,11 +35,12 @@ returns c typed given made checked parameters are compiled keeps asked cells dep
     let core_typed : IsCoreTyped table code
     = c.compiled_core_forms_are_insertable.ensures.typed typed given made checked are compiled in
     let insertable : IsInsertable own code
-    = c.compiled_core_forms_are_insertable.ensures.insertable typed given made checked parameters are compiled keeps in
+    = c.compiled_core_forms_are_insertable.ensures.insertable typed given made checked are compiled keeps in
     let core : CoreSetting = Norm.core_setting_of code own cells depth in
     let counted : CountedSetting = Insert.inserted_setting core in
     let never = c.typed_code_is_never_stuck.ensures table core (λ s. 0) input core_typed in
-    let kinds = c.typed_code_has_its_kinds.ensures table core (λ s. 0) input core_typed asked in
+    let kinds = c.typed_code_has_its_kinds.ensures table core (λ s. 0) input core_typed
+    (c.core_forms_ask_what_types_tell.ensures (ground_program given) code compiled.form) in
     let spent : IsSpent own (inserted own code) = c.inserted_code_is_spent.ensures own code insertable in
     let fits : (weights : CountedState → ℕ) → FitsAlways weights counted input
     = λ weights. c.inserted_code_has_its_kinds.ensures.fits core constructors (λ s. 0) weights input insertable never in

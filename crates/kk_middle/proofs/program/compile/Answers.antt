@@ -15,7 +15,7 @@ use Rattle.kk_insert.specs.Insertion.{inserted}
 use Rattle.kk_insert.specs.Promise.{TailsLendOn}
 use Rattle.kk_insert.specs.Shapes.{cells_in, facts_of}
 use Rattle.kk_dropspec.specs.Specialised.{special_function}
-use Rattle.kk_middle.proofs.Compiling.{tells_parameters, tells_as_many}
+use Rattle.kk_middle.proofs.Compiling.{tells_parameters, tells_as_many, all_have_rows}
 use Rattle.kk_middle.proofs.Within.{instances_are_within}
 use Rattle.kk_middle.proofs.program.compile.Goals as goal
 
@@ -53,7 +53,7 @@ run-requires-clause-insertable c =
     (subst (λ (positions : PositionTable). TailsLendOn positions code) (sym c.in_ok-positions.ensures) lends)
 
 pub run-requires-clause-rows : goal.run-requires-clause-rows
-run-requires-clause-rows c = c.cases_are_whole.ensures c.if-not-cases_are_whole.false
+run-requires-clause-rows c = all_have_rows (core_code c.in_ok-core.core) c.in_ok-core.ensures.means.whole
 
 pub run-requires-clause-told : goal.run-requires-clause-told
 run-requires-clause-told c =
