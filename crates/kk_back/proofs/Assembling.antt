@@ -257,3 +257,14 @@ image_of {cells} {depth} {asm} {placed} {runtime} {words} {text} makes text_agre
             subst (λ (s : _). EndsWithCells (pool makes) how world (run whole.0 (s input))) (sym there) whole.1,
           );
     }
+
+pub image_made : {cells depth frame : ℕ} {asm : Asm} {placed runtime : Placed} {words : Words} {text : List ℕ} → AreSizes cells depth
+    → (made : IsPlaceable (asm_functions asm) (asm_constants asm)) → IsValid asm placed → IsPlainlyPlaced (asm_functions asm) placed
+    → frame ≡ frame_size (placed_functions placed) → IsText cells depth frame runtime → ArePlacedWords runtime placed words
+    → IsTextOf words text → PlacedTextAgrees → PlacedTextEnds
+    → (entry : ℕ) (parts : List Part) → IsProgramImage entry parts → entry ≡ text_start → parts ≡ program_parts text runtime.memory.size
+    → IsAsmImage (asm_functions asm) (asm_constants asm) made.main cells depth entry parts
+unfolding makes_of
+image_made {asm = asm} sizes made valid plain frame_is runtime_is words_are text_is text_agrees text_ends entry parts program entry_is parts_are =
+    image_of (makes_of {asm = asm} sizes made valid plain frame_is runtime_is words_are text_is) text_agrees text_ends entry parts program
+    entry_is parts_are

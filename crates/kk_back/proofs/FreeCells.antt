@@ -29,8 +29,8 @@ by_test true one other first second = first
 by_test false one other first second = second
 
 seen_words : (count header : Option ℕ) (fields : List ℕ) → seen_with count header fields ≢ free
-seen_words None header fields is = cc
-seen_words (Some count) None fields is = cc
+seen_words None header fields = λ is. cc
+seen_words (Some count) None fields = λ is. cc
 seen_words (Some count) (Some header) fields =
     by_test (nat_lt (header / 256) (2 ^ length fields)) (counted count (record { tag = header % 256; mask = header / 256; fields = fields })) (token fields)
     (λ is. cc) (λ is. cc)

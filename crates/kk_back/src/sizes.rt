@@ -1,6 +1,6 @@
 //! Whether assembler code is small enough for a text part.
 
-ghost use Rattle.std.specs.Prelude.{◌≡◌, ◌<◌, ◌≤◌, ◌→◌, map, length, true, false};
+ghost use Rattle.std.specs.Prelude.{◌≡◌, ◌<◌, ◌≤◌, map, length, true, false};
 ghost use Rattle.rv_isa.specs.AsmCode.{lines_of, asm_functions, asm_constants};
 ghost use Rattle.rv_isa.specs.WellFormed.{all_lines};
 ghost use Rattle.rv_world.specs.Operations.{all_bytes};

@@ -6,12 +6,12 @@ use Rattle.elf_image.specs.Program.{greatest_text, memory_start, program_parts}
 use Rattle.cell_runtime.specs.Texts.{IsText}
 use Rattle.rv_place.specs.Addresses.{frame_size}
 use Rattle.kk_back.specs.Assembled.{IsAsmImage}
-use Rattle.kk_back.proofs.Assembling.{Makes, makes_of, placeable, fits, image_of, same_some}
+use Rattle.kk_back.proofs.Assembling.{Makes, makes_of, placeable, fits, image_made, same_some}
 use Rattle.kk_back.proofs.Placeable.{slots_most, frame_most}
 use Rattle.kk_back.proofs.assembled.assembled.Goals as goal
 
 pub assign-requires : goal.assign-requires
-assign-requires c = c.requires.placeable.formed
+assign-requires c = record { formed = c.requires.placeable.formed }
 
 pub frame_bytes-requires : goal.frame_bytes-requires
 frame_bytes-requires c = let few = slots_most (placed_functions c.in_ok-program.program) c.in_ok-program.ensures.shape.slots in omega (arith, few)
@@ -43,6 +43,7 @@ pub returns : goal.returns
 returns c main there =
     subst (λ (lines : Lines). IsAsmImage (asm_functions c.args.asm.now) (asm_constants c.args.asm.now) lines c.args.cells c.args.depth c.in_ok-image.image.entry c.in_ok-image.image.parts)
     (same_some c.requires.placeable.main main (sym c.requires.placeable.main_is ∙ there))
-    (image_of (makes_of {frame = c.frame_bytes.result} c.requires.sizes c.requires.placeable c.in_ok-program.ensures.valid c.in_ok-program.ensures.shape c.frame_bytes.ensures c.in_ok-runtime.ensures c.in_ok-words.ensures c.in_ok-bytes.ensures) c.placed_text_agrees.ensures c.placed_text_ends_with_its_cells.ensures
+    (image_made {frame = c.frame_bytes.result} {asm = c.args.asm.now} c.requires.sizes c.requires.placeable c.in_ok-program.ensures.valid c.in_ok-program.ensures.shape c.frame_bytes.ensures c.in_ok-runtime.ensures c.in_ok-words.ensures c.in_ok-bytes.ensures
+    c.placed_text_agrees.ensures c.placed_text_ends_with_its_cells.ensures
     c.in_ok-image.image.entry c.in_ok-image.image.parts c.in_ok-image.ensures.is_program c.in_ok-image.ensures.entry
     (c.in_ok-image.ensures.parts ∙ ap (λ (text : List ℕ). program_parts text c.in_ok-runtime.runtime.memory.size) c.from_vec.ensures))
