@@ -5,3 +5,4 @@ pub mod Tokens
 pub mod Forms
 pub mod SpecialKinds
 pub mod Lowered
+pub mod NumberForms

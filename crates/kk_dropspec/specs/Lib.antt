@@ -2,3 +2,4 @@ pub mod Specialised
 pub mod SpecialForms
 pub mod SameRuns
 pub mod SpecialTokens
+pub mod Numbers

@@ -1,15 +1,19 @@
 ghost use Rattle.std.specs.Prelude.{◌≡◌, map, IfOk};
-ghost use Rattle.kk_counted.specs.CountedForms.{block_code, last_code, step_move};
+ghost use Rattle.kk_counted.specs.CountedForms.{arms_of, block_code, last_code, step_move};
+ghost use Rattle.kk_counted.specs.Int32.{IsFormInt32, HasInt32, HaveInt32, AllHaveInt32};
 ghost use Rattle.kk_counted.specs.Programs.{function_of};
 ghost use Rattle.kk_dropspec.specs.Specialised.{special, special_function};
 ghost use Rattle.kk_dropspec.specs.SpecialForms.{special_move};
+ghost use Rattle.kk_dropspec.specs.Numbers.{IsMoveInt32, AreMovesInt32};
 
 use kk_base::NoMemory;
 use kk_counted::{Block, Counted, CountedFun, Last, Step, copied_decisions};
+use kk_syntax::Form;
 use std::alloc::Global;
 
 /// The program with each opening of a cell by the cell's count: a cell with a single reference gives its used fields away, and
-/// its other fields are given up; else the used fields get a reference more, and the cell's count is lowered.
+/// its other fields are given up; else the used fields get a reference more, and the cell's count is lowered. Its numbers are
+/// numbers of 32 bits.
 ///
 /// The recursion is as deep as the blocks of the code.
 pub fn run(alloc: Global, counted: Counted) -> Result<Counted, NoMemory>
@@ -17,6 +21,7 @@ pub fn run(alloc: Global, counted: Counted) -> Result<Counted, NoMemory>
     ensures functions { IfOk result (λ made. map function_of made.functions.items ≡ map special_function (map function_of counted.functions.items)) }
     ensures body_nodes { IfOk result (λ made. made.body_nodes ≡ counted.body_nodes) }
     ensures nodes { IfOk result (λ made. made.nodes ≡ counted.nodes) }
+    ensures numbers { IfOk result (λ made. AllHaveInt32 (map function_of made.functions.items)) }
 {
     let (shape, functions, body_nodes, nodes) = counted.parts();
     let mut made = Counted::new(alloc, shape, body_nodes, nodes);
@@ -30,7 +35,8 @@ pub fn run(alloc: Global, counted: Counted) -> Result<Counted, NoMemory>
 /// A block whose openings go by the count.
 #[cycle(special_block)]
 fn special_block(alloc: Global, block: &Block) -> Result<Block, NoMemory>
-    ensures { IfOk result (λ made. block_code made ≡ special (block_code block.now)) }
+    ensures same { IfOk result (λ made. block_code made ≡ special (block_code block.now)) }
+    ensures numbers { IfOk result (λ made. HasInt32 (block_code made)) }
 {
     let steps = special_steps(alloc, &block.steps)?;
     let last = special_last(alloc, &block.last)?;
@@ -39,7 +45,8 @@ fn special_block(alloc: Global, block: &Block) -> Result<Block, NoMemory>
 
 #[cycle(special_block)]
 fn special_steps(alloc: Global, steps: &[Step]) -> Result<Vec<Step>, NoMemory>
-    ensures { IfOk result (λ made. map step_move made.items ≡ map special_move (map step_move steps.now)) }
+    ensures same { IfOk result (λ made. map step_move made.items ≡ map special_move (map step_move steps.now)) }
+    ensures numbers { IfOk result (λ made. AreMovesInt32 (map step_move made.items)) }
 {
     let mut made = Vec::new(alloc);
     for step in steps {
@@ -50,10 +57,12 @@ fn special_steps(alloc: Global, steps: &[Step]) -> Result<Vec<Step>, NoMemory>
 
 #[cycle(special_block)]
 fn special_step(alloc: Global, step: &Step) -> Result<Step, NoMemory>
-    ensures { IfOk result (λ made. step_move made ≡ special_move (step_move step.now)) }
+    ensures same { IfOk result (λ made. step_move made ≡ special_move (step_move step.now)) }
+    ensures numbers { IfOk result (λ made. IsMoveInt32 (step_move made)) }
 {
     match step {
         Step::Let(variable, form, arguments) => {
+            numbers_of_forms_are_small(*form);
             Ok(Step::Let(*variable, *form, Vec::from_slice(alloc, arguments)?))
         }
         Step::Inside(variable, block) => Ok(Step::Inside(*variable, special_block(alloc, block)?)),
@@ -72,7 +81,8 @@ fn special_step(alloc: Global, step: &Step) -> Result<Step, NoMemory>
 
 #[cycle(special_block)]
 fn special_last(alloc: Global, last: &Last) -> Result<Last, NoMemory>
-    ensures { IfOk result (λ made. last_code made ≡ special (last_code last.now)) }
+    ensures same { IfOk result (λ made. last_code made ≡ special (last_code last.now)) }
+    ensures numbers { IfOk result (λ made. HasInt32 (last_code made)) }
 {
     match last {
         Last::Return(variable) => Ok(Last::Return(*variable)),
@@ -94,14 +104,16 @@ fn special_last(alloc: Global, last: &Last) -> Result<Last, NoMemory>
 
 #[cycle(special_block)]
 fn boxed(alloc: Global, block: &Block) -> Result<Box<Block>, NoMemory>
-    ensures { IfOk result (λ made. block_code made.value ≡ special (block_code block.now)) }
+    ensures same { IfOk result (λ made. block_code made.value ≡ special (block_code block.now)) }
+    ensures numbers { IfOk result (λ made. HasInt32 (block_code made.value)) }
 {
     Ok(Box::new(alloc, special_block(alloc, block)?)?)
 }
 
 #[cycle(special_block)]
 fn special_arms(alloc: Global, arms: &[Block]) -> Result<Vec<Block>, NoMemory>
-    ensures { IfOk result (λ made. map block_code made.items ≡ map special (map block_code arms.now)) }
+    ensures same { IfOk result (λ made. map block_code made.items ≡ map special (map block_code arms.now)) }
+    ensures numbers { IfOk result (λ made. HaveInt32 (arms_of (map block_code made.items))) }
 {
     let mut made = Vec::new(alloc);
     for arm in arms {
@@ -109,3 +121,8 @@ fn special_arms(alloc: Global, arms: &[Block]) -> Result<Vec<Block>, NoMemory>
     }
     Ok(made)
 }
+
+// The number of a form is one of 32 bits. It is a law, and does nothing.
+fn numbers_of_forms_are_small(form: Form)
+    ensures { IsFormInt32 form }
+{}

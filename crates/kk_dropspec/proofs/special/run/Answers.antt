@@ -1,7 +1,10 @@
-use Rattle.std.proofs.Common.{ap, ◌∙◌}
+use Rattle.std.proofs.Common.{ap, sym, subst, ◌∙◌, rules}
 use Rattle.kk_counted.specs.CountedForms.{block_code}
+use Rattle.kk_counted.specs.Int32.{HasInt32}
 use Rattle.kk_counted.specs.Shaping.{positions_in}
+use Rattle.kk_counted.specs.declared.form.Block.{Block}
 use Rattle.kk_dropspec.specs.Specialised.{special}
+use Rattle.kk_dropspec.proofs.NumberForms.{functions_pushed}
 use Rattle.kk_dropspec.proofs.Spends.{next_is_function}
 use Rattle.kk_dropspec.proofs.special.run.Goals as goal
 
@@ -12,4 +15,25 @@ add-requires c =
     (ap (λ shape. positions_in shape.instances.items) (c.loop-function.invariant.1.1.0 ∙ c.new-made.ensures.shape ∙ ap (λ parts. parts.0) c.parts-shape.ensures))
     (c.deref-function-items.ensures.value ∙ ap (λ parts. parts.1.items) c.parts-shape.ensures) c.loop-function-test.true c.function-item.is c.loop-function.invariant.1.0
     (ap (λ fun. fun.instance) c.new.ensures ∙ c.instance.ensures) (ap (λ fun. fun.parameters) c.new.ensures ∙ c.parameters.ensures)
-    (ap (λ fun. block_code fun.body) c.new.ensures ∙ c.in_ok-body.ensures ∙ ap (λ body. special (block_code body)) c.body.ensures)
+    (ap (λ fun. block_code fun.body) c.new.ensures ∙ c.in_ok-body.ensures.same ∙ ap (λ body. special (block_code body)) c.body.ensures)
+
+pub loop-function-preserved : goal.loop-function-preserved
+loop-function-preserved c = (
+  search rules,
+  (
+    search rules,
+    (
+      search rules,
+      (
+        search rules,
+        (
+          search rules,
+          functions_pushed c.loop-function.made.functions.items c.add.new.self.functions.items _ c.in_ok-add.ensures.ok
+              c.loop-function.invariant.1.1.1.1.1
+              (subst (λ (body : Block). HasInt32 (block_code body)) (sym (ap (λ fun. fun.body) c.new.ensures))
+              c.in_ok-body.ensures.numbers),
+        ),
+      ),
+    ),
+  ),
+)
