@@ -1,0 +1,3 @@
+type wrap<a> { Wrap(inner: a) }
+fun grow(n: int32, x: a): int32 { if n == 0 then 0 else grow(n - 1, Wrap(x)) }
+fun main() { println(grow(3, 0)) }

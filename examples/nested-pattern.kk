@@ -1,0 +1,11 @@
+type list<a> { Nil; Cons(head: a, tail: list<a>) }
+fun build(n: int32): list<int32>
+  if n == 0 then Nil else Cons(n, build(n - 1))
+fun len(xs: list<a>): int32
+  match xs
+    Nil -> 0
+    Cons(_, xx) -> 1 + len(xx)
+fun main()
+  match build(3)
+    Cons(x, Cons(y, _)) -> println(x * 10 + y)
+    _ -> println(0)

@@ -1,0 +1,2 @@
+type wide { Wide(a: int32, b: int32, c: int32, d: int32, e: int32, f: int32, g: int32) }
+fun main() { println(1) }

@@ -1,0 +1,16 @@
+type list<a> { Nil; Cons(head: a, tail: list<a>) }
+fun build(n: int32): list<int32>
+  if n == 0 then Nil else Cons(n, build(n - 1))
+fun len(xs: list<a>): int32
+  match xs
+    Nil -> 0
+    Cons(_, xx) -> 1 + len(xx)
+fun inc(xs: list<int32>): list<int32>
+  match xs
+    Nil -> Nil
+    Cons(x, xx) -> Cons(x + 1, inc(xx))
+fun main()
+  val xs = build(3)
+  val ys = inc(xs)
+  println(len(xs))
+  println(len(ys))

@@ -1,0 +1,12 @@
+type list<a> { Nil; Cons(head: a, tail: list<a>) }
+fun build(n: int32): list<int32>
+  if n == 0 then Nil else Cons(n, build(n - 1))
+fun len(xs: list<a>): int32
+  match xs
+    Nil -> 0
+    Cons(_, xx) -> 1 + len(xx)
+fun main()
+  val zs = build(1)
+  match build(2)
+    _ -> println(1)
+    Nil -> println(len(zs))
