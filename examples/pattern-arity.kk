@@ -1,2 +1,2 @@
-fun f(b: bool): int32 { match b { True(x) -> 1; _ -> 0 } }
-fun main() { println(f(True)) }
+type box { Box(v: int32) }
+fun main() { match Box(1) { Box(x, y) -> () } }

@@ -1,0 +1,2 @@
+type box { Box(v: int32) }
+fun main() { match Box { _ -> () } }

@@ -1,0 +1,2 @@
+type box { Box(v: a) }
+fun main() { println(1) }

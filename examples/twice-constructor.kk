@@ -1,0 +1,2 @@
+type signal { Red; Red }
+fun main() { println(1) }

@@ -1,0 +1,2 @@
+type pair<a,a> { Pair(x: a, y: a) }
+fun main() { println(1) }

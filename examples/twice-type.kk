@@ -1,0 +1,3 @@
+type signal { Red }
+type signal { Green }
+fun main() { println(1) }

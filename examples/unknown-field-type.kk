@@ -1,0 +1,2 @@
+type box { Box(v: int) }
+fun main() { println(1) }

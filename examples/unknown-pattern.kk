@@ -1,0 +1,1 @@
+fun main() { match 1 { Some(x) -> () } }
