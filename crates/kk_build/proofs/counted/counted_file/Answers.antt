@@ -1,0 +1,1 @@
+use Rattle.kk_build.proofs.counted.counted_file.Goals as goal
