@@ -16,6 +16,7 @@ use Rattle.kk_core.specs.declared.form.CoreFunction.{CoreFunction}
 use Rattle.kk_norm.specs.Normalized.{IsCoreForm}
 use Rattle.kk_counted.specs.declared.counted.Counted.{Counted}
 use Rattle.kk_counted.specs.declared.shape.InstanceShape.{InstanceShape}
+use Rattle.kk_counted.specs.Int32.{AllHaveInt32}
 use Rattle.kk_counted.specs.Programs.{function_of}
 use Rattle.kk_counted.specs.Shaping.{positions_in}
 use Rattle.kk_insert.specs.Insertion.{inserted}
@@ -30,7 +31,7 @@ instance_positions given table = Instances.positions_in (instances_of given) tab
 -- that is closed under the rules of ownership; and `core` is a core form of the instances. The functions are those of `core`, with
 -- the dups and drops that the instances' positions ask for, and with each opening of a cell by the cell's count. The shape tells of
 -- parameters, results and constructors what `core` tells, which are the cells of their types; and how each parameter is passed.
--- The greatest number of nodes of a function, and that of all instances together, are those of the source.
+-- The greatest number of nodes of a function, and that of all instances together, are those of the source. Numbers have 32 bits.
 pub record IsCompiled (typed : Typed) (given : Ground) (made : Counted) : Type 0 where
   pub table : PositionTable
   pub least : IsLeast (program_tree typed.program) table
@@ -46,3 +47,4 @@ pub record IsCompiled (typed : Typed) (given : Ground) (made : Counted) : Type 0
   pub constructors : map facts_of made.shape.constructors.items ≡ map facts_of core.constructors.items
   pub body_nodes : made.body_nodes ≡ greatest_nodes (program_tree typed.program)
   pub nodes : made.nodes ≡ given.summed_nodes
+  pub numbers : AllHaveInt32 (map function_of made.functions.items)

@@ -3,7 +3,7 @@ use Rattle.kk_counted.specs.CountedForms.{block_code, step_move}
 use Rattle.kk_dropspec.specs.Specialised.{special}
 use Rattle.kk_dropspec.specs.SpecialForms.{special_move}
 use Rattle.kk_dropspec.proofs.Forms.{block_special, case_special}
-use Rattle.kk_dropspec.proofs.NumberForms.{block_int32, case_int32, moves_pushed, arms_pushed}
+use Rattle.kk_dropspec.proofs.NumberForms.{block_int32, case_int32, moves_pushed, arms_pushed, made_more}
 use Rattle.kk_dropspec.proofs.special.+special_block.Goals as goal
 
 pub special_block-returns-clause-same : goal.special_block-returns-clause-same
@@ -17,7 +17,8 @@ special_block-returns-clause-numbers t c = block_int32 _ c.in_ok-steps.ensures.n
 
 pub special_steps-loop-step-preserved : goal.special_steps-loop-step-preserved
 special_steps-loop-step-preserved t c = (
-  search rules,
+  made_more step_move step_move special_move c.loop-step.made.items c.push.new.self.items _ c.args.steps.now c.loop-step.step-index c.step-item.result
+      c.loop-step-test.true c.step-item.is c.in_ok-push.ensures.items c.in_ok-special_step.ensures.same c.loop-step.invariant.0,
   moves_pushed _ _ _ c.in_ok-push.ensures.items c.loop-step.invariant.1 c.in_ok-special_step.ensures.numbers,
 )
 
@@ -34,6 +35,7 @@ special_last-returns-in_ok-arms-in-Case-clause-numbers t c =
 
 pub special_arms-loop-arm-preserved : goal.special_arms-loop-arm-preserved
 special_arms-loop-arm-preserved t c = (
-  search rules,
+  made_more block_code block_code special c.loop-arm.made.items c.push.new.self.items _ c.args.arms.now c.loop-arm.arm-index c.arm-item.result
+      c.loop-arm-test.true c.arm-item.is c.in_ok-push.ensures.items c.in_ok-special_block.ensures.same c.loop-arm.invariant.0,
   arms_pushed _ _ _ c.in_ok-push.ensures.items c.loop-arm.invariant.1 c.in_ok-special_block.ensures.numbers,
 )

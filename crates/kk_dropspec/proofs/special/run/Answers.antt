@@ -1,10 +1,11 @@
-use Rattle.std.proofs.Common.{ap, sym, subst, ◌∙◌, rules}
+use Rattle.std.proofs.Common.{ap, sym, subst, ◌∙◌}
 use Rattle.kk_counted.specs.CountedForms.{block_code}
 use Rattle.kk_counted.specs.Int32.{HasInt32}
+use Rattle.kk_counted.specs.Programs.{function_of}
 use Rattle.kk_counted.specs.Shaping.{positions_in}
 use Rattle.kk_counted.specs.declared.form.Block.{Block}
-use Rattle.kk_dropspec.specs.Specialised.{special}
-use Rattle.kk_dropspec.proofs.NumberForms.{functions_pushed}
+use Rattle.kk_dropspec.specs.Specialised.{special, special_function}
+use Rattle.kk_dropspec.proofs.NumberForms.{functions_pushed, function_made, made_more, one_longer}
 use Rattle.kk_dropspec.proofs.Spends.{next_is_function}
 use Rattle.kk_dropspec.proofs.special.run.Goals as goal
 
@@ -19,16 +20,22 @@ add-requires c =
 
 pub loop-function-preserved : goal.loop-function-preserved
 loop-function-preserved c = (
-  search rules,
+  made_more function_of function_of special_function c.loop-function.made.functions.items c.add.new.self.functions.items c.new.result
+      c.deref-function-items.result.now c.loop-function.function-index c.function-item.result c.loop-function-test.true c.function-item.is
+      c.in_ok-add.ensures.ok
+      (function_made c.new.result c.function-item.result (ap (λ fun. fun.parameters) c.new.ensures ∙ c.parameters.ensures)
+      (ap (λ fun. block_code fun.body) c.new.ensures ∙ c.in_ok-body.ensures.same ∙ ap (λ body. special (block_code body)) c.body.ensures))
+      c.loop-function.invariant.0,
   (
-    search rules,
+    one_longer c.loop-function.made.functions.items c.add.new.self.functions.items c.new.result c.loop-function.function-index
+        c.in_ok-add.ensures.ok c.loop-function.invariant.1.0,
     (
-      search rules,
+      c.in_ok-add.ensures.shape ∙ c.loop-function.invariant.1.1.0,
       (
-        search rules,
+        c.in_ok-add.ensures.body_nodes ∙ c.loop-function.invariant.1.1.1.0,
         (
-          search rules,
-          functions_pushed c.loop-function.made.functions.items c.add.new.self.functions.items _ c.in_ok-add.ensures.ok
+          c.in_ok-add.ensures.nodes ∙ c.loop-function.invariant.1.1.1.1.0,
+          functions_pushed c.loop-function.made.functions.items c.add.new.self.functions.items c.new.result c.in_ok-add.ensures.ok
               c.loop-function.invariant.1.1.1.1.1
               (subst (λ (body : Block). HasInt32 (block_code body)) (sym (ap (λ fun. fun.body) c.new.ensures))
               c.in_ok-body.ensures.numbers),

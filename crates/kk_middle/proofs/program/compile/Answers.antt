@@ -99,4 +99,5 @@ returns c =
       body_nodes = c.in_ok-made.ensures.body_nodes ∙ c.in_ok-counted.ensures.body_nodes ∙ c.in_ok-core.ensures.greatest_nodes
           ∙ c.requires.given.greatest;
       nodes = c.in_ok-made.ensures.nodes ∙ c.in_ok-counted.ensures.nodes ∙ c.in_ok-core.ensures.summed_nodes;
+      numbers = c.in_ok-made.ensures.numbers;
     }
