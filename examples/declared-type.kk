@@ -1,2 +1,0 @@
-type signal { Red; Green }
-fun main() { println(1) }
