@@ -1,6 +1,6 @@
 -- An accepted program is checked.
 use Rattle.std.proofs.Common.{◌≡◌, ℕ, zero, suc, List, [], ◌∷◌, ◌++◌, map, length, Option, Some, None, refl, ap, ◌∙◌, subst, sym}
-use Rattle.std.specs.Prelude.{Ok, slice_get}
+use Rattle.std.specs.Prelude.{Ok, slice_get, codes}
 use Rattle.std.proofs.lemmas.Option.{same_Some}
 use Rattle.kk_syntax.specs.Checked.{HasMainFunction, IsChecked}
 use Rattle.kk_syntax.specs.Covered.{Each}
@@ -10,12 +10,11 @@ use Rattle.kk_syntax.specs.Surface as written
 use Rattle.kk_syntax.specs.Surface.{WrittenDeclaration, type_declaration, function_declaration, WrittenParameter, WrittenTree, WrittenType}
 use Rattle.kk_syntax.specs.Types.{unit_type}
 use Rattle.kk_syntax.specs.Typing.{Choice, variables_of_type, ArePrincipal}
-use Rattle.kk_names.specs.declared.table.Declared.{Declared}
 use Rattle.kk_names.specs.declared.table.TypeMeaning.{TypeMeaning}
-use Rattle.kk_names.specs.Faults.{variable_faults, named_faults, types_count, types_faults, parameter_faults, result_faults, faults_in, inside_faults, inside_all, second_functions}
+use Rattle.kk_names.specs.Faults.{variable_faults, named_faults, types_count, types_faults, parameter_faults, result_faults, faults_in, second_names, faults_in_types, faults_in_function, faults_in_functions, faults_of}
 use Rattle.kk_names.specs.Scopes.{parameter_names}
-use Rattle.kk_names.specs.Tables.{functions_in}
-use Rattle.kk_names.specs.TypeNames.{place_of, variable_type, numbered_type, applied_type, type_meant, types_meant, type_named, result_meant, signature_variables}
+use Rattle.kk_names.specs.Tables.{Known, known_in, type_in, type_names, constructor_names, function_names}
+use Rattle.kk_names.specs.TypeNames.{place_of, variable_type, numbered_type, applied_type, type_meant, types_meant, result_meant, signature_variables}
 use Rattle.kk_names.specs.Names.{HasMain, HasTruthsAndTexts, ResolvesAs, ResolvedProgramsHaveMain, ResolvedProgramsHaveTruthsAndTexts, functions_of, function_of, with_texts}
 use Rattle.kk_front.specs.Judgement.{IsProgramOf}
 use Rattle.kk_front.proofs.Accepting.{found}
@@ -35,59 +34,74 @@ back_none [] ys none = none
 back_none (x ∷ xs) ys none = absurd (cc)
 
 -- a result that is written without fault and means `()` names empty type variable
-result_closed : (result : Option WrittenType) → result_faults (signature_variables [] result) result ≡ []
-    → result_meant (signature_variables [] result) result ≡ unit_type → length (signature_variables [] result) ≡ 0
-result_closed None none is = refl
-result_closed (Some written.unit_type) none is = refl
-result_closed (Some (written.type_variable name)) none is =
+result_closed : (known : Known) (result : Option WrittenType) → result_faults known (signature_variables [] result) result ≡ []
+    → result_meant known (signature_variables [] result) result ≡ unit_type → length (signature_variables [] result) ≡ 0
+result_closed known None none is = refl
+result_closed known (Some written.unit_type) none is = refl
+result_closed known (Some (written.type_variable name)) none is =
     by (place_of (signature_variables [] (Some (written.type_variable name))) name.name) none is
   where
     by : (o : Option ℕ) → variable_faults o name ≡ [] → variable_type o ≡ unit_type
         → length (signature_variables [] (Some (written.type_variable name))) ≡ 0
     by None empty is_unit = absurd (cc)
     by (Some of) empty is_unit = absurd (cc)
-result_closed (Some (written.named name arguments)) none is =
-    by (type_named name.name)
-    (back_none (types_faults (signature_variables [] (Some (written.named name arguments))) arguments)
-    (named_faults (type_named name.name) name (types_count arguments)) none) is
+result_closed known (Some (written.named name arguments)) none is =
+    by (type_in known.types name.name)
+    (back_none (types_faults known (signature_variables [] (Some (written.named name arguments))) arguments)
+    (named_faults (type_in known.types name.name) name (types_count arguments)) none) is
   where
     by : (o : Option TypeMeaning) → named_faults o name (types_count arguments) ≡ []
-        → applied_type o (types_meant (signature_variables [] (Some (written.named name arguments))) arguments) ≡ unit_type
+        → applied_type o (types_meant known (signature_variables [] (Some (written.named name arguments))) arguments) ≡ unit_type
         → length (signature_variables [] (Some (written.named name arguments))) ≡ 0
     by None empty is_unit = absurd (cc)
     by (Some meaning) empty is_unit = numbered meaning.number is_unit
       where
         numbered : (n : Option ℕ)
-            → numbered_type n (types_meant (signature_variables [] (Some (written.named name arguments))) arguments) ≡ unit_type
+            → numbered_type n (types_meant known (signature_variables [] (Some (written.named name arguments))) arguments) ≡ unit_type
             → length (signature_variables [] (Some (written.named name arguments))) ≡ 0
         numbered None is_int = absurd (cc)
         numbered (Some by) is_named = absurd (cc)
 
-signature_closed : (parameters : List WrittenParameter) (result : Option WrittenType)
-    → result_faults (signature_variables parameters result) result ≡ []
-    → map (λ (p : WrittenParameter). type_meant (signature_variables parameters result) p.of_type) parameters ≡ []
-    → result_meant (signature_variables parameters result) result ≡ unit_type → length (signature_variables parameters result) ≡ 0
-signature_closed [] result none empty is = result_closed result none is
-signature_closed (p ∷ parameters) result none empty is = absurd (cc)
+signature_closed : (known : Known) (parameters : List WrittenParameter) (result : Option WrittenType)
+    → result_faults known (signature_variables parameters result) result ≡ []
+    → map (λ (p : WrittenParameter). type_meant known (signature_variables parameters result) p.of_type) parameters ≡ []
+    → result_meant known (signature_variables parameters result) result ≡ unit_type → length (signature_variables parameters result) ≡ 0
+signature_closed known [] result none empty is = result_closed known result none is
+signature_closed known (p ∷ parameters) result none empty is = absurd (cc)
 
-main_closed : (table names : List Declared) (texts : List (List ℕ)) (declarations : List WrittenDeclaration) (f : ℕ) (function : FunctionTree)
-    → inside_all table declarations ≡ [] → slice_get (functions_of names texts declarations) f ≡ Some function
+main_closed : (known : Known) (texts : List (List ℕ)) (declarations : List WrittenDeclaration) (f : ℕ) (function : FunctionTree)
+    → faults_in_functions known declarations ≡ [] → slice_get (functions_of known texts declarations) f ≡ Some function
     → function.parameters ≡ [] → function.result ≡ unit_type → function.variables ≡ 0
-main_closed table names texts [] f function none there empty is = absurd (cc)
-main_closed table names texts (type_declaration name parameters constructors ∷ more) f function none there empty is = absurd (cc)
-main_closed table names texts (function_declaration name parameters effects result body ∷ more) zero function none there empty is =
-    let same : function_of names texts name parameters result body ≡ function =
-    same_Some (function_of names texts name parameters result body) function there in
-    let inside = front_none (inside_faults table (function_declaration name parameters effects result body)) (inside_all table more) none in
-    let behind = back_none (parameter_faults (signature_variables parameters result) [] parameters)
-    (result_faults (signature_variables parameters result) result ++ faults_in table (parameter_names parameters []) body) inside in
+main_closed known texts [] f function none there empty is = absurd (cc)
+main_closed known texts (type_declaration name parameters constructors ∷ more) f function none there empty is =
+    main_closed known texts more f function none there empty is
+main_closed known texts (function_declaration name parameters effects result body ∷ more) zero function none there empty is =
+    let same : function_of known texts name parameters result body ≡ function =
+    same_Some (function_of known texts name parameters result body) function there in
+    let inside = front_none (faults_in_function known (function_declaration name parameters effects result body)) (faults_in_functions known more) none in
+    let behind = back_none (parameter_faults known (signature_variables parameters result) [] parameters)
+    (result_faults known (signature_variables parameters result) result ++ faults_in known (parameter_names parameters []) body) inside in
     ap (λ (g : FunctionTree). g.variables) (sym same)
-    ∙ signature_closed parameters result
-    (front_none (result_faults (signature_variables parameters result) result) (faults_in table (parameter_names parameters []) body) behind)
+    ∙ signature_closed known parameters result
+    (front_none (result_faults known (signature_variables parameters result) result) (faults_in known (parameter_names parameters []) body) behind)
     (ap (λ (g : FunctionTree). g.parameters) same ∙ empty) (ap (λ (g : FunctionTree). g.result) same ∙ is)
-main_closed table names texts (function_declaration name parameters effects result body ∷ more) (suc f) function none there empty is =
-    main_closed table names (with_texts texts (function_declaration name parameters effects result body)) more f function
-    (back_none (inside_faults table (function_declaration name parameters effects result body)) (inside_all table more) none) there empty is
+main_closed known texts (function_declaration name parameters effects result body ∷ more) (suc f) function none there empty is =
+    main_closed known (with_texts texts (function_declaration name parameters effects result body)) more f function
+    (back_none (faults_in_function known (function_declaration name parameters effects result body)) (faults_in_functions known more) none) there empty is
+
+-- a program without faults has none inside of its functions
+no_faults_inside : (declarations : List WrittenDeclaration) → faults_of declarations ≡ [] → faults_in_functions (known_in declarations) declarations ≡ []
+no_faults_inside declarations none =
+    let known = known_in declarations in
+    let functions = faults_in_functions known declarations in
+    let inside = faults_in_types known declarations ++ functions in
+    let of_functions = second_names (codes "print" ∷ codes "println" ∷ codes "read-byte" ∷ []) (function_names declarations) in
+    let of_constructors = second_names (codes "False" ∷ codes "True" ∷ []) (constructor_names declarations) in
+    let of_types = second_names (codes "int32" ∷ codes "bool" ∷ []) (type_names declarations) in
+    back_none (faults_in_types known declarations) functions
+    (back_none of_functions inside
+    (back_none of_constructors (of_functions ++ inside)
+    (back_none of_types (of_constructors ++ (of_functions ++ inside)) none)))
 
 -- ---- the whole
 
@@ -97,8 +111,8 @@ module _ (program : ProgramTree) (tree : WrittenTree) (resolved : ResolvesAs tre
       record {
         function = main.function;
         is = main.there;
-        variables = main_closed (functions_in tree.declarations) _ [] tree.declarations program.main main.function
-            (back_none (second_functions _ tree.declarations) (inside_all (functions_in tree.declarations) tree.declarations) resolved.faults)
+        variables = main_closed (known_in tree.declarations) [] tree.declarations program.main main.function
+            (no_faults_inside tree.declarations resolved.faults)
             (subst (λ (p : ProgramTree). slice_get p.functions program.main ≡ Some main.function) resolved.makes.is main.there)
             main.parameters main.result;
         parameters = main.parameters;

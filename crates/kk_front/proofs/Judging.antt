@@ -1,9 +1,9 @@
 -- What a text comes to, judgement by judgement.
-use Rattle.std.proofs.Common.{◌≡◌, ℕ, zero, suc, ◌*◌, ◌<◌, ◌≤◌, ◌^◌, List, [], ◌∷◌, length, map, get_or, None, Some, false, refl, sym, ap, ◌∙◌, subst, inl, inr, arith}
-use Rattle.std.specs.Prelude.{codes, All, IfOk, IfErr, OnOk, Result, Ok, Err, slice_get}
+use Rattle.std.proofs.Common.{◌≡◌, ℕ, ◌*◌, ◌<◌, ◌≤◌, ◌^◌, List, [], ◌∷◌, length, map, get_or, None, Some, false, refl, sym, ap, ◌∙◌, subst, inl, inr, arith}
+use Rattle.std.specs.Prelude.{All, IfOk, IfErr, OnOk, Result, Ok, Err, slice_get}
 use Rattle.std.proofs.lemmas.Bool.{cases_lt}
 use Rattle.std.proofs.lemmas.List.{length-map, get_or-map}
-use Rattle.std.proofs.lemmas.Option.{slice_get_within, get_or_from_slice_get, same_Some}
+use Rattle.std.proofs.lemmas.Option.{slice_get_within, get_or_from_slice_get}
 use Rattle.kk_base.specs.Exactly.{IsOnly, ExactlyOne}
 use Rattle.kk_base.specs.declared.error.LexError.{LexError}
 use Rattle.kk_base.specs.declared.error.LexError.TheVariants as OfLex
@@ -20,7 +20,7 @@ use Rattle.kk_syntax.specs.declared.program.Program.{Program}
 use Rattle.kk_syntax.specs.declared.tree.Tree.{Tree}
 use Rattle.kk_syntax.specs.Outlines.{Outline}
 use Rattle.kk_syntax.specs.declared.program.Fun.{Fun}
-use Rattle.kk_syntax.specs.Programs.{ConstructorTree, FunctionTree, ProgramTree, AreDeclared, function_tree, program_tree}
+use Rattle.kk_syntax.specs.Programs.{FunctionTree, ProgramTree, AreDeclared, function_tree, program_tree}
 use Rattle.kk_syntax.specs.Shapes.{nodes_of}
 use Rattle.kk_syntax.specs.Surface.{WrittenTree, written_declaration, written_tree}
 use Rattle.kk_syntax.specs.Typing.{TypesAs}
@@ -32,7 +32,8 @@ use Rattle.kk_parser.specs.Parses.{in_u32, ParsesAs, AnswersParse, EachListIsPar
 use Rattle.kk_names.specs.declared.fault.FaultKind.{FaultKind}
 use Rattle.kk_names.specs.declared.fault.FaultKind.TheVariants.{Twice, Unknown, Arity}
 use Rattle.kk_names.specs.Faults.{error_for}
-use Rattle.kk_names.specs.Names.{ResolvesAs, bool_constructor, IsRefusedFor, first_fault, no_main, main_shape, AnswersNames, KeepsNodes, EachTreeIsResolved}
+use Rattle.kk_names.specs.Names.{ResolvesAs, IsRefusedFor, first_fault, no_main, main_shape, AnswersNames, KeepsNodes, EachTreeIsResolved}
+use Rattle.kk_names.proofs.Constructors.{program_declared}
 use Rattle.kk_types.specs.Checks.{EachProgramIsChecked, EachTypedProgramHasPrincipalTypes}
 use Rattle.kk_mono.specs.Counts.{CountsAs, AnswersCounts, EachProgramIsCounted}
 use Rattle.kk_mono.specs.Declarations.{DeclarationsAs}
@@ -225,16 +226,7 @@ no_lexer_wants lexemes t (OfLex.StringTooLong at) h = refl
 
 -- the constructors of a program whose names are resolved are declared ones
 resolved_declared : (tree : WrittenTree) (program : ProgramTree) → ResolvesAs tree (Ok program) → AreDeclared program.constructors
-resolved_declared tree program h = subst (λ (p : ProgramTree). AreDeclared p.constructors) (sym h.makes.is) bools
-  where
-    bools : AreDeclared (bool_constructor (codes "False") 0 ∷ bool_constructor (codes "True") 1 ∷ [])
-    bools zero constructor there =
-        let same : bool_constructor (codes "False") 0 ≡ constructor = same_Some _ _ there in
-        ap (λ (k : ConstructorTree). k.arguments) (sym same)
-    bools (suc zero) constructor there =
-        let same : bool_constructor (codes "True") 1 ≡ constructor = same_Some _ _ there in
-        ap (λ (k : ConstructorTree). k.arguments) (sym same)
-    bools (suc (suc c)) constructor there = absurd (cc)
+resolved_declared tree program h = subst (λ (p : ProgramTree). AreDeclared p.constructors) (sym h.makes.is) (program_declared tree.declarations)
 
 -- a program whose names are resolved comes to one thing: where it is typed, it has principal types, so its instances count
 module _ (types : EachProgramIsChecked) (principal : EachTypedProgramHasPrincipalTypes) (decided : EachTypedProgramIsDecided) (counts : EachProgramIsCounted) (program : ProgramTree) (declared : AreDeclared program.constructors) where
