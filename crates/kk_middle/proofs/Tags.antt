@@ -42,7 +42,7 @@ one_before p (x ∷ xs) first there holds =
     let same : x ≡ first = cc in
     let is : p x ≡ true = ap p same ∙ holds in
     let none = none_before p xs in
-    let here : (if p x then 1 else 0) ≡ 1 = ap (λ (t : Bool). if t then 1 else 0) is in
+    let here : ◌≡◌ {A = ℕ} (if p x then 1 else 0) 1 = ap (λ (t : Bool). if t then 1 else 0) is in
     let all = sum_by-cons (λ z. if p z then 1 else 0) x (take 0 xs) in
     omega (arith, none, here, all)
 
