@@ -1,5 +1,5 @@
 -- The file of an image agrees with the program: the core form keeps the program's meaning, and the image does what the core form does.
-use Rattle.std.proofs.Common.{◌≡◌, true, false, nat_eq, ℕ, ◌+◌, ◌*◌, ◌<◌, ◌≤◌, List, All, Option, Some, None, refl, ap, subst, arith}
+use Rattle.std.proofs.Common.{◌≡◌, true, false, nat_eq, ℕ, ◌+◌, ◌*◌, ◌<◌, ◌≤◌, List, All, Option, Some, None, refl, ap, ◌∙◌, subst, arith}
 use Rattle.std.proofs.lemmas.Bool.Decides.{nat_tests}
 use Rattle.kk_base.specs.Machines.{Machine, trace, state, weight_of, weight_unless, ending_after, mapped}
 use Rattle.kk_base.specs.Agreements.{Agree}
@@ -32,7 +32,7 @@ use Rattle.kk_back.specs.Images.{IsImageOf, step_instructions}
 use Rattle.kk_build.specs.Agreement.{Agrees, instructions_within, IsBounded, LeavesNoCell}
 use Rattle.kk_build.specs.Built.{setting_of}
 use Rattle.kk_build.proofs.Alike.{agrees_alike, keeps_up_alike}
-use Rattle.kk_build.proofs.Ending.{state_mapped, exited_is, core_stopped}
+use Rattle.kk_build.proofs.Endings.{state_mapped, exited_is, core_stopped}
 
 -- ---- what its steps weigh makes no difference to what the store machine does
 
@@ -143,5 +143,5 @@ module _ {program : ProgramTree} {code : ProgramCode} {cells depth entry : ℕ} 
   pub file_leaves : LeavesNoCell file (setting_of program positions cells depth)
   file_leaves input bytes n is =
       of_file (λ p e. (count : ℕ) × ((run_over rv32im count (start (memory_of p) e input)).ending ≡ exited (exit_of ended))
-          × (free_cells cells (run_over rv32im count (start (memory_of p) e input)).processor ≡ cells))
+      × (free_cells cells (run_over rv32im count (start (memory_of p) e input)).processor ≡ cells))
       (image_leaves program code cells depth entry parts keeps image positions input bytes n is)

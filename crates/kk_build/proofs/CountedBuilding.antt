@@ -32,7 +32,7 @@ use Rattle.kk_build.specs.Agreement.{Agrees, LeavesNoCell}
 use Rattle.kk_build.specs.Built.{setting_of}
 use Rattle.kk_build.proofs.Agreeing.{differ}
 use Rattle.kk_build.proofs.Alike.{agrees_alike}
-use Rattle.kk_build.proofs.Ending.{exited_is, counted_stopped}
+use Rattle.kk_build.proofs.Endings.{exited_is, counted_stopped}
 use Rattle.kk_build.proofs.Through.{agrees_through}
 
 -- where a run has ended by itself no cell is counted
@@ -112,5 +112,5 @@ module _ (program : ProgramTree) (table positions : PositionTable) (code : Count
   pub file_leaves : LeavesNoCell file (setting_of program table cells depth)
   file_leaves input bytes n is =
       of_file (λ p e. (count : ℕ) × ((run_over rv32im count (start (memory_of p) e input)).ending ≡ exited (exit_of ended))
-          × (free_cells cells (run_over rv32im count (start (memory_of p) e input)).processor ≡ cells))
+      × (free_cells cells (run_over rv32im count (start (memory_of p) e input)).processor ≡ cells))
       (image_leaves program table positions code up cells depth entry parts image keeps input bytes n is)

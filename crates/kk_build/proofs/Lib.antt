@@ -1,7 +1,7 @@
 pub mod Agreeing
 pub mod Alike
 pub mod CountedBuilding
-pub mod Ending
+pub mod Endings
 pub mod FileSteps
 pub mod Instances
 pub mod LentNames

@@ -13,8 +13,8 @@ ghost use Rattle.kk_norm.specs.Normal.{IsWithin};
 ghost use Rattle.kk_build.specs.Built.{IsBuilt, RefusesToBuild};
 ghost use Rattle.kk_build.specs.FileOf.{AnswersFile};
 
-use counted::counted_file;
 pub use cell_runtime::Ending;
+use counted::counted_file;
 use elf_image::write;
 pub use error::BuildError;
 use kk_back::image;
