@@ -102,7 +102,7 @@ refusal_line OfText.NoMemory = no_memory_line
 
 -- the text is accepted, and no image of its program can be built yet
 abbrev pub not_built_line : List ℕ
-not_built_line = codes "refused: this version builds no match and no constructor but True and False" ++ line_feed
+not_built_line = codes "refused: the code of this program is too large for an image" ++ line_feed
 
 -- a budget of instructions is spent; a device of the image failed
 abbrev pub steps_spent_line : ℕ → List ℕ

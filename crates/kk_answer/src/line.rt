@@ -13,8 +13,7 @@ use rv_sim::Halt;
 const USAGE: &str =
     "usage: kokarv check FILE, build FILE -o OUT, run FILE, sim IMAGE, eval FILE, bench SEED SIZE\n";
 
-const NOT_BUILT: &str =
-    "refused: this version builds no match and no constructor but True and False\n";
+const NOT_BUILT: &str = "refused: the code of this program is too large for an image\n";
 
 /// A part of a line.
 #[derive(Clone, Copy)]

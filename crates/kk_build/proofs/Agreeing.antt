@@ -1,7 +1,7 @@
 -- The file of an image agrees with the program: the core form keeps the program's meaning, and the image does what the core form does.
-use Rattle.std.proofs.Common.{◌≡◌, true, false, nat_eq, ℕ, ◌+◌, ◌*◌, ◌<◌, ◌≤◌, List, All, Option, Some, None, refl, ap, subst, arith}
+use Rattle.std.proofs.Common.{◌≡◌, true, false, nat_eq, ℕ, ◌+◌, ◌*◌, ◌<◌, ◌≤◌, List, All, Option, Some, None, refl, ap, ◌∙◌, subst, arith}
 use Rattle.std.proofs.lemmas.Bool.Decides.{nat_tests}
-use Rattle.kk_base.specs.Machines.{Machine, trace, weight_of, weight_unless, ending_after, mapped}
+use Rattle.kk_base.specs.Machines.{Machine, trace, state, weight_of, weight_unless, ending_after, mapped}
 use Rattle.kk_base.specs.Agreements.{Agree}
 use Rattle.kk_base.proofs.Machines.{trace-weighing, state-weighing, weight_of-at_most}
 use Rattle.kk_base.proofs.Agreements.{agree_through, agree_mapped}
@@ -13,9 +13,10 @@ use Rattle.kk_source.specs.Notes.{Note, events_of}
 use Rattle.kk_source.specs.State.{Setting, End, ended, heap_full, stack_full}
 use Rattle.kk_source.specs.SourceAfter.{step, ending_of, store_machine, first_state, State}
 use Rattle.kk_core.specs.Codes.{ProgramCode}
-use Rattle.kk_core.specs.CoreStates.{CoreSetting, core_first_state}
+use Rattle.kk_core.specs.CoreStates.{CoreSetting, CoreState, core_first_state}
 use Rattle.kk_core.specs.CoreMachine.{core_machine}
 use Rattle.kk_norm.specs.Meaning.{heavy_store_machine, KeepsMeaning}
+use Rattle.rv_isa.specs.FreeCells.{free_cells}
 use Rattle.rv_isa.specs.Processor.{Processor, exited, start, goes}
 use Rattle.rv_isa.specs.InstructionSet.{run_over}
 use Rattle.rv_isa.specs.Execution.{rv32im}
@@ -28,9 +29,10 @@ use Rattle.elf_image.specs.Fields.{entry_of}
 use Rattle.elf_image.specs.declared.part.Part.{Part}
 use Rattle.rv_place.specs.Images.{outside_lines}
 use Rattle.kk_back.specs.Images.{IsImageOf, step_instructions}
-use Rattle.kk_build.specs.Agreement.{Agrees, instructions_within, IsBounded}
+use Rattle.kk_build.specs.Agreement.{Agrees, instructions_within, IsBounded, LeavesNoCell}
 use Rattle.kk_build.specs.Built.{setting_of}
 use Rattle.kk_build.proofs.Alike.{agrees_alike, keeps_up_alike}
+use Rattle.kk_build.proofs.Endings.{state_mapped, exited_is, core_stopped}
 
 -- ---- what its steps weigh makes no difference to what the store machine does
 
@@ -55,7 +57,7 @@ steps_weigh weight setting n s = weight_of-at_most (heavy_store_machine weight s
 apart : (n m : ℕ) → nat_eq n m ≡ false → n ≡ m → ⊥
 apart n m differs same = let equal : nat_eq n m ≡ true = subst (λ (k : ℕ). nat_eq n k ≡ true) same (grind (arith, nat_tests)) in cc
 
-differ : (a b : End) → exit_of a ≡ exit_of b → a ≡ b
+pub differ : (a b : End) → exit_of a ≡ exit_of b → a ≡ b
 differ ended ended same = refl
 differ ended heap_full same = absurd (apart 0 101 refl same)
 differ ended stack_full same = absurd (apart 0 102 refl same)
@@ -105,6 +107,19 @@ module _ (program : ProgramTree) (code : ProgramCode) (cells depth entry : ℕ) 
       (image_keeps_up rv32im weighed events_of exit_of outside_lines (λ m. up ((image.does positions input bytes).0 m)) (first_state setting input) loaded whole refl
       instructions_within (λ n. let most = steps_weigh (2 * step_instructions) setting n (first_state setting input) in omega (arith, most)))
 
+  image_leaves : (n : ℕ) → ending_after (store_machine setting) n (first_state setting input) ≡ Some ended
+      → (count : ℕ) × ((run_over rv32im count loaded).ending ≡ exited (exit_of ended))
+      × (free_cells cells (run_over rv32im count loaded).processor ≡ cells)
+  image_leaves n is =
+      let agree = keeps.agrees positions cells depth input step_instructions (λ s. step_instructions) (λ t. omega arith) in
+      let does = agree.downwards n in
+      let machine = core_machine (λ s. step_instructions) core in
+      let over = does.ending_is ∙ same_endings (2 * step_instructions) setting n (first_state setting input) ∙ is in
+      let stops = core_stopped (state machine does.steps (core_first_state core input)).machine.control ended over in
+      let leaves = image.leaves_cells positions input bytes does.steps ended
+      (ap (λ (s : CoreState). s.machine.control) (state_mapped events_of (λ end. exited (exit_of end)) machine does.steps (core_first_state core input)) ∙ stops) in
+      (leaves.0, exited_is (run_over rv32im leaves.0 loaded).ending (exit_of ended) leaves.1.0, leaves.1.1)
+
 -- the file that loads it agrees with the program, and is bounded
 module _ {program : ProgramTree} {code : ProgramCode} {cells depth entry : ℕ} {file : List ℕ} {parts : List Part} (keeps : KeepsMeaning program code)
     (image : IsImageOf code cells depth entry parts) (loaded : IsLoaded file entry parts) (positions : PositionTable) where
@@ -124,3 +139,9 @@ module _ {program : ProgramTree} {code : ProgramCode} {cells depth entry : ℕ} 
   file_is_bounded input bytes =
       of_file (λ p e. ImageKeepsUp (store_machine (setting_of program positions cells depth)) events_of exit_of instructions_within (first_state (setting_of program positions cells depth) input) (λ m. run_over rv32im m (start (memory_of p) e input)))
       (image_is_bounded program code cells depth entry parts keeps image positions input bytes)
+
+  pub file_leaves : LeavesNoCell file (setting_of program positions cells depth)
+  file_leaves input bytes n is =
+      of_file (λ p e. (count : ℕ) × ((run_over rv32im count (start (memory_of p) e input)).ending ≡ exited (exit_of ended))
+      × (free_cells cells (run_over rv32im count (start (memory_of p) e input)).processor ≡ cells))
+      (image_leaves program code cells depth entry parts keeps image positions input bytes n is)

@@ -1,14 +1,18 @@
 -- The image of a program's instances is one of the program.
-use Rattle.std.proofs.Common.{ℕ, List, refl}
+use Rattle.std.proofs.Common.{◌≡◌, ℕ, true, false, List, refl, sym, ◌∙◌, subst}
+use Rattle.kk_syntax.specs.declared.typed.Typed.{Typed}
+use Rattle.kk_syntax.specs.OwnedPositions.{IsLeast}
+use Rattle.kk_norm.specs.PlainTrees.{are_plain_functions}
 use Rattle.kk_syntax.proofs.LeastTables.{least_table}
 use Rattle.kk_syntax.specs.PositionsOf.{PositionTable}
-use Rattle.kk_syntax.specs.Programs.{ProgramTree}
+use Rattle.kk_syntax.specs.Programs.{ProgramTree, program_tree}
 use Rattle.kk_source.specs.Ends.{exit_of}
 use Rattle.kk_source.specs.Notes.{events_of}
 use Rattle.kk_source.specs.SourceAfter.{store_machine, first_state}
 use Rattle.kk_instances.specs.Meaning.{MeansTheSame}
-use Rattle.kk_build.specs.Agreement.{Agrees, instructions_within, IsBounded}
+use Rattle.kk_build.specs.Agreement.{Agrees, instructions_within, IsBounded, LeavesNoCell}
 use Rattle.kk_build.specs.Built.{setting_of, IsReadAs, IsBuilt}
+use Rattle.kk_build.specs.CountedFiles.{IsCountedFile}
 use Rattle.kk_build.specs.FileOf.{IsFileOf}
 use Rattle.kk_build.specs.ImageAfter.{file_after}
 use Rattle.kk_build.proofs.Alike.{agrees_alike, keeps_up_alike}
@@ -24,6 +28,9 @@ module _ (program instances : ProgramTree) (means : MeansTheSame program instanc
             (first_state (setting_of instances table cells depth) input) (first_state (setting_of program positions cells depth) input) (file_after file input)
             (means.traces positions cells depth input) (means.endings positions cells depth input) ((agrees table).agrees input bytes);
       }
+
+  pub leaves_by_instances : ((table : PositionTable) → LeavesNoCell file (setting_of instances table cells depth)) → LeavesNoCell file (setting_of program positions cells depth)
+  leaves_by_instances leaves input bytes n is = leaves (means.positions positions) input bytes n (means.endings positions cells depth input n ∙ is)
 
   pub bounded_by_instances : ((table : PositionTable) → IsBounded file (setting_of instances table cells depth)) → IsBounded file (setting_of program positions cells depth)
   bounded_by_instances bounded input bytes =
@@ -42,10 +49,27 @@ built_by_instances text cells depth program made file read means is =
       program = program;
       made = made;
       is_read = read;
-      plain = is.plain;
       is_image = is.image;
       setting = setting_of program least.0 cells depth;
       is_run = record { positions = least.0; least = least.1; is = refl };
       agrees = agrees_by_instances program made means cells depth file least.0 is.agrees;
-      bounded = bounded_by_instances program made means cells depth file least.0 is.bounded;
+      leaves_no_cell = leaves_by_instances program made means cells depth file least.0 is.leaves;
+      bounded = λ plain. bounded_by_instances program made means cells depth file least.0 is.bounded;
+    }
+
+-- what is built by the counted form, where an instance has a match or makes cells
+pub built_by_counts : (text : List ℕ) (cells depth : ℕ) (program made : ProgramTree) (typed : Typed) (file : List ℕ) → IsReadAs text program made
+    → program_tree typed.program ≡ program → are_plain_functions made.functions ≡ false → IsCountedFile typed cells depth file
+    → IsBuilt text cells depth file
+built_by_counts text cells depth program made typed file read same not_plain is =
+    record {
+      program = program;
+      made = made;
+      is_read = read;
+      is_image = is.image;
+      setting = setting_of program is.table cells depth;
+      is_run = record { positions = is.table; least = subst (λ (p : ProgramTree). IsLeast p is.table) same is.least; is = refl };
+      agrees = subst (λ (p : ProgramTree). Agrees file (setting_of p is.table cells depth)) same is.agrees;
+      leaves_no_cell = subst (λ (p : ProgramTree). LeavesNoCell file (setting_of p is.table cells depth)) same is.leaves;
+      bounded = λ plain. absurd (let never : false ≡ true = sym not_plain ∙ plain in cc);
     }

@@ -1,6 +1,11 @@
 pub mod Agreeing
 pub mod Alike
+pub mod CountedBuilding
+pub mod Endings
 pub mod FileSteps
 pub mod Instances
+pub mod LentNames
+pub mod Runnable
 pub mod Runs
+pub mod Through
 pub mod Within

@@ -1,12 +1,14 @@
 -- When the file of an image does what its program means.
-use Rattle.std.specs.Prelude.{◌≡◌, ℕ, ◌+◌, ◌*◌, ◌<◌, List, None, All}
+use Rattle.std.specs.Prelude.{◌≡◌, ℕ, ◌+◌, ◌*◌, ◌<◌, List, None, Some, All}
+use Rattle.kk_base.specs.Machines.{ending_after}
 use Rattle.kk_source.specs.Notes.{events_of}
 use Rattle.kk_source.specs.Ends.{exit_of}
-use Rattle.kk_source.specs.State.{Setting}
+use Rattle.kk_source.specs.State.{Setting, ended}
 use Rattle.kk_source.specs.SourceAfter.{store_machine, first_state}
 use Rattle.rv_isa.specs.ProcessorMachine.{ImageAgrees, ImageKeepsUp}
 use Rattle.elf_image.specs.Loaded.{reason_of}
-use Rattle.kk_build.specs.ImageAfter.{file_after}
+use Rattle.rv_isa.specs.Processor.{exited}
+use Rattle.kk_build.specs.ImageAfter.{file_after, free_cells}
 
 -- The image in a file agrees with a program on an input: it never traps, and exits with these numbers alone; each trace of one is a prefix of one
 -- of the other; and the program ends if and only if the image exits, alike, and then their whole traces are equal.
@@ -28,3 +30,11 @@ abbrev pub IsBounded : List ℕ → Setting → Type 0
 IsBounded file setting =
     (input : List ℕ) → All (λ byte. byte < 256) input
     → ImageKeepsUp (store_machine setting) events_of exit_of instructions_within (first_state setting input) (file_after file input)
+
+-- Where the program ends by itself on an input of bytes, the image in a file exits with 0, and each of its cells is free then.
+abbrev pub LeavesNoCell : List ℕ → Setting → Type 0
+LeavesNoCell file setting =
+    (input : List ℕ) → All (λ byte. byte < 256) input
+    → (n : ℕ) → ending_after (store_machine setting) n (first_state setting input) ≡ Some ended
+    → (count : ℕ) × ((file_after file input count).ending ≡ exited (exit_of ended))
+    × (free_cells setting.cells (file_after file input count).processor ≡ setting.cells)

@@ -1,6 +1,9 @@
--- What is built of a text, and of which texts nothing is built yet.
+-- What is built of a text, and of which texts nothing is built.
 use Rattle.std.specs.Prelude.{◌≡◌, ℕ, List, true, false}
+use Rattle.kk_syntax.specs.declared.ground.Ground.{Ground}
+use Rattle.kk_syntax.specs.declared.typed.Typed.{Typed}
 use Rattle.kk_syntax.specs.Checked.{IsChecked}
+use Rattle.kk_syntax.specs.GroundPrograms.{ground_program}
 pub use Rattle.kk_syntax.specs.Programs.{ProgramTree, program_tree}
 use Rattle.kk_syntax.specs.Typing.{Choice, ArePrincipal}
 use Rattle.kk_mono.specs.Instances.{InstanceTree, IsInstanceProgram}
@@ -8,7 +11,8 @@ pub use Rattle.kk_source.specs.Settings.{setting_of, IsRun}
 use Rattle.kk_source.specs.State.{Setting}
 use Rattle.kk_norm.specs.PlainTrees.{are_plain_functions}
 use Rattle.kk_front.specs.Judgement.{IsProgramOf, Refuses}
-use Rattle.kk_build.specs.Agreement.{Agrees, IsBounded}
+use Rattle.kk_build.specs.Agreement.{Agrees, IsBounded, LeavesNoCell}
+use Rattle.kk_build.specs.CountedFiles.{IsTooLargeForm}
 use Rattle.kk_build.specs.Images.{IsImageFile}
 use Rattle.kk_build.specs.declared.error.BuildError.{BuildError}
 use Rattle.kk_build.specs.declared.error.BuildError.TheVariants.{Refused, NotBuilt}
@@ -23,29 +27,34 @@ pub record IsReadAs (text : List ℕ) (program made : ProgramTree) : Type 0 wher
   pub instances : List InstanceTree
   pub are : IsInstanceProgram program typings instances made
 
--- These bytes are built of a text, for a heap of so many cells and so many open calls: the text is accepted as a program, none of
--- whose instances has a match or constructs anything but `False` and `True`; and they are the file of an image that agrees with
--- the program as it is run, with its owned positions, and does what it does within a bound on instructions.
+-- These bytes are built of a text, for a heap of so many cells and so many open calls: the text is accepted as a program, and they
+-- are the file of an image that agrees with the program as it is run, with its owned positions, and leaves no cell. Where no instance
+-- has a match or constructs anything but `False` and `True`, the image does what it does within a bound on instructions.
 pub record IsBuilt (text : List ℕ) (cells depth : ℕ) (image : List ℕ) : Type 0 where
   pub program : ProgramTree
   pub made : ProgramTree
   pub is_read : IsReadAs text program made
-  pub plain : are_plain_functions made.functions ≡ true
   pub is_image : IsImageFile image
   pub setting : Setting
   pub is_run : IsRun program cells depth setting
   pub agrees : Agrees image setting
-  pub bounded : IsBounded image setting
+  pub leaves_no_cell : LeavesNoCell image setting
+  pub bounded : are_plain_functions made.functions ≡ true → IsBounded image setting
 
--- Nothing is built yet of a text that is accepted as a program, one of whose instances has a match, or constructs something else
--- than `False` and `True`.
+-- Nothing is built of a text that is accepted as a program whose code is too large: the assembler code of its counted form is more
+-- than an image can have. Some of its instances has a match, or constructs something else than `False` and `True`.
 pub record IsNotBuilt (text : List ℕ) : Type 0 where
   pub program : ProgramTree
   pub made : ProgramTree
   pub is_read : IsReadAs text program made
   pub not_plain : are_plain_functions made.functions ≡ false
+  pub typed : Typed
+  pub given : Ground
+  pub is_typed : program_tree typed.program ≡ program
+  pub is_given : ground_program given ≡ made
+  pub too_large : IsTooLargeForm typed given
 
--- why nothing is built: the text is refused, unless memory is wanted; or nothing is built of it yet
+-- why nothing is built: the text is refused, unless memory is wanted; or its code is too large
 abbrev pub RefusesToBuild : List ℕ → BuildError → Type 0
 RefusesToBuild text (Refused refusal) = Refuses text refusal
 RefusesToBuild text NotBuilt = IsNotBuilt text

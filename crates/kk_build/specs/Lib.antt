@@ -1,5 +1,6 @@
 pub mod Agreement
 pub mod Built
+pub mod CountedFiles
 pub mod FileOf
 pub mod ImageAfter
 pub mod Images

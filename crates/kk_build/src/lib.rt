@@ -1,6 +1,7 @@
 //! From the bytes of a text to the bytes of its image.
 #![tactic(auto)]
 
+mod counted;
 mod error;
 
 ghost use Rattle.std.specs.Prelude.{◌≡◌, Some, None, IfOk, IfErr, OnOk, OnSome, IfSome, true, false};
@@ -13,6 +14,7 @@ ghost use Rattle.kk_build.specs.Built.{IsBuilt, RefusesToBuild};
 ghost use Rattle.kk_build.specs.FileOf.{AnswersFile};
 
 pub use cell_runtime::Ending;
+use counted::counted_file;
 use elf_image::write;
 pub use error::BuildError;
 use kk_back::image;
@@ -24,12 +26,16 @@ use kk_norm::{core_forms_are_plain_as_programs, normal, plain_core_forms_keep_me
 use kk_syntax::Ground;
 use std::alloc::Global;
 
-/// The bytes of the image of a text, or why there is none: the first failure of a text that is not accepted, or that no image of
-/// its program can be built yet.
+/// The bytes of the image of a text, or why there is none: the first failure of a text that is not accepted, or that the code of its
+/// program is too large for an image.
+///
+/// A program without matches, which constructs `False` and `True` alone, goes from its core form to its image. Each other one goes by
+/// its counted form, in which references to cells are counted.
 ///
 /// The image has a heap of `cells` cells, and at most `depth` of its calls are open at a time. It agrees with the program: on
-/// every input it does on the outside what the program means, never traps, and exits exactly when and as the program ends;
-/// and it does so within a number of instructions that grows with the program's steps.
+/// every input it does on the outside what the program means, never traps, and exits exactly when and as the program ends; where
+/// it ends by itself, all cells are free. The image of a program without matches and cells does so within a number of
+/// instructions that grows with the program's steps.
 pub fn build(alloc: Global, text: &[u8], cells: u32, depth: u32) -> Result<Bytes, BuildError>
     requires { AreSizes cells depth }
     ensures ok { IfOk result (IsBuilt text.now cells depth) }
@@ -42,14 +48,19 @@ pub fn build(alloc: Global, text: &[u8], cells: u32, depth: u32) -> Result<Bytes
     accepted_programs_are_typed();
     instances_mean_the_program();
     match file_of(alloc, &accepted.instances, cells, depth) {
+        Ok(Some(bytes)) => return Ok(bytes),
+        Ok(None) => {}
+        Err(NoMemory) => return Err(BuildError::Refused(Refusal::NoMemory)),
+    }
+    match counted_file(alloc, &accepted, cells, depth) {
         Ok(Some(bytes)) => Ok(bytes),
         Ok(None) => Err(BuildError::NotBuilt),
         Err(NoMemory) => Err(BuildError::Refused(Refusal::NoMemory)),
     }
 }
 
-/// The file of the image of a program of instances; none where one has a match, or constructs something else than `False` and
-/// `True`.
+/// The file of the image of a program of instances by its core form; none where one has a match, or constructs something else than
+/// `False` and `True`.
 fn file_of(alloc: Global, given: &Ground, cells: u32, depth: u32) -> Result<Option<Bytes>, NoMemory>
     requires typed { IsGroundTyped (ground_program given.now) }
     requires small { IsWithin (ground_program given.now) }

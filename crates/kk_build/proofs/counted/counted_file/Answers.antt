@@ -1,0 +1,68 @@
+use Rattle.std.proofs.Common.{sym, subst, List, ℕ}
+use Rattle.kk_syntax.specs.GroundPrograms.{ground_program}
+use Rattle.kk_syntax.specs.Programs.{program_tree}
+use Rattle.kk_counted.specs.Programs.{program_of}
+use Rattle.kk_middle.specs.Compiled.{instance_positions}
+use Rattle.kk_middle.specs.Meaning.{store_steps}
+use Rattle.kk_source.specs.Settings.{setting_of}
+use Rattle.kk_back.specs.CountedImages.{IsRunnable, IsTooLarge, IsCountedImageOf}
+use Rattle.kk_build.proofs.CountedBuilding.{file_agrees, file_leaves}
+use Rattle.kk_build.proofs.Runnable.{runnable}
+use Rattle.kk_build.proofs.counted.counted_file.Goals as goal
+
+pub counted_image-requires-clause-runnable : goal.counted_image-requires-clause-runnable
+counted_image-requires-clause-runnable c =
+    let typed = c.args.accepted.now.typed in
+    let given = c.args.accepted.now.instances in
+    let made = c.in_ok-counted.counted in
+    let compiled = c.in_ok-counted.ensures in
+    let checked = c.requires.checked in
+    let lent = c.requires.lent compiled.table in
+    let cells = c.args.cells in
+    let depth = c.args.depth in
+    subst (λ (texts : List (List ℕ)). IsRunnable made.shape (program_of made.functions.items texts) cells depth) (sym c.deref.ensures.value)
+    (runnable c.judged_programs_are_fit.ensures made given cells depth (setting_of (program_tree typed.program) compiled.table cells depth)
+    (instance_positions given compiled.table) (store_steps (ground_program given)) c.requires.sizes
+    (c.compiled_programs_can_be_lowered.ensures typed given made checked c.requires.given compiled lent)
+    (c.compiled_programs_are_marked.ensures typed given made checked c.requires.given compiled) compiled.numbers
+    (c.compiled_programs_keep_meaning.ensures typed given made checked c.requires.given compiled lent cells depth)
+    (c.compiled_programs_have_their_kinds.ensures typed given made checked c.requires.given compiled lent cells depth))
+
+pub returns-in-Some : goal.returns-in-Some
+returns-in-Some c =
+    let typed = c.args.accepted.now.typed in
+    let given = c.args.accepted.now.instances in
+    let made = c.in_ok-counted.counted in
+    let compiled = c.in_ok-counted.ensures in
+    let cells = c.args.cells in
+    let depth = c.args.depth in
+    let code = program_of made.functions.items given.texts.items in
+    let entry = c.in-Some.image.entry in
+    let parts = c.in-Some.image.parts in
+    let image : IsCountedImageOf code cells depth entry parts =
+    subst (λ (texts : List (List ℕ)). IsCountedImageOf (program_of made.functions.items texts) cells depth entry parts) c.deref.ensures.value
+    (rw c.in-Some.is at c.in_ok-image.ensures) in
+    let positions = instance_positions given compiled.table in
+    let up = store_steps (ground_program given) in
+    let keeps = c.compiled_programs_keep_meaning.ensures typed given made c.requires.checked c.requires.given compiled
+    (c.requires.lent compiled.table) cells depth in
+    let loaded = c.in_ok-file-in-Some.ensures.read_again in
+    let file = c.in_ok-file-in-Some.file in
+    record {
+      table = compiled.table;
+      least = compiled.least;
+      image = record { entry = entry; parts = parts; program = image.program; written = c.in_ok-file-in-Some.ensures.written; loads = loaded };
+      agrees = file_agrees (program_tree typed.program) compiled.table positions code up cells depth entry file parts image keeps loaded;
+      leaves = file_leaves (program_tree typed.program) compiled.table positions code up cells depth entry file parts image keeps loaded;
+    }
+
+pub returns : goal.returns
+returns c =
+    let given = c.args.accepted.now.instances in
+    let made = c.in_ok-counted.counted in
+    record {
+      counted = made;
+      compiled = c.in_ok-counted.ensures;
+      too_large = subst (λ (texts : List (List ℕ)). IsTooLarge made.shape (program_of made.functions.items texts)) c.deref.ensures.value
+          (rw c.in-None.is at c.in_ok-image.ensures);
+    }
