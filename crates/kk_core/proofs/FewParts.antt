@@ -15,15 +15,15 @@ use Rattle.kk_core.specs.CoreMachine.{arm_at, held_for, held_by_frames, fields_o
 use Rattle.kk_core.specs.CoreStates.{CoreSetting, Join, CallFrame, CoreControl, running, stopped, CoreConfiguration, CoreState, no_code, core_start, core_first_state}
 use Rattle.kk_core.specs.Costs.{parts_seen, step_cost, part_cost, control_cost, core_cost}
 use Rattle.kk_core.specs.Decisions.{chosen}
-use Rattle.kk_core.specs.Edges.{HasFewEdges}
+use Rattle.kk_core.specs.Looks.{HasFewLooks}
 
--- no form of a code has more arguments or fields than so many, and no case looks at more edges
+-- no form of a code has more arguments or fields than so many, and no case looks at more
 abbrev mutual
   pub HasFewParts : ℕ → Code → Type 0
   HasFewParts most (give x) = Unit {0}
   HasFewParts most (tail_call f arguments) = length arguments ≤ most
   HasFewParts most (branch x positive negative) = HasFewParts most positive × HasFewParts most negative
-  HasFewParts most (case x decisions arms) = HasFewEdges decisions most × HaveFewParts most arms
+  HasFewParts most (case x decisions arms) = HasFewLooks decisions most × HaveFewParts most arms
   HasFewParts most (compute x form arguments rest) = (length arguments ≤ most) × HasFewParts most rest
   HasFewParts most (use_of x rest) = HasFewParts most rest
   HasFewParts most (unpack x c fields rest) = (length fields ≤ most) × HasFewParts most rest

@@ -4,12 +4,12 @@ use Rattle.kk_source.specs.Live.{value_of}
 use Rattle.kk_source.specs.State.{Store, Environment}
 use Rattle.kk_core.specs.Codes.{Code, tail_call, case, compute, unpack}
 use Rattle.kk_core.specs.CoreStates.{CoreControl, running, stopped, CoreState}
-use Rattle.kk_core.specs.Edges.{edges_seen}
+use Rattle.kk_core.specs.Looks.{looks_taken}
 
--- the parts that the step at a code looks at: its arguments, the fields that it opens, or the edges of the tests on its way to a row
+-- the parts that the step at a code looks at: its arguments, the fields that it opens, or what the tests look at on the way to a row
 abbrev pub parts_seen : Code → Environment → Store → ℕ
 parts_seen (tail_call f arguments) environment store = length arguments
-parts_seen (case x decisions arms) environment store = edges_seen (slice_get store) (value_of environment x) decisions
+parts_seen (case x decisions arms) environment store = looks_taken (slice_get store) (value_of environment x) decisions
 parts_seen (compute x form arguments rest) environment store = length arguments
 parts_seen (unpack x c fields rest) environment store = length fields
 parts_seen _ environment store = 0

@@ -10,6 +10,7 @@ pub mod Costs
 pub mod Decisions
 pub mod Kinds
 pub mod Edges
+pub mod Looks
 pub mod Needed
 pub mod NeverStuck
 pub mod Plain

@@ -1,6 +1,7 @@
 pub mod Arms
 pub mod BareForms
 pub mod Cost
+pub mod CountedCosts
 pub mod CountBounds
 pub mod CountedCodes
 pub mod CountedForms

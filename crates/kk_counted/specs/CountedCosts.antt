@@ -1,0 +1,52 @@
+-- What the steps of the counted machine cost: the one table of costs from the core form to the image.
+use Rattle.std.specs.Prelude.{ℕ, ◌+◌, ◌*◌, not, List, length, filter}
+use Rattle.kk_syntax.specs.Shapes.{is_among}
+use Rattle.kk_source.specs.Live.{value_of}
+use Rattle.kk_source.specs.State.{Environment}
+use Rattle.kk_core.specs.Costs.{part_cost}
+use Rattle.kk_core.specs.Looks.{looks_taken}
+use Rattle.kk_counted.specs.CountedCodes.{Counted, give, tail_call, branch, case, compute, inside, read, open_cell, if_unique, dup, drop}
+use Rattle.kk_counted.specs.CountedStates.{CountedControl, running, stopped, stuck, CountedState}
+use Rattle.kk_counted.specs.Heaps.{Heap, cell_at}
+
+-- a form but for its parts, an argument that is passed or a field that is read, a reference more, and a reference that is given up
+abbrev pub form_cost : ℕ
+form_cost = 100
+
+abbrev pub value_cost : ℕ
+value_cost = 12
+
+abbrev pub dup_cost : ℕ
+dup_cost = 8
+
+abbrev pub drop_cost : ℕ
+drop_cost = 20
+
+-- an opening of a cell of which each field is read, and then kept by a reference more or given up
+abbrev pub opening_cost : List ℕ → List ℕ → ℕ
+opening_cost fields used =
+    form_cost + value_cost * length fields + dup_cost * length (filter (is_among used) fields)
+    + drop_cost * length (filter (λ x. not (is_among used x)) fields)
+
+abbrev pub code_cost : Counted → Environment → Heap → ℕ
+code_cost (give x) environment heap = form_cost
+code_cost (tail_call f arguments) environment heap = form_cost + value_cost * length arguments
+code_cost (branch x positive negative) environment heap = form_cost
+code_cost (case x decisions arms) environment heap =
+    form_cost + part_cost * looks_taken (cell_at heap) (value_of environment x) decisions
+code_cost (compute x form arguments rest) environment heap = form_cost + value_cost * length arguments
+code_cost (inside x block rest) environment heap = form_cost
+code_cost (read x c fields rest) environment heap = form_cost + value_cost * length fields
+code_cost (open_cell x c fields used rest) environment heap = opening_cost fields used
+code_cost (if_unique x c fields used rest) environment heap = opening_cost fields used
+code_cost (dup x rest) environment heap = dup_cost
+code_cost (drop x rest) environment heap = drop_cost
+
+-- the cost of the step from a state; an ended machine has none
+abbrev pub control_cost : CountedControl → Heap → ℕ
+control_cost (running code environment joins) heap = code_cost code environment heap
+control_cost (stopped by) heap = 0
+control_cost stuck heap = 0
+
+abbrev pub counted_cost : CountedState → ℕ
+counted_cost s = control_cost s.machine.control s.machine.heap
