@@ -8,4 +8,3 @@ pub mod LentNames
 pub mod Runnable
 pub mod Runs
 pub mod Through
-pub mod Within

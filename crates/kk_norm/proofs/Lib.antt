@@ -31,6 +31,7 @@ pub mod TypeNumbers
 pub mod Variables
 pub mod Waits
 pub mod Weights
+pub mod Within
 pub mod Writing
 pub mod WritingAll
 pub mod WritingMatches
