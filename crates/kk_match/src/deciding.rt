@@ -35,7 +35,7 @@ pub struct Rows<'a> {
 
 /// Which tests decide a match: the graph of its states, or, where more states test than eight for each node of the patterns,
 /// the tests of one row after the other. Of each value of a type of the patterns the first row that matches is chosen, if
-/// there is one, and each test finds an answer of the type of its edges. On its way it looks at no more edges than the patterns
+/// there is one, and each answer that a test finds is of the type of its edges. On its way it looks at no more edges than the patterns
 /// have nodes.
 pub fn decide(alloc: Global, rows: &Rows<'_>) -> Result<Decisions, NoMemory>
     requires { 0 < length rows.now.patterns.items }
