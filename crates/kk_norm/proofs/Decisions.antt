@@ -32,6 +32,7 @@ are_decisions constructors types given patterns rows (Ok found) same long decide
       decides = decides;
       asks = asks;
       orderly = subst (AreOrderly (map node_tree found.nodes.items)) (wide ∙ long) found.orderly;
+      formed = (types, found.tests, found.by_rows, formed);
       few_tests = omega (arith, formed_few types given (nodes_in found) found.tests found.by_rows formed, tests);
       few_edges = few;
       few_looks = looks;
