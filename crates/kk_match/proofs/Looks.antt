@@ -12,7 +12,6 @@ use Rattle.kk_source.specs.Matching.{and_then}
 use Rattle.kk_source.specs.State.{Value, Cell}
 use Rattle.kk_core.specs.declared.decisions.Answer.{Answer}
 use Rattle.kk_core.specs.declared.decisions.Answer.TheVariants.{Constructor}
-use Rattle.kk_core.specs.declared.decisions.Edge.{Edge}
 use Rattle.kk_core.specs.Decisions.{NodeTree, chooses, tests, targets, found_at, next_by}
 use Rattle.kk_core.specs.Looks.{looks_behind, looks_at, looks_from, HasFewLooks}
 use Rattle.kk_match.specs.Parts.{Part, has_several, parts_of, parts_of_all}

@@ -10,7 +10,7 @@ use Rattle.kk_core.specs.declared.decisions.Answer.{Answer}
 use Rattle.kk_core.specs.declared.decisions.Answer.TheVariants.{Number, Constructor}
 use Rattle.kk_core.specs.declared.decisions.Edge.{Edge}
 use Rattle.kk_core.specs.Decisions.{NodeTree, chooses, tests, targets, row_chosen, found_at, is_answer, next_by, row_at, chosen_from, AreOrderly}
-use Rattle.kk_match.specs.Parts.{Part, both_same, is_kind, IsKind}
+use Rattle.kk_match.specs.Parts.{Part, both_same, IsKind}
 use Rattle.kk_match.specs.Graphs.{StateTree, after, first_of, test_of, row_of, weight}
 use Rattle.kk_match.specs.Built.{Names, AreOfKind, IsRight, InRow, no_state, one_more, AreRight}
 use Rattle.kk_match.specs.Turned.{turn_edge, turn_node, turned}
@@ -132,8 +132,7 @@ right_sound types states state (tests at edges otherwise) right = record {
   leads = λ j among.
       let leads = right.leads j among in
       let few = right.few in
-      let lighter_so = lighter_by at leads.0 state in
-      (
+      let lighter_so = lighter_by at leads.0 state in (
         after at leads.0 state,
         leads.2,
         omega (arith, few, lighter_so),

@@ -1,5 +1,5 @@
 -- The core machine does the steps of the store machine at an expression and at a value.
-use Rattle.std.proofs.Common.{◌≡◌, ℕ, ◌+◌, ◌*◌, ◌<◌, ◌≤◌, true, List, [], ◌∷◌, ◌++◌, None, refl, sym, ap, subst, ◌∙◌, arith, append_assoc, add-mul}
+use Rattle.std.proofs.Common.{◌≡◌, ℕ, ◌+◌, ◌*◌, ◌<◌, ◌≤◌, true, List, [], ◌∷◌, ◌++◌, None, refl, sym, ap, subst, ◌∙◌, arith, append_assoc}
 use Rattle.kk_base.specs.Machines.{Machine}
 use Rattle.kk_base.specs.Simulations.{Reaches, Simulates}
 use Rattle.kk_base.proofs.Simulations.{simulates_until_ended}
@@ -17,7 +17,7 @@ use Rattle.kk_core.specs.Codes.{Code, give, case, ProgramCode}
 use Rattle.kk_core.specs.CoreStates.{CoreSetting, Join, CallFrame, CoreState, core_end_at}
 use Rattle.kk_norm.specs.Names.{Names, name_of, named}
 use Rattle.kk_norm.specs.Normalized.{Then, next, size, size_all, size_rows, atom, atoms, within, joined, finish, IsCode, AreCodes}
-use Rattle.kk_norm.specs.Meaning.{weighed_store_machine, core_steps, core_setting_of, openings_at, openings_by_frames, openings_of_rows}
+use Rattle.kk_norm.specs.Meaning.{weighed_store_machine, core_setting_of, openings_at, openings_by_frames, openings_of_rows}
 use Rattle.kk_norm.proofs.Variables.{alone_among, Stands, stands_left, stands_right, stands_later, stands_bound, all_below_more, all_below_one_more, values_one_more}
 use Rattle.kk_norm.proofs.Waits.{Goal, nowhere, returns, goes_on, goal_of, Fresh, fresh_less, Waits, waits_move, due}
 use Rattle.kk_norm.proofs.Bounds.{Bounds, OpensAtMost}
