@@ -420,7 +420,8 @@ module _ (program : Lowering) where
       = (counted_at program rest (record { variable = x; value = unit } ∷ s.environment) inner frames s.heap input).machine in
       performed_value x idle (PrintText how text) arguments rest inner frames input s fs left idle_is at fit unit_type unit
       (put_of piece)
-      (told_more (put_of piece) s.world) input (print_few at.base x program.constants piece lines.0 at.placed.lines.0 lines.1 lines.2)
+      (told_more (put_of piece) s.world) input
+      (print_few at.base x program.constants piece lines.0 at.placed.lines.0 lines.1 lines.2)
       (Performing.print_text_performs numbers_target at.base x piece lines.0 at.placed.lines.0 s.frame.cells s.world
       at.placed.numbered.0 lines.1 lines.2) at.placed.marked.1.0.1 (print_is piece to input) at.input_is refl at.bytes
   at_plain x (Unary Negate) [] plain idle rest inner frames input s fs left idle_is at fit = absurd (fit 0).fits

@@ -1,5 +1,5 @@
--- What the steps of counted code weigh in assembler code, each of whose lines may have so many moves before it. Where these are 16 at
--- most, that is no more than the instructions that a step may execute.
+-- What the steps of counted code weigh in assembler code, each of whose lines may have so many moves before it. Where these are 16
+-- at most, that is no more than the instructions that a step may execute.
 use Rattle.std.proofs.Common.{◌≡◌, ◌≤◌, ℕ, suc, ◌+◌, ◌*◌, not, List, [], ◌∷◌, length, filter, sym, subst, arith, mul-le-mul_right}
 use Rattle.kk_syntax.specs.Shapes.{is_among}
 use Rattle.kk_source.specs.Live.{value_of}
@@ -85,7 +85,8 @@ edges_within moves (edge ∷ edges) = let later = edges_within moves edges in om
 
 -- a test weighs no more than what it looks at, and the nodes behind it no more than what they look at and the last one's jump
 pub test_within : (moves behind seen : ℕ) (at : List ℕ) (edges : List Edge) → seen ≡ suc (length at + length edges) + behind
-    → (moves + 0) + ((6 * moves + 14 + row_cost at (moves + 2) + edges_cost moves edges) + (look_cost moves * behind + (2 * moves + 2)))
+    → (moves + 0) + ((6 * moves + 14 + row_cost at (moves + 2) + edges_cost moves edges)
+    + (look_cost moves * behind + (2 * moves + 2)))
     ≤ look_cost moves * seen + (2 * moves + 2)
 test_within moves behind seen at edges is =
     let row = row_within at (moves + 2) (look_cost moves) (omega arith) in
@@ -95,6 +96,7 @@ test_within moves behind seen at edges is =
     ≤ look_cost moves * n + (2 * moves + 2)) (sym is) (omega (arith, row, all))
 
 module _ (moves : ℕ) (few : moves ≤ 16) where
+  -- form by form
   code_within : (code : Counted) (environment : Environment) (heap : Heap)
       → code_cost moves code environment heap ≤ instructions_each * counted_code_cost code environment heap
   code_within (give x) environment heap = omega (arith, few)

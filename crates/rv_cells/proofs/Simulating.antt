@@ -290,26 +290,29 @@ state_mapped : (weights : CountedState → ℕ) (s : CountedSetting) (n : ℕ) (
 state_mapped weights s zero at = refl
 state_mapped weights s (suc n) at = state_mapped weights s n ((counted_machine weights s).step at).1
 
--- The counted machine whose steps weigh what their lines do, in what an agreement says: they weigh no more than the instructions that a
--- step may execute, where few moves stand before a line.
+-- The counted machine whose steps weigh what their lines do: where few moves stand before a line, what agrees with it agrees with
+-- the one whose steps weigh the instructions that they may execute.
 module _ (s : CountedSetting) (moves : ℕ) (few : moves ≤ 16) where
   abbrev by_lines_cost : Machine CountedState Event Ending
   by_lines_cost = mapped events_of (λ end. exited (exit_of end)) (counted_machine (lines_cost moves) s)
 
-  step_within : (at : CountedState) → (by_lines_cost).weight at ≤ (counted_outside s).weight at
+  -- so is each step
+  step_within : (at : CountedState) → by_lines_cost.weight at ≤ (counted_outside s).weight at
   step_within at = by (counted_ending_of at)
     where
       by : (how : Option End) → weight_unless how (lines_cost moves at) ≤ weight_unless how (counted_instructions at)
       by None = lines_within moves few at
       by (Some end) = omega arith
 
+  -- and so are many
   weighs_within : (n : ℕ) (at : CountedState) → weight_of by_lines_cost n at ≤ weight_of (counted_outside s) n at
   weighs_within zero at = omega arith
   weighs_within (suc n) at =
       let one = step_within at in
-      let later = weighs_within n ((by_lines_cost).step at).1 in
+      let later = weighs_within n (by_lines_cost.step at).1 in
       omega (arith, one, later)
 
+  -- what agrees within the one weight agrees within the other
   agrees_within : {T : Type 0} (lower : Machine T Event Ending) (credit : ℕ) (up : ℕ → ℕ) (at : CountedState) (t : T)
       → Agree by_lines_cost lower credit up at t → Agree (counted_outside s) lower credit up at t
   agrees_within lower credit up at t agrees = record {
@@ -403,8 +406,8 @@ module _ (layout : Layout) (marks : CellMarks) (code : CountedProgram) (constant
       record {
         agrees = (
           (λ m. m * pace lowering + forms lowered.main.body + 1),
-          agrees_within (setting_on code pool depth) moves few (lower lowering) 0 (λ m. m * pace lowering + forms lowered.main.body + 1) start
-              turn
+          agrees_within (setting_on code pool depth) moves few (lower lowering) 0
+              (λ m. m * pace lowering + forms lowered.main.body + 1) start turn
               (simulates_agree (upper lowering) (lower lowering) (Related lowering) (Passing lowering) (pace lowering)
               (simulates lowering) 0 (forms lowered.main.body) start turn related),
         );

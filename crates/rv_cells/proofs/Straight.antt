@@ -51,8 +51,9 @@ IsAtLines lines (ended how world) = Unit {0}
 IsAtLines lines stuck = Unit {0}
 
 -- a held token that is taken changes no code
-taken_at : (took : Bool) (f : Frame Line) (fs : List (Frame Line)) (next : List (Frame Line) → AsmTurn World Ending) (lines : List Line)
-    → f.code ≡ lines → ((g : Frame Line) (gs : List (Frame Line)) → g.code ≡ lines → IsAtLines lines (next (g ∷ gs)))
+taken_at : (took : Bool) (f : Frame Line) (fs : List (Frame Line)) (next : List (Frame Line) → AsmTurn World Ending)
+    (lines : List Line) → f.code ≡ lines
+    → ((g : Frame Line) (gs : List (Frame Line)) → g.code ≡ lines → IsAtLines lines (next (g ∷ gs)))
     → IsAtLines lines (or_stuck (taken_if took (f ∷ fs)) next)
 taken_at false f fs next lines is goes = goes f fs is
 taken_at true f fs next lines is goes = by f.held (top_taken fs)
@@ -92,8 +93,10 @@ module _ (target : Target) where
   acts_at f fs world lines is Hold straight args into words = absurd straight
   acts_at f fs world lines is Unhold straight args into words = absurd straight
 
-  line_at : (f : Frame Line) (fs : List (Frame Line)) (world : World) (line : Line) (lines code : List Line) → IsStraight line.action
-      → line ∷ lines ≡ code → IsAtLines lines (asm_line (world_primitives target) target.depth target.functions f fs world code)
+  -- and so in the machine's own words: from the lines of a frame, from the frames, and from a turn
+  line_at : (f : Frame Line) (fs : List (Frame Line)) (world : World) (line : Line) (lines code : List Line)
+      → IsStraight line.action → line ∷ lines ≡ code
+      → IsAtLines lines (asm_line (world_primitives target) target.depth target.functions f fs world code)
   line_at f fs world line lines code straight is =
       subst (λ ls. IsAtLines lines (asm_line (world_primitives target) target.depth target.functions f fs world ls)) is
       (by (all_of (map f.cells line.args)))
@@ -131,14 +134,17 @@ module _ (target : Target) where
   none_left n world [] is goes = stuck_stays n goes
   none_left n world (f ∷ fs) is goes =
       stuck_stays n
-      (subst (λ ls. Goes (state (machine target) n (asm_line (world_primitives target) target.depth target.functions f fs world ls))) is
-      goes)
+      (subst (λ ls. Goes (state (machine target) n
+      (asm_line (world_primitives target) target.depth target.functions f fs world ls))) is goes)
 
-  none_behind : (n : ℕ) (t : AsmTurn World Ending) → IsAtLines [] t → Goes (state (machine target) n ((machine target).step t).1) → ⊥
+  -- nor from a turn that is there
+  none_behind : (n : ℕ) (t : AsmTurn World Ending) → IsAtLines [] t
+      → Goes (state (machine target) n ((machine target).step t).1) → ⊥
   none_behind n (go s) is goes = none_left n s.shared s.frames is goes
   none_behind n (ended how world) is goes = ended_stays n how world goes
   none_behind n stuck is goes = stuck_stays n goes
 
+  -- while a run still goes on behind lines, it took no more steps than there are lines
   few_steps : (lines : List Line) (n : ℕ) (t : AsmTurn World Ending) → AreStraight lines → IsAtLines lines t
       → Goes (state (machine target) n t) → n ≤ length lines
   few_steps lines zero t straight is goes = omega arith
@@ -161,9 +167,11 @@ module _ (target : Target) where
 
 -- ---- the lines of forms are few
 
+-- lines that are these
 pub few_same : {own lines : List Line} → own ≡ lines → AreStraight lines → length lines ≤ 8 → AreFew own
 few_same is straight few = subst AreFew (sym is) (straight, few)
 
+-- a print of constant bytes, or of none
 pub print_few : (base x : ℕ) (texts : List (List ℕ)) (piece : List ℕ) (print own : List Line) → PrintLines base texts piece print
     → own ≡ print ++ (sets unit_word x ∷ []) → AreFew own
 print_few base x texts [] print own lines is = few_same (is ∙ ap (λ ls. ls ++ (sets unit_word x ∷ [])) lines) (tt, tt) (omega arith)
@@ -184,15 +192,17 @@ compares_few x first lines compares straight few =
     let size : length (first ++ truth) ≡ length first + length truth = length-append first truth in
     few_same compares.2 (straight_on first truth straight behind) (omega (arith, two, size, few))
 
-pub binary_few : (base x a b : ℕ) (lines : List Line) (operator : BinaryOperator) → BinaryLines base x operator a b lines → AreFew lines
+-- operators with two arguments
+pub binary_few : (base x a b : ℕ) (lines : List Line) (operator : BinaryOperator) → BinaryLines base x operator a b lines
+    → AreFew lines
 binary_few base x a b lines Add is = few_same is (tt, tt) (omega arith)
 binary_few base x a b lines Subtract is = few_same is (tt, tt) (omega arith)
 binary_few base x a b lines Multiply is = few_same is (tt, tt) (omega arith)
 binary_few base x a b lines Remainder is = few_same is (tt, tt) (omega arith)
 binary_few base x a b lines Divide is = few_same is (tt, (tt, (tt, (tt, tt)))) (omega arith)
 binary_few base x a b lines Equal is =
-    compares_few x (registers x a b (Op.Register Register.Sub) ∷ computes (Op.Immediate Immediate.Sltiu is.0) (x ∷ []) x ∷ []) lines is.2
-    (tt, (tt, tt)) (omega arith)
+    compares_few x (registers x a b (Op.Register Register.Sub) ∷ computes (Op.Immediate Immediate.Sltiu is.0) (x ∷ []) x ∷ []) lines
+    is.2 (tt, (tt, tt)) (omega arith)
 binary_few base x a b lines NotEqual is =
     compares_few x
     (registers x a b (Op.Register Register.Sub) ∷ sets 0 base ∷ registers x base x (Op.Register Register.Sltu) ∷ []) lines is
@@ -202,8 +212,8 @@ binary_few base x a b lines Less is =
 binary_few base x a b lines Greater is =
     compares_few x (registers x b a (Op.Register Register.Slt) ∷ []) lines is (tt, tt) (omega arith)
 binary_few base x a b lines LessEqual is =
-    compares_few x (registers x b a (Op.Register Register.Slt) ∷ computes (Op.Immediate Immediate.Xori is.0) (x ∷ []) x ∷ []) lines is.2
-    (tt, (tt, tt)) (omega arith)
+    compares_few x (registers x b a (Op.Register Register.Slt) ∷ computes (Op.Immediate Immediate.Xori is.0) (x ∷ []) x ∷ []) lines
+    is.2 (tt, (tt, tt)) (omega arith)
 binary_few base x a b lines GreaterEqual is =
-    compares_few x (registers x a b (Op.Register Register.Slt) ∷ computes (Op.Immediate Immediate.Xori is.0) (x ∷ []) x ∷ []) lines is.2
-    (tt, (tt, tt)) (omega arith)
+    compares_few x (registers x a b (Op.Register Register.Slt) ∷ computes (Op.Immediate Immediate.Xori is.0) (x ∷ []) x ∷ []) lines
+    is.2 (tt, (tt, tt)) (omega arith)
