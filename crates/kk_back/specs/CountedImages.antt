@@ -13,7 +13,7 @@ use Rattle.elf_image.specs.Parts.{memory_of}
 use Rattle.elf_image.specs.Program.{IsProgramImage}
 use Rattle.elf_image.specs.declared.image.Image.{Image}
 use Rattle.elf_image.specs.declared.part.Part.{Part}
-use Rattle.rv_cells.specs.Costs.{counted_cost}
+use Rattle.rv_cells.specs.Costs.{counted_instructions}
 use Rattle.rv_cells.specs.Fitting.{IsFit}
 use Rattle.rv_cells.specs.Layout.{IsNarrow}
 use Rattle.rv_cells.specs.Lowered.{IsLoweredForm}
@@ -24,7 +24,6 @@ use Rattle.rv_isa.specs.Execution.{rv32im, run}
 use Rattle.rv_isa.specs.Processor.{exited, start, goes}
 use Rattle.rv_isa.specs.ProcessorMachine.{processor_machine}
 use Rattle.rv_place.specs.Images.{outside_lines}
-use Rattle.rv_regs.specs.Shape.{most_moves}
 use Rattle.kk_back.specs.Images.{LeavesAll}
 use Rattle.kk_back.specs.Sizes.{FitsText}
 
@@ -49,16 +48,17 @@ pub record IsRunnable (shape : Shape) (code : CountedProgram) (cells depth : ℕ
       → IsFit (layout_in shape) (counted_after weights (counted_setting code cells depth) input n)
 
 -- An image of a program in counted form, with so many cells and such a depth. On each input of bytes the processor's machine agrees
--- with the counted one: the image tells the same events and exits with the number of the end. Where no cell is counted at its end, all
--- cells are free at its exit.
+-- with the counted one: the image tells the same events and exits with the number of the end. It executes no more instructions than
+-- the steps of the counted machine weigh, which is `instructions_each` times their costs, and `outside_lines` more. Where no cell
+-- is counted at its end, all cells are free at its exit.
 pub record IsCountedImageOf (code : CountedProgram) (cells depth entry : ℕ) (parts : List Part) : Type 0 where
   pub program : IsProgramImage entry parts
   pub does : (input : List ℕ) → All (λ byte. byte < 256) input
-      → (up : ℕ → ℕ) × Agree (counted_outside most_moves (counted_setting code cells depth)) (processor_machine rv32im) outside_lines up
+      → (up : ℕ → ℕ) × Agree (counted_outside (counted_setting code cells depth)) (processor_machine rv32im) outside_lines up
       (counted_first_state (counted_setting code cells depth) input) (goes (start (memory_of parts) entry input))
   pub leaves_cells : (input : List ℕ) → All (λ byte. byte < 256) input → (n : ℕ) (by : End)
-      → (counted_after (counted_cost most_moves) (counted_setting code cells depth) input n).control ≡ stopped by
-      → busy (counted_after (counted_cost most_moves) (counted_setting code cells depth) input n).heap ≡ 0
+      → (counted_after counted_instructions (counted_setting code cells depth) input n).control ≡ stopped by
+      → busy (counted_after counted_instructions (counted_setting code cells depth) input n).heap ≡ 0
       → (count : ℕ) × LeavesAll cells (exited (exit_of by)) (run count (start (memory_of parts) entry input))
 
 -- The assembler code of a program in counted form is more than can be placed.
