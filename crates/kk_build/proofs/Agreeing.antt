@@ -3,7 +3,6 @@ use Rattle.std.proofs.Common.{◌≡◌, true, false, nat_eq, ℕ, ◌+◌, ◌*
 use Rattle.std.proofs.lemmas.Bool.Decides.{nat_tests}
 use Rattle.kk_base.specs.Machines.{Machine, trace, state, weight_of, weight_unless, ending_after, mapped}
 use Rattle.kk_base.specs.Agreements.{Agree}
-use Rattle.kk_base.proofs.Machines.{trace-weighing, state-weighing, weight_of-at_most}
 use Rattle.kk_base.proofs.Agreements.{agree_through, agree_mapped}
 use Rattle.kk_syntax.specs.PositionsOf.{PositionTable}
 use Rattle.kk_syntax.specs.Programs.{ProgramTree}
@@ -21,7 +20,6 @@ use Rattle.rv_isa.specs.Processor.{Processor, exited, start, goes}
 use Rattle.rv_isa.specs.InstructionSet.{run_over}
 use Rattle.rv_isa.specs.Execution.{rv32im}
 use Rattle.rv_isa.specs.ProcessorMachine.{processor_machine, ImageAgrees, ImageKeepsUp}
-use Rattle.rv_isa.proofs.ImageAgreements.{image_agrees, image_keeps_up}
 use Rattle.rv_lower.specs.Meaning.{core_outside, setting_of_core}
 use Rattle.elf_image.specs.Loaded.{IsLoaded, parts_of}
 use Rattle.elf_image.specs.Parts.{memory_of}
@@ -29,26 +27,11 @@ use Rattle.elf_image.specs.Fields.{entry_of}
 use Rattle.elf_image.specs.declared.part.Part.{Part}
 use Rattle.rv_place.specs.Images.{outside_lines}
 use Rattle.kk_back.specs.Images.{IsImageOf, step_instructions}
-use Rattle.kk_build.specs.Agreement.{Agrees, instructions_within, IsBounded, LeavesNoCell}
+use Rattle.kk_build.specs.Agreement.{Agrees, instructions_within, plain_instructions_within, KeepsWithin, IsBounded, IsPlainlyBounded, LeavesNoCell}
 use Rattle.kk_build.specs.Built.{setting_of}
-use Rattle.kk_build.proofs.Alike.{agrees_alike, keeps_up_alike}
 use Rattle.kk_build.proofs.Endings.{state_mapped, exited_is, core_stopped}
-
--- ---- what its steps weigh makes no difference to what the store machine does
-
-same_traces : (weight : ℕ) (setting : Setting) (n : ℕ) (s : State) → trace (heavy_store_machine weight setting) n s ≡ trace (store_machine setting) n s
-same_traces weight setting n s = trace-weighing (λ (t : State). weight) ending_of (step setting) n s
-
-same_endings : (weight : ℕ) (setting : Setting) (n : ℕ) (s : State) → ending_after (heavy_store_machine weight setting) n s ≡ ending_after (store_machine setting) n s
-same_endings weight setting n s = ap ending_of (state-weighing (λ (t : State). weight) ending_of (step setting) n s)
-
--- what so many steps weigh
-unless_at_most : (how : Option End) (weight : ℕ) → weight_unless how weight ≤ weight
-unless_at_most None weight = omega arith
-unless_at_most (Some end) weight = omega arith
-
-steps_weigh : (weight : ℕ) (setting : Setting) (n : ℕ) (s : State) → weight_of (heavy_store_machine weight setting) n s ≤ weight * n
-steps_weigh weight setting n s = weight_of-at_most (heavy_store_machine weight setting) weight (λ t. unless_at_most (ending_of t) weight) n s
+use Rattle.kk_build.proofs.Numbers.{plain_within}
+use Rattle.kk_build.proofs.Weighed.{same_endings, agrees_weighed, keeps_up_weighed}
 
 -- ---- the agreement
 
@@ -96,16 +79,14 @@ module _ (program : ProgramTree) (code : ProgramCode) (cells depth entry : ℕ) 
 
   image_does : ImageAgrees (store_machine setting) events_of exit_of (first_state setting input) (λ m. run_over rv32im m loaded)
   image_does =
-      agrees_alike weighed (store_machine setting) events_of exit_of (first_state setting input) (first_state setting input) (λ m. run_over rv32im m loaded)
-      (λ n. same_traces (2 * step_instructions) setting n (first_state setting input)) (λ n. same_endings (2 * step_instructions) setting n (first_state setting input))
-      (image_agrees rv32im weighed events_of exit_of outside_lines (λ m. up ((image.does positions input bytes).0 m)) (first_state setting input) loaded whole refl differ)
+      agrees_weighed rv32im (2 * step_instructions) ending_of (step setting) events_of exit_of outside_lines
+      (λ m. up ((image.does positions input bytes).0 m)) (first_state setting input) loaded whole refl differ
 
-  image_is_bounded : ImageKeepsUp (store_machine setting) events_of exit_of instructions_within (first_state setting input) (λ m. run_over rv32im m loaded)
-  image_is_bounded =
-      keeps_up_alike weighed (store_machine setting) events_of exit_of (first_state setting input) (first_state setting input) (λ m. run_over rv32im m loaded)
-      (λ n. same_traces (2 * step_instructions) setting n (first_state setting input)) (λ n. same_endings (2 * step_instructions) setting n (first_state setting input)) instructions_within
-      (image_keeps_up rv32im weighed events_of exit_of outside_lines (λ m. up ((image.does positions input bytes).0 m)) (first_state setting input) loaded whole refl
-      instructions_within (λ n. let most = steps_weigh (2 * step_instructions) setting n (first_state setting input) in omega (arith, most)))
+  image_is_bounded : (within : ℕ → ℕ) → ((n : ℕ) → 2 * step_instructions * n + outside_lines ≤ within n)
+      → ImageKeepsUp (store_machine setting) events_of exit_of within (first_state setting input) (λ m. run_over rv32im m loaded)
+  image_is_bounded within enough =
+      keeps_up_weighed rv32im (2 * step_instructions) ending_of (step setting) events_of exit_of outside_lines
+      (λ m. up ((image.does positions input bytes).0 m)) (first_state setting input) loaded whole refl within enough
 
   image_leaves : (n : ℕ) → ending_after (store_machine setting) n (first_state setting input) ≡ Some ended
       → (count : ℕ) × ((run_over rv32im count loaded).ending ≡ exited (exit_of ended))
@@ -114,7 +95,7 @@ module _ (program : ProgramTree) (code : ProgramCode) (cells depth entry : ℕ) 
       let agree = keeps.agrees positions cells depth input step_instructions (λ s. step_instructions) (λ t. omega arith) in
       let does = agree.downwards n in
       let machine = core_machine (λ s. step_instructions) core in
-      let over = does.ending_is ∙ same_endings (2 * step_instructions) setting n (first_state setting input) ∙ is in
+      let over = does.ending_is ∙ same_endings (λ t. 2 * step_instructions) ending_of (step setting) n (first_state setting input) ∙ is in
       let stops = core_stopped (state machine does.steps (core_first_state core input)).machine.control ended over in
       let leaves = image.leaves_cells positions input bytes does.steps ended
       (ap (λ (s : CoreState). s.machine.control) (state_mapped events_of (λ end. exited (exit_of end)) machine does.steps (core_first_state core input)) ∙ stops) in
@@ -135,10 +116,18 @@ module _ {program : ProgramTree} {code : ProgramCode} {cells depth entry : ℕ} 
         (image_does program code cells depth entry parts keeps image positions input bytes);
   }
 
-  pub file_is_bounded : IsBounded file (setting_of program positions cells depth)
-  file_is_bounded input bytes =
-      of_file (λ p e. ImageKeepsUp (store_machine (setting_of program positions cells depth)) events_of exit_of instructions_within (first_state (setting_of program positions cells depth) input) (λ m. run_over rv32im m (start (memory_of p) e input)))
-      (image_is_bounded program code cells depth entry parts keeps image positions input bytes)
+  by_image : (within : ℕ → ℕ) → ((n : ℕ) → 2 * step_instructions * n + outside_lines ≤ within n)
+      → KeepsWithin within file (setting_of program positions cells depth)
+  by_image within enough input bytes =
+      of_file (λ p e. ImageKeepsUp (store_machine (setting_of program positions cells depth)) events_of exit_of within
+      (first_state (setting_of program positions cells depth) input) (λ m. run_over rv32im m (start (memory_of p) e input)))
+      (image_is_bounded program code cells depth entry parts keeps image positions input bytes within enough)
+
+  pub file_is_plainly_bounded : IsPlainlyBounded file (setting_of program positions cells depth)
+  file_is_plainly_bounded = by_image plain_instructions_within (λ n. omega arith)
+
+  pub file_is_bounded : (nodes : ℕ) → 1 ≤ nodes → IsBounded nodes file (setting_of program positions cells depth)
+  file_is_bounded nodes some = by_image (instructions_within nodes) (λ n. plain_within nodes n some)
 
   pub file_leaves : LeavesNoCell file (setting_of program positions cells depth)
   file_leaves input bytes n is =

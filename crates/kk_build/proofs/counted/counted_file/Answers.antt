@@ -1,4 +1,4 @@
-use Rattle.std.proofs.Common.{sym, subst, List, ℕ}
+use Rattle.std.proofs.Common.{sym, subst, List, ℕ, arith}
 use Rattle.kk_syntax.specs.GroundPrograms.{ground_program}
 use Rattle.kk_syntax.specs.Programs.{program_tree}
 use Rattle.kk_counted.specs.Programs.{program_of}
@@ -6,7 +6,8 @@ use Rattle.kk_middle.specs.Compiled.{instance_positions}
 use Rattle.kk_middle.specs.Meaning.{store_steps}
 use Rattle.kk_source.specs.Settings.{setting_of}
 use Rattle.kk_back.specs.CountedImages.{IsRunnable, IsTooLarge, IsCountedImageOf}
-use Rattle.kk_build.proofs.CountedBuilding.{file_agrees, file_leaves}
+use Rattle.kk_build.proofs.CountedBuilding.{file_agrees, file_leaves, file_is_bounded}
+use Rattle.kk_build.proofs.Nodes.{instances_have_no_more, program_has_some}
 use Rattle.kk_build.proofs.Runnable.{runnable}
 use Rattle.kk_build.proofs.counted.counted_file.Goals as goal
 
@@ -37,6 +38,8 @@ returns-in-Some c =
     let cells = c.args.cells in
     let depth = c.args.depth in
     let code = program_of made.functions.items given.texts.items in
+    let program = program_tree typed.program in
+    let made_program = ground_program given in
     let entry = c.in-Some.image.entry in
     let parts = c.in-Some.image.parts in
     let image : IsCountedImageOf code cells depth entry parts =
@@ -52,8 +55,13 @@ returns-in-Some c =
       table = compiled.table;
       least = compiled.least;
       image = record { entry = entry; parts = parts; program = image.program; written = c.in_ok-file-in-Some.ensures.written; loads = loaded };
-      agrees = file_agrees (program_tree typed.program) compiled.table positions code up cells depth entry file parts image keeps loaded;
-      leaves = file_leaves (program_tree typed.program) compiled.table positions code up cells depth entry file parts image keeps loaded;
+      agrees = file_agrees program made_program compiled.table positions code up cells depth entry file parts image keeps loaded;
+      leaves = file_leaves program made_program compiled.table positions code up cells depth entry file parts image keeps loaded;
+      bounded = λ nodes few.
+          let most = instances_have_no_more c.requires.given.instances in
+          let some = program_has_some c.requires.given.instances in
+          file_is_bounded program made_program compiled.table positions code up cells depth entry file parts image keeps loaded nodes
+          (omega (arith, most, few)) (omega (arith, some, few));
     }
 
 pub returns : goal.returns
